@@ -1,0 +1,31 @@
+-- `numbers::float::bits::bits_of` meets its contract. Only a NaN differs from itself, and the logic's pattern of it is the constant. Assumes nothing.
+use mathlib.Core.Path.{_≡_, refl, sym, ap, _∙_, subst}
+use mathlib.Core.Bool.{not, false, true}
+use lib.Dec.{T}
+use lib.Ieee.{Float, nan, inf, fin, binary32, ne, isNan, toBits}
+use lib.Ieee.Compare.{differs-from-itself}
+use borrow.Author.Needs.{needs}
+use Rattle.numbers.proofs.float.bits.bits_of.Statement.{statement}
+use Rattle.numbers.proofs.float.bits.bits_of.Tie as tie
+
+no-nan : (x : Float) → ne x x ≡ false → T (not (isNan x))
+unfolding ne isNan
+no-nan nan e = subst (λ b. T (not b)) (sym e) tt
+no-nan (inf s) e = tt
+no-nan (fin s m d) e = tt
+
+nan-bits : toBits binary32 nan ≡ 0x7fc0_0000
+unfolding toBits
+nan-bits = refl
+
+float-to-bits-result : tie.Need-float-to-bits-result
+float-to-bits-result c = no-nan (c .before .args .x) (c .if1 .left)
+
+returns : tie.Need-returns
+returns c = sym (ap (toBits binary32) (differs-from-itself (c .before .args .x) (subst T (sym (c .if1 .taken)) tt)) ∙ nan-bits)
+
+returns-2 : tie.Need-returns-2
+returns-2 c = search needs
+
+pub bits-of-spec : {M : Type 1} → statement M
+bits-of-spec = tie.close (tie.spec float-to-bits-result returns returns-2)

@@ -1,0 +1,45 @@
+-- `numbers::float::fixed::factor` meets its contract. Assumes nothing.
+use mathlib.Core.Path.{_≡_, sym, ap, _∙_}
+use Prim.Native.Nat.{ℕ, _+_, _-_, _%_, _^_}
+use lib.IntN.{pos, negsuc}
+use lib.Ieee.{binary32, ofInt, neg}
+use borrow.Author.Needs.{needs}
+use borrow.Author.Tests.{eq-eqb, ne-eqb}
+use Rattle.numbers.specs.Float.{toF32, oneShifted}
+use Rattle.numbers.proofs.float.Rounding.{ofInt-neg}
+use Rattle.numbers.proofs.float.fixed.factor.Statement.{statement}
+use Rattle.numbers.proofs.float.fixed.factor.Tie as tie
+
+-- the definition's two cases
+sign-bit : (p : ℕ) → (p + 31) % 32 ≡ 31 → toF32 (oneShifted p) ≡ neg (toF32 (pos (2 ^ 31)))
+unfolding oneShifted
+sign-bit p e = simp (eq-eqb _ _ e) (sym (ofInt-neg binary32 (2 ^ 31 - 1)))
+
+other-bit : (p : ℕ) → ((p + 31) % 32 ≡ 31 → ⊥) → toF32 (oneShifted p) ≡ toF32 (pos (2 ^ ((p + 31) % 32)))
+unfolding oneShifted
+other-bit p e = simp (ne-eqb _ _ e)
+
+add-place : tie.Need-add-place
+add-place c = search needs
+
+power-of-two-requires : tie.Need-power-of-two-requires
+power-of-two-requires c κs = search needs
+
+of-u64-requires : tie.Need-of-u64-requires
+of-u64-requires c κs = search needs
+
+returns : tie.Need-returns
+returns c =
+    ap neg (c .before .of-u64 .ensures)
+    ∙ ap (λ (k : ℕ). neg (ofInt binary32 (pos k))) (c .before .before .power-of-two .ensures ∙ ap (λ (j : ℕ). 2 ^ j) (c .if1 .taken))
+    ∙ sym (sign-bit (c .before .before .before .args .precision) (c .if1 .taken))
+
+returns-2 : tie.Need-returns-2
+returns-2 c =
+    c .before .of-u64 .ensures
+    ∙ ap (λ (k : ℕ). ofInt binary32 (pos k)) (c .before .before .power-of-two .ensures)
+    ∙ sym (other-bit (c .before .before .before .args .precision) (c .if1 .left))
+
+pub factor-spec : {M : Type 1} → statement M
+factor-spec =
+    tie.close (tie.spec add-place power-of-two-requires of-u64-requires returns returns-2)

@@ -1,0 +1,35 @@
+-- `numbers::float::nearest::assembled` meets its contract (proofs/Rounding.antt, `pattern`). The bits lie below the infinity's. Assumes nothing.
+use mathlib.Core.Path.{_≡_, sym, subst}
+use mathlib.Core.Bool.{Bool, not}
+use Prim.Native.Nat.{ℕ, _+_, _*_, _%_, _≤_}
+use native.Mathlib.Omega.{arith}
+use lib.Dec.{T}
+use lib.Arith.{le→nltb}
+use lib.Ieee.{binary32, nanBits}
+use lib.Ieee.Bits.{nanBits-above}
+use borrow.Author.Needs.{needs}
+use Rattle.numbers.proofs.float.Rounding.{pattern}
+use Rattle.numbers.proofs.float.nearest.assembled.Statement.{statement}
+use Rattle.numbers.proofs.float.nearest.assembled.Tie as tie
+
+no-nan : (b : ℕ) → b ≤ 2130706432 → T (not (nanBits binary32 b))
+no-nan b h = subst (λ (t : Bool). T (not t)) (sym (nanBits-above binary32 b)) (le→nltb 2139095040 (b % 2147483648) (omega arith))
+
+mul-result : tie.Need-mul-result
+mul-result c = search needs
+
+add-result : tie.Need-add-result
+add-result c = search needs
+
+cast-result : tie.Need-cast-result
+cast-result c = search needs
+
+float-from-bits-result : tie.Need-float-from-bits-result
+float-from-bits-result c = no-nan _ (omega arith)
+
+returns : tie.Need-returns
+returns c = sym (pattern (c .args .kept) (c .args .place) (c .pre .0) (c .pre .1) (c .pre .2))
+
+pub assembled-spec : {M : Type 1} → statement M
+assembled-spec =
+    tie.close (tie.spec mul-result add-result cast-result float-from-bits-result returns)

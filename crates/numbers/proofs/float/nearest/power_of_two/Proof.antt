@@ -1,0 +1,18 @@
+-- `numbers::float::nearest::power_of_two` meets its contract: nothing is shifted out. Assumes nothing.
+use mathlib.Core.Path.{_∙_}
+use native.Mathlib.Nat.{one-mul}
+use native.Mathlib.Omega.{arith}
+use lib.Dec.{lit<}
+use lib.Pow.{shl-exact}
+use borrow.Author.Needs.{needs}
+use Rattle.numbers.proofs.float.nearest.power_of_two.Statement.{statement}
+use Rattle.numbers.proofs.float.nearest.power_of_two.Tie as tie
+
+shl-result : tie.Need-shl-result
+shl-result c = search needs
+
+returns : tie.Need-returns
+returns c = shl-exact 1 (c .args .k) 64 (lit< tt) (omega (arith, c .pre)) ∙ one-mul _
+
+pub power-of-two-spec : {M : Type 1} → statement M
+power-of-two-spec = tie.close (tie.spec shl-result returns)

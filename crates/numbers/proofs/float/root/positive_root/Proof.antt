@@ -1,0 +1,105 @@
+-- `numbers::float::root::positive_root` meets its contract: the code scales the digits as the definition does (proofs/Smallest.antt). Assumes nothing.
+use mathlib.Core.Path.{_≡_, sym, ap, _∙_, subst}
+use mathlib.Core.Bool.{false}
+use Prim.Native.Nat.{ℕ, _+_, _-_, _*_, _/_, _^_, _≤_, _<_}
+use native.Mathlib.Nat.{lt-of-lt-of-le}
+use native.Mathlib.Omega.{arith}
+use lib.Dec.{lit<, lit≤}
+use lib.Ieee.{binary32, size, units}
+use borrow.Author.Needs.{needs}
+use Rattle.numbers.specs.Float.Root.{nearestRoot}
+use Rattle.numbers.proofs.float.Squares.{IsNearest, nearestRoot-is, nearest-range}
+use Rattle.numbers.proofs.float.Smallest.{Even, even, root-by-digits}
+use Rattle.numbers.proofs.float.root.positive_root.Statement.{statement}
+use Rattle.numbers.proofs.float.root.positive_root.Tie as tie
+
+taken-apart-requires : tie.Need-taken-apart-requires
+taken-apart-requires c κs = search needs
+
+digits-requires : tie.Need-digits-requires
+digits-requires c κs = search needs
+
+-- x's digits and place, and their scaling
+scaled : (c : tie.After-taken-apart) → Even (c .taken-apart .result .digits) (c .taken-apart .result .place)
+scaled c = even (c .taken-apart .result .digits) (c .taken-apart .result .place) (c .taken-apart .ensures .1 .0) (c .taken-apart .ensures .1 .1)
+
+short : (c : tie.After-digits) → c .digits .result ≤ 24
+short c = subst (λ (z : ℕ). z ≤ 24) (sym (c .digits .ensures)) (scaled (c .before) .short)
+
+add-half : tie.Need-add-half
+add-half c = omega (arith, short c, c .before .taken-apart .ensures .1 .2)
+
+add-half-2 : tie.Need-add-half-2
+add-half-2 c = omega (arith, short c, c .before .taken-apart .ensures .1 .2)
+
+add-power-of-two : tie.Need-add-power-of-two
+add-power-of-two c = search needs
+
+mul-power-of-two : tie.Need-mul-power-of-two
+mul-power-of-two c = omega (arith, short c, c .before .taken-apart .ensures .1 .2)
+
+sub-power-of-two : tie.Need-sub-power-of-two
+sub-power-of-two c = omega (arith, short c)
+
+power-of-two-requires : tie.Need-power-of-two-requires
+power-of-two-requires c κs = omega (arith, short c)
+
+-- what is rooted, with the digits counted as the definition does
+square-is : (c : tie.After-power-of-two) → c .before .before .taken-apart .result .digits * c .power-of-two .result
+    ≡ c .before .before .taken-apart .result .digits * 2 ^ (c .before .before .taken-apart .result .place + 149 - 2 * ((size (c .before .before .taken-apart .result .digits) + c .before .before .taken-apart .result .place + 102) / 2))
+square-is c =
+    let d = c .before .before .taken-apart .result .digits in
+    let p = c .before .before .taken-apart .result .place in
+    ap (λ (u : ℕ). d * u) (c .power-of-two .ensures) ∙ ap (λ (z : ℕ). d * 2 ^ (p + 149 - 2 * ((z + p + 102) / 2))) (c .before .digits .ensures)
+
+under : (c : tie.After-power-of-two) → c .before .before .taken-apart .result .digits * c .power-of-two .result < 281474976710656
+under c = subst (λ (x : ℕ). x < 281474976710656) (sym (square-is c)) (scaled (c .before .before) .under)
+
+least : (c : tie.After-power-of-two) → 70368744177664 ≤ c .before .before .taken-apart .result .digits * c .power-of-two .result
+least c = subst (λ (x : ℕ). 70368744177664 ≤ x) (sym (square-is c)) (scaled (c .before .before) .least)
+
+mul-square : tie.Need-mul-square
+mul-square c = record { fits = lt-of-lt-of-le (under c) (lit≤ tt) }
+
+nearest-root-requires : tie.Need-nearest-root-requires
+nearest-root-requires c κs = under c
+
+-- a root of 24 digits, or 2 ^ 24
+in-range : (n r : ℕ) → 70368744177664 ≤ n → n < 281474976710656 → r ≡ nearestRoot n → (8388608 ≤ r) × (r ≤ 16777216)
+in-range n r lo hi e = nearest-range n r lo hi (subst (λ (x : ℕ). IsNearest n x) (sym e) (nearestRoot-is n (lt-of-lt-of-le (lit< tt) lo) hi))
+
+middle : (z p : ℕ) → z ≤ 24 → p < 254 → (z + p + 102) / 2 ≤ 252
+middle z p a b = omega arith
+
+assembled-requires : tie.Need-assembled-requires
+assembled-requires c κs =
+    let r = in-range _ (c .nearest-root .result) (least (c .before)) (under (c .before)) (c .nearest-root .ensures) in
+    (r .0, r .1, middle _ _ (short (c .before .before)) (c .before .before .before .taken-apart .ensures .1 .2))
+
+returns : tie.Need-returns
+returns c =
+    let apart = c .before .before .before .before in
+    let d = apart .taken-apart .result .digits in
+    let p = apart .taken-apart .result .place in
+    let s = apart .taken-apart .ensures in
+    c .assembled .ensures
+    ∙ ap (λ (q : ℕ). units binary32 false q ((c .before .before .before .digits .result + p + 102) / 2)) (c .before .nearest-root .ensures ∙ ap nearestRoot (square-is (c .before .before)))
+    ∙ ap (λ (z : ℕ). units binary32 false (nearestRoot (d * 2 ^ (p + 149 - 2 * ((size d + p + 102) / 2)))) ((z + p + 102) / 2)) (c .before .before .before .digits .ensures)
+    ∙ sym (root-by-digits (apart .before .args .x) d p (apart .before .pre) (s .1 .0) (s .1 .1) (s .0))
+
+pub positive-root-spec : {M : Type 1} → statement M
+positive-root-spec =
+    tie.close
+    (tie.spec
+    taken-apart-requires
+    digits-requires
+    add-half
+    add-half-2
+    add-power-of-two
+    mul-power-of-two
+    sub-power-of-two
+    power-of-two-requires
+    mul-square
+    nearest-root-requires
+    assembled-requires
+    returns)

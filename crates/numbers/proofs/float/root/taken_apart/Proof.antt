@@ -1,0 +1,59 @@
+-- `numbers::float::root::taken_apart` meets its contract (proofs/Smallest.antt, `decoded`). Assumes nothing.
+use mathlib.Core.Path.{_≡_, sym, ap, _∙_, subst}
+use Prim.Native.Nat.{ℕ, _+_, _*_, _%_, _<_}
+use native.Mathlib.Nat.{mul-one, lt-of-lt-of-le}
+use native.Mathlib.Omega.{arith}
+use mathlib.Core.Bool.{not}
+use lib.Dec.{T, lit<, lit≤}
+use lib.Ieee.{Float, nan, inf, fin, binary32, fits, isNan, toBits}
+use lib.Ieee.Bits.{toBits-lt}
+use lib.Ieee.Positive.{positive}
+use borrow.Author.Needs.{needs}
+use Rattle.numbers.specs.Float.Root.{unitsOf}
+use Rattle.numbers.proofs.float.Smallest.{Decoded, decoded}
+use Rattle.numbers.proofs.float.root.taken_apart.Statement.{statement}
+use Rattle.numbers.proofs.float.root.taken_apart.Tie as tie
+
+no-nan : (x : Float) → T (positive x) → T (not (isNan x))
+unfolding isNan
+no-nan nan p = absurd p
+no-nan (inf s) p = tt
+no-nan (fin s m e) p = tt
+
+-- what owning an f32 tells: the format holds it
+held : (c : tie.Start) → T (fits binary32 (c .args .x))
+held c = subst T (sym (c .good .0 .1)) tt
+
+known : (c : tie.Start) → Decoded (unitsOf (c .args .x)) (toBits binary32 (c .args .x))
+known c = decoded (c .args .x) (held c) (c .pre)
+
+float-to-bits-bits : tie.Need-float-to-bits-bits
+float-to-bits-bits c = no-nan (c .args .x) (c .pre)
+
+cast-bits : tie.Need-cast-bits
+cast-bits c = record { fits = lt-of-lt-of-le (toBits-lt binary32 (c .args .x) (held c)) (lit≤ tt) }
+
+returns : tie.Need-returns
+returns c =
+    let b = known (c .before) .low (c .if1 .taken) in
+    (mul-one _ ∙ b, (subst (λ (x : ℕ). 0 < x) (sym b) (known (c .before) .above), c .if1 .taken, lit< tt))
+
+add-t6 : tie.Need-add-t6
+add-t6 c = search needs
+
+sub-t8 : tie.Need-sub-t8
+sub-t8 c = search needs
+
+-- with the leading digit there are 24
+full : (b : ℕ) → (0 < b % 8388608 + 8388608) × (b % 8388608 + 8388608 < 16777216)
+full b = (omega arith, omega arith)
+
+returns-2 : tie.Need-returns-2
+returns-2 c =
+    let b = known (c .before) .high (c .if1 .left) in
+    let f = full (toBits binary32 (c .before .args .x)) in
+    (b .0, (f .0, f .1, b .1))
+
+pub taken-apart-spec : {M : Type 1} → statement M
+taken-apart-spec =
+    tie.close (tie.spec float-to-bits-bits cast-bits returns add-t6 sub-t8 returns-2)

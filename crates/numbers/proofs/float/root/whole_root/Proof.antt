@@ -1,0 +1,64 @@
+-- `numbers::float::root::whole_root` meets its contract. The invariant: the root is from low on and below high. The measure is how many numbers that leaves. Assumes nothing.
+use mathlib.Core.Path.{_≡_, subst}
+use Prim.Native.Nat.{ℕ, _+_, _-_, _*_, _≤_, _<_}
+use native.Mathlib.Nat.{le-trans, lt-of-le-of-lt}
+use native.Mathlib.Omega.{arith}
+use lib.Dec.{lit<}
+use Rattle.numbers.proofs.float.Squares.{square-le}
+use Rattle.numbers.proofs.float.root.whole_root.Statement.{statement}
+use Rattle.numbers.proofs.float.root.whole_root.Tie as tie
+
+abbrev Inv-loop : tie.InvT-loop
+Inv-loop n low₀ high₀ low high = (low * low ≤ n) × (n < high * high) × (low < high) × (high ≤ 16777216)
+
+abbrev μ-loop : tie.MeasureT-loop
+μ-loop n low₀ high₀ low high = high - low
+
+loop-holds : tie.Need-loop-holds Inv-loop μ-loop
+loop-holds c = omega arith
+
+add-loop : tie.Need-add-loop Inv-loop μ-loop
+add-loop c = omega arith
+
+add-middle : tie.Need-add-middle Inv-loop μ-loop
+add-middle c = omega arith
+
+mul-if1 : tie.Need-mul-if1 Inv-loop μ-loop
+mul-if1 c = record { fits = lt-of-le-of-lt (square-le {b = 16777216} (omega arith)) (lit< {m = 16777216 * 16777216} tt) }
+
+loop-less : tie.Need-loop-less Inv-loop μ-loop
+loop-less c = omega arith
+
+loop-again : tie.Need-loop-again Inv-loop μ-loop
+loop-again c = omega arith
+
+loop-less-2 : tie.Need-loop-less-2 Inv-loop μ-loop
+loop-less-2 c = omega arith
+
+loop-again-2 : tie.Need-loop-again-2 Inv-loop μ-loop
+loop-again-2 c = omega arith
+
+next : (low high : ℕ) → low < high → high ≤ low + 1 → high ≡ low + 1
+next low high h k = omega arith
+
+returns : tie.Need-returns Inv-loop μ-loop
+returns c =
+    let at = c .before .loop in
+    let v = at .inv in
+    (v .0, subst (λ (x : ℕ). c .before .before .args .n < x * x) (next (at .low) (at .high) (v .2) (c .loop-test .left)) (v .1), omega arith)
+
+pub whole-root-spec : {M : Type 1} → statement M
+whole-root-spec =
+    tie.close
+    (tie.spec
+    Inv-loop
+    μ-loop
+    loop-holds
+    add-loop
+    add-middle
+    mul-if1
+    loop-less
+    loop-again
+    loop-less-2
+    loop-again-2
+    returns)

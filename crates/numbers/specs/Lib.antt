@@ -1,0 +1,5 @@
+pub mod Answer
+pub mod Varint
+pub mod Point
+pub mod Float
+pub mod Marked

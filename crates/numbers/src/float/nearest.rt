@@ -1,0 +1,76 @@
+// Rust's `as` from an integer to f32: the nearest float, and of two that are as near the one whose last digit is even.
+ghost use mathlib.Core.Path.{_≡_};
+ghost use mathlib.Core.Bool.{false};
+ghost use Prim.Native.Nat.{_+_, _*_, _/_, _%_, _^_, _≤_, _<_, compare};
+ghost use lib.IntN.{pos, natAbs};
+ghost use lib.Ieee.{binary32, units, size, nearest};
+ghost use Rattle.numbers.specs.Float.{toF32};
+
+// How many binary digits n has.
+pub fn digits(n: u64) -> u64
+    ensures { λ r. ⌜ r ≡ size n ⌝ }
+{
+    64 - (u64::leading_zeros(n) as u64)
+}
+
+pub(crate) fn power_of_two(k: u64) -> u64
+    requires { ⌜ k < 64 ⌝ }
+    ensures { λ r. ⌜ r ≡ 2 ^ k ⌝ }
+{
+    1 << k
+}
+
+// 24 digits, or 2^24 where the rounding carried, times 2^place of the smallest f32. It is written as
+// a bit pattern, in which the leading digit and a carry add to the exponent's field by themselves.
+pub(crate) fn assembled(kept: u64, place: u64) -> f32
+    requires { ⌜ (8388608 ≤ kept) × (kept ≤ 16777216) × (place ≤ 252) ⌝ }
+    ensures { λ r. ⌜ r ≡ units binary32 false kept place ⌝ }
+{
+    f32::from_bits((place * 8388608 + kept) as u32)
+}
+
+// n / unit to the nearest whole number, a tie to the even one.
+fn nearest_quotient(n: u64, unit: u64) -> u64
+    requires { ⌜ (0 < unit) × (unit ≤ 1099511627776) × (n / unit < 16777216) ⌝ }
+    ensures { λ r. ⌜ r ≡ nearest (n / unit) (compare (n % unit * 2) unit) ⌝ }
+{
+    let kept = n / unit;
+    let twice = n % unit * 2;
+    if twice < unit {
+        return kept;
+    }
+    if unit < twice {
+        return kept + 1;
+    }
+    kept + kept % 2
+}
+
+// Up to 24 digits every whole number is a float. A longer one keeps its 24 leading digits, rounded.
+pub fn of_u64(n: u64) -> f32
+    ensures { λ r. ⌜ r ≡ toF32 (pos n) ⌝ }
+{
+    if n < 16777216 {
+        return n as f32;
+    }
+    let dropped = digits(n) - 24;
+    assembled(nearest_quotient(n, power_of_two(dropped)), dropped + 149)
+}
+
+// The size of n. As an i64 the least i32 can be negated.
+fn magnitude(n: i32) -> u64
+    ensures { λ r. ⌜ r ≡ natAbs n ⌝ }
+{
+    let wide = n as i64;
+    if wide < 0 {
+        (0 - wide) as u64
+    } else {
+        wide as u64
+    }
+}
+
+pub fn of_i32(n: i32) -> f32
+    ensures { λ r. ⌜ r ≡ toF32 n ⌝ }
+{
+    let rounded = of_u64(magnitude(n));
+    if n < 0 { -rounded } else { rounded }
+}
