@@ -11,7 +11,7 @@ use borrow.Author.Needs.{sfits-of}
 use mir.Syntax.{w32, w64}
 use mir.Val.{Fits, SFits, toZ, ofZ}
 use mir.ValLaws.{toZ-ofZ}
-use Rattle.numbers.proofs.float.Cutting.{not-negative}
+use Rattle.numbers.proofs.float.Rounding.{not-negative}
 use Rattle.numbers.proofs.float.nearest.magnitude.Statement.{statement}
 use Rattle.numbers.proofs.float.nearest.magnitude.Tie as tie
 
