@@ -1,14 +1,12 @@
 -- `numbers::varint::read_long` meets its contract: the loop keeps `Reading`, and each way out is a case of `forwardAt`.
 -- Assumes nothing.
 use Prim.Native.Nat.{_-_}
-use native.Mathlib.Omega.{arith}
 use borrow.Author.Needs.{needs}
 use lib.ListN.{length}
+use native.Mathlib.Omega.{arith}
 use Rattle.numbers.proofs.varint.Reading.{Reading, begun, eleventh, finished, further, ended}
 use Rattle.numbers.proofs.varint.read_long.Statement.{statement}
 use Rattle.numbers.proofs.varint.read_long.Tie as tie
-use Rattle.numbers.proofs.varint.read_long.Reads as reads
-use Rattle.numbers.proofs.varint.read_long.Lts as lts
 
 abbrev Inv-loop : tie.InvT-loop
 Inv-loop file place value₀ shift₀ next₀ value shift next = Reading file place value shift next
@@ -20,7 +18,10 @@ loop-holds : tie.Need-loop-holds Inv-loop μ-loop
 loop-holds c = begun _ _ (c .pre)
 
 returns : tie.Need-returns Inv-loop μ-loop
-returns c = eleventh (c .before .before .loop .inv) (c .if1 .taken) (c .before .loop-test .taken)
+returns c =
+    let loop = c .before .before .loop in
+    let loop-test = c .before .loop-test in
+    eleventh (loop .inv) (c .if1 .taken) (loop-test .taken)
 
 shared-slice-read-byte : tie.Need-shared-slice-read-byte Inv-loop μ-loop
 shared-slice-read-byte c = search needs
@@ -36,7 +37,10 @@ add-next c = search needs
 
 returns-2 : tie.Need-returns-2 Inv-loop μ-loop
 returns-2 c =
-    finished (c .before .before .before .before .loop .inv) (c .before .before .before .loop-test .taken) (c .before .before .if1 .left) (c .if2 .taken)
+    let loop = c .before .before .before .before .loop in
+    let loop-test = c .before .before .before .loop-test in
+    let if1 = c .before .before .if1 in
+    finished (loop .inv) (loop-test .taken) (if1 .left) (c .if2 .taken)
 
 add-shift : tie.Need-add-shift Inv-loop μ-loop
 add-shift c = search needs
@@ -46,7 +50,10 @@ loop-less c = search needs
 
 loop-again : tie.Need-loop-again Inv-loop μ-loop
 loop-again c =
-    further (c .before .before .before .before .loop .inv) (c .before .before .before .loop-test .taken) (c .before .before .if1 .left) (c .if2 .left)
+    let loop = c .before .before .before .before .loop in
+    let loop-test = c .before .before .before .loop-test in
+    let if1 = c .before .before .if1 in
+    further (loop .inv) (loop-test .taken) (if1 .left) (c .if2 .left)
 
 add-past : tie.Need-add-past Inv-loop μ-loop
 add-past c = search needs

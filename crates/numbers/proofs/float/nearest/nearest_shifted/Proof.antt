@@ -1,13 +1,13 @@
 -- `numbers::float::nearest::nearest_shifted` meets its contract: each branch has one of the three orders of twice the remainder and the unit. Assumes nothing.
+use Prim.Native.Nat.{ℕ, _-_, _*_, _/_, _%_, _^_, _≤_, _<_, Ordering, Ordering·lt, Ordering·eq, Ordering·gt}
+use borrow.Author.Needs.{needs}
+use lib.Ieee.Nearest.{closest}
+use lib.Ieee.{nearest}
+use lib.Pow.{pow-pos, pow-mono}
 use mathlib.Core.Path.{_≡_, sym, ap, _∙_, subst}
-use Prim.Native.Nat.{ℕ, _-_, _*_, _/_, _%_, _^_, _≤_, _<_, compare, Ordering, Ordering·lt, Ordering·eq, Ordering·gt}
 use native.Mathlib.Nat.{mod-lt, mod-eq-of-lt, le-antisymm, lt-of-le-of-lt, div-mul-le-self, div-add-mod'}
 use native.Mathlib.Numerals.{add-one}
 use native.Mathlib.Omega.{arith}
-use lib.Ieee.{nearest}
-use lib.Ieee.Nearest.{closest}
-use lib.Pow.{pow-pos, pow-mono}
-use borrow.Author.Needs.{needs}
 use Rattle.numbers.proofs.float.Rounding.{Cmp, order-is}
 use Rattle.numbers.proofs.float.nearest.nearest_shifted.Statement.{statement}
 use Rattle.numbers.proofs.float.nearest.nearest_shifted.Tie as tie
@@ -42,9 +42,11 @@ sub-twice c = back-le (c .before .args .n) (c .before .args .k) (omega arith)
 
 mul-twice : tie.Need-mul-twice
 mul-twice c =
-    let n = c .before .args .n in
-    let k = c .before .args .k in
-    let unit : 2 ^ k ≤ 2 ^ 40 = pow-mono (c .before .pre .0) in
+    let args = c .before .args in
+    let pre = c .before .pre in
+    let n = args .n in
+    let k = args .k in
+    let unit : 2 ^ k ≤ 2 ^ 40 = pow-mono (pre .0) in
     omega (arith, rest n k (omega arith), mod-lt n (pow-pos k))
 
 returns : tie.Need-returns
@@ -60,7 +62,10 @@ add-result-2 : tie.Need-add-result-2
 add-result-2 c = search needs
 
 returns-3 : tie.Need-returns-3
-returns-3 c = at-order _ _ (omega arith) Ordering·eq (c .before .before .power-of-two .ensures) (le-antisymm (c .if2 .left) (c .before .if1 .left))
+returns-3 c =
+    let power-of-two = c .before .before .power-of-two in
+    let if1 = c .before .if1 in
+    at-order _ _ (omega arith) Ordering·eq (power-of-two .ensures) (le-antisymm (c .if2 .left) (if1 .left))
 
 pub nearest-shifted-spec : {M : Type 1} → statement M
 nearest-shifted-spec =

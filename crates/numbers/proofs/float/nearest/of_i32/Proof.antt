@@ -1,18 +1,18 @@
 -- `numbers::float::nearest::of_i32` meets its contract: a negative number rounds as its size does. Assumes nothing.
-use mathlib.Core.Path.{_≡_, refl, sym, ap, _∙_, subst}
-use mathlib.Core.Bool.{Bool, true, false}
 use Prim.Native.Nat.{ℕ}
-use lib.Dec.{T}
-use lib.IntN.{ℤ, pos, negsuc, natAbs}
-use lib.Signed.{ltZ, leZ}
-use lib.Ieee.{binary32, neg, inFloat}
 use borrow.Author.Needs.{needs}
+use lib.Dec.{T}
+use lib.Ieee.{binary32, neg}
+use lib.IntN.{ℤ, pos, negsuc, natAbs}
+use lib.Signed.{ltZ}
+use mathlib.Core.Bool.{true, false}
+use mathlib.Core.Path.{_≡_, refl, sym, ap, _∙_, subst}
 use mir.Syntax.{w32}
 use mir.Val.{toZ, ofZ}
 use mir.ValLaws.{toZ-ofZ}
-use Rattle.numbers.specs.Float.{toF32}
 use Rattle.numbers.proofs.float.Rounding.{ofInt-neg, not-negative, signed-held}
 use Rattle.numbers.proofs.float.nearest.of_i32.Statement.{statement}
+use Rattle.numbers.specs.Float.{toF32}
 use Rattle.numbers.proofs.float.nearest.of_i32.Tie as tie
 
 below-zero : (n : ℤ) → ltZ n (pos 0) ≡ true → neg (toF32 (pos (natAbs n))) ≡ toF32 n
@@ -24,7 +24,10 @@ from-zero (pos k) e = refl
 from-zero (negsuc k) e = absurd (subst T e tt)
 
 int-to-float-result : tie.Need-int-to-float-result
-int-to-float-result c = signed-held _ (c .before .before .if1 .taken) (c .before .if2 .taken)
+int-to-float-result c =
+    let if1 = c .before .before .if1 in
+    let if2 = c .before .if2 in
+    signed-held _ (if1 .taken) (if2 .taken)
 
 returns : tie.Need-returns
 returns c = search needs
@@ -37,19 +40,23 @@ of-u64-requires c κs = search needs
 
 returns-2 : tie.Need-returns-2
 returns-2 c =
+    let of-u64 = c .before .of-u64 in
+    let magnitude = c .before .before .magnitude in
     let start = c .before .before .before .before in
     let n = start .args .n in
     let read : toZ w32 (ofZ w32 n) ≡ n = toZ-ofZ w32 n (start .fits .n) in
-    ap neg (c .before .of-u64 .ensures ∙ ap (λ (k : ℕ). toF32 (pos k)) (c .before .before .magnitude .ensures ∙ ap natAbs read))
+    ap neg (of-u64 .ensures ∙ ap (λ (k : ℕ). toF32 (pos k)) (magnitude .ensures ∙ ap natAbs read))
     ∙ below-zero n (ap (λ (z : ℤ). ltZ z (pos 0)) (sym read) ∙ c .if3 .taken)
 
 returns-3 : tie.Need-returns-3
 returns-3 c =
+    let of-u64 = c .before .of-u64 in
+    let magnitude = c .before .before .magnitude in
     let start = c .before .before .before .before in
     let n = start .args .n in
     let read : toZ w32 (ofZ w32 n) ≡ n = toZ-ofZ w32 n (start .fits .n) in
-    c .before .of-u64 .ensures
-    ∙ ap (λ (k : ℕ). toF32 (pos k)) (c .before .before .magnitude .ensures ∙ ap natAbs read)
+    of-u64 .ensures
+    ∙ ap (λ (k : ℕ). toF32 (pos k)) (magnitude .ensures ∙ ap natAbs read)
     ∙ from-zero n (ap (λ (z : ℤ). ltZ z (pos 0)) (sym read) ∙ c .if3 .left)
 
 pub of-i32-spec : {M : Type 1} → statement M

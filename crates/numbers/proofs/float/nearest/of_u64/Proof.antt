@@ -1,15 +1,15 @@
 -- `numbers::float::nearest::of_u64` meets its contract, by the law over the width (proofs/float/Rounding.antt, `round-whole`). Assumes nothing.
-use mathlib.Core.Path.{_≡_, refl, sym, ap, _∙_, subst}
-use mathlib.Core.Bool.{false}
 use Prim.Native.Nat.{ℕ, _+_, _-_, _/_, _%_, _*_, _^_, _≤_, _<_, compare}
-use native.Mathlib.Nat.{le-trans, le-of-lt}
-use native.Mathlib.Omega.{arith}
-use lib.IntN.{pos}
-use lib.Ieee.{binary32, ofInt, round, units, size}
+use borrow.Author.Needs.{needs}
 use lib.Ieee.Digits.{size-le}
 use lib.Ieee.Fits.{kept-lt, nearest-le}
 use lib.Ieee.Nearest.{closest, nearest-ge}
-use borrow.Author.Needs.{needs}
+use lib.Ieee.{binary32, ofInt, round, units, size}
+use lib.IntN.{pos}
+use mathlib.Core.Bool.{false}
+use mathlib.Core.Path.{_≡_, refl, sym, ap, _∙_, subst}
+use native.Mathlib.Nat.{le-trans, le-of-lt}
+use native.Mathlib.Omega.{arith}
 use Rattle.numbers.proofs.float.Rounding.{round-whole, reaches-size, kept-least, whole-held}
 use Rattle.numbers.proofs.float.nearest.of_u64.Statement.{statement}
 use Rattle.numbers.proofs.float.nearest.of_u64.Tie as tie
@@ -55,7 +55,10 @@ digits-requires : tie.Need-digits-requires
 digits-requires c κs = search needs
 
 at : (c : tie.After-digits) → Kept (c .before .before .args .n) (c .digits .result)
-at c = kept (c .before .before .args .n) (c .digits .result) (le-of-lt (c .before .if1 .left)) (omega arith) (c .digits .ensures)
+at c =
+    let args = c .before .before .args in
+    let if1 = c .before .if1 in
+    kept (args .n) (c .digits .result) (le-of-lt (if1 .left)) (omega arith) (c .digits .ensures)
 
 sub-dropped : tie.Need-sub-dropped
 sub-dropped c = le-of-lt (at c .longer)
@@ -74,10 +77,13 @@ assembled-requires c κs =
 
 returns-2 : tie.Need-returns-2
 returns-2 c =
-    let n = c .before .before .before .before .args .n in
-    let z = c .before .before .digits .result in
+    let args = c .before .before .before .before .args in
+    let digits = c .before .before .digits in
+    let nearest-shifted = c .before .nearest-shifted in
+    let n = args .n in
+    let z = digits .result in
     c .assembled .ensures
-    ∙ ap (λ (q : ℕ). units binary32 false q (z - 24 + 149)) (c .before .nearest-shifted .ensures)
+    ∙ ap (λ (q : ℕ). units binary32 false q (z - 24 + 149)) (nearest-shifted .ensures)
     ∙ sym (rounded n ∙ at (c .before .before) .rounds)
 
 pub of-u64-spec : {M : Type 1} → statement M
