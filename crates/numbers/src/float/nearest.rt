@@ -8,7 +8,7 @@ ghost use lib.Ieee.Nearest.{closest};
 ghost use Rattle.numbers.specs.Float.{toF32};
 
 // How many binary digits n has.
-pub fn digits(n: u64) -> u64
+pub(crate) fn digits(n: u64) -> u64
     ensures { λ r. ⌜ r ≡ size n ⌝ }
 {
     64 - (u64::leading_zeros(n) as u64)
