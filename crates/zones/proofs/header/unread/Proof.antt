@@ -1,7 +1,7 @@
 -- `zones::header::unread` meets its contract. Assumes nothing.
 use borrow.Author.Needs.{needs}
 use native.Mathlib.Omega.{arith}
-use Rattle.zones.proofs.Sizes.{unread-own, unread-12}
+use Rattle.zones.proofs.header.Sizes.{unread-own, unread-12}
 use Rattle.zones.proofs.header.unread.Statement.{statement}
 use Rattle.zones.proofs.header.unread.Tie as tie
 
