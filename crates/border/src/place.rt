@@ -1,5 +1,6 @@
 // Fixed coordinates. Their scales differ by two, so each has a type of its own.
 ghost use mathlib.Core.Path.{_≡_};
+ghost use lib.IntN.{negℤ, _+ℤ_};
 ghost use Rattle.border.specs.Place.{isStill, checked, movedBy, negated};
 ghost use Rattle.border.specs.Told.{toldSigned, toldMoved, toldAway};
 use numbers::point::RawPoint;
@@ -31,6 +32,18 @@ fn narrow(wide: i64) -> Signed
     Signed::Fits(wide as i32)
 }
 
+fn sum(a: i32, b: i32) -> Signed
+    ensures { λ r. ⌜ toldSigned r ≡ checked 31 (a +ℤ b) ⌝ }
+{
+    narrow((a as i64) + (b as i64))
+}
+
+fn minus(a: i32) -> Signed
+    ensures { λ r. ⌜ toldSigned r ≡ checked 31 (negℤ a) ⌝ }
+{
+    narrow(0 - (a as i64))
+}
+
 pub enum Moved {
     To(Point),
     Over,
@@ -40,10 +53,10 @@ pub enum Moved {
 pub fn move_by(p: Point, by: RawPoint) -> Moved
     ensures { λ r. ⌜ toldMoved r ≡ movedBy p by ⌝ }
 {
-    let Signed::Fits(lat) = narrow((p.lat.0 as i64) + (by.lat as i64)) else {
+    let Signed::Fits(lat) = sum(p.lat.0, by.lat) else {
         return Moved::Over;
     };
-    let Signed::Fits(lon) = narrow((p.lon.0 as i64) + (by.lon as i64)) else {
+    let Signed::Fits(lon) = sum(p.lon.0, by.lon) else {
         return Moved::Over;
     };
     Moved::To(Point {
@@ -61,10 +74,10 @@ pub enum Away {
 pub fn negate(by: RawPoint) -> Away
     ensures { λ r. ⌜ toldAway r ≡ negated by ⌝ }
 {
-    let Signed::Fits(lat) = narrow(0 - (by.lat as i64)) else {
+    let Signed::Fits(lat) = minus(by.lat) else {
         return Away::Over;
     };
-    let Signed::Fits(lon) = narrow(0 - (by.lon as i64)) else {
+    let Signed::Fits(lon) = minus(by.lon) else {
         return Away::Over;
     };
     Away::By(RawPoint { lat, lon })
