@@ -515,7 +515,12 @@ pub fn step(file: &[u8], version: Version, data_offset: u32, reader: Reader) -> 
 }
 
 // The thin form: the lent state goes through `step` and back.
-pub fn reader_get_point(file: &[u8], version: Version, data_offset: u32, reader: &mut Reader) -> Reply
+pub fn reader_get_point(
+    file: &[u8],
+    version: Version,
+    data_offset: u32,
+    reader: &mut Reader,
+) -> Reply
     ensures { λ r. ⌜ (r ≡ steppedBy (now (reader .entry)) (nextPoint (now (file .entry)) version «data_offset» (now (reader .entry))) .reply)
         × (now (reader .exit) ≡ steppedBy (now (reader .entry)) (nextPoint (now (file .entry)) version «data_offset» (now (reader .entry))) .reader) ⌝ }
 {
