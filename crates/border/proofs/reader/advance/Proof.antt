@@ -1,9 +1,9 @@
 -- `border::reader::advance` meets its contract. Assumes nothing.
-use Rattle.border.proofs.Steps.{goes, halts}
+use Rattle.border.proofs.reader.Turns.{advances, advance-over}
 use Rattle.border.specs.declared.reader.{Reader.Reader}
-use Rattle.border.specs.Reader.{gives, moved, advanced}
+use Rattle.border.specs.Reader.{gives, onward}
 use Rattle.numbers.specs.Answer.{found}
-use mathlib.Core.Path.{_∙_, ap}
+use mathlib.Core.Path.{sym, ap, _∙_}
 use borrow.Author.Needs.{needs}
 use Rattle.border.proofs.reader.advance.Statement.{statement}
 use Rattle.border.proofs.reader.advance.Tie as tie
@@ -22,16 +22,14 @@ enum-told : tie.Need-enum-told
 enum-told c = search needs
 
 returns : tie.Need-returns
-unfolding advanced moved
-returns c = halts (halts (rw (c .enum-told .given .1) at (c .before .before .move-by .ensures)) _) _
+returns c = sym (advance-over (onward (c .before .before .before .before .args .reader) (c .before .before .before .before .args .place) (c .before .before .before .before .args .reader .moves) (c .before .before .before .before .args .run)) (c .before .before .before .before .args .by) (rw (c .enum-told .given .1) at (c .before .before .move-by .ensures)))
 
 arrive-requires : tie.Need-arrive-requires
 arrive-requires c κs = search needs
 
 returns-2 : tie.Need-returns-2
-unfolding advanced moved
 returns-2 c = ap (λ (t : Reader). found (gives t)) (c .arrive .ensures)
-    ∙ goes (goes (rw (c .before .before .point .given .1) at (c .before .before .before .before .move-by .ensures)) _) _
+    ∙ sym (advances (onward (c .before .before .before .before .before .before .args .reader) (c .before .before .before .before .before .before .args .place) (c .before .before .before .before .before .before .args .reader .moves) (c .before .before .before .before .before .before .args .run)) (c .before .before .before .before .before .before .args .by) (rw (c .before .before .point .given .1) at (c .before .before .before .before .move-by .ensures)))
 
 pub advance-spec : {M : Type 1} → statement M
 advance-spec =

@@ -11,7 +11,7 @@ use Rattle.border.proofs.reader.open_forward.Lts as lts
 use Rattle.border.proofs.reader.data_place.Reads as data-place-reads
 
 returns : tie.Need-returns
-returns c = rw (c .if1 .taken) (none-opened (c .before .args .base) (c .before .args .start) (search needs))
+returns c = rw (c .if1 .taken) (none-opened (c .before .args .base) (c .before .args .start))
 
 add-if3 : tie.Need-add-if3
 add-if3 c = search needs
