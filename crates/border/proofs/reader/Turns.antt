@@ -127,3 +127,13 @@ pub closed-ends : (f : List ℕ) (version : Version) (base : ℕ) (s : Reader) �
 unfolding turnOf
 closed-ends f Plain base s h = rw h
 closed-ends f Packed base s h = rw h
+
+-- ---- a border that is not closed
+
+pub open-packed : (f : List ℕ) (base : ℕ) (s : Reader) → s .closed ≡ false → turnOf f Packed base s ≡ packedTurn (s .run) f base s
+unfolding turnOf
+open-packed f base s h = rw h
+
+pub open-plain : (f : List ℕ) (base : ℕ) (s : Reader) → s .closed ≡ false → turnOf f Plain base s ≡ plainTurn f s
+unfolding turnOf
+open-plain f base s h = rw h
