@@ -99,6 +99,7 @@ forwardFrom next end = if leb end next then Idle else Forward next end
 unfoldable pub backwardFrom : ℕ → ℕ → Run
 backwardFrom next end = if leb next end then Idle else Backward next end
 
+-- version 1: the next number, outside a reference, inside one that is read forward, and backward
 unfoldable pub packedTurn : Run → List ℕ → ℕ → Reader → Answer Turn
 packedTurn Idle f base s = do
   number ← forwardAt f (s .place)
@@ -114,6 +115,7 @@ packedTurn (Backward next end) f base s = do
   back ← negated by
   advanced (onward s (s .place) (s .moves) (backwardFrom (number .place) end)) back
 
+-- a closed border has ended; the others are read by their version
 unfoldable pub turnOf : List ℕ → Version → ℕ → Reader → Answer Turn
 turnOf f Plain base s = if s .closed then found ends else plainTurn f s
 turnOf f Packed base s = if s .closed then found ends else packedTurn (s .run) f base s

@@ -481,13 +481,13 @@ pub enum Reply {
 }
 
 // A reply beside the state after it.
-pub struct Stepped {
-    pub reader: Reader,
-    pub reply: Reply,
+struct Stepped {
+    reader: Reader,
+    reply: Reply,
 }
 
 // The end, a failure and a refusal leave the state as it was.
-pub fn step(file: &[u8], version: Version, data_offset: u32, reader: Reader) -> Stepped
+fn step(file: &[u8], version: Version, data_offset: u32, reader: Reader) -> Stepped
     ensures { λ r. ⌜ r ≡ steppedBy reader (nextPoint (now (file .entry)) version «data_offset» reader) ⌝ }
 {
     let n = next_point(file, version, data_offset, reader);
