@@ -1,6 +1,6 @@
 -- How much can still be read. Each turn that gives a point or goes round again leaves less. Assumes nothing.
 use Prim.Native.Nat.{ℕ, suc, _+_, _-_, _*_, _<_, _≤_, min}
-use native.Mathlib.Nat.{mul-le-mul-right, min-le-right, lt-of-lt-of-le, le-refl, suc-mul}
+use native.Mathlib.Nat.{mul-le-mul-right, min-le-right, le-refl, suc-mul}
 use native.Mathlib.Omega.{arith}
 use mathlib.Core.Path.{_≡_, refl}
 use mathlib.Core.Bool.{Bool, true, false}
@@ -15,7 +15,6 @@ use Rattle.numbers.specs.declared.varint.Varint.the-variants.{Number}
 use Rattle.numbers.proofs.Laws.{number-read}
 use Rattle.border.specs.Place.{moveBy, isStill, movedBy, negated}
 use Rattle.border.specs.Reader.{Turn, gives, again, ends, onward, arrived, closing, advanced, shownBy, plainMove, plainPair, plainTurn, asI64, opened, reference, marker, lent, forwardFrom, backwardFrom, packedTurn, turnOf}
-use Rattle.border.specs.declared.place.{Point.Point}
 use Rattle.border.specs.declared.reader.{Reader.Reader, Run.Run, Version.Version}
 use Rattle.border.specs.declared.reader.Version.the-variants.{Plain, Packed}
 use Rattle.border.specs.declared.reader.Run.the-variants.{Idle, Forward, Backward}

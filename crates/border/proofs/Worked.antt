@@ -1,7 +1,6 @@
 -- Document 01's border (2,2) (10,2) (10,10) (2,10), in both versions, and with its moves borrowed in both directions: its points, then the first again, closed. Assumes nothing.
-use Prim.Native.Nat.{ℕ}
 use mathlib.Core.Path.{_≡_, refl}
-use mathlib.Core.List.{List, [], _∷_}
+use mathlib.Core.List.{[], _∷_}
 use lib.IntN.{pos}
 use Rattle.numbers.specs.Varint.{forwardAt, valueOf, sizeOf, tooLong, startOf, backwardAt}
 use Rattle.numbers.specs.Point.{signedOf, evenBits, pointOf}

@@ -4,7 +4,7 @@ use mathlib.Core.Bool.{true}
 use mathlib.Core.List.{List}
 use lib.Dec.{ltb, leb, eqb}
 use lib.IntN.{ℤ, pos, negsuc, _+ℤ_, _-ℤ_}
-use Rattle.numbers.specs.Answer.{Answer, found, failed, refused, if_then_else_, _>>=_}
+use Rattle.numbers.specs.Answer.{Answer, found, failed, if_then_else_, _>>=_}
 use Rattle.numbers.specs.Varint.{forwardAt, backwardAt}
 use Rattle.numbers.specs.Point.{low32, signedOf, pointOf}
 use Rattle.numbers.specs.declared.point.{RawPoint.RawPoint}
