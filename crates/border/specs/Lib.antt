@@ -1,0 +1,4 @@
+pub mod Place
+pub mod Reader
+pub mod Trace
+pub mod Told
