@@ -33,15 +33,15 @@ pub data Turned : List RawPoint → List RawPoint → Type 0 where
 -- the moves of a piece, by the two numbers of its reference: "run start, signed length; backward, run end and the length negated"; "a backward run also
 -- needs the byte just before it, of that data, with the high bit clear"
 pub data Borrowed (earlier : List ℕ) : ℕ → ℕ → List RawPoint → Type 0 where
-  forward : {before run after : List ℕ} {size : ℕ} {moves : List RawPoint} → earlier ≡ before ++ (run ++ after) → signedOf size ≡ pos (length run)
+  forward : (before run after : List ℕ) {size : ℕ} {moves : List RawPoint} → earlier ≡ before ++ (run ++ after) → signedOf size ≡ pos (length run)
       → Splits run moves → Borrowed earlier (length before) size moves
-  backward : {before run after : List ℕ} {clear size : ℕ} {moves turned : List RawPoint} → earlier ≡ before ++ (clear ∷ (run ++ after)) → clear < 128 → signedOf size ≡ negℤ (pos (length run))
+  backward : (before : List ℕ) (clear : ℕ) (run after : List ℕ) {size : ℕ} {moves turned : List RawPoint} → earlier ≡ before ++ (clear ∷ (run ++ after)) → clear < 128 → signedOf size ≡ negℤ (pos (length run))
       → Splits run moves → Turned moves turned → Borrowed earlier (length before + 1 + length run) size turned
 
 -- version 1, behind the earlier data: "moves, 00 00"; a piece "is written 00 01", then its two numbers
 pub data Version1 (earlier : List ℕ) : List ℕ → List RawPoint → Type 0 where
   closes : Version1 earlier (0 ∷ 0 ∷ []) []
-  moves : {w bytes : List ℕ} {value : ℕ} {more : List RawPoint} → Whole w value → 0 < value → Version1 earlier bytes more → Version1 earlier (w ++ bytes) (pointOf value ∷ more)
+  step : {w bytes : List ℕ} {value : ℕ} {more : List RawPoint} → Whole w value → 0 < value → Version1 earlier bytes more → Version1 earlier (w ++ bytes) (pointOf value ∷ more)
   borrows : {start size : ℕ} {w w′ bytes : List ℕ} {lent more : List RawPoint} → Whole w start → Whole w′ size → Borrowed earlier start size lent
       → Version1 earlier bytes more → Version1 earlier (0 ∷ 1 ∷ (w ++ (w′ ++ bytes))) (lent ++ more)
 
@@ -64,7 +64,7 @@ Encodes Packed earlier bytes moves = Version1 earlier bytes moves
 -- the moves lead from a point through the points
 pub data Leads : Point → List RawPoint → List Point → Type 0 where
   stays : {p : Point} → Leads p [] []
-  moves : {p q : Point} {by : RawPoint} {more : List RawPoint} {qs : List Point} → movedBy p by ≡ found q → Leads q more qs → Leads p (by ∷ more) (q ∷ qs)
+  step : {p q : Point} {by : RawPoint} {more : List RawPoint} {qs : List Point} → movedBy p by ≡ found q → Leads q more qs → Leads p (by ∷ more) (q ∷ qs)
 
 -- a border of these points, written in a version behind the earlier data
 pub record Border (version : Version) (earlier bytes : List ℕ) (points : List Point) : Type 0 where
