@@ -66,6 +66,9 @@ unfolding sizeOf
 size-pos [] = omega arith
 size-pos (b ∷ bs) = omega arith
 
+pub whole-some : (w : List ℕ) → sizeOf w ≡ length w → 0 < length w
+whole-some w e = omega (arith, size-pos w)
+
 -- what stands behind a whole number is no part of it
 size-alone : (w rest : List ℕ) → sizeOf w ≡ length w → sizeOf (w ++ rest) ≡ length w
 unfolding sizeOf
