@@ -30,8 +30,12 @@ arrived s p = record { place = s .place; moves = s .moves; begun = true; closed 
 abbrev pub closing : Reader → Reader
 closing s = record { place = s .place; moves = s .moves; begun = s .begun; closed = true; run = s .run; point = s .first; first = s .first }
 
+-- a move leads on; in version 1 it always gives its point
 unfoldable pub moved : Reader → RawPoint → Answer Reader
 moved s by = movedBy (s .point) by >>= λ p. found (arrived s p)
+
+unfoldable pub advanced : Reader → RawPoint → Answer Turn
+advanced s by = moved s by >>= λ t. found (gives t)
 
 -- version 0: "a count (0 fails), then moves"
 unfoldable pub counted : List ℕ → Reader → Answer Reader
@@ -39,15 +43,21 @@ counted f s = if s .begun then found s else do
   count ← forwardAt f (s .place)
   if eqb (count .value) 0 then failed else found (onward s (count .place) (count .value) Idle)
 
--- a move counts; past the last one the closing point "also reads two signed numbers"; two zeros give no point
-unfoldable pub plainTurn : List ℕ → Reader → Answer Turn
-plainTurn f start = do
-  s ← counted f start
+-- "A zero move gives no point", "two zeros drop the closing point"
+abbrev pub shownBy : RawPoint → Reader → Turn
+shownBy by s = if isStill by then again s else gives s
+
+-- a move, which counts; past the last one the closing point, which "also reads two signed numbers"
+unfoldable pub plainPair : List ℕ → Reader → Answer Turn
+plainPair f s = do
   lat ← forwardAt f (s .place)
   lon ← forwardAt f (lat .place)
   let by = moveBy (signedOf (lat .value)) (signedOf (lon .value))
   t ← if eqb (s .moves) 0 then found (closing (onward s (lon .place) 0 Idle)) else moved (onward s (lon .place) (s .moves - 1) Idle) by
-  found (if isStill by then again t else gives t)
+  found (shownBy by t)
+
+unfoldable pub plainTurn : List ℕ → Reader → Answer Turn
+plainTurn f s = counted f s >>= plainPair f
 
 -- version 1: a place counted from the data section, modulo 2 ^ 32
 abbrev pub dataPlace : ℕ → ℤ → ℕ
@@ -98,18 +108,16 @@ unfoldable pub packedTurn : Run → List ℕ → ℕ → Reader → Answer Turn
 packedTurn Idle f base s = do
   number ← forwardAt f (s .place)
   let here = onward s (number .place) (s .moves) Idle
-  if eqb (number .value) 0 then marker f base here else (moved here (pointOf (number .value)) >>= λ t. found (gives t))
+  if eqb (number .value) 0 then marker f base here else advanced here (pointOf (number .value))
 packedTurn (Forward next end) f base s = do
   number ← forwardAt f next
   by ← lent (number .value)
-  t ← moved (onward s (s .place) (s .moves) (forwardFrom (number .place) end)) by
-  found (gives t)
+  advanced (onward s (s .place) (s .moves) (forwardFrom (number .place) end)) by
 packedTurn (Backward next end) f base s = do
   number ← backwardAt f next
   by ← lent (number .value)
   back ← negated by
-  t ← moved (onward s (s .place) (s .moves) (backwardFrom (number .place) end)) back
-  found (gives t)
+  advanced (onward s (s .place) (s .moves) (backwardFrom (number .place) end)) back
 
 unfoldable pub turnOf : List ℕ → Version → ℕ → Reader → Answer Turn
 turnOf f Plain base s = if s .closed then found ends else plainTurn f s

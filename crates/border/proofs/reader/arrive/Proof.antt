@@ -1,0 +1,13 @@
+use Rattle.border.proofs.reader.arrive.Statement.{statement}
+use Rattle.border.proofs.reader.arrive.Tie as tie
+use Rattle.border.proofs.reader.arrive.Reads as reads
+use Rattle.border.proofs.reader.arrive.Lts as lts
+
+returns : tie.Need-returns
+returns c = ?
+
+returns-2 : tie.Need-returns-2
+returns-2 c = ?
+
+pub arrive-spec : {M : Type 1} → statement M
+arrive-spec = tie.close (tie.spec returns returns-2)

@@ -1,0 +1,49 @@
+use borrow.Author.Needs.{needs}
+use Rattle.border.proofs.reader.packed_turn.Statement.{statement}
+use Rattle.border.proofs.reader.packed_turn.Tie as tie
+use Rattle.border.proofs.reader.packed_turn.Reads as reads
+use Rattle.border.proofs.reader.packed_turn.Lts as lts
+use Rattle.border.proofs.reader.read_move.Reads as read-move-reads
+use Rattle.border.proofs.reader.run_backward.Reads as run-backward-reads
+use Rattle.border.proofs.reader.run_forward.Reads as run-forward-reads
+
+enum-told : tie.Need-enum-told
+enum-told c = search needs
+
+read-move-requires : tie.Need-read-move-requires
+read-move-requires c κs = search needs
+
+enum-known-run : tie.Need-enum-known-run
+enum-known-run c = search needs
+
+run-forward-requires : tie.Need-run-forward-requires
+run-forward-requires c κs = search needs
+
+enum-known-run-2 : tie.Need-enum-known-run-2
+enum-known-run-2 c = search needs
+
+run-backward-requires : tie.Need-run-backward-requires
+run-backward-requires c κs = search needs
+
+returns : tie.Need-returns
+returns c = ?
+
+returns-2 : tie.Need-returns-2
+returns-2 c = ?
+
+returns-3 : tie.Need-returns-3
+returns-3 c = ?
+
+pub packed-turn-spec : {M : Type 1} → statement M
+packed-turn-spec =
+    tie.close
+    (tie.spec
+    enum-told
+    read-move-requires
+    enum-known-run
+    run-forward-requires
+    enum-known-run-2
+    run-backward-requires
+    returns
+    returns-2
+    returns-3)

@@ -1,0 +1,51 @@
+use borrow.Author.Needs.{needs}
+use Rattle.border.proofs.reader.read_move.Statement.{statement}
+use Rattle.border.proofs.reader.read_move.Tie as tie
+use Rattle.border.proofs.reader.read_move.Reads as reads
+use Rattle.border.proofs.reader.read_move.Lts as lts
+use Rattle.border.proofs.reader.advance.Reads as advance-reads
+use Rattle.border.proofs.reader.read_marker.Reads as read-marker-reads
+use Rattle.border.proofs.reader.stop.Reads as stop-reads
+use Rattle.numbers.proofs.point.decode_point.Reads as decode-point-reads
+use Rattle.numbers.proofs.varint.read_forward.Reads as read-forward-reads
+
+read-forward-requires : tie.Need-read-forward-requires
+read-forward-requires c κs = search needs
+
+enum-known-n : tie.Need-enum-known-n
+enum-known-n c = search needs
+
+stop-requires : tie.Need-stop-requires
+stop-requires c κs = search needs
+
+returns : tie.Need-returns
+returns c = ?
+
+read-marker-requires : tie.Need-read-marker-requires
+read-marker-requires c κs = search needs
+
+returns-2 : tie.Need-returns-2
+returns-2 c = ?
+
+decode-point-requires : tie.Need-decode-point-requires
+decode-point-requires c κs = search needs
+
+advance-requires : tie.Need-advance-requires
+advance-requires c κs = search needs
+
+returns-3 : tie.Need-returns-3
+returns-3 c = ?
+
+pub read-move-spec : {M : Type 1} → statement M
+read-move-spec =
+    tie.close
+    (tie.spec
+    read-forward-requires
+    enum-known-n
+    stop-requires
+    returns
+    read-marker-requires
+    returns-2
+    decode-point-requires
+    advance-requires
+    returns-3)

@@ -1,0 +1,18 @@
+use borrow.Author.Needs.{needs}
+use Rattle.border.proofs.reader.shown.Statement.{statement}
+use Rattle.border.proofs.reader.shown.Tie as tie
+use Rattle.border.proofs.reader.shown.Reads as reads
+use Rattle.border.proofs.reader.shown.Lts as lts
+use Rattle.border.proofs.place.is_still.Reads as is-still-reads
+
+is-still-requires : tie.Need-is-still-requires
+is-still-requires c κs = search needs
+
+returns : tie.Need-returns
+returns c = ?
+
+returns-2 : tie.Need-returns-2
+returns-2 c = ?
+
+pub shown-spec : {M : Type 1} → statement M
+shown-spec = tie.close (tie.spec is-still-requires returns returns-2)

@@ -1,0 +1,47 @@
+use borrow.Author.Needs.{needs}
+use Rattle.border.proofs.reader.step.Statement.{statement}
+use Rattle.border.proofs.reader.step.Tie as tie
+use Rattle.border.proofs.reader.step.Reads as reads
+use Rattle.border.proofs.reader.step.Lts as lts
+use Rattle.border.proofs.reader.next_point.Reads as next-point-reads
+
+next-point-requires : tie.Need-next-point-requires
+next-point-requires c κs = search needs
+
+enum-known-n : tie.Need-enum-known-n
+enum-known-n c = search needs
+
+enum-told : tie.Need-enum-told
+enum-told c = search needs
+
+enum-told-2 : tie.Need-enum-told-2
+enum-told-2 c = search needs
+
+enum-known-n-2 : tie.Need-enum-known-n-2
+enum-known-n-2 c = search needs
+
+returns : tie.Need-returns
+returns c = ?
+
+returns-2 : tie.Need-returns-2
+returns-2 c = ?
+
+returns-3 : tie.Need-returns-3
+returns-3 c = ?
+
+returns-4 : tie.Need-returns-4
+returns-4 c = ?
+
+pub step-spec : {M : Type 1} → statement M
+step-spec =
+    tie.close
+    (tie.spec
+    next-point-requires
+    enum-known-n
+    enum-told
+    enum-told-2
+    enum-known-n-2
+    returns
+    returns-2
+    returns-3
+    returns-4)

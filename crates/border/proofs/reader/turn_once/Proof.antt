@@ -1,0 +1,40 @@
+use borrow.Author.Needs.{needs}
+use Rattle.border.proofs.reader.turn_once.Statement.{statement}
+use Rattle.border.proofs.reader.turn_once.Tie as tie
+use Rattle.border.proofs.reader.turn_once.Reads as reads
+use Rattle.border.proofs.reader.turn_once.Lts as lts
+use Rattle.border.proofs.reader.packed_turn.Reads as packed-turn-reads
+use Rattle.border.proofs.reader.plain_turn.Reads as plain-turn-reads
+
+returns : tie.Need-returns
+returns c = ?
+
+enum-told : tie.Need-enum-told
+enum-told c = search needs
+
+packed-turn-requires : tie.Need-packed-turn-requires
+packed-turn-requires c κs = search needs
+
+enum-told-2 : tie.Need-enum-told-2
+enum-told-2 c = search needs
+
+plain-turn-requires : tie.Need-plain-turn-requires
+plain-turn-requires c κs = search needs
+
+returns-2 : tie.Need-returns-2
+returns-2 c = ?
+
+returns-3 : tie.Need-returns-3
+returns-3 c = ?
+
+pub turn-once-spec : {M : Type 1} → statement M
+turn-once-spec =
+    tie.close
+    (tie.spec
+    returns
+    enum-told
+    packed-turn-requires
+    enum-told-2
+    plain-turn-requires
+    returns-2
+    returns-3)
