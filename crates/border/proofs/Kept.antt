@@ -1,6 +1,6 @@
 -- What is kept of a point: its quadrant, one of four, and its floats where the distance is asked for. Assumes nothing.
 use Prim.Native.Nat.{ℕ, _≤_}
-use mathlib.Core.Path.{_≡_, ap, _∙_}
+use mathlib.Core.Path.{_≡_, sym, ap, _∙_}
 use mathlib.Core.Bool.{Bool, true, false}
 use lib.Dec.{lit≤}
 use lib.Signed.{leZ}
@@ -27,3 +27,11 @@ module _ (fix : Point) (asked : Bool) {s : Seen} (kept : s ≡ seenFrom fix aske
   pub location-kept : asked ≡ true → s .location ≡ locationOf (s .point)
   unfolding seenFrom
   location-kept e = ap (λ (x : Seen). x .location) kept ∙ ap (λ (t : Bool). if t then locationOf (s .point) else locationOf fix) e
+
+module _ (fix : Point) (asked : Bool) (p : Point) {s : Seen} (seen : s ≡ seenFrom fix asked p) where
+  pub point-kept : s .point ≡ p
+  unfolding seenFrom
+  point-kept = ap (λ (x : Seen). x .point) seen
+
+  pub seen-again : s ≡ seenFrom fix asked (s .point)
+  seen-again = seen ∙ ap (seenFrom fix asked) (sym point-kept)

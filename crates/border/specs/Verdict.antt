@@ -13,7 +13,8 @@ use Rattle.border.specs.Winding as W
 use Rattle.border.specs.Winding.{woundBy}
 use Rattle.border.specs.Distance.{leastOf}
 use Rattle.border.specs.declared.place.{FixedLat.FixedLat, FixedLon.FixedLon, Point.Point}
-use Rattle.border.specs.declared.reader.Version.{Version}
+use Rattle.border.specs.declared.reader.{Version.Version, Next.Next}
+use Rattle.border.specs.declared.reader.Next.the-variants as N
 use Rattle.border.specs.declared.winding.Winding.{Winding}
 use Rattle.border.specs.declared.verdict.{Tally.Tally, Verdict.Verdict, Passed.Passed, Judged.Judged}
 use Rattle.border.specs.declared.verdict.Verdict.the-variants.{NotInZone, InZone, InExcludedZone, OnBorderVertex, OnBorderSegment}
@@ -88,6 +89,13 @@ unfoldable pub judgedAt : List ℕ → Version → ℕ → ℕ → FixedLat → 
 judgedAt file version data-offset place lat lon asked least =
     judge (record { lat = lat; lon = lon }) asked none (record { winding = pos 0; least = least }) (traceOf file version data-offset (borderAt place))
 
--- a winding with nothing to follow it
+-- a border that gives no further point
+abbrev pub endedAt : Next → Bool → Tally → Judgement
+endedAt N.Ended asked tally = closedAt asked tally
+endedAt N.Failed asked tally = failed (tally .least)
+endedAt (N.Refused n) asked tally = refused n
+endedAt (N.Point s) asked tally = failed (tally .least)
+
+-- a winding that does not go on
 abbrev pub halted : Winding → Step Tally
 halted w = W.told w >>= λ x. S.refused 13

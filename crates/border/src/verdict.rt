@@ -1,13 +1,22 @@
 // A border's verdict on a location, over its points as they are read.
 ghost use mathlib.Core.Path.{_≡_};
 ghost use Rattle.border.specs.Edge.{Sighted};
-ghost use Rattle.border.specs.Verdict.{told, toldPassed, halted, after, lastOf, along, passing, onBorder, closedAt};
+ghost use Rattle.border.specs.Verdict.{told, toldPassed, halted, after, lastOf, along, passing, onBorder, closedAt, endedAt, thenOn, judgedAt};
+ghost use Rattle.border.specs.Verdict as verdict;
 use crate::distance::Distance;
 use crate::distance::least_with;
 use crate::edge::Location;
 use crate::edge::Seen;
+use crate::edge::location_of;
 use crate::edge::same_point;
+use crate::edge::seen_from;
+use crate::place::FixedLat;
+use crate::place::FixedLon;
 use crate::place::Point;
+use crate::reader::Next;
+use crate::reader::Version;
+use crate::reader::next_point;
+use crate::reader::open_border;
 use crate::winding::Winding;
 use crate::winding::wound;
 
@@ -128,4 +137,62 @@ fn closed(asked: bool, tally: Tally) -> Judged
         };
     }
     on_border(Verdict::OnBorderSegment, asked, least)
+}
+
+// The answer where there is no further point.
+fn ended(next: Next, asked: bool, tally: Tally) -> Judged
+    ensures { λ r. ⌜ told r ≡ endedAt next asked tally ⌝ }
+{
+    match next {
+        Next::Ended => closed(asked, tally),
+        Next::Refused(number) => Judged::Refused(number),
+        Next::Failed => Judged::Failed { least: tally.least },
+        Next::Point(_) => Judged::Failed { least: tally.least },
+    }
+}
+
+// The answer of a step that does not go on.
+fn stopped(passed: Passed, asked: bool, least: u64) -> Judged
+    ensures { λ r. ⌜ told r ≡ thenOn asked least (toldPassed passed) (λ tally. verdict.refused 13) ⌝ }
+{
+    let Passed::Meets(verdict) = passed else {
+        return Judged::Refused(13);
+    };
+    on_border(verdict, asked, least)
+}
+
+// What the border at a place of the file says of a location, with the least squared distance so far.
+pub fn point_in_polygon(
+    file: &[u8],
+    version: Version,
+    data_offset: u32,
+    place: usize,
+    lat: FixedLat,
+    lon: FixedLon,
+    asked: bool,
+    least: u64,
+) -> Judged
+    ensures { λ r. ⌜ told r ≡ judgedAt (now (file .entry)) version «data_offset» place lat lon asked least ⌝ }
+{
+    let fix = Point { lat, lon };
+    let at = location_of(fix);
+    let mut reader = open_border(place);
+    let mut begun = false;
+    let mut last = seen_from(fix, at, asked, fix);
+    let mut tally = Tally { winding: 0, least };
+    loop {
+        let next = next_point(file, version, data_offset, reader);
+        let Next::Point(later) = next else {
+            return ended(next, asked, tally);
+        };
+        let here = seen_from(fix, at, asked, later.point);
+        let passed = judge_point(fix, at, asked, begun, last, here, tally);
+        let Passed::On(counted) = passed else {
+            return stopped(passed, asked, tally.least);
+        };
+        reader = later;
+        begun = true;
+        last = here;
+        tally = counted;
+    }
 }

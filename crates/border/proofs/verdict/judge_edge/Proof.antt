@@ -4,7 +4,7 @@ use mathlib.Core.Path.{_≡_, _∙_}
 use mir.Syntax.{w32}
 use mir.Val.{toZ, ofZ}
 use Rattle.border.proofs.Kept.{quadrant-kept, location-kept}
-use Rattle.border.proofs.Variants.{halts}
+use Rattle.border.proofs.verdict.Cases.{halts}
 use Rattle.border.specs.Distance.{leastOf}
 use Rattle.border.specs.Verdict.{along}
 use borrow.Author.Needs.{needs}

@@ -3,7 +3,7 @@ use mathlib.Core.Path.{_≡_}
 use mir.Syntax.{w32}
 use mir.Facts.{toZ-ofZ}
 use mir.Val.{toZ, ofZ}
-use Rattle.border.proofs.Variants.{straight-across, stays}
+use Rattle.border.proofs.winding.Cases.{straight-across, stays}
 use Rattle.border.specs.Winding.{acrossBy}
 use borrow.Author.Needs.{needs}
 use Rattle.border.proofs.winding.cross.Statement.{statement}

@@ -5,7 +5,7 @@ use mathlib.Core.Path.{_≡_}
 use mir.Syntax.{w32}
 use mir.Facts.{toZ-ofZ}
 use mir.Val.{toZ, ofZ}
-use Rattle.border.proofs.Variants.{stays}
+use Rattle.border.proofs.winding.Cases.{stays}
 use Rattle.border.proofs.Kept.{quadrant-small}
 use Rattle.border.specs.Winding.{woundBy}
 use borrow.Author.Needs.{needs}

@@ -1,7 +1,6 @@
 -- What a definition by cases gives at the variants that a `let .. else` leaves. Assumes nothing.
 use Prim.Native.Nat.{ℕ}
 use mathlib.Core.Path.{_≡_, refl}
-use mathlib.Core.Bool.{Bool}
 use mathlib.Core.List.{[], _∷_}
 use lib.IntN.{ℤ}
 use types.Run.{OneOf, miss}
@@ -10,13 +9,11 @@ use Rattle.border.proofs.edge.Edge as Edge'
 use Rattle.border.proofs.winding.Winding as Winding'
 use Rattle.border.specs.Step.{Step, meets, _>>=_}
 use Rattle.border.specs.Winding.{told, acrossBy}
-use Rattle.border.specs.Verdict.{halted}
 use Rattle.border.specs.declared.place.Point.{Point}
 use Rattle.border.specs.declared.edge.Edge.{Edge}
 use Rattle.border.specs.declared.edge.Edge.the-variants as E
 use Rattle.border.specs.declared.winding.Winding.{Winding}
 use Rattle.border.specs.declared.winding.Winding.the-variants as W
-use Rattle.border.specs.declared.verdict.Tally.{Tally}
 use Rattle.border.specs.declared.verdict.Verdict.the-variants.{OnBorderSegment}
 
 -- a straight edge
@@ -31,8 +28,3 @@ pub stays : (w : Winding) (k : ℤ → Step ℤ) → OneOf (1 ∷ 2 ∷ []) (tag
 stays (W.Is x) k o = absurd (miss (1 ∷ 2 ∷ []) 0 tt o)
 stays W.OnSegment k o = refl
 stays W.Over k o = refl
-
-pub halts : (w : Winding) (k : ℤ → Step Tally) → OneOf (1 ∷ 2 ∷ []) (tagOf Winding'.the-type w) → halted w ≡ (told w >>= k)
-halts (W.Is x) k o = absurd (miss (1 ∷ 2 ∷ []) 0 tt o)
-halts W.OnSegment k o = refl
-halts W.Over k o = refl
