@@ -1,7 +1,7 @@
--- A `let .. else` on an answer: what was found goes on, and a refusal stops whatever was to follow. Assumes nothing.
+-- What follows an answer that is known: what was found goes on, a refusal stops whatever was to follow. Assumes nothing.
 use mathlib.Core.Path.{_≡_, ap}
 use Prim.Native.Nat.{ℕ}
-use Rattle.numbers.specs.Answer.{Answer, found, failed, refused, _>>=_}
+use Rattle.numbers.specs.Answer.{Answer, found, refused, _>>=_}
 
 module _ {A B : Type 0} {answer : Answer A} where
   pub goes : {x : A} → found x ≡ answer → (next : A → Answer B) → next x ≡ (answer >>= next)

@@ -37,27 +37,28 @@ moved s by = movedBy (s .point) by >>= λ p. found (arrived s p)
 unfoldable pub advanced : Reader → RawPoint → Answer Turn
 advanced s by = moved s by >>= λ t. found (gives t)
 
--- version 0: "a count (0 fails), then moves"
-unfoldable pub counted : List ℕ → Reader → Answer Reader
-counted f s = if s .begun then found s else do
-  count ← forwardAt f (s .place)
-  if eqb (count .value) 0 then failed else found (onward s (count .place) (count .value) Idle)
-
 -- "A zero move gives no point", "two zeros drop the closing point"
 abbrev pub shownBy : RawPoint → Reader → Turn
 shownBy by s = if isStill by then again s else gives s
 
--- a move, which counts; past the last one the closing point, which "also reads two signed numbers"
+-- a move counts; past the last one the closing point is given
+unfoldable pub plainMove : Reader → RawPoint → Answer Turn
+plainMove s by = do
+  t ← if eqb (s .moves) 0 then found (closing s) else moved (onward s (s .place) (s .moves - 1) Idle) by
+  found (shownBy by t)
+
+-- "The closing point also reads two signed numbers"
 unfoldable pub plainPair : List ℕ → Reader → Answer Turn
 plainPair f s = do
   lat ← forwardAt f (s .place)
   lon ← forwardAt f (lat .place)
-  let by = moveBy (signedOf (lat .value)) (signedOf (lon .value))
-  t ← if eqb (s .moves) 0 then found (closing (onward s (lon .place) 0 Idle)) else moved (onward s (lon .place) (s .moves - 1) Idle) by
-  found (shownBy by t)
+  plainMove (onward s (lon .place) (s .moves) Idle) (moveBy (signedOf (lat .value)) (signedOf (lon .value)))
 
+-- version 0: "a count (0 fails), then moves"
 unfoldable pub plainTurn : List ℕ → Reader → Answer Turn
-plainTurn f s = counted f s >>= plainPair f
+plainTurn f s = if s .begun then plainPair f s else do
+  count ← forwardAt f (s .place)
+  if eqb (count .value) 0 then failed else plainPair f (onward s (count .place) (count .value) Idle)
 
 -- version 1: a place counted from the data section, modulo 2 ^ 32
 abbrev pub dataPlace : ℕ → ℤ → ℕ

@@ -2,7 +2,7 @@
 ghost use mathlib.Core.Path.{_≡_};
 ghost use lib.IntN.{pos, negsuc};
 ghost use Rattle.numbers.specs.Answer.{found};
-ghost use Rattle.border.specs.Reader.{onward, arrived, closing, advanced, shownBy, plainPair, plainTurn, dataPlace, asI64, opened, reference, marker, forwardFrom, backwardFrom, packedTurn, turnOf};
+ghost use Rattle.border.specs.Reader.{onward, arrived, closing, advanced, shownBy, plainMove, plainPair, plainTurn, dataPlace, asI64, opened, reference, marker, forwardFrom, backwardFrom, packedTurn, turnOf};
 ghost use Rattle.border.specs.Told.{stopped, toldRun, toldTurn, told, settledBy, steppedBy};
 ghost use Rattle.border.specs.Trace.{nextPoint, borderAt};
 use crate::place::Away;
@@ -131,7 +131,21 @@ fn shown(reader: Reader, by: RawPoint) -> Turn
     }
 }
 
-// Version 0: two signed numbers at `place`, a move or past the last one the closing pair.
+// Version 0: a move, which counts; past the last one the closing point.
+fn plain_move(reader: Reader, place: usize, moves: u64, by: RawPoint) -> Turn
+    ensures { λ r. ⌜ toldTurn r ≡ plainMove (onward reader place moves Run.Idle) by ⌝ }
+{
+    if moves == 0 {
+        return shown(close(reader, place, moves), by);
+    }
+    let here = reader.point;
+    let Moved::To(point) = move_by(here, by) else {
+        return Turn::Refused(13);
+    };
+    shown(arrive(reader, place, moves - 1, Run::Idle, point), by)
+}
+
+// Version 0: the two signed numbers of a move or of the closing pair.
 fn plain_pair(file: &[u8], reader: Reader, place: usize, moves: u64) -> Turn
     ensures { λ r. ⌜ toldTurn r ≡ plainPair (now (file .entry)) (onward reader place moves Run.Idle) ⌝ }
 {
@@ -155,14 +169,7 @@ fn plain_pair(file: &[u8], reader: Reader, place: usize, moves: u64) -> Turn
         lat: signed(lat),
         lon: signed(lon),
     };
-    if moves == 0 {
-        return shown(close(reader, after, 0), by);
-    }
-    let here = reader.point;
-    let Moved::To(point) = move_by(here, by) else {
-        return Turn::Refused(13);
-    };
-    shown(arrive(reader, after, moves - 1, Run::Idle, point), by)
+    plain_move(reader, after, moves, by)
 }
 
 // Version 0: the count comes before the first move.
@@ -508,7 +515,12 @@ pub fn step(file: &[u8], version: Version, data_offset: u32, reader: Reader) -> 
 }
 
 // The thin form: the lent state goes through `step` and back.
-pub fn reader_get_point(file: &[u8], version: Version, data_offset: u32, reader: &mut Reader) -> Reply
+pub fn reader_get_point(
+    file: &[u8],
+    version: Version,
+    data_offset: u32,
+    reader: &mut Reader,
+) -> Reply
     ensures { λ r. ⌜ (r ≡ steppedBy (now (reader .entry)) (nextPoint (now (file .entry)) version «data_offset» (now (reader .entry))) .reply)
         × (now (reader .exit) ≡ steppedBy (now (reader .entry)) (nextPoint (now (file .entry)) version «data_offset» (now (reader .entry))) .reader) ⌝ }
 {

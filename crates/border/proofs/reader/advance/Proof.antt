@@ -1,3 +1,9 @@
+-- `border::reader::advance` meets its contract. Assumes nothing.
+use Rattle.border.proofs.Steps.{goes, halts}
+use Rattle.border.specs.declared.reader.{Reader.Reader}
+use Rattle.border.specs.Reader.{gives, moved, advanced}
+use Rattle.numbers.specs.Answer.{found}
+use mathlib.Core.Path.{_∙_, ap}
 use borrow.Author.Needs.{needs}
 use Rattle.border.proofs.reader.advance.Statement.{statement}
 use Rattle.border.proofs.reader.advance.Tie as tie
@@ -16,13 +22,16 @@ enum-told : tie.Need-enum-told
 enum-told c = search needs
 
 returns : tie.Need-returns
-returns c = ?
+unfolding advanced moved
+returns c = halts (halts (rw (c .enum-told .given .1) at (c .before .before .move-by .ensures)) _) _
 
 arrive-requires : tie.Need-arrive-requires
 arrive-requires c κs = search needs
 
 returns-2 : tie.Need-returns-2
-returns-2 c = ?
+unfolding advanced moved
+returns-2 c = ap (λ (t : Reader). found (gives t)) (c .arrive .ensures)
+    ∙ goes (goes (rw (c .before .before .point .given .1) at (c .before .before .before .before .move-by .ensures)) _) _
 
 pub advance-spec : {M : Type 1} → statement M
 advance-spec =

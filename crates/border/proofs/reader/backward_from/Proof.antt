@@ -1,13 +1,18 @@
+-- `border::reader::backward_from` meets its contract. Assumes nothing.
+use borrow.Author.Tests.{le-leb, lt-leb}
+use Rattle.border.specs.Reader.{backwardFrom}
 use Rattle.border.proofs.reader.backward_from.Statement.{statement}
 use Rattle.border.proofs.reader.backward_from.Tie as tie
 use Rattle.border.proofs.reader.backward_from.Reads as reads
 use Rattle.border.proofs.reader.backward_from.Lts as lts
 
 returns : tie.Need-returns
-returns c = ?
+unfolding backwardFrom
+returns c = rw (le-leb _ _ (c .if1 .taken))
 
 returns-2 : tie.Need-returns-2
-returns-2 c = ?
+unfolding backwardFrom
+returns-2 c = rw (lt-leb _ _ (c .if1 .left))
 
 pub backward-from-spec : {M : Type 1} → statement M
 backward-from-spec = tie.close (tie.spec returns returns-2)

@@ -1,3 +1,16 @@
+-- `border::reader::open_reference` meets its contract. Assumes nothing.
+use Rattle.border.specs.declared.reader.{Reader.Reader}
+use Rattle.border.specs.declared.reader.Run.the-variants.{Idle}
+use Rattle.numbers.specs.Answer.{found}
+use Rattle.border.specs.Reader.{again, onward, reference}
+use Rattle.border.proofs.reader.Turns.{reference-opens, reference-over}
+use Rattle.numbers.proofs.Laws.{goes-on}
+use borrow.Author.Needs.{needs, sfits-of}
+use mir.ValLaws.{toZ-ofZ}
+use mir.Syntax.{w32}
+use Rattle.numbers.proofs.Laws.{stops}
+use denote.Ref.{now}
+use mathlib.Core.Path.{sym, ap, _∙_}
 use borrow.Author.Needs.{needs}
 use Rattle.border.proofs.reader.open_reference.Statement.{statement}
 use Rattle.border.proofs.reader.open_reference.Tie as tie
@@ -19,7 +32,8 @@ stop-requires : tie.Need-stop-requires
 stop-requires c κs = search needs
 
 returns : tie.Need-returns
-returns c = ?
+unfolding reference
+returns c = c .stop .ensures ∙ stops (c .before .before .read-forward .result) (c .before .before .read-forward .ensures) (c .before .match .keys2) _ _
 
 read-forward-requires-2 : tie.Need-read-forward-requires-2
 read-forward-requires-2 c κs = search needs
@@ -31,7 +45,10 @@ stop-requires-2 : tie.Need-stop-requires-2
 stop-requires-2 c κs = search needs
 
 returns-2 : tie.Need-returns-2
-returns-2 c = ?
+unfolding reference
+returns-2 c = c .stop2 .ensures
+    ∙ stops (c .before .before .read-forward2 .result) (c .before .before .read-forward2 .ensures) (c .before .match2 .keys2) _ _
+    ∙ goes-on (c .before .before .before .before .before .before .read-forward .result) (c .before .before .before .before .before .before .read-forward .ensures) (c .before .before .before .before .n .given .1) _
 
 signed-requires : tie.Need-signed-requires
 signed-requires c κs = search needs
@@ -46,13 +63,14 @@ enum-told : tie.Need-enum-told
 enum-told c = search needs
 
 returns-3 : tie.Need-returns-3
-returns-3 c = ?
+returns-3 c = sym (reference-over (now (c .before .before .before .before .before .before .before .before .before .before .before .before .before .args .file)) (c .before .before .before .before .before .before .before .before .before .before .before .before .before .args .base) (onward (c .before .before .before .before .before .before .before .before .before .before .before .before .before .args .reader) (c .before .before .before .before .before .before .before .before .before .before .before .before .before .args .place) (c .before .before .before .before .before .before .before .before .before .before .before .before .before .args .reader .moves) Idle) (rw (c .before .before .before .before .before .before .before .before .before .n .given .1) at (c .before .before .before .before .before .before .before .before .before .before .before .read-forward .ensures)) (rw (c .before .before .before .before .before .m .given .1) at (c .before .before .before .before .before .before .before .read-forward2 .ensures)) (rw (toZ-ofZ w32 _ (sfits-of (c .before .before .before .signed .ok)) ∙ c .before .before .before .signed .ensures, c .enum-told .given .1) at (c .before .before .open-run .ensures)))
 
 go-on-requires : tie.Need-go-on-requires
 go-on-requires c κs = search needs
 
 returns-4 : tie.Need-returns-4
-returns-4 c = ?
+returns-4 c = ap (λ (t : Reader). found (again t)) (c .go-on .ensures)
+    ∙ sym (reference-opens (now (c .before .before .before .before .before .before .before .before .before .before .before .before .before .before .before .args .file)) (c .before .before .before .before .before .before .before .before .before .before .before .before .before .before .before .args .base) (onward (c .before .before .before .before .before .before .before .before .before .before .before .before .before .before .before .args .reader) (c .before .before .before .before .before .before .before .before .before .before .before .before .before .before .before .args .place) (c .before .before .before .before .before .before .before .before .before .before .before .before .before .before .before .args .reader .moves) Idle) (rw (c .before .before .before .before .before .before .before .before .before .before .before .n .given .1) at (c .before .before .before .before .before .before .before .before .before .before .before .before .before .read-forward .ensures)) (rw (c .before .before .before .before .before .before .before .m .given .1) at (c .before .before .before .before .before .before .before .before .before .read-forward2 .ensures)) (rw (toZ-ofZ w32 _ (sfits-of (c .before .before .before .before .before .signed .ok)) ∙ c .before .before .before .before .before .signed .ensures, c .before .before .run .given .1) at (c .before .before .before .before .open-run .ensures)))
 
 pub open-reference-spec : {M : Type 1} → statement M
 open-reference-spec =

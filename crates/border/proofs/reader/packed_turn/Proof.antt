@@ -1,3 +1,5 @@
+-- `border::reader::packed_turn` meets its contract. Assumes nothing.
+use mathlib.Core.Path.{_∙_}
 use borrow.Author.Needs.{needs}
 use Rattle.border.proofs.reader.packed_turn.Statement.{statement}
 use Rattle.border.proofs.reader.packed_turn.Tie as tie
@@ -26,13 +28,13 @@ run-backward-requires : tie.Need-run-backward-requires
 run-backward-requires c κs = search needs
 
 returns : tie.Need-returns
-returns c = ?
+returns c = c .read-move .ensures ∙ rw (c .before .enum-told .given .1)
 
 returns-2 : tie.Need-returns-2
-returns-2 c = ?
+returns-2 c = c .run-forward .ensures ∙ rw (c .before .before .run .given .1)
 
 returns-3 : tie.Need-returns-3
-returns-3 c = ?
+returns-3 c = c .run-backward .ensures ∙ rw (c .before .before .run2 .given .1)
 
 pub packed-turn-spec : {M : Type 1} → statement M
 packed-turn-spec =

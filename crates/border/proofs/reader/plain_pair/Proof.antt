@@ -1,12 +1,20 @@
+-- `border::reader::plain_pair` meets its contract. Assumes nothing.
+use Rattle.border.specs.declared.reader.Run.the-variants.{Idle}
+use Rattle.border.specs.Reader.{onward, plainPair}
+use Rattle.border.proofs.reader.Turns.{pair-read}
+use Rattle.numbers.proofs.Laws.{goes-on}
+use borrow.Author.Needs.{needs, sfits-of}
+use mir.ValLaws.{toZ-ofZ}
+use mir.Syntax.{w32}
+use Rattle.numbers.proofs.Laws.{stops}
+use denote.Ref.{now}
+use mathlib.Core.Path.{sym, ap, _∙_}
 use borrow.Author.Needs.{needs}
 use Rattle.border.proofs.reader.plain_pair.Statement.{statement}
 use Rattle.border.proofs.reader.plain_pair.Tie as tie
 use Rattle.border.proofs.reader.plain_pair.Reads as reads
 use Rattle.border.proofs.reader.plain_pair.Lts as lts
-use Rattle.border.proofs.place.move_by.Reads as move-by-reads
-use Rattle.border.proofs.reader.arrive.Reads as arrive-reads
-use Rattle.border.proofs.reader.close.Reads as close-reads
-use Rattle.border.proofs.reader.shown.Reads as shown-reads
+use Rattle.border.proofs.reader.plain_move.Reads as plain-move-reads
 use Rattle.border.proofs.reader.stop.Reads as stop-reads
 use Rattle.numbers.proofs.point.signed.Reads as signed-reads
 use Rattle.numbers.proofs.varint.read_forward.Reads as read-forward-reads
@@ -21,7 +29,8 @@ stop-requires : tie.Need-stop-requires
 stop-requires c κs = search needs
 
 returns : tie.Need-returns
-returns c = ?
+unfolding plainPair
+returns c = c .stop .ensures ∙ stops (c .before .before .read-forward .result) (c .before .before .read-forward .ensures) (c .before .match .keys2) _ _
 
 read-forward-requires-2 : tie.Need-read-forward-requires-2
 read-forward-requires-2 c κs = search needs
@@ -33,7 +42,10 @@ stop-requires-2 : tie.Need-stop-requires-2
 stop-requires-2 c κs = search needs
 
 returns-2 : tie.Need-returns-2
-returns-2 c = ?
+unfolding plainPair
+returns-2 c = c .stop2 .ensures
+    ∙ stops (c .before .before .read-forward2 .result) (c .before .before .read-forward2 .ensures) (c .before .match2 .keys2) _ _
+    ∙ goes-on (c .before .before .before .before .before .before .read-forward .result) (c .before .before .before .before .before .before .read-forward .ensures) (c .before .before .before .before .n .given .1) _
 
 signed-requires : tie.Need-signed-requires
 signed-requires c κs = search needs
@@ -41,38 +53,11 @@ signed-requires c κs = search needs
 signed-requires-2 : tie.Need-signed-requires-2
 signed-requires-2 c κs = search needs
 
-close-requires : tie.Need-close-requires
-close-requires c κs = search needs
-
-shown-requires : tie.Need-shown-requires
-shown-requires c κs = search needs
+plain-move-requires : tie.Need-plain-move-requires
+plain-move-requires c κs = search needs
 
 returns-3 : tie.Need-returns-3
-returns-3 c = ?
-
-move-by-requires : tie.Need-move-by-requires
-move-by-requires c κs = search needs
-
-enum-known-point : tie.Need-enum-known-point
-enum-known-point c = search needs
-
-enum-told : tie.Need-enum-told
-enum-told c = search needs
-
-returns-4 : tie.Need-returns-4
-returns-4 c = ?
-
-sub-arrive : tie.Need-sub-arrive
-sub-arrive c = search needs
-
-arrive-requires : tie.Need-arrive-requires
-arrive-requires c κs = search needs
-
-shown-requires-2 : tie.Need-shown-requires-2
-shown-requires-2 c κs = search needs
-
-returns-5 : tie.Need-returns-5
-returns-5 c = ?
+returns-3 c = rw (toZ-ofZ w32 _ (sfits-of (c .before .before .signed .ok)) ∙ c .before .before .signed .ensures, toZ-ofZ w32 _ (sfits-of (c .before .signed2 .ok)) ∙ c .before .signed2 .ensures) at (c .plain-move .ensures) ∙ sym (pair-read (now (c .before .before .before .before .before .before .before .before .before .before .before .before .args .file)) 0 (onward (c .before .before .before .before .before .before .before .before .before .before .before .before .args .reader) (c .before .before .before .before .before .before .before .before .before .before .before .before .args .place) (c .before .before .before .before .before .before .before .before .before .before .before .before .args .moves) Idle) (rw (c .before .before .before .before .before .before .before .before .n .given .1) at (c .before .before .before .before .before .before .before .before .before .before .read-forward .ensures)) (rw (c .before .before .before .before .m .given .1) at (c .before .before .before .before .before .before .read-forward2 .ensures)))
 
 pub plain-pair-spec : {M : Type 1} → statement M
 plain-pair-spec =
@@ -88,14 +73,5 @@ plain-pair-spec =
     returns-2
     signed-requires
     signed-requires-2
-    close-requires
-    shown-requires
-    returns-3
-    move-by-requires
-    enum-known-point
-    enum-told
-    returns-4
-    sub-arrive
-    arrive-requires
-    shown-requires-2
-    returns-5)
+    plain-move-requires
+    returns-3)

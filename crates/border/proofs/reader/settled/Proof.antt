@@ -1,3 +1,5 @@
+-- `border::reader::settled` meets its contract. Assumes nothing.
+use Rattle.border.specs.Trace.{roundAgain}
 use borrow.Author.Needs.{needs}
 use Rattle.border.proofs.reader.settled.Statement.{statement}
 use Rattle.border.proofs.reader.settled.Tie as tie
@@ -20,19 +22,23 @@ enum-told-3 : tie.Need-enum-told-3
 enum-told-3 c = search needs
 
 returns : tie.Need-returns
-returns c = ?
+unfolding roundAgain
+returns c = rw (c .before .t .given .1)
 
 returns-2 : tie.Need-returns-2
-returns-2 c = ?
+unfolding roundAgain
+returns-2 c = rw (c .before .t2 .given .1)
 
 returns-3 : tie.Need-returns-3
-returns-3 c = ?
+unfolding roundAgain
+returns-3 c = rw (c .enum-told .given .1)
 
 returns-4 : tie.Need-returns-4
 returns-4 c = search needs
 
 returns-5 : tie.Need-returns-5
-returns-5 c = ?
+unfolding roundAgain
+returns-5 c = rw (c .enum-told3 .given .1)
 
 pub settled-spec : {M : Type 1} → statement M
 settled-spec =

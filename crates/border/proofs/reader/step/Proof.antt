@@ -1,3 +1,5 @@
+-- `border::reader::step` meets its contract. Assumes nothing.
+use Rattle.border.specs.Told.{steppedBy}
 use borrow.Author.Needs.{needs}
 use Rattle.border.proofs.reader.step.Statement.{statement}
 use Rattle.border.proofs.reader.step.Tie as tie
@@ -21,16 +23,20 @@ enum-known-n-2 : tie.Need-enum-known-n-2
 enum-known-n-2 c = search needs
 
 returns : tie.Need-returns
-returns c = ?
+unfolding steppedBy
+returns c = rw (← c .before .before .before .before .next-point .ensures, c .before .before .n .given .1)
 
 returns-2 : tie.Need-returns-2
-returns-2 c = ?
+unfolding steppedBy
+returns-2 c = rw (← c .before .before .next-point .ensures, c .enum-told .given .1)
 
 returns-3 : tie.Need-returns-3
-returns-3 c = ?
+unfolding steppedBy
+returns-3 c = rw (← c .before .before .next-point .ensures, c .enum-told2 .given .1)
 
 returns-4 : tie.Need-returns-4
-returns-4 c = ?
+unfolding steppedBy
+returns-4 c = rw (← c .before .before .before .next-point .ensures, c .before .n2 .given .1)
 
 pub step-spec : {M : Type 1} → statement M
 step-spec =

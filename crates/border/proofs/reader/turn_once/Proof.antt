@@ -1,3 +1,8 @@
+use Rattle.border.proofs.reader.Turns.{closed-ends}
+-- `border::reader::turn_once` meets its contract. Assumes nothing.
+use Rattle.border.specs.Reader.{turnOf}
+use denote.Ref.{now}
+use mathlib.Core.Path.{sym, ap, _∙_}
 use borrow.Author.Needs.{needs}
 use Rattle.border.proofs.reader.turn_once.Statement.{statement}
 use Rattle.border.proofs.reader.turn_once.Tie as tie
@@ -7,7 +12,7 @@ use Rattle.border.proofs.reader.packed_turn.Reads as packed-turn-reads
 use Rattle.border.proofs.reader.plain_turn.Reads as plain-turn-reads
 
 returns : tie.Need-returns
-returns c = ?
+returns c = sym (closed-ends (now (c .before .before .args .file)) (c .before .before .args .version) (c .before .before .args .base) (c .before .before .args .reader) (c .if1 .taken))
 
 enum-told : tie.Need-enum-told
 enum-told c = search needs
@@ -22,10 +27,12 @@ plain-turn-requires : tie.Need-plain-turn-requires
 plain-turn-requires c κs = search needs
 
 returns-2 : tie.Need-returns-2
-returns-2 c = ?
+unfolding turnOf
+returns-2 c = c .packed-turn .ensures ∙ rw (c .before .enum-told .given .1, c .before .before .before .if1 .left)
 
 returns-3 : tie.Need-returns-3
-returns-3 c = ?
+unfolding turnOf
+returns-3 c = c .plain-turn .ensures ∙ rw (c .before .enum-told2 .given .1, c .before .before .before .if1 .left)
 
 pub turn-once-spec : {M : Type 1} → statement M
 turn-once-spec =

@@ -13,7 +13,8 @@ use Rattle.border.specs.Verdict.{none, after, lastOf, toldPassed, passin
 use Rattle.border.specs.declared.place.Point.{Point}
 use Rattle.border.specs.declared.reader.Reader.{Reader}
 use Rattle.border.specs.declared.verdict.Tally.{Tally}
-use Rattle.border.proofs.Temp.{left, trace-step, point-less}
+use Rattle.border.proofs.Room.{left}
+use Rattle.border.proofs.Trace.{trace-step, point-less}
 use Rattle.border.proofs.verdict.Cases.{judge-end, decides}
 use Rattle.border.proofs.Kept.{point-kept, seen-again}
 use Rattle.border.proofs.verdict.point_in_polygon.Statement.{statement}
