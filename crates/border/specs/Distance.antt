@@ -8,6 +8,7 @@ use Rattle.border.specs.Step.{Step, found, refused, _>>=_, checked}
 use Rattle.border.specs.Edge.{inBox, locationOf, edgeOf, closestOn, cutOf}
 use Rattle.border.specs.declared.place.Point.{Point}
 use Rattle.border.specs.declared.edge.Location.{Location}
+use Rattle.border.specs.declared.verdict.Tally.{Tally}
 use Rattle.border.specs.declared.distance.Distance.{Distance}
 use Rattle.border.specs.declared.distance.Distance.the-variants.{Is, Over}
 
@@ -40,5 +41,8 @@ distanceOf fix from to =
     if inBox to (cutOf near) from then toSegment near at else toVertex to fix
 
 -- the least distance after an edge, if it is asked for
-unfoldable pub leastOf : Bool → Point → Point → Point → ℕ → Step ℕ
-leastOf asked fix from to least = if asked then (distanceOf fix from to >>= λ new. found (min new least)) else found least
+unfoldable pub measured : Bool → Point → Point → Point → Tally → Step Tally
+measured asked fix from to tally =
+    if asked
+    then (distanceOf fix from to >>= λ new. found (record { winding = tally .winding; least = min new (tally .least) }))
+    else found tally

@@ -9,16 +9,13 @@ use Rattle.border.specs.Trace.{Trace, point, closed, traceOf, borderAt}
 use Rattle.border.specs.Step as S
 use Rattle.border.specs.Step.{Step, found, meets, _>>=_}
 use Rattle.border.specs.Edge.{sameZ, samePoint}
-use Rattle.border.specs.Winding as W
 use Rattle.border.specs.Winding.{woundBy}
-use Rattle.border.specs.Distance.{leastOf}
+use Rattle.border.specs.Distance.{measured}
 use Rattle.border.specs.declared.place.{FixedLat.FixedLat, FixedLon.FixedLon, Point.Point}
 use Rattle.border.specs.declared.reader.{Version.Version, Next.Next}
 use Rattle.border.specs.declared.reader.Next.the-variants as N
-use Rattle.border.specs.declared.winding.Winding.{Winding}
-use Rattle.border.specs.declared.verdict.{Tally.Tally, Verdict.Verdict, Passed.Passed, Judged.Judged}
+use Rattle.border.specs.declared.verdict.{Tally.Tally, Verdict.Verdict, Judged.Judged}
 use Rattle.border.specs.declared.verdict.Verdict.the-variants.{NotInZone, InZone, InExcludedZone, OnBorderVertex, OnBorderSegment}
-use Rattle.border.specs.declared.verdict.Passed.the-variants as P
 use Rattle.border.specs.declared.verdict.Judged.the-variants as J
 
 -- A border comes to a verdict with the least squared distance, to a failure, whose distances count too, or to a refusal by its number.
@@ -27,16 +24,11 @@ pub data Judgement : Type 0 where
   failed : ℕ → Judgement
   refused : ℕ → Judgement
 
--- what the enums' cases say
+-- what the enum's cases say
 abbrev pub told : Judged → Judgement
 told (J.Answered verdict least) = reached verdict least
 told (J.Failed least) = failed least
 told (J.Refused n) = refused n
-
-abbrev pub toldPassed : Passed → Step Tally
-toldPassed (P.On tally) = found tally
-toldPassed (P.Meets verdict) = meets verdict
-toldPassed P.Over = S.refused 13
 
 -- the point before, if there is one
 pub data Last : Type 0 where
@@ -49,10 +41,7 @@ lastOf begun p = if begun then after p else none
 -- the edge from the point before: the winding, then the least distance. None leads to the first point.
 unfoldable pub along : Point → Bool → Last → Point → Tally → Step Tally
 along fix asked none to tally = found tally
-along fix asked (after from) to tally = do
-  winding ← woundBy fix from to (tally .winding)
-  least ← leastOf asked fix from to (tally .least)
-  found (record { winding = winding; least = least })
+along fix asked (after from) to tally = woundBy fix from to tally >>= measured asked fix from to
 
 -- one more point: the vertex is tested first
 unfoldable pub passing : Point → Bool → Last → Point → Tally → Step Tally
@@ -95,7 +84,3 @@ endedAt N.Ended asked tally = closedAt asked tally
 endedAt N.Failed asked tally = failed (tally .least)
 endedAt (N.Refused n) asked tally = refused n
 endedAt (N.Point s) asked tally = failed (tally .least)
-
--- a winding that does not go on
-abbrev pub halted : Winding → Step Tally
-halted w = W.told w >>= λ x. S.refused 13

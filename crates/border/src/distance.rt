@@ -7,13 +7,16 @@ ghost use lib.IntN.{_-ℤ_, _*ℤ_, natAbs};
 ghost use lib.Signed.{mag};
 ghost use Rattle.numbers.specs.Float.{cut64, _⊟_};
 ghost use Rattle.border.specs.Edge.{locationOf};
-ghost use Rattle.border.specs.Distance.{told, toSegment, toVertex, distanceOf, leastOf};
+ghost use Rattle.border.specs.Distance.{told, toSegment, toVertex, distanceOf, measured};
+ghost use Rattle.border.specs.Step as step;
 use crate::edge::Location;
 use crate::edge::Seen;
 use crate::edge::closest;
 use crate::edge::edge_between;
 use crate::edge::holds_cut;
 use crate::place::Point;
+use crate::verdict::Passed;
+use crate::verdict::Tally;
 use crate::winding::fits_i32;
 use numbers::float::cut::to_i64;
 
@@ -96,15 +99,18 @@ fn distance_of(fix: Point, at: Location, from: Seen, to: Seen) -> Distance
 }
 
 // The least distance after an edge.
-pub(crate) fn least_with(fix: Point, at: Location, from: Seen, to: Seen, least: u64) -> Distance
+pub(crate) fn measure(fix: Point, at: Location, from: Seen, to: Seen, tally: Tally) -> Passed
     requires { ⌜ (at ≡ locationOf fix) × («from» .location ≡ locationOf («from» .point)) × (to .location ≡ locationOf (to .point)) ⌝ }
-    ensures { λ r. ⌜ told r ≡ leastOf true fix («from» .point) (to .point) least ⌝ }
+    ensures { λ r. ⌜ step.told r ≡ measured true fix («from» .point) (to .point) tally ⌝ }
 {
     let Distance::Is(new) = distance_of(fix, at, from, to) else {
-        return Distance::Over;
+        return Passed::Over;
     };
-    if new < least {
-        return Distance::Is(new);
+    if new < tally.least {
+        return Passed::On(Tally {
+            winding: tally.winding,
+            least: new,
+        });
     }
-    Distance::Is(least)
+    Passed::On(tally)
 }

@@ -1,10 +1,10 @@
 // A border's verdict on a location, over its points as they are read.
 ghost use mathlib.Core.Path.{_≡_};
 ghost use Rattle.border.specs.Edge.{Sighted};
-ghost use Rattle.border.specs.Verdict.{told, toldPassed, halted, after, lastOf, along, passing, onBorder, closedAt, endedAt, thenOn, judgedAt};
+ghost use Rattle.border.specs.Verdict.{told, after, lastOf, along, passing, onBorder, closedAt, endedAt, thenOn, judgedAt};
 ghost use Rattle.border.specs.Verdict as verdict;
-use crate::distance::Distance;
-use crate::distance::least_with;
+ghost use Rattle.border.specs.Step as step;
+use crate::distance::measure;
 use crate::edge::Location;
 use crate::edge::Seen;
 use crate::edge::location_of;
@@ -17,7 +17,6 @@ use crate::reader::Next;
 use crate::reader::Version;
 use crate::reader::next_point;
 use crate::reader::open_border;
-use crate::winding::Winding;
 use crate::winding::wound;
 
 pub enum Verdict {
@@ -41,7 +40,8 @@ pub struct Tally {
     pub least: u64,
 }
 
-enum Passed {
+// A step along the border: on, or the location is on the border, or a number passes its range.
+pub enum Passed {
     On(Tally),
     Meets(Verdict),
     Over,
@@ -50,33 +50,16 @@ enum Passed {
 // The edge between two points: the winding, then the distance, if it is asked for.
 fn judge_edge(fix: Point, at: Location, asked: bool, from: Seen, to: Seen, tally: Tally) -> Passed
     requires { ⌜ Sighted fix at asked «from» to ⌝ }
-    ensures { λ r. ⌜ toldPassed r ≡ along fix asked (after («from» .point)) (to .point) tally ⌝ }
+    ensures { λ r. ⌜ step.told r ≡ along fix asked (after («from» .point)) (to .point) tally ⌝ }
 {
-    let w = wound(fix, at, from, to, tally.winding);
-    let Winding::Is(winding) = w else {
-        return halt(w);
+    let turned = wound(fix, at, from, to, tally);
+    let Passed::On(counted) = turned else {
+        return turned;
     };
-    if !asked {
-        return Passed::On(Tally {
-            winding,
-            least: tally.least,
-        });
+    if asked {
+        return measure(fix, at, from, to, counted);
     }
-    let Distance::Is(least) = least_with(fix, at, from, to, tally.least) else {
-        return Passed::Over;
-    };
-    Passed::On(Tally { winding, least })
-}
-
-// A winding that was not found ends the step.
-fn halt(w: Winding) -> Passed
-    ensures { λ r. ⌜ toldPassed r ≡ halted w ⌝ }
-{
-    match w {
-        Winding::OnSegment => Passed::Meets(Verdict::OnBorderSegment),
-        Winding::Over => Passed::Over,
-        Winding::Is(_) => Passed::Over,
-    }
+    Passed::On(counted)
 }
 
 // One more point. The vertex is tested first; no edge leads to the first point.
@@ -90,7 +73,7 @@ fn judge_point(
     tally: Tally,
 ) -> Passed
     requires { ⌜ Sighted fix at asked last to ⌝ }
-    ensures { λ r. ⌜ toldPassed r ≡ passing fix asked (lastOf begun (last .point)) (to .point) tally ⌝ }
+    ensures { λ r. ⌜ step.told r ≡ passing fix asked (lastOf begun (last .point)) (to .point) tally ⌝ }
 {
     let point = to.point;
     if same_point(point, fix) {
@@ -153,7 +136,7 @@ fn ended(next: Next, asked: bool, tally: Tally) -> Judged
 
 // The answer of a step that does not go on.
 fn stopped(passed: Passed, asked: bool, least: u64) -> Judged
-    ensures { λ r. ⌜ told r ≡ thenOn asked least (toldPassed passed) (λ tally. verdict.refused 13) ⌝ }
+    ensures { λ r. ⌜ told r ≡ thenOn asked least (step.told passed) (λ tally. verdict.refused 13) ⌝ }
 {
     let Passed::Meets(verdict) = passed else {
         return Judged::Refused(13);

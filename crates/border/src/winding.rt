@@ -2,11 +2,10 @@
 ghost use mathlib.Core.Path.{_≡_};
 ghost use Prim.Native.Nat.{_^_};
 ghost use lib.Dec.{ltb};
-ghost use lib.IntN.{_+ℤ_};
 ghost use lib.Signed.{mag};
-ghost use Rattle.border.specs.Step.{checked};
+ghost use Rattle.border.specs.Step as step;
 ghost use Rattle.border.specs.Edge.{quadrantOf, locationOf};
-ghost use Rattle.border.specs.Winding.{told, halfTurn, turnAt, crossingOf, acrossBy, quarterBy, woundBy};
+ghost use Rattle.border.specs.Winding.{told, turned, quarterBy, halfTurn, turnAt, crossingOf, acrossBy, clearOf, woundBy};
 use crate::edge::Edge;
 use crate::edge::Location;
 use crate::edge::Seen;
@@ -17,11 +16,14 @@ use crate::edge::is_straight;
 use crate::edge::location_of;
 use crate::place::FixedLon;
 use crate::place::Point;
+use crate::verdict::Passed;
+use crate::verdict::Tally;
+use crate::verdict::Verdict;
 use numbers::float::cut::to_i32;
 
-// A winding, or a step of one; or the location is on the edge; or a number passes an i32.
-pub enum Winding {
-    Is(i32),
+// Where an edge crosses two quadrants: the turn, or the location is on the edge, or a bound passes an i32.
+pub enum Crossing {
+    Turns(i32),
     OnSegment,
     Over,
 }
@@ -33,28 +35,31 @@ pub(crate) fn fits_i32(wide: i64) -> bool
     -2147483648 <= wide && wide <= 2147483647
 }
 
-fn added(winding: i32, by: i32) -> Winding
-    ensures { λ r. ⌜ told r ≡ checked 31 (winding +ℤ by) ⌝ }
+fn turn(tally: Tally, by: i32) -> Passed
+    ensures { λ r. ⌜ step.told r ≡ turned by tally ⌝ }
 {
-    let sum = (winding as i64) + (by as i64);
+    let sum = (tally.winding as i64) + (by as i64);
     if fits_i32(sum) {
-        Winding::Is(sum as i32)
+        Passed::On(Tally {
+            winding: sum as i32,
+            least: tally.least,
+        })
     } else {
-        Winding::Over
+        Passed::Over
     }
 }
 
 // One quadrant on, or one back.
-fn quarter(quarters: u8, winding: i32) -> Winding
-    ensures { λ r. ⌜ told r ≡ quarterBy quarters winding ⌝ }
+fn quarter(quarters: u8, tally: Tally) -> Passed
+    ensures { λ r. ⌜ step.told r ≡ quarterBy quarters tally ⌝ }
 {
     if quarters == 1 {
-        return added(winding, 1);
+        return turn(tally, 1);
     }
     if quarters == 3 {
-        return added(winding, -1);
+        return turn(tally, -1);
     }
-    Winding::Is(winding)
+    Passed::On(tally)
 }
 
 // Two quadrants, by the west or by the east.
@@ -69,25 +74,25 @@ fn half_turn(west: bool, quadrant: u8) -> i32
 }
 
 // A crossing within one of the location is on the border. The right bound is worked out only if the left one holds.
-fn turn_at(crossing: FixedLon, fix: FixedLon, quadrant: u8) -> Winding
+fn turn_at(crossing: FixedLon, fix: FixedLon, quadrant: u8) -> Crossing
     ensures { λ r. ⌜ told r ≡ turnAt crossing fix quadrant ⌝ }
 {
     let met = crossing.0 as i64;
     let left = (fix.0 as i64) - 1;
     if !fits_i32(left) {
-        return Winding::Over;
+        return Crossing::Over;
     }
     if met < left {
-        return Winding::Is(half_turn(true, quadrant));
+        return Crossing::Turns(half_turn(true, quadrant));
     }
     let right = (fix.0 as i64) + 1;
     if !fits_i32(right) {
-        return Winding::Over;
+        return Crossing::Over;
     }
     if right < met {
-        return Winding::Is(half_turn(false, quadrant));
+        return Crossing::Turns(half_turn(false, quadrant));
     }
-    Winding::OnSegment
+    Crossing::OnSegment
 }
 
 // The longitude at which a line has the location's latitude.
@@ -99,40 +104,50 @@ fn crossing_of(fix: Point, at: Location, line: Slope) -> FixedLon
 }
 
 // An edge that leads across two quadrants; a straight one has the location on it.
-fn cross(fix: Point, at: Location, edge: Edge, quadrant: u8, winding: i32) -> Winding
+fn cross(fix: Point, at: Location, edge: Edge, quadrant: u8, tally: Tally) -> Passed
     requires { ⌜ at ≡ locationOf fix ⌝ }
-    ensures { λ r. ⌜ told r ≡ acrossBy fix edge quadrant winding ⌝ }
+    ensures { λ r. ⌜ step.told r ≡ acrossBy fix edge quadrant tally ⌝ }
 {
     let Edge::Sloped(line) = edge else {
-        return Winding::OnSegment;
+        return Passed::Meets(Verdict::OnBorderSegment);
     };
-    let turned = turn_at(crossing_of(fix, at, line), fix.lon, quadrant);
-    let Winding::Is(turn) = turned else {
-        return turned;
-    };
-    added(winding, turn)
+    match turn_at(crossing_of(fix, at, line), fix.lon, quadrant) {
+        Crossing::Turns(by) => turn(tally, by),
+        Crossing::OnSegment => Passed::Meets(Verdict::OnBorderSegment),
+        Crossing::Over => Passed::Over,
+    }
 }
 
-// The winding after the edge between two points.
-pub(crate) fn wound(fix: Point, at: Location, from: Seen, to: Seen, winding: i32) -> Winding
+// A straight edge whose box holds the location has the location on it.
+fn keep_clear(fix: Point, from: Point, to: Point, tally: Tally) -> Passed
+    ensures { λ r. ⌜ step.told r ≡ clearOf fix «from» to tally ⌝ }
+{
+    if is_straight(from, to) {
+        if in_box(to, fix, from) {
+            return Passed::Meets(Verdict::OnBorderSegment);
+        }
+    }
+    Passed::On(tally)
+}
+
+// The winding after the edge between two points. Most edges stay in one quadrant.
+pub(crate) fn wound(fix: Point, at: Location, from: Seen, to: Seen, tally: Tally) -> Passed
     requires { ⌜ (at ≡ locationOf fix) × («from» .quadrant ≡ quadrantOf fix («from» .point)) × (to .quadrant ≡ quadrantOf fix (to .point)) ⌝ }
-    ensures { λ r. ⌜ told r ≡ woundBy fix («from» .point) (to .point) winding ⌝ }
+    ensures { λ r. ⌜ step.told r ≡ woundBy fix («from» .point) (to .point) tally ⌝ }
 {
     let start = from.point;
     let end = to.point;
+    if to.quadrant == from.quadrant {
+        return keep_clear(fix, start, end, tally);
+    }
     let quarters = (to.quadrant + 4 - from.quadrant) % 4;
     if quarters == 2 {
         let edge = edge_between(start, location_of(start), end, location_of(end));
-        return cross(fix, at, edge, to.quadrant, winding);
+        return cross(fix, at, edge, to.quadrant, tally);
     }
-    let stepped = quarter(quarters, winding);
-    let Winding::Is(next) = stepped else {
-        return stepped;
+    let turned = quarter(quarters, tally);
+    let Passed::On(counted) = turned else {
+        return turned;
     };
-    if is_straight(start, end) {
-        if in_box(end, fix, start) {
-            return Winding::OnSegment;
-        }
-    }
-    Winding::Is(next)
+    keep_clear(fix, start, end, counted)
 }

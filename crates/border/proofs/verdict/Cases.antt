@@ -3,40 +3,29 @@ use Prim.Native.Nat.{ℕ}
 use mathlib.Core.Path.{_≡_, refl}
 use mathlib.Core.Bool.{Bool}
 use mathlib.Core.List.{[], _∷_}
-use lib.IntN.{ℤ}
 use types.Run.{OneOf, miss}
 use denote.Enum.Declared.{tagOf}
 use Rattle.border.proofs.reader.Next as Next'
-use Rattle.border.proofs.winding.Winding as Winding'
 use Rattle.border.proofs.verdict.Passed as Passed'
-use Rattle.border.specs.Step.{Step, _>>=_}
+use Rattle.border.specs.Step.{told}
 use Rattle.border.specs.Told as R
 use Rattle.border.specs.Trace.{Trace, traceThen}
-use Rattle.border.specs.Winding.{told}
-use Rattle.border.specs.Verdict.{Judgement, refused, Last, toldPassed, thenOn, endedAt, judge, halted}
+use Rattle.border.specs.Verdict.{Judgement, refused, Last, thenOn, endedAt, judge}
 use Rattle.border.specs.declared.place.Point.{Point}
 use Rattle.border.specs.declared.reader.{Reader.Reader, Next.Next}
 use Rattle.border.specs.declared.reader.Next.the-variants as N
-use Rattle.border.specs.declared.winding.Winding.{Winding}
-use Rattle.border.specs.declared.winding.Winding.the-variants as W
 use Rattle.border.specs.declared.verdict.{Tally.Tally, Passed.Passed}
 use Rattle.border.specs.declared.verdict.Passed.the-variants as P
 
--- a winding that does not go on
-pub halts : (w : Winding) (k : ℤ → Step Tally) → OneOf (1 ∷ 2 ∷ []) (tagOf Winding'.the-type w) → halted w ≡ (told w >>= k)
-halts (W.Is x) k o = absurd (miss (1 ∷ 2 ∷ []) 0 tt o)
-halts W.OnSegment k o = refl
-halts W.Over k o = refl
-
 -- a step that does not go on
-pub decides : (p : Passed) (asked : Bool) (least : ℕ) (rest : Tally → Judgement) → OneOf (1 ∷ 2 ∷ []) (tagOf Passed'.the-type p) → thenOn asked least (toldPassed p) (λ tally. refused 13) ≡ thenOn asked least (toldPassed p) rest
+pub decides : (p : Passed) (asked : Bool) (least : ℕ) (rest : Tally → Judgement) → OneOf (1 ∷ 2 ∷ []) (tagOf Passed'.the-type p) → thenOn asked least (told p) (λ tally. refused 13) ≡ thenOn asked least (told p) rest
 unfolding thenOn
 decides (P.On tally) asked least rest o = absurd (miss (1 ∷ 2 ∷ []) 0 tt o)
 decides (P.Meets verdict) asked least rest o = refl
 decides P.Over asked least rest o = refl
 
 -- a step that meets no border
-pub unmet : (p : Passed) (asked : Bool) (least : ℕ) → OneOf (0 ∷ 2 ∷ []) (tagOf Passed'.the-type p) → refused 13 ≡ thenOn asked least (toldPassed p) (λ tally. refused 13)
+pub unmet : (p : Passed) (asked : Bool) (least : ℕ) → OneOf (0 ∷ 2 ∷ []) (tagOf Passed'.the-type p) → refused 13 ≡ thenOn asked least (told p) (λ tally. refused 13)
 unfolding thenOn
 unmet (P.On tally) asked least o = refl
 unmet (P.Meets verdict) asked least o = absurd (miss (0 ∷ 2 ∷ []) 1 tt o)

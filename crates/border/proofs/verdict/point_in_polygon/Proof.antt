@@ -5,11 +5,11 @@ use lib.IntN.{pos}
 use denote.Ref.{now}
 use borrow.Author.Needs.{needs}
 use Rattle.numbers.specs.Answer.{Answer}
-use Rattle.border.specs.Step.{Step}
+use Rattle.border.specs.Step.{Step, told}
 use Rattle.border.specs.Edge.{seenFrom}
 use Rattle.border.specs.Told as R
 use Rattle.border.specs.Trace.{Given, point, nextPoint, traceThen, traceOf, borderAt}
-use Rattle.border.specs.Verdict.{none, after, lastOf, toldPassed, passing, thenOn, judge, judgedAt}
+use Rattle.border.specs.Verdict.{none, after, lastOf, passing, thenOn, judge, judgedAt}
 use Rattle.border.specs.declared.place.Point.{Point}
 use Rattle.border.specs.declared.reader.Reader.{Reader}
 use Rattle.border.specs.declared.verdict.Tally.{Tally}
@@ -83,7 +83,7 @@ stepped : (c : tie.After-judge-point Inv-loop μ-loop) →
     let a = c .before .before .before .before .before .before .before .before .before .before .before .args in
     let l = c .before .before .before .before .before .before .loop in
     let fix : Point = record { lat = a .lat; lon = a .lon } in
-    thenOn (a .asked) (l .tally .least) (toldPassed (c .judge-point .result)) (λ (later : Tally). judge fix (a .asked) (after (c .before .seen-from2 .result .point)) later (traceOf (now (a .file)) (a .version) (a .data-offset) (c .before .before .before .next .given .0 .0)))
+    thenOn (a .asked) (l .tally .least) (told (c .judge-point .result)) (λ (later : Tally). judge fix (a .asked) (after (c .before .seen-from2 .result .point)) later (traceOf (now (a .file)) (a .version) (a .data-offset) (c .before .before .before .next .given .0 .0)))
     ≡ judge fix (a .asked) none (record { winding = pos 0; least = a .least }) (traceOf (now (a .file)) (a .version) (a .data-offset) (borderAt (a .place)))
 unfolding judge traceThen
 stepped c =
@@ -93,10 +93,10 @@ stepped c =
     let rest = traceOf (now (a .file)) (a .version) (a .data-offset) in
     let last = lastOf (l .begun) (l .last .point) in
     let later = c .before .before .before .next .given .0 .0 in
-    let told = ap R.told (sym (c .before .before .before .next .given .1)) ∙ c .before .before .before .before .before .next-point .ensures in
+    let said = ap R.told (sym (c .before .before .before .next .given .1)) ∙ c .before .before .before .before .before .next-point .ensures in
     ap (λ (s : Step Tally). thenOn (a .asked) (l .tally .least) s (λ (t : Tally). judge fix (a .asked) (after (c .before .seen-from2 .result .point)) t (rest later))) (c .judge-point .ensures)
     ∙ ap (λ (p : Point). judge fix (a .asked) last (l .tally) (point p (rest later))) (point-kept _ _ _ (c .before .seen-from2 .ensures))
-    ∙ ap (λ (n : Answer Given). judge fix (a .asked) last (l .tally) (traceThen n rest)) told
+    ∙ ap (λ (n : Answer Given). judge fix (a .asked) last (l .tally) (traceThen n rest)) said
     ∙ ap (judge fix (a .asked) last (l .tally)) (sym (trace-step (now (a .file)) (a .version) (a .data-offset) (l .reader)))
     ∙ l .inv .0
 
@@ -109,8 +109,8 @@ loop-less : tie.Need-loop-less Inv-loop μ-loop
 loop-less c =
     let a = c .before .before .before .before .before .before .before .before .before .before .before .before .before .before .args in
     let l = c .before .before .before .before .before .before .before .before .before .loop in
-    let told = ap R.told (sym (c .before .before .before .before .before .before .next .given .1)) ∙ c .before .before .before .before .before .before .before .before .next-point .ensures in
-    point-less (now (a .file)) (a .version) (a .data-offset) (l .reader) (c .before .before .before .before .before .before .next .given .0 .0) told
+    let said = ap R.told (sym (c .before .before .before .before .before .before .next .given .1)) ∙ c .before .before .before .before .before .before .before .before .next-point .ensures in
+    point-less (now (a .file)) (a .version) (a .data-offset) (l .reader) (c .before .before .before .before .before .before .next .given .0 .0) said
 
 loop-again : tie.Need-loop-again Inv-loop μ-loop
 unfolding thenOn

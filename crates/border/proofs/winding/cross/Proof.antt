@@ -1,9 +1,8 @@
--- `border::winding::cross` meets its contract: what its calls ensure; a crossing on the border stays what it is. Assumes nothing.
+-- `border::winding::cross` meets its contract: what its calls ensure. Assumes nothing.
 use mathlib.Core.Path.{_≡_}
 use mir.Syntax.{w32}
-use mir.Facts.{toZ-ofZ}
 use mir.Val.{toZ, ofZ}
-use Rattle.border.proofs.winding.Cases.{straight-across, stays}
+use Rattle.border.proofs.winding.Cases.{straight-across}
 use Rattle.border.specs.Winding.{acrossBy}
 use borrow.Author.Needs.{needs}
 use Rattle.border.proofs.winding.cross.Statement.{statement}
@@ -22,23 +21,34 @@ crossing-of-requires c κs = search needs
 turn-at-requires : tie.Need-turn-at-requires
 turn-at-requires c κs = search needs
 
-enum-known-turned : tie.Need-enum-known-turned
-enum-known-turned c = search needs
+enum-known-by : tie.Need-enum-known-by
+enum-known-by c = search needs
+
+turn-requires : tie.Need-turn-requires
+turn-requires c κs = search needs
+
+enum-told : tie.Need-enum-told
+enum-told c = search needs
+
+enum-told-2 : tie.Need-enum-told-2
+enum-told-2 c = search needs
 
 returns-2 : tie.Need-returns-2
 unfolding acrossBy
 returns-2 c =
-    rw (c .before .before .before .before .edge .given .1, ← c .before .before .crossing-of .ensures, ← c .before .turn-at .ensures) (stays (c .before .turn-at .result) _ (c .match2 .keys2))
-
-added-requires : tie.Need-added-requires
-added-requires c κs = search needs
+    let x = c .before .before .by .given .0 .0 in
+    let p : toZ w32 (ofZ w32 x) ≡ x = search needs in
+    rw (c .before .before .before .before .before .before .before .edge .given .1, ← c .before .before .before .before .before .crossing-of .ensures, ← c .before .before .before .before .turn-at .ensures, c .before .before .by .given .1) (rw p at (c .turn .ensures))
 
 returns-3 : tie.Need-returns-3
 unfolding acrossBy
 returns-3 c =
-    let x = c .before .before .turned .given .0 .0 in
-    let p : toZ w32 (ofZ w32 x) ≡ x = search needs in
-    rw (c .before .before .before .before .before .before .before .edge .given .1, ← c .before .before .before .before .before .crossing-of .ensures, ← c .before .before .before .before .turn-at .ensures, c .before .before .turned .given .1) (rw (toZ-ofZ {w = w32} (c .before .before .before .before .before .before .before .before .before .fits .winding), p) at (c .added .ensures))
+    rw (c .before .before .before .before .before .edge .given .1, ← c .before .before .before .crossing-of .ensures, ← c .before .before .turn-at .ensures, c .enum-told .given .1)
+
+returns-4 : tie.Need-returns-4
+unfolding acrossBy
+returns-4 c =
+    rw (c .before .before .before .before .before .edge .given .1, ← c .before .before .before .crossing-of .ensures, ← c .before .before .turn-at .ensures, c .enum-told2 .given .1)
 
 pub cross-spec : {M : Type 1} → statement M
 cross-spec =
@@ -48,7 +58,10 @@ cross-spec =
     returns
     crossing-of-requires
     turn-at-requires
-    enum-known-turned
+    enum-known-by
+    turn-requires
+    enum-told
+    enum-told-2
     returns-2
-    added-requires
-    returns-3)
+    returns-3
+    returns-4)
