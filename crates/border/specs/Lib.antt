@@ -3,3 +3,8 @@ pub mod Reader
 pub mod Trace
 pub mod Told
 pub mod Written
+pub mod Step
+pub mod Edge
+pub mod Winding
+pub mod Distance
+pub mod Verdict
