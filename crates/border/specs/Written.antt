@@ -66,8 +66,9 @@ pub data Leads : Point → List RawPoint → List Point → Type 0 where
   stays : {p : Point} → Leads p [] []
   step : {p q : Point} {by : RawPoint} {more : List RawPoint} {qs : List Point} → movedBy p by ≡ found q → Leads q more qs → Leads p (by ∷ more) (q ∷ qs)
 
--- a border of these points, written in a version behind the earlier data
+-- a border of these points, at least one, written in a version behind the earlier data
 pub record Border (version : Version) (earlier bytes : List ℕ) (points : List Point) : Type 0 where
+  pub some : 0 < length points
   pub moves : List RawPoint
   pub encoded : Encodes version earlier bytes moves
   pub leads : Leads (pointAt (pos 0) (pos 0)) moves points
@@ -94,5 +95,6 @@ pointsThen [] rest = rest
 pointsThen (p ∷ ps) rest = point p (pointsThen ps rest)
 
 -- its points in order, then the first again, closed
-unfoldable pub roundTrip : Point → List Point → Trace
-roundTrip first others = pointsThen (first ∷ others) (point first closed)
+unfoldable pub roundTrip : List Point → Trace
+roundTrip [] = closed
+roundTrip (p ∷ ps) = pointsThen (p ∷ ps) (point p closed)
