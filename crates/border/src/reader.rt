@@ -40,9 +40,9 @@ pub struct Reader {
     // The first point is known.
     pub begun: bool,
     pub closed: bool,
-    pub run: Run,
     pub point: Point,
     pub first: Point,
+    pub run: Run,
 }
 
 // One turn of the reader's loop. The point that is given is the state's own.
