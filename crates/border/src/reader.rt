@@ -360,17 +360,17 @@ fn run_forward(file: &[u8], base: u32, reader: Reader, next: usize, end: usize) 
 {
     let n = read_forward(file, next);
     let Varint::Number {
-        value,
+        value: ahead,
         place: after,
     } = n
     else {
         return stop(n);
     };
-    if value == 0 {
+    if ahead == 0 {
         return Turn::Failed;
     }
     let place = reader.place;
-    advance(reader, place, forward_from(after, end), decode_point(value))
+    advance(reader, place, forward_from(after, end), decode_point(ahead))
 }
 
 // Version 1, inside a reference that is read backward.
@@ -379,16 +379,16 @@ fn run_backward(file: &[u8], base: u32, reader: Reader, next: usize, end: usize)
 {
     let n = read_backward(file, next);
     let Varint::Number {
-        value,
+        value: behind,
         place: before,
     } = n
     else {
         return stop(n);
     };
-    if value == 0 {
+    if behind == 0 {
         return Turn::Failed;
     }
-    let Away::By(by) = negate(decode_point(value)) else {
+    let Away::By(by) = negate(decode_point(behind)) else {
         return Turn::Refused(13);
     };
     let place = reader.place;
@@ -481,13 +481,13 @@ pub enum Reply {
 }
 
 // A reply beside the state after it.
-pub struct Stepped {
-    pub reader: Reader,
-    pub reply: Reply,
+struct Stepped {
+    reader: Reader,
+    reply: Reply,
 }
 
 // The end, a failure and a refusal leave the state as it was.
-pub fn step(file: &[u8], version: Version, data_offset: u32, reader: Reader) -> Stepped
+fn step(file: &[u8], version: Version, data_offset: u32, reader: Reader) -> Stepped
     ensures { λ r. ⌜ r ≡ steppedBy reader (nextPoint (now (file .entry)) version «data_offset» reader) ⌝ }
 {
     let n = next_point(file, version, data_offset, reader);
