@@ -7,3 +7,4 @@ pub mod Edge
 pub mod Winding
 pub mod Distance
 pub mod Verdict
+pub mod Kept

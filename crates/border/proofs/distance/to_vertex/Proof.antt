@@ -7,7 +7,8 @@ use mir.Syntax.{w32}
 use mir.Val.{SFits}
 use Rattle.border.proofs.Squares.{i32-squared}
 use Rattle.border.proofs.Checks.{checked-found, checked-over, checked-fits, narrow}
-use Rattle.border.proofs.Signs.{widened, widens, difference-fits, exact-difference}
+use Rattle.border.proofs.Signs.{exact-difference}
+use Rattle.border.proofs.place.Whole.{widened, widens, difference-fits}
 use Rattle.border.specs.Distance.{squared, toVertex}
 use borrow.Author.Needs.{needs}
 use Rattle.border.proofs.distance.to_vertex.Statement.{statement}

@@ -1,5 +1,5 @@
 -- `border::edge::seen_from` meets its contract: what its calls ensure. Assumes nothing.
-use Rattle.border.specs.Edge.{seenFrom}
+use Rattle.border.specs.Kept.{seenFrom}
 use borrow.Author.Needs.{needs}
 use Rattle.border.proofs.edge.seen_from.Statement.{statement}
 use Rattle.border.proofs.edge.seen_from.Tie as tie

@@ -6,10 +6,10 @@ use denote.Ref.{now}
 use borrow.Author.Needs.{needs}
 use Rattle.numbers.specs.Answer.{Answer}
 use Rattle.border.specs.Step.{Step, told}
-use Rattle.border.specs.Edge.{seenFrom}
+use Rattle.border.specs.Kept.{seenFrom, lastOf}
 use Rattle.border.specs.Told as R
 use Rattle.border.specs.Trace.{Given, point, nextPoint, traceThen, traceOf, borderAt}
-use Rattle.border.specs.Verdict.{none, after, lastOf, passing, thenOn, judge, judgedAt}
+use Rattle.border.specs.Verdict.{none, after, passing, thenOn, judge, judgedAt}
 use Rattle.border.specs.declared.place.Point.{Point}
 use Rattle.border.specs.declared.reader.Reader.{Reader}
 use Rattle.border.specs.declared.verdict.Tally.{Tally}

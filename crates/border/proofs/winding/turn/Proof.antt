@@ -4,7 +4,8 @@ use mir.Syntax.{w32}
 use mir.Facts.{toZ-ofZ}
 use mir.Val.{SFits}
 use Rattle.border.proofs.Checks.{checked-found, checked-over, narrow}
-use Rattle.border.proofs.Signs.{widened, widens, sum-fits, exact-sum}
+use Rattle.border.proofs.Signs.{exact-sum}
+use Rattle.border.proofs.place.Whole.{widened, widens, sum-fits}
 use Rattle.border.specs.Winding.{turned}
 use borrow.Author.Needs.{needs}
 use Rattle.border.proofs.winding.turn.Statement.{statement}

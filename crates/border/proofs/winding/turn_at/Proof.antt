@@ -5,7 +5,8 @@ use mathlib.Core.Path.{_≡_}
 use mir.Syntax.{w32}
 use mir.Val.{SFits, toZ, ofZ}
 use Rattle.border.proofs.Checks.{checked-found, checked-over}
-use Rattle.border.proofs.Signs.{widened, widens, sum-fits, difference-fits, exact-sum, exact-difference}
+use Rattle.border.proofs.Signs.{exact-sum, exact-difference}
+use Rattle.border.proofs.place.Whole.{widened, widens, sum-fits, difference-fits}
 use Rattle.border.specs.Winding.{turnAt}
 use borrow.Author.Needs.{needs}
 use Rattle.border.proofs.winding.turn_at.Statement.{statement}
