@@ -93,7 +93,7 @@ data-place : (base low n : ℕ) → base + low < 2 ^ 32 → n % 2 ^ 32 ≡ low �
 data-place base low n h e = rw (e, mod-eq-of-lt h)
 
 opens-forward : (base start size : ℕ) → base + start + size ≤ 2 ^ 30 → found (forwardFrom (base + start) (base + start + size)) ≡ opened base (asI64 start) (pos size)
-opens-forward base start zero h = rw (none-forward (base + start) (base + start + 0) (omega arith)) (none-opened base start (omega arith))
+opens-forward base start zero h = rw (none-forward (base + start) (base + start + 0) (omega arith)) (none-opened base start)
 opens-forward base start (suc k) h =
     let small : start % 2 ^ 32 ≡ start = mod-eq-of-lt (omega arith) in
     let from : base + start ≡ dataPlace base (pos start) = data-place base start start (omega arith) small in
@@ -113,7 +113,7 @@ size-lower low k h =
     rw small (omega arith)
 
 opens-backward : (base low size : ℕ) → base + low + 1 + size ≤ 2 ^ 30 → found (backwardFrom (base + low + size) (base + low)) ≡ opened base (asI64 (low + 1 + size)) (negℤ (pos size))
-opens-backward base low zero h = rw (none-backward (base + low + 0) (base + low) (omega arith)) (none-opened base (low + 1 + 0) (omega arith))
+opens-backward base low zero h = rw (none-backward (base + low + 0) (base + low) (omega arith)) (none-opened base (low + 1 + 0))
 opens-backward base low (suc k) h =
     let stop = low + 1 + suc k in
     let from : base + low + suc k ≡ dataPlace base (pos (stop % 2 ^ 32 + 4294967295)) =

@@ -8,3 +8,4 @@ pub mod Edge
 pub mod Winding
 pub mod Distance
 pub mod Verdict
+pub mod Kept
