@@ -1,0 +1,5 @@
+// The encoding of a border's points.
+pub enum Version {
+    Plain,
+    Packed,
+}
