@@ -1,6 +1,8 @@
 -- The box table, as document 01 has it: an entry is six numbers, all read before any is tested.
+use mathlib.Core.Bool.{Bool, _&&_}
 use mathlib.Core.List.{List}
 use Prim.Native.Nat.{ℕ}
+use lib.Signed.{ltZ, leZ}
 use Rattle.numbers.specs.Answer.{Answer, found, failed, refused, _>>=_}
 use Rattle.numbers.specs.Varint.{forwardAt, told}
 use Rattle.numbers.specs.Point.{signedOf}
@@ -9,6 +11,7 @@ use Rattle.border.specs.declared.place.FixedLat.{FixedLat}
 use Rattle.border.specs.declared.place.FixedLon.{FixedLon}
 use Rattle.zones.specs.declared.table.Bounds.{Bounds}
 use Rattle.zones.specs.declared.table.Entry.{Entry}
+use Rattle.zones.specs.declared.table.Fix.{Fix}
 use Rattle.zones.specs.declared.table.Row.{Row}
 use Rattle.zones.specs.declared.table.Row.the-variants.{Read, Failed, Refused}
 
@@ -46,3 +49,12 @@ entryAt file place = do
   c ← forwardAt file (b .place)
   d ← forwardAt file (c .place)
   stepsAt file (d .place) (boundsOf (a .value) (b .value) (c .value) (d .value))
+
+-- the lower latitude is above the location
+abbrev pub isAbove : Bounds → Fix → Bool
+isAbove bounds fix = ltZ (fix .lat .0) (bounds .«min_lat» .0)
+
+-- the box holds the location, which its lower latitude is not above
+abbrev pub holds : Bounds → Fix → Bool
+holds bounds fix =
+    leZ (fix .lat .0) (bounds .«max_lat» .0) && leZ (bounds .«min_lon» .0) (fix .lon .0) && leZ (fix .lon .0) (bounds .«max_lon» .0)

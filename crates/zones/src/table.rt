@@ -1,11 +1,18 @@
 // The box table: each entry's bounds, and the steps of its metadata id and of its border's place.
 ghost use mathlib.Core.Path.{_≡_};
-ghost use Rattle.zones.specs.Table.{toldRow, stoppedBy, entryAt, stepsAt, boundsOf};
+ghost use lib.Signed.{ltZ, leZ};
+ghost use Rattle.zones.specs.Table.{toldRow, stoppedBy, entryAt, stepsAt, boundsOf, isAbove, holds};
 use border::place::FixedLat;
 use border::place::FixedLon;
 use numbers::point::signed;
 use numbers::varint::Varint;
 use numbers::varint::read_forward;
+
+// The location, as fixed coordinates.
+pub struct Fix {
+    pub lat: FixedLat,
+    pub lon: FixedLon,
+}
 
 pub struct Bounds {
     pub min_lat: FixedLat,
@@ -117,4 +124,41 @@ fn bounds_of(min_lat: u64, min_lon: u64, max_lat: u64, max_lon: u64) -> Bounds
         max_lat: FixedLat(signed(max_lat)),
         max_lon: FixedLon(signed(max_lon)),
     }
+}
+
+fn lat_upto(a: FixedLat, b: FixedLat) -> bool
+    ensures { λ r. ⌜ r ≡ leZ (a .0) (b .0) ⌝ }
+{
+    a.0 <= b.0
+}
+
+fn lon_upto(a: FixedLon, b: FixedLon) -> bool
+    ensures { λ r. ⌜ r ≡ leZ (a .0) (b .0) ⌝ }
+{
+    a.0 <= b.0
+}
+
+fn lat_below(a: FixedLat, b: FixedLat) -> bool
+    ensures { λ r. ⌜ r ≡ ltZ (a .0) (b .0) ⌝ }
+{
+    a.0 < b.0
+}
+
+// Whether the lower latitude is above the location.
+pub fn is_above(bounds: Bounds, fix: Fix) -> bool
+    ensures { λ r. ⌜ r ≡ isAbove bounds fix ⌝ }
+{
+    lat_below(fix.lat, bounds.min_lat)
+}
+
+// Whether the box holds the location, which its lower latitude is not above.
+pub fn holds(bounds: Bounds, fix: Fix) -> bool
+    ensures { λ r. ⌜ r ≡ holds bounds fix ⌝ }
+{
+    if lat_upto(fix.lat, bounds.max_lat) {
+        if lon_upto(bounds.min_lon, fix.lon) {
+            return lon_upto(fix.lon, bounds.max_lon);
+        }
+    }
+    false
 }
