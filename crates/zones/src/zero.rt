@@ -2,7 +2,7 @@
 ghost use mathlib.Core.Path.{_≡_};
 ghost use lib.ListN.{length};
 ghost use Rattle.zones.specs.Lists.{zeros};
-use crate::opening::zero;
+use crate::field::zero;
 
 fn zero_words(hits: &mut [u32])
     ensures { λ _. ⌜ now (hits .exit) ≡ zeros (length (now (hits .entry))) ⌝ }

@@ -1,0 +1,3 @@
+mod Gathering
+mod Merging
+pub mod Summaries
