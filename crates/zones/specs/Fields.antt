@@ -33,5 +33,6 @@ abbrev pub toldFields : Fields → Reply ℕ
 toldFields (F.Used used) = given used
 toldFields (F.Refused why) = refused why
 
-abbrev pub Wrote : ℕ → List ℕ → List ℕ → ℕ → Type 0
-Wrote room text out used = (used ≡ length out) × (text ≡ padded room out)
+pub record Wrote (room : ℕ) (text out : List ℕ) (used : ℕ) : Type 0 where
+  pub said : used ≡ length out
+  pub kept : text ≡ padded room out

@@ -126,6 +126,8 @@ abbrev pub toldSearched : Searched → Reply Ended
 toldSearched (S.Ended e) = given e
 toldSearched (S.Refused why) = R.refused why
 
--- the hits in so many words, zeros after them
-abbrev pub Sought : ℕ → List ℕ → Found → Ended → Type 0
-Sought n ws f e = (e ≡ record { count = length (f .hits); mark = f .mark; least = f .least }) × (ws ≡ padded n (words (f .hits))) × Real (f .hits)
+-- the hits stand in so many words, zeros after them
+pub record Sought (n : ℕ) (ws : List ℕ) (found : Found) (ended : Ended) : Type 0 where
+  pub said : ended ≡ record { count = length (found .hits); mark = found .mark; least = found .least }
+  pub kept : ws ≡ padded n (words (found .hits))
+  pub real : Real (found .hits)

@@ -1,12 +1,13 @@
 // Merging in place: hits with one metadata id become one match, where the first of them stood in order.
 ghost use mathlib.Core.Path.{_≡_};
-ghost use Prim.Native.Nat.{_+_, _^_, _≤_, _<_};
+ghost use Prim.Native.Nat.{_+_, _/_, _^_, _≤_, _<_};
 ghost use mathlib.Core.List.{_++_};
 ghost use lib.ListN.{length, take, drop};
 ghost use Rattle.zones.specs.Lists.{padded};
-ghost use Rattle.zones.specs.Hits.{words, slots, Real};
+ghost use Rattle.zones.specs.Hits.{width, words, slots, Real};
 ghost use Rattle.zones.specs.Merge.{_⊕_, single, summary, groupKind, merged, tallied, cleared};
 use crate::hits::Hit;
+use crate::hits::WIDTH;
 use crate::hits::hit_at;
 use crate::hits::none;
 use crate::hits::put_hit;
@@ -91,7 +92,7 @@ fn kind_of(t: Tally) -> u32
 }
 
 // Every slot holds a hit. The matches go to the front, and the rest is cleared.
-pub fn merge(hits: &mut [u32]) -> usize
+fn merge(hits: &mut [u32]) -> usize
     requires { ⌜ (now hits ≡ words (slots (now hits))) × Real (slots (now hits)) ⌝ }
     ensures { λ r. ⌜ (r ≡ length (merged (slots (now (hits .entry))))) × (now (hits .exit) ≡ padded (length (now (hits .entry))) (words (merged (slots (now (hits .entry)))))) ⌝ }
 {
@@ -119,4 +120,16 @@ pub fn merge(hits: &mut [u32]) -> usize
         }
     }
     out
+}
+
+// The same for a list with so many hits at its front and zeros after them.
+pub fn merge_front(hits: &mut [u32], count: usize) -> usize
+    requires { ⌜ (count ≤ length (now hits) / width)
+        × (now hits ≡ padded (length (now hits)) (words (take count (slots (now hits)))))
+        × Real (take count (slots (now hits))) ⌝ }
+    ensures { λ r. ⌜ (r ≡ length (merged (take count (slots (now (hits .entry))))))
+        × (now (hits .exit) ≡ padded (length (now (hits .entry))) (words (merged (take count (slots (now (hits .entry))))))) ⌝ }
+{
+    let words = WIDTH * count;
+    merge(&mut hits[..words])
 }

@@ -70,9 +70,9 @@ module _ {room : ℕ} {out text : List ℕ} {at : ℕ} (g : Held room out text a
 pub held-all : {room : ℕ} {out text : List ℕ} {at : ℕ} → length text ≡ room → Wrote room text out at → Held room out text at
 held-all {room} {out} same w =
     record {
-      sized = sym (w .0);
-      fits = omega (arith, w .0, ap length (w .1) ∙ length-append out (zeros (room - length out)), length-replicate {A = ℕ} (room - length out) 0, same);
-      kept = w .1;
+      sized = sym (w .said);
+      fits = omega (arith, w .said, ap length (w .kept) ∙ length-append out (zeros (room - length out)), length-replicate {A = ℕ} (room - length out) 0, same);
+      kept = w .kept;
     }
 
 -- ---- one field
@@ -131,7 +131,7 @@ module _ (file : List ℕ) (head : Head) (room count : ℕ) where
     unfolding fieldsFrom
     ends h =
         let none : count - tag ≡ 0 = omega arith in
-        agree-given (Wrote room text) (ap (λ (n : ℕ). fieldsFrom file head room n tag place (g .out)) (sym none) ∙ g .so-far) (sym (g .held .sized), g .held .kept)
+        agree-given (Wrote room text) (ap (λ (n : ℕ). fieldsFrom file head room n tag place (g .out)) (sym none) ∙ g .so-far) (record { said = sym (g .held .sized); kept = g .held .kept })
 
     module _ (more : tag < count) (r : Written) (last : List ℕ) where
       abbrev rest : List ℕ
@@ -198,7 +198,7 @@ module _ (file : List ℕ) (head : Head) (room : ℕ) (all : List Hit) where
     pub all-written : length all ≤ i → Agrees (Wrote room text) whole (given at)
     unfolding fieldsOf
     all-written h =
-        agree-given (Wrote room text) (ap (λ (l : List Hit). fieldsOf file head room l (g .out)) (sym (drop-of-length-le all {i = i} h)) ∙ g .so-far) (sym (g .held .sized), g .held .kept)
+        agree-given (Wrote room text) (ap (λ (l : List Hit). fieldsOf file head room l (g .out)) (sym (drop-of-length-le all {i = i} h)) ∙ g .so-far) (record { said = sym (g .held .sized); kept = g .held .kept })
 
     module _ (more : i < length all) (got : Hit) (is : got ≡ getD all i noHit) (place : ℕ) (p : place ≡ fieldsPlace head (got .metadata)) (r : Fields) (last : List ℕ) where
       abbrev fields : ℕ → List ℕ → Reply (List ℕ)

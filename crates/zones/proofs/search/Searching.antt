@@ -73,7 +73,7 @@ module _ (turn : Cursor → Turn) (end n : ℕ) where
     how mark least = record { count = count; mark = mark; least = least }
 
     sought-ended : (mark least : ℕ) → ended (g .hits) mark least ≡ whole → Agrees (Sought n ws) whole (given (how mark least))
-    sought-ended mark least e = agree-given (Sought n ws) e (rw (g .counted) refl, g .kept, g .real)
+    sought-ended mark least e = agree-given (Sought n ws) e (record { said = rw (g .counted) refl; kept = g .kept; real = g .real })
 
     pub ends : end ≤ at .place → Agrees (Sought n ws) whole (given (how 1 (at .least)))
     ends h = sought-ended 1 (at .least) (closing (g .fuel) at (g .hits) h ∙ g .so-far)
