@@ -17,7 +17,7 @@ use Rattle.zones.specs.Merge.{merged}
 use Rattle.zones.specs.declared.header.Head.{Head}
 use Rattle.zones.specs.declared.hits.Hit.{Hit}
 use Rattle.zones.specs.declared.table.Fix.{Fix}
-use Rattle.zones.specs.declared.find.Location.{Location}
+use Rattle.zones.specs.declared.location.Location.{Location}
 use Rattle.zones.specs.declared.find.Matches.{Matches}
 use Rattle.zones.specs.declared.find.Found.{Found}
 use Rattle.zones.specs.declared.find.Found.the-variants as F

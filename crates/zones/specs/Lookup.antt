@@ -13,7 +13,7 @@ use Rattle.zones.specs.Hits.{width}
 use Rattle.zones.specs.Find.{ninety, matchedIn}
 use Rattle.zones.specs.Fields.{fieldsOf}
 use Rattle.zones.specs.Lent.{Outcome, Replied, repliedOf}
-use Rattle.zones.specs.declared.find.Location.{Location}
+use Rattle.zones.specs.declared.location.Location.{Location}
 use Rattle.zones.specs.declared.lookup.Zones.{Zones}
 use Rattle.zones.specs.declared.lookup.Looked.{Looked}
 use Rattle.zones.specs.declared.lookup.Looked.the-variants as L

@@ -9,6 +9,7 @@ ghost use Rattle.zones.specs.Find.{fixOf, isPrecision, matchedIn, toldFo
 use crate::header::Head;
 use crate::header::Headed;
 use crate::header::head_of;
+use crate::location::Location;
 use crate::merge::merge_front;
 use crate::refusal::Refusal;
 use crate::refusal::plain;
@@ -18,11 +19,6 @@ use crate::table::Fix;
 use border::place::FixedLat;
 use border::place::FixedLon;
 use numbers::float::fixed::to_fixed;
-
-pub struct Location {
-    pub lat: f32,
-    pub lon: f32,
-}
 
 // The header, the number of matches, the end mark and the least squared distance.
 pub struct Matches {

@@ -7,8 +7,8 @@ ghost use Rattle.zones.specs.Lookup.{safezoneBits, zonesIn, lookedUp, to
 use crate::fields::Fields;
 use crate::fields::write_fields;
 use crate::find::Found;
-use crate::find::Location;
 use crate::find::find;
+use crate::location::Location;
 use crate::refusal::Refusal;
 use crate::zero::zero_both;
 use numbers::float::bits::bits_of;

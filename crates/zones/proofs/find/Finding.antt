@@ -16,7 +16,7 @@ use Rattle.zones.specs.declared.hits.Hit.{Hit}
 use Rattle.zones.specs.declared.refusal.Refusal.{Refusal}
 use Rattle.zones.specs.declared.table.Fix.{Fix}
 use Rattle.zones.specs.declared.search.Ended.{Ended}
-use Rattle.zones.specs.declared.find.Location.{Location}
+use Rattle.zones.specs.declared.location.Location.{Location}
 use Rattle.zones.specs.declared.find.Matches.{Matches}
 use Rattle.zones.proofs.Laws.{carried, onward, met, unmet}
 use Rattle.zones.proofs.hits.Words.{padded-slots, padded-room}

@@ -12,7 +12,7 @@ use Rattle.zones.specs.Lent.{Agrees, replied, repliedOf, Filled}
 use Rattle.zones.specs.Lookup.{safezoneBits, zonesIn}
 use Rattle.zones.specs.declared.hits.Hit.{Hit}
 use Rattle.zones.specs.declared.refusal.Refusal.{Refusal}
-use Rattle.zones.specs.declared.find.Location.{Location}
+use Rattle.zones.specs.declared.location.Location.{Location}
 use Rattle.zones.specs.declared.find.Matches.{Matches}
 use Rattle.zones.specs.declared.lookup.Zones.{Zones}
 use Rattle.zones.proofs.Laws.{carried, onward}
