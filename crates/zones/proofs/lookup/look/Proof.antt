@@ -1,5 +1,6 @@
 -- `zones::lookup::look` meets its contract, by how far it came. Assumes nothing.
-use Rattle.zones.proofs.lookup.Looking.{matches-room, no-match, no-fields, looked}
+use Rattle.zones.proofs.lookup.Looking.{no-match, no-fields, looked}
+use Rattle.zones.proofs.find.Finding.{matches-room}
 use Rattle.zones.proofs.Agreeing.{gave, refused-so}
 use Rattle.zones.specs.Fields.{toldFields}
 use Rattle.zones.specs.Find.{matchedIn, toldFound, Matching}
