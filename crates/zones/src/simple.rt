@@ -277,12 +277,7 @@ fn look(file: &[u8], location: Location, hits: &mut [u32], text: &mut [u8]) -> S
     })
 }
 
-pub fn simple_lookup(
-    file: &[u8],
-    location: Location,
-    hits: &mut [u32],
-    text: &mut [u8],
-) -> Simple
+pub fn simple_lookup(file: &[u8], location: Location, hits: &mut [u32], text: &mut [u8]) -> Simple
     ensures { λ r. ⌜ replied (toldSimple r) (now (hits .exit)) (now (text .exit))
         ≡ simplyLooked (now (file .entry)) location (length (now (hits .entry))) (length (now (text .entry))) ⌝ }
 {

@@ -1,16 +1,14 @@
 -- `zones::simple::is_called` meets its contract. The loop's invariant: what is left is the same exactly if all is. Assumes nothing.
-use Rattle.zones.proofs.simple.Names.{not-as-long, differs, goes-on, all-same}
-use Rattle.zones.specs.Utf8.{unmasked}
-use Rattle.zones.specs.Simple.{same}
-use lib.ListN.{length, drop}
-use native.Mathlib.Omega.{arith}
 use Prim.Native.Nat.{_≤_, _-_}
+use lib.ListN.{length, drop}
 use mathlib.Core.List.{map}
 use mathlib.Core.Path.{_≡_, refl}
+use native.Mathlib.Omega.{arith}
+use Rattle.zones.proofs.simple.Names.{not-as-long, differs, goes-on, all-same}
 use Rattle.zones.proofs.simple.is_called.Statement.{statement}
+use Rattle.zones.specs.Simple.{same}
+use Rattle.zones.specs.Utf8.{unmasked}
 use Rattle.zones.proofs.simple.is_called.Tie as tie
-use Rattle.zones.proofs.simple.is_called.Reads as reads
-use Rattle.zones.proofs.simple.is_called.Lts as lts
 
 abbrev Inv-loop : tie.InvT-loop
 Inv-loop stored name i₀ i = (i ≤ length name) × (length stored ≡ length name) × (same (drop i (map unmasked stored)) (drop i name) ≡ same (map unmasked stored) name)
@@ -31,7 +29,11 @@ shared-slice-read-if2-2 : tie.Need-shared-slice-read-if2-2 Inv-loop μ-loop
 shared-slice-read-if2-2 c = omega arith
 
 returns-2 : tie.Need-returns-2 Inv-loop μ-loop
-returns-2 c = differs (c .before .before .before .before .before .before .args .stored .now) (c .before .before .before .before .before .before .args .name .now) (c .before .before .before .before .loop .i) (c .before .before .before .before .loop .inv .1) (c .before .before .before .before .loop .inv .2) (c .before .before .before .loop-test .taken) (c .if2 .taken)
+returns-2 c =
+    let args = c .before .before .before .before .before .before .args in
+    let loop = c .before .before .before .before .loop in
+    let loop-test = c .before .before .before .loop-test in
+    differs (args .stored .now) (args .name .now) (loop .i) (loop .inv .1) (loop .inv .2) (loop-test .taken) (c .if2 .taken)
 
 add-i : tie.Need-add-i Inv-loop μ-loop
 add-i c = omega arith
@@ -40,10 +42,17 @@ loop-less : tie.Need-loop-less Inv-loop μ-loop
 loop-less c = omega (arith, c .before .before .before .loop-test .taken)
 
 loop-again : tie.Need-loop-again Inv-loop μ-loop
-loop-again c = (omega (arith, c .before .before .before .loop-test .taken), c .before .before .before .before .loop .inv .1, goes-on (c .before .before .before .before .before .before .args .stored .now) (c .before .before .before .before .before .before .args .name .now) (c .before .before .before .before .loop .i) (c .before .before .before .before .loop .inv .1) (c .before .before .before .before .loop .inv .2) (c .before .before .before .loop-test .taken) (c .if2 .left))
+loop-again c =
+    let loop-test = c .before .before .before .loop-test in
+    let loop = c .before .before .before .before .loop in
+    let args = c .before .before .before .before .before .before .args in
+    (omega (arith, loop-test .taken), loop .inv .1, goes-on (args .stored .now) (args .name .now) (loop .i) (loop .inv .1) (loop .inv .2) (loop-test .taken) (c .if2 .left))
 
 returns-3 : tie.Need-returns-3 Inv-loop μ-loop
-returns-3 c = all-same (c .before .before .before .args .stored .now) (c .before .before .before .args .name .now) (c .before .loop .i) (c .before .loop .inv .1) (c .before .loop .inv .2) (c .loop-test .left)
+returns-3 c =
+    let args = c .before .before .before .args in
+    let loop = c .before .loop in
+    all-same (args .stored .now) (args .name .now) (loop .i) (loop .inv .1) (loop .inv .2) (c .loop-test .left)
 
 pub is-called-spec : {M : Type 1} → statement M
 is-called-spec =

@@ -1,19 +1,19 @@
 -- `zones::simple::join` meets its contract: one string over the front of zeros, the other after it. Assumes nothing.
-use Rattle.zones.proofs.simple.Joining.{no-room, wrote}
-use native.Mathlib.Omega.{arith}
 use borrow.Author.Needs.{needs}
+use native.Mathlib.Omega.{arith}
+use Rattle.zones.proofs.simple.Joining.{no-room, wrote}
 use Rattle.zones.proofs.simple.join.Statement.{statement}
 use Rattle.zones.proofs.simple.join.Tie as tie
-use Rattle.zones.proofs.simple.join.Reads as reads
-use Rattle.zones.proofs.simple.join.Lts as lts
-use Rattle.zones.proofs.field.unmask.Reads as unmask-reads
-use Rattle.zones.proofs.refusal.plain.Reads as plain-reads
 
 plain-requires : tie.Need-plain-requires
 plain-requires c κs = search needs
 
 returns : tie.Need-returns
-returns c = rw (c .plain .ensures) (no-room _ (c .before .before .before .before .args .file .now) (c .before .before .before .before .args .one) (c .before .before .before .before .args .two) (c .before .before .before .before .pre .1) (c .before .before .before .before .pre .2) _ (omega (arith, c .before .if1 .taken)))
+returns c =
+    let args = c .before .before .before .before .args in
+    let pre = c .before .before .before .before .pre in
+    let if1 = c .before .if1 in
+    rw (c .plain .ensures) (no-room _ (args .file .now) (args .one) (args .two) (pre .1) (pre .2) _ (omega (arith, if1 .taken)))
 
 sub-if2 : tie.Need-sub-if2
 sub-if2 c = search needs
@@ -22,7 +22,12 @@ plain-requires-2 : tie.Need-plain-requires-2
 plain-requires-2 c κs = search needs
 
 returns-2 : tie.Need-returns-2
-returns-2 c = rw (c .plain2 .ensures) (no-room _ (c .before .before .before .before .before .args .file .now) (c .before .before .before .before .before .args .one) (c .before .before .before .before .before .args .two) (c .before .before .before .before .before .pre .1) (c .before .before .before .before .before .pre .2) _ (omega (arith, c .before .before .if1 .left, c .before .if2 .taken)))
+returns-2 c =
+    let args = c .before .before .before .before .before .args in
+    let pre = c .before .before .before .before .before .pre in
+    let if1 = c .before .before .if1 in
+    let if2 = c .before .if2 in
+    rw (c .plain2 .ensures) (no-room _ (args .file .now) (args .one) (args .two) (pre .1) (pre .2) _ (omega (arith, if1 .left, if2 .taken)))
 
 add-unmask : tie.Need-add-unmask
 add-unmask c = search needs
@@ -70,7 +75,14 @@ same-length : tie.Need-same-length
 same-length c = search needs
 
 returns-3 : tie.Need-returns-3
-returns-3 c = wrote _ (c .before .before .before .before .before .before .before .before .before .before .before .before .before .before .args .file .now) (c .before .before .before .before .before .before .before .before .before .before .before .before .before .before .args .one) (c .before .before .before .before .before .before .before .before .before .before .before .before .before .before .args .two) (c .before .before .before .before .before .before .before .before .before .before .before .before .before .before .pre .1) (c .before .before .before .before .before .before .before .before .before .before .before .before .before .before .pre .2) (omega (arith, c .before .before .before .before .before .before .before .before .before .before .before .if1 .left, c .before .before .before .before .before .before .before .before .before .before .if2 .left)) (c .before .before .before .before .before .before .before .before .before .before .before .before .before .before .pre .0) (c .before .before .before .before .before .before .before .unmask .ensures) (c .before .before .unmask2 .ensures)
+returns-3 c =
+    let args = c .before .before .before .before .before .before .before .before .before .before .before .before .before .before .args in
+    let pre = c .before .before .before .before .before .before .before .before .before .before .before .before .before .before .pre in
+    let if1 = c .before .before .before .before .before .before .before .before .before .before .before .if1 in
+    let if2 = c .before .before .before .before .before .before .before .before .before .before .if2 in
+    let unmask = c .before .before .before .before .before .before .before .unmask in
+    let unmask2 = c .before .before .unmask2 in
+    wrote _ (args .file .now) (args .one) (args .two) (pre .1) (pre .2) (omega (arith, if1 .left, if2 .left)) (pre .0) (unmask .ensures) (unmask2 .ensures)
 
 pub join-spec : {M : Type 1} → statement M
 join-spec =

@@ -2,8 +2,6 @@
 use borrow.Author.Tests.{eq-eqb, ne-eqb}
 use Rattle.zones.proofs.simple.newer.Statement.{statement}
 use Rattle.zones.proofs.simple.newer.Tie as tie
-use Rattle.zones.proofs.simple.newer.Reads as reads
-use Rattle.zones.proofs.simple.newer.Lts as lts
 
 returns : tie.Need-returns
 returns c = simp (eq-eqb _ _ (c .if1 .taken))

@@ -1,23 +1,16 @@
 -- `zones::simple::pick` meets its contract. The loop's invariant: the fields that are left give the whole. Assumes nothing.
-use Rattle.zones.proofs.simple.Picking.{starts, all-picked, no-name, name-inside, no-value, goes}
-use Rattle.zones.specs.declared.header.Sections.{Sections}
-use Rattle.zones.specs.declared.header.Preamble.{Preamble}
-use Rattle.zones.specs.declared.header.Head.{Head}
-use Rattle.zones.specs.Simple.{begun, pickedFrom}
-use Rattle.zones.specs.Text.{toldRead}
-use native.Mathlib.Omega.{arith}
 use Prim.Native.Nat.{_-_, _≤_}
 use borrow.Author.Needs.{needs}
-use mathlib.Core.Path.{_≡_, refl, sym, ap, _∙_}
+use mathlib.Core.Path.{_≡_, sym, ap, _∙_}
+use native.Mathlib.Omega.{arith}
+use Rattle.zones.proofs.simple.Picking.{starts, all-picked, no-name, name-inside, no-value, goes}
 use Rattle.zones.proofs.simple.pick.Statement.{statement}
+use Rattle.zones.specs.Simple.{begun, pickedFrom}
+use Rattle.zones.specs.Text.{toldRead}
+use Rattle.zones.specs.declared.header.Head.{Head}
+use Rattle.zones.specs.declared.header.Preamble.{Preamble}
+use Rattle.zones.specs.declared.header.Sections.{Sections}
 use Rattle.zones.proofs.simple.pick.Tie as tie
-use Rattle.zones.proofs.simple.pick.Reads as reads
-use Rattle.zones.proofs.simple.pick.Lts as lts
-use Rattle.zones.proofs.header.read_header_text.Reads as read-header-text-reads
-use Rattle.zones.proofs.simple.begun.Reads as begun-reads
-use Rattle.zones.proofs.simple.newer.Reads as newer-reads
-use Rattle.zones.proofs.simple.part_of.Reads as part-of-reads
-use Rattle.zones.proofs.text.read_text.Reads as read-text-reads
 
 abbrev headOf : Preamble → Sections → Head
 headOf preamble sections = record { preamble = preamble; sections = sections }
@@ -47,7 +40,12 @@ enum-known-why : tie.Need-enum-known-why Inv-loop μ-loop
 enum-known-why c = search needs
 
 returns : tie.Need-returns Inv-loop μ-loop
-returns c = no-name _ _ _ _ _ _ _ (c .before .before .before .before .before .loop .inv .0) (c .before .before .before .before .loop-test .taken) (sym (ap toldRead (c .before .why .given .1)) ∙ c .before .before .before .read-header-text .ensures)
+returns c =
+    let loop = c .before .before .before .before .before .loop in
+    let loop-test = c .before .before .before .before .loop-test in
+    let why = c .before .why in
+    let read-header-text = c .before .before .before .read-header-text in
+    no-name _ _ _ _ _ _ _ (loop .inv .0) (loop-test .taken) (sym (ap toldRead (why .given .1)) ∙ read-header-text .ensures)
 
 read-text-requires : tie.Need-read-text-requires Inv-loop μ-loop
 read-text-requires c κs = search needs
@@ -59,22 +57,47 @@ enum-known-why-2 : tie.Need-enum-known-why-2 Inv-loop μ-loop
 enum-known-why-2 c = search needs
 
 returns-2 : tie.Need-returns-2 Inv-loop μ-loop
-returns-2 c = no-value _ _ _ _ _ _ _ (c .before .before .before .before .before .before .before .before .before .loop .inv .0) (c .before .before .before .before .before .before .before .before .loop-test .taken) (sym (ap toldRead (c .before .before .before .before .before .called .given .1)) ∙ c .before .before .before .before .before .before .before .read-header-text .ensures) (sym (ap toldRead (c .before .why2 .given .1)) ∙ c .before .before .before .read-text .ensures)
+returns-2 c =
+    let loop = c .before .before .before .before .before .before .before .before .before .loop in
+    let loop-test = c .before .before .before .before .before .before .before .before .loop-test in
+    let called = c .before .before .before .before .before .called in
+    let read-header-text = c .before .before .before .before .before .before .before .read-header-text in
+    let why2 = c .before .why2 in
+    let read-text = c .before .before .before .read-text in
+    no-value _ _ _ _ _ _ _ (loop .inv .0) (loop-test .taken) (sym (ap toldRead (called .given .1)) ∙ read-header-text .ensures) (sym (ap toldRead (why2 .given .1)) ∙ read-text .ensures)
 
 part-of-requires : tie.Need-part-of-requires Inv-loop μ-loop
-part-of-requires c κs = name-inside _ _ _ _ _ _ _ (c .before .before .before .before .before .before .before .before .before .loop .inv .0) (c .before .before .before .before .before .before .before .before .loop-test .taken) (sym (ap toldRead (c .before .before .before .before .before .called .given .1)) ∙ c .before .before .before .before .before .before .before .read-header-text .ensures)
+part-of-requires c κs =
+    let loop = c .before .before .before .before .before .before .before .before .before .loop in
+    let loop-test = c .before .before .before .before .before .before .before .before .loop-test in
+    let called = c .before .before .before .before .before .called in
+    let read-header-text = c .before .before .before .before .before .before .before .read-header-text in
+    name-inside _ _ _ _ _ _ _ (loop .inv .0) (loop-test .taken) (sym (ap toldRead (called .given .1)) ∙ read-header-text .ensures)
 
 newer-requires : tie.Need-newer-requires Inv-loop μ-loop
 newer-requires c κs = search needs
 
 add-index : tie.Need-add-index Inv-loop μ-loop
-add-index c = omega (arith, c .before .before .before .before .before .before .before .before .before .before .loop-test .taken, c .before .before .before .before .before .before .before .before .before .before .before .before .before .struct-known .given)
+add-index c =
+    let loop-test = c .before .before .before .before .before .before .before .before .before .before .loop-test in
+    let struct-known = c .before .before .before .before .before .before .before .before .before .before .before .before .before .struct-known in
+    omega (arith, loop-test .taken, struct-known .given)
 
 loop-less : tie.Need-loop-less Inv-loop μ-loop
-loop-less c = omega (arith, c .before .before .before .before .before .before .before .before .before .before .loop-test .taken)
+loop-less c =
+    let loop-test = c .before .before .before .before .before .before .before .before .before .before .loop-test in
+    omega (arith, loop-test .taken)
 
 loop-again : tie.Need-loop-again Inv-loop μ-loop
-loop-again c = (goes _ _ _ _ _ _ _ (c .before .before .before .before .before .before .before .before .before .before .before .loop .inv .0) (c .before .before .before .before .before .before .before .before .before .before .loop-test .taken) (sym (ap toldRead (c .before .before .before .before .before .before .before .called .given .1)) ∙ c .before .before .before .before .before .before .before .before .before .read-header-text .ensures) (sym (ap toldRead (c .before .before .before .value .given .1)) ∙ c .before .before .before .before .before .read-text .ensures) (c .before .part-of .ensures) (c .newer .ensures), omega (arith, c .before .before .before .before .before .before .before .before .before .before .loop-test .taken))
+loop-again c =
+    let loop = c .before .before .before .before .before .before .before .before .before .before .before .loop in
+    let loop-test = c .before .before .before .before .before .before .before .before .before .before .loop-test in
+    let called = c .before .before .before .before .before .before .before .called in
+    let read-header-text = c .before .before .before .before .before .before .before .before .before .read-header-text in
+    let value = c .before .before .before .value in
+    let read-text = c .before .before .before .before .before .read-text in
+    let part-of = c .before .part-of in
+    (goes _ _ _ _ _ _ _ (loop .inv .0) (loop-test .taken) (sym (ap toldRead (called .given .1)) ∙ read-header-text .ensures) (sym (ap toldRead (value .given .1)) ∙ read-text .ensures) (part-of .ensures) (c .newer .ensures), omega (arith, loop-test .taken))
 
 returns-3 : tie.Need-returns-3 Inv-loop μ-loop
 returns-3 c = all-picked _ _ _ _ _ _ _ (c .before .loop .inv .0) (c .loop-test .left)
