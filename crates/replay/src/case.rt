@@ -20,8 +20,11 @@ pub enum Verdict {
     Skipped,
 }
 
-fn print_wrong(record: &[u8], got: Reply) -> Verdict {
-    io::write_all(STDOUT_FILENO, b"wrong: op ");
+// What was got, where the reply, the slots or the text is another than recorded.
+fn print_wrong(part: &[u8], record: &[u8], got: Reply) -> Verdict {
+    io::write_all(STDOUT_FILENO, b"wrong ");
+    io::write_all(STDOUT_FILENO, part);
+    io::write_all(STDOUT_FILENO, b": op ");
     io::print_decimal(STDOUT_FILENO, byte_at(record, 0) as u64);
     io::write_all(STDOUT_FILENO, b" id ");
     io::print_decimal(STDOUT_FILENO, long_at(record, 1));
@@ -50,13 +53,16 @@ fn run_case(record: &[u8], reply: usize, slots: &mut [u32], text: &mut [u8]) -> 
     let got = run(record, &record[26..reply], slots, text);
     let words = reply + 34;
     let bytes = words + 4 * slots.len();
-    if same_reply(got, recorded(&record[reply..words]))
-        && same_words(slots, &record[words..bytes])
-        && check::same(text, &record[bytes..])
-    {
-        return Verdict::Right;
+    if !same_reply(got, recorded(&record[reply..words])) {
+        return print_wrong(b"reply", record, got);
     }
-    print_wrong(record, got)
+    if !same_words(slots, &record[words..bytes]) {
+        return print_wrong(b"slots", record, got);
+    }
+    if !check::same(text, &record[bytes..]) {
+        return print_wrong(b"text", record, got);
+    }
+    Verdict::Right
 }
 
 fn judge_file(record: &[u8]) -> Verdict {

@@ -3,7 +3,7 @@ use mathlib.Core.Path.{_≡_, ap, _∙_}
 use mathlib.Core.List.{List}
 use Prim.Native.Nat.{ℕ}
 use Rattle.zones.specs.Reply.{Reply, given, refused, _>>=_}
-use Rattle.zones.specs.Header.{Texts, textsOf, placeAfter, preambleOf, sectionsAt, Contents, contentsOf, headOf}
+use Rattle.zones.specs.Header.{textsOf, placeAfter, preambleOf, sectionsAt, Contents, contentsOf, headOf}
 use Rattle.zones.specs.declared.header.Preamble.{Preamble}
 use Rattle.zones.specs.declared.header.Sections.{Sections}
 use Rattle.zones.specs.declared.header.Head.{Head}
