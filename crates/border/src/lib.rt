@@ -1,4 +1,7 @@
-// A stand-in for the border crate, with its interface.
+// Borders: their points as they are read, and what a border says of a location.
+pub mod distance;
+pub mod edge;
 pub mod place;
 pub mod reader;
 pub mod verdict;
+pub mod winding;

@@ -1,5 +1,548 @@
-// The encoding of a border's points.
+// Reading a border's points, one at a time. The state is plain data; the file's bytes, its version and its data offset stand beside it.
+ghost use mathlib.Core.Path.{_≡_};
+ghost use lib.IntN.{pos, negsuc};
+ghost use Rattle.numbers.specs.Answer.{found};
+ghost use Rattle.numbers.specs.Varint as varint;
+ghost use Rattle.border.specs.Reader.{onward, arrived, closing, advanced, shownBy, plainMove, plainPair, plainTurn, dataPlace, asI64, opened, reference, marker, forwardFrom, backwardFrom, packedTurn, turnOf};
+ghost use Rattle.border.specs.Told.{counted, stopped, toldRun, toldTurn, told, settledBy, steppedBy};
+ghost use Rattle.border.specs.Trace.{nextPoint, borderAt};
+use crate::place::Away;
+use crate::place::FixedLat;
+use crate::place::FixedLon;
+use crate::place::Moved;
+use crate::place::Point;
+use crate::place::is_still;
+use crate::place::move_by;
+use crate::place::negate;
+use numbers::point::RawPoint;
+use numbers::point::decode_point;
+use numbers::point::signed;
+use numbers::varint::Varint;
+use numbers::varint::read_backward;
+use numbers::varint::read_forward;
+
+// The encoding of a border: version 0 and version 1.
 pub enum Version {
     Plain,
     Packed,
+}
+
+// A reference that is being read: its next place and its end.
+pub enum Run {
+    Idle,
+    Forward { next: usize, end: usize },
+    Backward { next: usize, end: usize },
+}
+
+pub struct Reader {
+    pub place: usize,
+    // Version 0: moves that are left; with none left, the closing pair is next.
+    pub moves: u64,
+    // The first point is known.
+    pub begun: bool,
+    pub closed: bool,
+    pub point: Point,
+    pub first: Point,
+    pub run: Run,
+}
+
+// One turn of the reader's loop. The point that is given is the state's own.
+enum Turn {
+    Gives(Reader),
+    Again(Reader),
+    Ended,
+    Failed,
+    Refused(u8),
+}
+
+// The turn's answer where a number could not be read.
+fn stop(n: Varint) -> Turn
+    ensures { λ r. ⌜ toldTurn r ≡ stopped n ⌝ }
+{
+    match n {
+        Varint::Refused => Turn::Refused(12),
+        Varint::Failed => Turn::Failed,
+        Varint::Number { value: _, place: _ } => Turn::Failed,
+    }
+}
+
+// The state at a point that was reached; the first one is kept to close with.
+fn arrive(reader: Reader, place: usize, moves: u64, run: Run, point: Point) -> Reader
+    ensures { λ r. ⌜ r ≡ arrived (onward reader place moves run) point ⌝ }
+{
+    let closed = reader.closed;
+    if reader.begun {
+        let first = reader.first;
+        return Reader {
+            place,
+            moves,
+            begun: true,
+            closed,
+            run,
+            point,
+            first,
+        };
+    }
+    Reader {
+        place,
+        moves,
+        begun: true,
+        closed,
+        run,
+        point,
+        first: point,
+    }
+}
+
+// The closing point, which is the first one again.
+fn close(reader: Reader, place: usize, moves: u64) -> Reader
+    ensures { λ r. ⌜ r ≡ closing (onward reader place moves Run.Idle) ⌝ }
+{
+    let first = reader.first;
+    Reader {
+        place,
+        moves,
+        begun: reader.begun,
+        closed: true,
+        run: Run::Idle,
+        point: first,
+        first,
+    }
+}
+
+// Version 1: the point moves; `place` and `run` say where reading goes on.
+fn advance(reader: Reader, place: usize, run: Run, by: RawPoint) -> Turn
+    ensures { λ r. ⌜ toldTurn r ≡ advanced (onward reader place (reader .moves) run) by ⌝ }
+{
+    let here = reader.point;
+    let Moved::To(point) = move_by(here, by) else {
+        return Turn::Refused(13);
+    };
+    Turn::Gives(arrive(reader, place, reader.moves, run, point))
+}
+
+// A zero move gives no point, and as the closing pair none either.
+fn shown(reader: Reader, by: RawPoint) -> Turn
+    ensures { λ r. ⌜ toldTurn r ≡ found (shownBy by reader) ⌝ }
+{
+    if is_still(by) {
+        Turn::Again(reader)
+    } else {
+        Turn::Gives(reader)
+    }
+}
+
+// Version 0: a move, which counts; past the last one the closing point.
+fn plain_move(reader: Reader, place: usize, moves: u64, by: RawPoint) -> Turn
+    ensures { λ r. ⌜ toldTurn r ≡ plainMove (onward reader place moves Run.Idle) by ⌝ }
+{
+    if moves == 0 {
+        return shown(close(reader, place, moves), by);
+    }
+    let here = reader.point;
+    let Moved::To(point) = move_by(here, by) else {
+        return Turn::Refused(13);
+    };
+    shown(arrive(reader, place, moves - 1, Run::Idle, point), by)
+}
+
+// Version 0: the two signed numbers of a move or of the closing pair.
+fn plain_pair(file: &[u8], reader: Reader, place: usize, moves: u64) -> Turn
+    ensures { λ r. ⌜ toldTurn r ≡ plainPair (now (file .entry)) (onward reader place moves Run.Idle) ⌝ }
+{
+    let n = read_forward(file, place);
+    let Varint::Number {
+        value: lat,
+        place: middle,
+    } = n
+    else {
+        return stop(n);
+    };
+    let m = read_forward(file, middle);
+    let Varint::Number {
+        value: lon,
+        place: after,
+    } = m
+    else {
+        return stop(m);
+    };
+    let by = RawPoint {
+        lat: signed(lat),
+        lon: signed(lon),
+    };
+    plain_move(reader, after, moves, by)
+}
+
+// Version 0: the moves that are left, and where the next pair stands. The count comes before the first move.
+fn moves_left(file: &[u8], reader: Reader) -> Varint
+    ensures { λ r. ⌜ varint.told r ≡ counted (now (file .entry)) reader ⌝ }
+{
+    let place = reader.place;
+    if reader.begun {
+        return Varint::Number {
+            value: reader.moves,
+            place,
+        };
+    }
+    let n = read_forward(file, place);
+    let Varint::Number {
+        value: count,
+        place: _,
+    } = n
+    else {
+        return n;
+    };
+    if count == 0 {
+        return Varint::Failed;
+    }
+    n
+}
+
+fn plain_turn(file: &[u8], reader: Reader) -> Turn
+    ensures { λ r. ⌜ toldTurn r ≡ plainTurn (now (file .entry)) reader ⌝ }
+{
+    let n = moves_left(file, reader);
+    let Varint::Number {
+        value: moves,
+        place,
+    } = n
+    else {
+        return stop(n);
+    };
+    plain_pair(file, reader, place, moves)
+}
+
+// A reference, or that its end leaves the i64.
+enum Opened {
+    Run(Run),
+    Over,
+}
+
+// The place `n` bytes into the data section, modulo 2^32.
+fn data_place(base: u32, n: u64) -> usize
+    ensures { λ r. ⌜ r ≡ dataPlace base (pos n) ⌝ }
+{
+    ((base as u64 + n % 0x1_0000_0000) % 0x1_0000_0000) as usize
+}
+
+// A reference of `size` bytes; 0 opens none.
+fn open_forward(base: u32, start: u64, size: u32) -> Opened
+    ensures { λ r. ⌜ toldRun r ≡ opened base (asI64 start) (pos size) ⌝ }
+{
+    if size == 0 {
+        return Opened::Run(Run::Idle);
+    }
+    if start < 0x8000_0000_0000_0000 {
+        if 0x8000_0000_0000_0000 <= start + size as u64 {
+            return Opened::Over;
+        }
+    }
+    let next = data_place(base, start);
+    let end = data_place(base, start % 0x1_0000_0000 + size as u64);
+    Opened::Run(Run::Forward { next, end })
+}
+
+// A backward reference of `more` and one bytes; it starts and ends one byte lower.
+fn open_backward(base: u32, start: u64, more: u32) -> Opened
+    ensures { λ r. ⌜ toldRun r ≡ opened base (asI64 start) (negsuc more) ⌝ }
+{
+    if 0x8000_0000_0000_0000 <= start {
+        if start - 0x8000_0000_0000_0000 <= more as u64 {
+            return Opened::Over;
+        }
+    }
+    let before = start % 0x1_0000_0000 + 0xffff_ffff;
+    let next = data_place(base, before);
+    let end = data_place(base, before + (0xffff_ffff - more) as u64);
+    Opened::Run(Run::Backward { next, end })
+}
+
+fn open_run(base: u32, start: u64, length: i32) -> Opened
+    ensures { λ r. ⌜ toldRun r ≡ opened base (asI64 start) length ⌝ }
+{
+    if length < 0 {
+        open_backward(base, start, (-1 - length) as u32)
+    } else {
+        open_forward(base, start, length as u32)
+    }
+}
+
+// Version 1, after 0 and 1.
+fn open_reference(file: &[u8], base: u32, reader: Reader, place: usize) -> Turn
+    ensures { λ r. ⌜ toldTurn r ≡ reference (now (file .entry)) base (onward reader place (reader .moves) Run.Idle) ⌝ }
+{
+    let n = read_forward(file, place);
+    let Varint::Number {
+        value: start,
+        place: middle,
+    } = n
+    else {
+        return stop(n);
+    };
+    let m = read_forward(file, middle);
+    let Varint::Number {
+        value: length,
+        place: after,
+    } = m
+    else {
+        return stop(m);
+    };
+    let Opened::Run(run) = open_run(base, start, signed(length)) else {
+        return Turn::Refused(13);
+    };
+    Turn::Again(go_on(reader, after, run))
+}
+
+// Reading goes on at a place, in a run.
+fn go_on(reader: Reader, place: usize, run: Run) -> Reader
+    ensures { λ r. ⌜ r ≡ onward reader place (reader .moves) run ⌝ }
+{
+    let point = reader.point;
+    let first = reader.first;
+    Reader {
+        place,
+        moves: reader.moves,
+        begun: reader.begun,
+        closed: reader.closed,
+        run,
+        point,
+        first,
+    }
+}
+
+// Version 1, after 0.
+fn read_marker(file: &[u8], base: u32, reader: Reader, place: usize) -> Turn
+    ensures { λ r. ⌜ toldTurn r ≡ marker (now (file .entry)) base (onward reader place (reader .moves) Run.Idle) ⌝ }
+{
+    let n = read_forward(file, place);
+    let Varint::Number {
+        value: mark,
+        place: after,
+    } = n
+    else {
+        return stop(n);
+    };
+    if mark == 0 {
+        return Turn::Gives(close(reader, after, reader.moves));
+    }
+    if mark == 1 {
+        return open_reference(file, base, reader, after);
+    }
+    let here = reader.point;
+    Turn::Gives(arrive(reader, after, reader.moves, Run::Idle, here))
+}
+
+// Version 1, outside a reference.
+fn read_move(file: &[u8], base: u32, reader: Reader) -> Turn
+    ensures { λ r. ⌜ toldTurn r ≡ packedTurn Run.Idle (now (file .entry)) base reader ⌝ }
+{
+    let place = reader.place;
+    let n = read_forward(file, place);
+    let Varint::Number {
+        value,
+        place: after,
+    } = n
+    else {
+        return stop(n);
+    };
+    if value == 0 {
+        return read_marker(file, base, reader, after);
+    }
+    advance(reader, after, Run::Idle, decode_point(value))
+}
+
+// What is left of a reference.
+fn forward_from(next: usize, end: usize) -> Run
+    ensures { λ r. ⌜ r ≡ forwardFrom next end ⌝ }
+{
+    if end <= next {
+        Run::Idle
+    } else {
+        Run::Forward { next, end }
+    }
+}
+
+fn backward_from(next: usize, end: usize) -> Run
+    ensures { λ r. ⌜ r ≡ backwardFrom next end ⌝ }
+{
+    if next <= end {
+        Run::Idle
+    } else {
+        Run::Backward { next, end }
+    }
+}
+
+// Version 1, inside a reference that is read forward.
+fn run_forward(file: &[u8], base: u32, reader: Reader, next: usize, end: usize) -> Turn
+    ensures { λ r. ⌜ toldTurn r ≡ packedTurn (Run.Forward next end) (now (file .entry)) base reader ⌝ }
+{
+    let n = read_forward(file, next);
+    let Varint::Number {
+        value: ahead,
+        place: after,
+    } = n
+    else {
+        return stop(n);
+    };
+    if ahead == 0 {
+        return Turn::Failed;
+    }
+    let place = reader.place;
+    advance(reader, place, forward_from(after, end), decode_point(ahead))
+}
+
+// Version 1, inside a reference that is read backward.
+fn run_backward(file: &[u8], base: u32, reader: Reader, next: usize, end: usize) -> Turn
+    ensures { λ r. ⌜ toldTurn r ≡ packedTurn (Run.Backward next end) (now (file .entry)) base reader ⌝ }
+{
+    let n = read_backward(file, next);
+    let Varint::Number {
+        value: behind,
+        place: before,
+    } = n
+    else {
+        return stop(n);
+    };
+    if behind == 0 {
+        return Turn::Failed;
+    }
+    let Away::By(by) = negate(decode_point(behind)) else {
+        return Turn::Refused(13);
+    };
+    let place = reader.place;
+    advance(reader, place, backward_from(before, end), by)
+}
+
+fn packed_turn(file: &[u8], base: u32, reader: Reader) -> Turn
+    ensures { λ r. ⌜ toldTurn r ≡ packedTurn (reader .run) (now (file .entry)) base reader ⌝ }
+{
+    let run = reader.run;
+    match run {
+        Run::Idle => read_move(file, base, reader),
+        Run::Forward { next, end } => run_forward(file, base, reader, next, end),
+        Run::Backward { next, end } => run_backward(file, base, reader, next, end),
+    }
+}
+
+fn turn_once(file: &[u8], version: Version, base: u32, reader: Reader) -> Turn
+    ensures { λ r. ⌜ toldTurn r ≡ turnOf (now (file .entry)) version base reader ⌝ }
+{
+    if reader.closed {
+        return Turn::Ended;
+    }
+    match version {
+        Version::Packed => packed_turn(file, base, reader),
+        Version::Plain => plain_turn(file, reader),
+    }
+}
+
+// The next point of a border, which is the state's own.
+pub enum Next {
+    Point(Reader),
+    Ended,
+    Failed,
+    Refused(u8),
+}
+
+// A turn that does not go round again.
+fn settled(t: Turn) -> Next
+    ensures { λ r. ⌜ told r ≡ settledBy t ⌝ }
+{
+    match t {
+        Turn::Gives(reader) => Next::Point(reader),
+        Turn::Refused(number) => Next::Refused(number),
+        Turn::Ended => Next::Ended,
+        Turn::Failed => Next::Failed,
+        Turn::Again(_) => Next::Failed,
+    }
+}
+
+// The next point of a border. The file's bytes, its version and its data offset are the same from point to point.
+pub fn next_point(file: &[u8], version: Version, data_offset: u32, reader: Reader) -> Next
+    ensures { λ r. ⌜ told r ≡ nextPoint (now (file .entry)) version «data_offset» reader ⌝ }
+{
+    let mut state = reader;
+    loop {
+        let t = turn_once(file, version, data_offset, state);
+        let Turn::Again(later) = t else {
+            return settled(t);
+        };
+        state = later;
+    }
+}
+
+// A border that is about to be read at a place of the file.
+pub fn open_border(place: usize) -> Reader
+    ensures { λ r. ⌜ r ≡ borderAt place ⌝ }
+{
+    let origin = Point {
+        lat: FixedLat(0),
+        lon: FixedLon(0),
+    };
+    Reader {
+        place,
+        moves: 0,
+        begun: false,
+        closed: false,
+        run: Run::Idle,
+        point: origin,
+        first: origin,
+    }
+}
+
+// What the thin form answers.
+pub enum Reply {
+    Point(Point),
+    Ended,
+    Failed,
+    Refused(u8),
+}
+
+// A reply beside the state after it.
+struct Stepped {
+    reader: Reader,
+    reply: Reply,
+}
+
+// The end, a failure and a refusal leave the state as it was.
+fn step(file: &[u8], version: Version, data_offset: u32, reader: Reader) -> Stepped
+    ensures { λ r. ⌜ r ≡ steppedBy reader (nextPoint (now (file .entry)) version «data_offset» reader) ⌝ }
+{
+    let n = next_point(file, version, data_offset, reader);
+    match n {
+        Next::Point(later) => {
+            let point = later.point;
+            Stepped {
+                reader: later,
+                reply: Reply::Point(point),
+            }
+        }
+        Next::Ended => Stepped {
+            reader,
+            reply: Reply::Ended,
+        },
+        Next::Failed => Stepped {
+            reader,
+            reply: Reply::Failed,
+        },
+        Next::Refused(number) => Stepped {
+            reader,
+            reply: Reply::Refused(number),
+        },
+    }
+}
+
+// The thin form: the lent state goes through `step` and back.
+pub fn reader_get_point(
+    file: &[u8],
+    version: Version,
+    data_offset: u32,
+    reader: &mut Reader,
+) -> Reply
+    ensures { λ r. ⌜ (r ≡ steppedBy (now (reader .entry)) (nextPoint (now (file .entry)) version «data_offset» (now (reader .entry))) .reply)
+        × (now (reader .exit) ≡ steppedBy (now (reader .entry)) (nextPoint (now (file .entry)) version «data_offset» (now (reader .entry))) .reader) ⌝ }
+{
+    let stepped = step(file, version, data_offset, *reader);
+    *reader = stepped.reader;
+    stepped.reply
 }

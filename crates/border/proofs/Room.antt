@@ -1,0 +1,183 @@
+-- How much can still be read. Each turn that gives a point or goes round again leaves less. Assumes nothing.
+use Prim.Native.Nat.{ℕ, suc, _+_, _-_, _*_, _<_, _≤_, min}
+use native.Mathlib.Nat.{mul-le-mul-right, min-le-right, le-refl, suc-mul}
+use native.Mathlib.Omega.{arith}
+use mathlib.Core.Path.{_≡_, refl}
+use mathlib.Core.Bool.{Bool, true, false}
+use mathlib.Core.List.{List}
+use lib.Dec.{leb, eqb}
+use lib.ListN.{length}
+use Rattle.numbers.specs.Answer.{Answer, found, failed, refused, if_then_else_, _>>=_}
+use Rattle.numbers.specs.Varint.{Numeral, forwardAt, backwardAt}
+use Rattle.numbers.specs.Point.{pointOf, signedOf}
+use Rattle.numbers.specs.declared.point.{RawPoint.RawPoint}
+use Rattle.numbers.specs.declared.varint.Varint.the-variants.{Number}
+use Rattle.numbers.proofs.Laws.{number-read}
+use Rattle.border.specs.Place.{moveBy, isStill, movedBy, negated}
+use Rattle.border.specs.Reader.{Turn, gives, again, ends, onward, arrived, closing, advanced, shownBy, plainMove, plainPair, plainTurn, asI64, opened, reference, marker, lent, forwardFrom, backwardFrom, packedTurn, turnOf}
+use Rattle.border.specs.declared.reader.{Reader.Reader, Run.Run, Version.Version}
+use Rattle.border.specs.declared.reader.Version.the-variants.{Plain, Packed}
+use Rattle.border.specs.declared.reader.Run.the-variants.{Idle, Forward, Backward}
+use Rattle.border.proofs.FromNumbers.{All, then-all, any, Before, backward-read}
+
+-- ---- the measure
+
+abbrev runLeft : ℕ → Run → ℕ
+runLeft n Idle = 0
+runLeft n (Forward next end) = n - next
+runLeft n (Backward next end) = min next n
+
+-- a byte of the border outweighs a whole run
+pub room : ℕ → ℕ → Run → ℕ
+room n place run = (n - place) * suc n + runLeft n run
+
+abbrev pub left : List ℕ → Reader → ℕ
+left f s = room (length f) (s .place) (s .run)
+
+run-small : (n : ℕ) (r : Run) → runLeft n r ≤ n
+run-small n Idle = omega arith
+run-small n (Forward next end) = omega arith
+run-small n (Backward next end) = min-le-right next n
+
+pub room-most : (n place : ℕ) (r : Run) → room n place r ≤ suc n * suc n
+unfolding room
+room-most n place r =
+    let less : (n - place) * suc n ≤ n * suc n = mul-le-mul-right (suc n) (omega arith) in
+    omega (arith, run-small n r, suc-mul n (suc n))
+
+border-lower : (n place place′ : ℕ) (r r′ : Run) → place < n → place < place′ → room n place′ r′ < room n place r
+unfolding room
+border-lower n place place′ r r′ h k =
+    let more : suc (n - place′) * suc n ≤ (n - place) * suc n = mul-le-mul-right (suc n) (omega arith) in
+    omega (arith, run-small n r′, suc-mul (n - place′) (suc n))
+
+either : {A : Type 0} (P : A → Type 0) (t : Bool) (a b : A) → P a → P b → P (if t then a else b)
+either P true a b on off = on
+either P false a b on off = off
+
+forward-lower : (n place next next′ end : ℕ) → next < n → next < next′ → room n place (forwardFrom next′ end) < room n place (Forward next end)
+unfolding room forwardFrom
+forward-lower n place next next′ end h k =
+    either (λ (r : Run). (n - place) * suc n + runLeft n r < (n - place) * suc n + (n - next)) (leb end next′) Idle (Forward next′ end)
+    (omega arith)
+    (omega arith)
+
+backward-lower : (n place next next′ end : ℕ) → next < n → next′ < next → room n place (backwardFrom next′ end) < room n place (Backward next end)
+unfolding room backwardFrom
+backward-lower n place next next′ end h k =
+    either (λ (r : Run). (n - place) * suc n + runLeft n r < (n - place) * suc n + min next n) (leb next′ end) Idle (Backward next′ end)
+    (omega arith)
+    (omega arith)
+
+-- ---- numbers
+
+-- the place inside the file, and the place after the number
+pub record After (f : List ℕ) (place : ℕ) (number : Numeral) : Type 0 where
+  pub inside : place < length f
+  pub grows : place < number .place
+
+pub forward-read : (f : List ℕ) (place : ℕ) → All (After f place) (forwardAt f place)
+forward-read f place = go (forwardAt f place) refl
+  where
+    go : (answer : Answer Numeral) → answer ≡ forwardAt f place → All (After f place) answer
+    go (found n) e =
+        let read = number-read f place {a = Number (n .value) (n .place)} e refl in
+        record { inside = read .inside; grows = read .grows }
+    go failed e = tt
+    go (refused k) e = tt
+
+-- ---- turns
+
+-- where the turn goes on, there is less room than b
+abbrev pub Less : List ℕ → ℕ → Turn → Type 0
+Less f b (gives s) = left f s < b
+Less f b (again s) = left f s < b
+Less f b ends = Unit
+
+module _ (f : List ℕ) (b : ℕ) where
+  after : (place : ℕ) (next : Numeral → Answer Turn) → ((n : Numeral) → place < length f → place < n .place → All (Less f b) (next n)) → All (Less f b) (forwardAt f place >>= next)
+  after place next k = then-all (After f place) (Less f b) (forwardAt f place) next (forward-read f place) (λ n h. k n (h .inside) (h .grows))
+
+  before : (place : ℕ) (next : Numeral → Answer Turn) → ((n : Numeral) → place < length f → n .place < place → All (Less f b) (next n)) → All (Less f b) (backwardAt f place >>= next)
+  before place next k = then-all (Before f place) (Less f b) (backwardAt f place) next (backward-read f place) (λ n h. k n (h .inside) (h .falls))
+
+  whatever : {A : Type 0} (answer : Answer A) (next : A → Answer Turn) → ((a : A) → All (Less f b) (next a)) → All (Less f b) (answer >>= next)
+  whatever {A} answer next k = then-all (λ (a : A). Unit {0}) (Less f b) answer next (any answer) (λ a h. k a)
+
+  advanced-less : (s : Reader) (by : RawPoint) → left f s < b → All (Less f b) (advanced s by)
+  unfolding advanced
+  advanced-less s by h = whatever (movedBy (s .point) by) _ (λ p. h)
+
+  shown-less : (by : RawPoint) (s : Reader) → left f s < b → Less f b (shownBy by s)
+  shown-less by s h = either (Less f b) (isStill by) (again s) (gives s) h h
+
+  pair-less : (s : Reader) (by : RawPoint) → ((r : Run) → room (length f) (s .place) r < b) → All (Less f b) (plainMove s by)
+  unfolding plainMove
+  pair-less s by h =
+      either (All (Less f b)) (eqb (s .moves) 0) (found (shownBy by (closing s))) _ (shown-less by (closing s) (h (s .run)))
+      (whatever (movedBy (s .point) by) _ (λ p. shown-less by (arrived (onward s (s .place) (s .moves - 1) Idle) p) (h Idle)))
+
+-- at a later place of the border there is less room than in s, whatever the run
+later : (f : List ℕ) (s : Reader) (place place′ : ℕ) → s .place ≤ place → place < length f → place < place′ → (r : Run) → room (length f) place′ r < left f s
+later f s place place′ h k l r = border-lower (length f) (s .place) place′ (s .run) r (omega arith) (omega arith)
+
+module _ (f : List ℕ) (base : ℕ) (s : Reader) where
+  abbrev b : ℕ
+  b = left f s
+
+  numbers-less : (t : Reader) → s .place ≤ t .place → All (Less f b) (plainPair f t)
+  unfolding plainPair
+  numbers-less t h =
+      after f b (t .place) _
+      (λ lat k l. after f b (lat .place) _
+      (λ lon k′ l′. pair-less f b (onward t (lon .place) (t .moves) Idle) (moveBy (signedOf (lat .value)) (signedOf (lon .value))) (later f s (lat .place) (lon .place) (omega arith) k′ l′)))
+
+  plain-less : All (Less f b) (plainTurn f s)
+  unfolding plainTurn
+  plain-less =
+      either (All (Less f b)) (s .begun) (plainPair f s) _ (numbers-less s (le-refl (s .place)))
+      (after f b (s .place) _
+      (λ count k l. either (All (Less f b)) (eqb (count .value) 0) failed _ tt (numbers-less (onward s (count .place) (count .value) Idle) (omega arith))))
+
+  reference-less : (t : Reader) → s .place ≤ t .place → All (Less f b) (reference f base t)
+  unfolding reference
+  reference-less t h =
+      after f b (t .place) _
+      (λ start k l. after f b (start .place) _
+      (λ length k′ l′. whatever f b (opened base (asI64 (start .value)) (signedOf (length .value))) _
+      (λ run. later f s (start .place) (length .place) (omega arith) k′ l′ run)))
+
+  marker-less : (t : Reader) → s .place ≤ t .place → All (Less f b) (marker f base t)
+  unfolding marker
+  marker-less t h =
+      after f b (t .place) _
+      (λ mark k l. let less = later f s (t .place) (mark .place) h k l in
+      either (All (Less f b)) (eqb (mark .value) 0) (found (gives (closing (onward t (mark .place) (t .moves) Idle)))) _ (less Idle)
+      (either (All (Less f b)) (eqb (mark .value) 1) (reference f base (onward t (mark .place) (t .moves) Idle)) _
+      (reference-less (onward t (mark .place) (t .moves) Idle) (omega arith))
+      (less Idle)))
+
+  packed-less : (run : Run) → s .run ≡ run → All (Less f b) (packedTurn run f base s)
+  unfolding packedTurn
+  packed-less Idle e =
+      after f b (s .place) _
+      (λ number k l. let here = onward s (number .place) (s .moves) Idle in
+      either (All (Less f b)) (eqb (number .value) 0) (marker f base here) _
+      (marker-less here (omega arith))
+      (advanced-less f b here (pointOf (number .value)) (later f s (s .place) (number .place) (le-refl (s .place)) k l Idle)))
+  packed-less (Forward next end) e =
+      after f b next _
+      (λ number k l. whatever f b (lent (number .value)) _
+      (λ by. advanced-less f b (onward s (s .place) (s .moves) (forwardFrom (number .place) end)) by
+      (rw e (forward-lower (length f) (s .place) next (number .place) end k l))))
+  packed-less (Backward next end) e =
+      before f b next _
+      (λ number k l. whatever f b (lent (number .value)) _
+      (λ by. whatever f b (negated by) _
+      (λ back. advanced-less f b (onward s (s .place) (s .moves) (backwardFrom (number .place) end)) back
+      (rw e (backward-lower (length f) (s .place) next (number .place) end k l)))))
+
+pub turn-lowers : (f : List ℕ) (version : Version) (base : ℕ) (s : Reader) → All (Less f (left f s)) (turnOf f version base s)
+unfolding turnOf
+turn-lowers f Plain base s = either (All (Less f (left f s))) (s .closed) (found ends) _ tt (plain-less f base s)
+turn-lowers f Packed base s = either (All (Less f (left f s))) (s .closed) (found ends) _ tt (packed-less f base s (s .run) refl)

@@ -1,0 +1,75 @@
+-- Whole numbers of an i32 and an i64: ranges, tests and the way from one to the other. Assumes nothing.
+use Prim.Native.Nat.{ℕ, zero, suc, _+_, _-_, _<_, _≤_, _^_}
+use native.Mathlib.Nat.{lt-of-le-of-lt}
+use native.Mathlib.Omega.{arith}
+use mathlib.Core.Path.{_≡_, refl, sym, ap, _∙_, subst}
+use mathlib.Core.Bool.{Bool, true, false, cond}
+use lib.Dec.{T, ltb, eqb}
+use lib.IntN.{ℤ, pos, negsuc, negℤ, _+ℤ_, _-ℤ_}
+use lib.Signed.{mag, ltZ}
+use mir.Syntax.{w32, w64}
+use mir.Val.{SFits, toZ, ofZ}
+use mir.Facts.{toZ-ofZ, sfits-widen}
+use borrow.Author.Tests.{ltb-true, ltb-false, le-ltb, ne-eqb}
+use Rattle.border.specs.Place.{isZero}
+
+-- an i32 that is read as an i64
+pub widened : {z : ℤ} → SFits w32 z → toZ w64 (ofZ w64 (toZ w32 (ofZ w32 z))) ≡ z
+widened h = ap (λ (x : ℤ). toZ w64 (ofZ w64 x)) (toZ-ofZ h) ∙ toZ-ofZ (sfits-widen tt h)
+
+pub widens : {z : ℤ} → SFits w32 z → SFits w64 (toZ w32 (ofZ w32 z))
+widens h = rw (toZ-ofZ h) (sfits-widen tt h)
+
+mag-cond : (t : Bool) (a b : ℕ) (m : ℕ) → a ≤ m → b ≤ m → mag (cond t (negsuc a) (pos b)) ≤ m
+mag-cond true a b m h k = h
+mag-cond false a b m h k = k
+
+mag-sum : (a b : ℤ) → mag (a +ℤ b) ≤ mag a + mag b + 1
+mag-sum (pos a) (pos b) = omega arith
+mag-sum (pos a) (negsuc b) = mag-cond (ltb a (suc b)) (suc b - suc a) (a - suc b) (a + b + 1) (omega arith) (omega arith)
+mag-sum (negsuc a) (pos b) = mag-cond (ltb b (suc a)) (suc a - suc b) (b - suc a) (a + b + 1) (omega arith) (omega arith)
+mag-sum (negsuc a) (negsuc b) = omega arith
+
+pub sum-fits : {a b : ℤ} → SFits w32 a → SFits w32 b → SFits w64 (a +ℤ b)
+sum-fits {a} {b} h k =
+    record {
+      sfits = lt-of-le-of-lt (mag-sum a b) (let x : mag a < 2 ^ 31 = h .sfits in let y : mag b < 2 ^ 31 = k .sfits in omega arith);
+    }
+
+mag-neg : (a : ℤ) → mag (negℤ a) ≤ mag a + 1
+mag-neg (pos zero) = omega arith
+mag-neg (pos (suc n)) = omega arith
+mag-neg (negsuc n) = omega arith
+
+pub negation-fits : {a : ℤ} → SFits w32 a → SFits w64 (pos 0 -ℤ a)
+negation-fits {a} h =
+    record {
+      sfits = lt-of-le-of-lt (mag-sum (pos 0) (negℤ a)) (let x : mag a < 2 ^ 31 = h .sfits in omega (arith, mag-neg a));
+    }
+
+pub difference-fits : {a b : ℤ} → SFits w32 a → SFits w32 b → SFits w64 (a -ℤ b)
+difference-fits {a} {b} h k =
+    record {
+      sfits = lt-of-le-of-lt (mag-sum a (negℤ b)) (let x : mag a < 2 ^ 31 = h .sfits in let y : mag b < 2 ^ 31 = k .sfits in omega (arith, mag-neg b));
+    }
+
+differ : {A : Type 0} → false ≡ true → A
+differ e = absurd (subst T (sym e) tt)
+
+-- the two tests of a range
+pub too-low : (z : ℤ) → ltZ z (negsuc 2147483647) ≡ true → ltb (mag z) (2 ^ 31) ≡ false
+too-low (pos n) e = differ e
+too-low (negsuc n) e = le-ltb n (2 ^ 31) (omega (arith, ltb-true 2147483647 n e))
+
+pub too-high : (z : ℤ) → ltZ (pos 2147483647) z ≡ true → ltb (mag z) (2 ^ 31) ≡ false
+too-high (pos n) e = le-ltb n (2 ^ 31) (omega (arith, ltb-true 2147483647 n e))
+too-high (negsuc n) e = differ e
+
+pub in-range : (z : ℤ) → ltZ z (negsuc 2147483647) ≡ false → ltZ (pos 2147483647) z ≡ false → mag z < 2 ^ 31
+in-range (pos n) e g = omega (arith, ltb-false 2147483647 n g)
+in-range (negsuc n) e g = omega (arith, ltb-false 2147483647 n e)
+
+-- a number of which only the bits are tested
+pub zero-bits : (z : ℤ) → SFits w32 z → eqb (ofZ w32 z) 0 ≡ isZero z
+zero-bits (pos n) h = refl
+zero-bits (negsuc n) h = ne-eqb (2 ^ 32 - suc n) 0 (λ e. let x : n < 2 ^ 31 = h .sfits in omega arith)

@@ -1,0 +1,40 @@
+-- `border::reader::advance` meets its contract. Assumes nothing.
+use borrow.Author.Needs.{needs}
+use mathlib.Core.Path.{sym, ap, _∙_}
+use Rattle.border.proofs.reader.Turns.{advances, advance-over}
+use Rattle.border.proofs.reader.advance.Statement.{statement}
+use Rattle.border.specs.declared.reader.Reader.{Reader}
+use Rattle.border.specs.Reader.{gives, onward}
+use Rattle.numbers.specs.Answer.{found}
+use Rattle.border.proofs.reader.advance.Tie as tie
+
+move-by-requires : tie.Need-move-by-requires
+move-by-requires c κs = search needs
+
+enum-known-point : tie.Need-enum-known-point
+enum-known-point c = search needs
+
+enum-told : tie.Need-enum-told
+enum-told c = search needs
+
+returns : tie.Need-returns
+returns c =
+    let args = c .before .before .before .before .args in
+    let move-by = c .before .before .move-by in
+    sym (advance-over (onward (args .reader) (args .place) (args .reader .moves) (args .run)) (args .by) (rw (c .enum-told .given .1) at (move-by .ensures)))
+
+arrive-requires : tie.Need-arrive-requires
+arrive-requires c κs = search needs
+
+returns-2 : tie.Need-returns-2
+returns-2 c =
+    let args = c .before .before .before .before .before .before .args in
+    let point = c .before .before .point in
+    let move-by = c .before .before .before .before .move-by in
+    ap (λ (t : Reader). found (gives t)) (c .arrive .ensures)
+    ∙ sym (advances (onward (args .reader) (args .place) (args .reader .moves) (args .run)) (args .by) (rw (point .given .1) at (move-by .ensures)))
+
+pub advance-spec : {M : Type 1} → statement M
+advance-spec =
+    tie.close
+    (tie.spec move-by-requires enum-known-point enum-told returns arrive-requires returns-2)

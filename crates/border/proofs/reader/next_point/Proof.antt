@@ -1,0 +1,73 @@
+-- `border::reader::next_point` meets its contract. The loop's invariant: from here on the next point is the same; the measure is what can still be read. Assumes nothing.
+use borrow.Author.Needs.{needs}
+use denote.Ref.{now}
+use mathlib.Core.Path.{_≡_, refl, sym, ap, _∙_}
+use Rattle.border.proofs.Room.{left}
+use Rattle.border.proofs.Trace.{next-step, again-less, again-same}
+use Rattle.border.proofs.reader.Rounds.{last-round}
+use Rattle.border.proofs.reader.next_point.Statement.{statement}
+use Rattle.border.specs.Reader.{Turn}
+use Rattle.border.specs.Trace.{roundAgain, nextPoint}
+use Rattle.numbers.specs.Answer.{Answer, _>>=_}
+use Rattle.border.proofs.reader.next_point.Tie as tie
+
+abbrev Inv-loop : tie.InvT-loop
+Inv-loop file version data-offset state₀ state = nextPoint file version data-offset state ≡ nextPoint file version data-offset state₀
+
+abbrev μ-loop : tie.MeasureT-loop
+μ-loop file version data-offset state₀ state = left file state
+
+loop-holds : tie.Need-loop-holds Inv-loop μ-loop
+loop-holds c = refl
+
+turn-once-requires : tie.Need-turn-once-requires Inv-loop μ-loop
+turn-once-requires c κs = search needs
+
+enum-known-t : tie.Need-enum-known-t Inv-loop μ-loop
+enum-known-t c = search needs
+
+settled-requires : tie.Need-settled-requires Inv-loop μ-loop
+settled-requires c κs = search needs
+
+returns : tie.Need-returns Inv-loop μ-loop
+returns c =
+    let args = c .before .before .before .before .before .args in
+    let turn-once = c .before .before .turn-once in
+    let matched = c .before .match in
+    let loop = c .before .before .before .loop in
+    let rest = nextPoint (now (args .file)) (args .version) (args .data-offset) in
+    c .settled .ensures
+    ∙ last-round (turn-once .result) rest (matched .keys2)
+    ∙ ap (λ (t : Answer Turn). t >>= roundAgain rest) (turn-once .ensures)
+    ∙ sym (next-step (now (args .file)) (args .version) (args .data-offset) (loop .state))
+    ∙ loop .inv
+
+loop-less : tie.Need-loop-less Inv-loop μ-loop
+loop-less c =
+    let args = c .before .before .before .before .before .before .args in
+    let loop = c .before .before .before .before .loop in
+    let t = c .before .t in
+    let turn-once = c .before .before .before .turn-once in
+    again-less (now (args .file)) (args .version) (args .data-offset) (loop .state) (t .given .0 .0) (rw (t .given .1) at (turn-once .ensures))
+
+loop-again : tie.Need-loop-again Inv-loop μ-loop
+loop-again c =
+    let args = c .before .before .before .before .before .before .args in
+    let loop = c .before .before .before .before .loop in
+    let t = c .before .t in
+    let turn-once = c .before .before .before .turn-once in
+    again-same (now (args .file)) (args .version) (args .data-offset) (loop .state) (t .given .0 .0) (rw (t .given .1) at (turn-once .ensures)) ∙ loop .inv
+
+pub next-point-spec : {M : Type 1} → statement M
+next-point-spec =
+    tie.close
+    (tie.spec
+    Inv-loop
+    μ-loop
+    loop-holds
+    turn-once-requires
+    enum-known-t
+    settled-requires
+    returns
+    loop-less
+    loop-again)

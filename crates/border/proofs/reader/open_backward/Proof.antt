@@ -1,0 +1,53 @@
+-- `border::reader::open_backward` meets its contract. Assumes nothing.
+use borrow.Author.Needs.{needs}
+use mathlib.Core.Logic.{⊎-elim}
+use native.Mathlib.Omega.{arith}
+use Rattle.border.proofs.reader.Places.{backward-opened, backward-over}
+use Rattle.border.proofs.reader.open_backward.Statement.{statement}
+use Rattle.border.proofs.reader.open_backward.Tie as tie
+
+returns : tie.Need-returns
+returns c =
+    let args = c .before .before .args in
+    let if1 = c .before .if1 in
+    backward-over (args .base) (args .start) (search needs) (args .more) (if1 .taken) (c .if2 .taken)
+
+add-before : tie.Need-add-before
+add-before c = search needs
+
+data-place-requires : tie.Need-data-place-requires
+data-place-requires c κs = search needs
+
+sub-data-place : tie.Need-sub-data-place
+sub-data-place c = search needs
+
+cast-data-place : tie.Need-cast-data-place
+cast-data-place c = search needs
+
+add-data-place : tie.Need-add-data-place
+add-data-place c = search needs
+
+data-place-requires-2 : tie.Need-data-place-requires-2
+data-place-requires-2 c κs = search needs
+
+returns-2 : tie.Need-returns-2
+returns-2 c =
+    let data-place = c .before .data-place in
+    let args = c .before .before .before .args in
+    let if1 = c .before .before .if1 in
+    rw (data-place .ensures, c .data-place2 .ensures)
+    (backward-opened (args .base) (args .start) (search needs) (args .more) (search needs)
+    (⊎-elim (λ w l. w .1 .left) (λ w l. omega arith) (if1 .came)))
+
+pub open-backward-spec : {M : Type 1} → statement M
+open-backward-spec =
+    tie.close
+    (tie.spec
+    returns
+    add-before
+    data-place-requires
+    sub-data-place
+    cast-data-place
+    add-data-place
+    data-place-requires-2
+    returns-2)

@@ -1,0 +1,35 @@
+-- `border::reader::plain_turn` meets its contract: it goes on from the moves that are left. Assumes nothing.
+use mathlib.Core.Path.{_∙_}
+use denote.Ref.{now}
+use Rattle.numbers.proofs.Laws.{stops, goes-on}
+use Rattle.border.proofs.reader.Counts.{pairFrom, counted-turn}
+use borrow.Author.Needs.{needs}
+use Rattle.border.proofs.reader.plain_turn.Statement.{statement}
+use Rattle.border.proofs.reader.plain_turn.Tie as tie
+
+moves-left-requires : tie.Need-moves-left-requires
+moves-left-requires c κs = search needs
+
+enum-known-n : tie.Need-enum-known-n
+enum-known-n c = search needs
+
+stop-requires : tie.Need-stop-requires
+stop-requires c κs = search needs
+
+returns : tie.Need-returns
+returns c =
+    let f = now (c .before .before .before .before .args .file) in
+    c .stop .ensures ∙ stops (c .before .before .moves-left .result) (c .before .before .moves-left .ensures) (c .before .match .keys2) _ (pairFrom f (c .before .before .before .before .args .reader)) ∙ counted-turn f (c .before .before .before .before .args .reader)
+
+plain-pair-requires : tie.Need-plain-pair-requires
+plain-pair-requires c κs = search needs
+
+returns-2 : tie.Need-returns-2
+returns-2 c =
+    let f = now (c .before .before .before .before .before .before .args .file) in
+    c .plain-pair .ensures ∙ goes-on (c .before .before .before .before .moves-left .result) (c .before .before .before .before .moves-left .ensures) (c .before .before .n .given .1) (pairFrom f (c .before .before .before .before .before .before .args .reader)) ∙ counted-turn f (c .before .before .before .before .before .before .args .reader)
+
+pub plain-turn-spec : {M : Type 1} → statement M
+plain-turn-spec =
+    tie.close
+    (tie.spec moves-left-requires enum-known-n stop-requires returns plain-pair-requires returns-2)

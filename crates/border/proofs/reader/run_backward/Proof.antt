@@ -1,0 +1,91 @@
+-- `border::reader::run_backward` meets its contract. Assumes nothing.
+use borrow.Author.Needs.{needs}
+use denote.Ref.{now}
+use mathlib.Core.Path.{sym, _∙_}
+use Rattle.border.proofs.reader.Turns.{backward-fails, backward-over, backward-move}
+use Rattle.border.proofs.reader.run_backward.Statement.{statement}
+use Rattle.border.specs.Reader.{packedTurn}
+use Rattle.numbers.proofs.Laws.{stops}
+use Rattle.border.proofs.reader.run_backward.Tie as tie
+
+read-backward-requires : tie.Need-read-backward-requires
+read-backward-requires c κs = search needs
+
+enum-known-n : tie.Need-enum-known-n
+enum-known-n c = search needs
+
+stop-requires : tie.Need-stop-requires
+stop-requires c κs = search needs
+
+returns : tie.Need-returns
+unfolding packedTurn
+returns c =
+    let read-backward = c .before .before .read-backward in
+    let matched = c .before .match in
+    c .stop .ensures ∙ stops (read-backward .result) (read-backward .ensures) (matched .keys2) _ _
+
+returns-2 : tie.Need-returns-2
+returns-2 c =
+    let args = c .before .before .before .before .before .before .args in
+    let n = c .before .before .n in
+    let read-backward = c .before .before .before .before .read-backward in
+    sym (backward-fails (now (args .file)) (args .base) (args .reader) (args .next) (args .end) (rw (n .given .1) at (read-backward .ensures)) (c .if1 .taken))
+
+decode-point-requires : tie.Need-decode-point-requires
+decode-point-requires c κs = search needs
+
+negate-requires : tie.Need-negate-requires
+negate-requires c κs = search needs
+
+enum-known-by : tie.Need-enum-known-by
+enum-known-by c = search needs
+
+enum-told : tie.Need-enum-told
+enum-told c = search needs
+
+returns-3 : tie.Need-returns-3
+returns-3 c =
+    let args = c .before .before .before .before .before .before .before .before .before .before .args in
+    let n = c .before .before .before .before .before .before .n in
+    let read-backward = c .before .before .before .before .before .before .before .before .read-backward in
+    let if1 = c .before .before .before .before .if1 in
+    let decode-point = c .before .before .before .decode-point in
+    let negate = c .before .before .negate in
+    sym (backward-over (now (args .file)) (args .base) (args .reader) (args .next) (args .end) (rw (n .given .1) at (read-backward .ensures)) (if1 .left) (rw (decode-point .ensures, c .enum-told .given .1) at (negate .ensures)))
+
+backward-from-requires : tie.Need-backward-from-requires
+backward-from-requires c κs = search needs
+
+advance-requires : tie.Need-advance-requires
+advance-requires c κs = search needs
+
+returns-4 : tie.Need-returns-4
+returns-4 c =
+    let backward-from = c .before .backward-from in
+    let args = c .before .before .before .before .before .before .before .before .before .before .before .before .before .args in
+    let n = c .before .before .before .before .before .before .before .before .before .n in
+    let read-backward = c .before .before .before .before .before .before .before .before .before .before .before .read-backward in
+    let if1 = c .before .before .before .before .before .before .before .if1 in
+    let decode-point = c .before .before .before .before .before .before .decode-point in
+    let by = c .before .before .before .by in
+    let negate = c .before .before .before .before .before .negate in
+    rw (backward-from .ensures) at (c .advance .ensures)
+    ∙ sym (backward-move (now (args .file)) (args .base) (args .reader) (args .next) (args .end) (rw (n .given .1) at (read-backward .ensures)) (if1 .left) (rw (decode-point .ensures, by .given .1) at (negate .ensures)))
+
+pub run-backward-spec : {M : Type 1} → statement M
+run-backward-spec =
+    tie.close
+    (tie.spec
+    read-backward-requires
+    enum-known-n
+    stop-requires
+    returns
+    returns-2
+    decode-point-requires
+    negate-requires
+    enum-known-by
+    enum-told
+    returns-3
+    backward-from-requires
+    advance-requires
+    returns-4)

@@ -1,0 +1,61 @@
+-- The next point of a border, and the points of a whole border with how it ends.
+use Prim.Native.Nat.{ℕ, zero, suc, _*_}
+use mathlib.Core.Bool.{false}
+use mathlib.Core.List.{List}
+use lib.IntN.{pos}
+use lib.ListN.{length}
+use Rattle.numbers.specs.Answer as A
+use Rattle.numbers.specs.Answer.{Answer, found, _>>=_}
+use Rattle.border.specs.Place.{pointAt}
+use Rattle.border.specs.Reader.{Turn, gives, again, ends, turnOf}
+use Rattle.border.specs.declared.place.{Point.Point}
+use Rattle.border.specs.declared.reader.{Reader.Reader, Version.Version, Run.the-variants.Idle}
+
+-- the state at the next point, which is its own; or the border's end
+pub data Given : Type 0 where
+  reaches : Reader → Given
+  ended : Given
+
+-- a turn that gives no point is followed by the next
+unfoldable pub roundAgain : (Reader → Answer Given) → Turn → Answer Given
+roundAgain rest (gives s) = found (reaches s)
+roundAgain rest (again s) = rest s
+roundAgain rest ends = found ended
+
+-- more turns than any border has
+abbrev pub turns : List ℕ → ℕ
+turns f = suc (suc (length f) * suc (length f))
+
+-- turns up to a point or the end; that they are never used up is the law `next-step`
+unfoldable pub nextWithin : ℕ → List ℕ → Version → ℕ → Reader → Answer Given
+nextWithin zero f version base s = A.failed
+nextWithin (suc more) f version base s = turnOf f version base s >>= roundAgain (nextWithin more f version base)
+
+unfoldable pub nextPoint : List ℕ → Version → ℕ → Reader → Answer Given
+nextPoint f version base s = nextWithin (turns f) f version base s
+
+-- the points of a border, and how it ends
+pub data Trace : Type 0 where
+  point : Point → Trace → Trace
+  closed : Trace
+  failed : Trace
+  refused : ℕ → Trace
+
+-- a point is followed by the rest of the border
+unfoldable pub traceThen : Answer Given → (Reader → Trace) → Trace
+traceThen (found (reaches s)) rest = point (s .point) (rest s)
+traceThen (found ended) rest = closed
+traceThen A.failed rest = failed
+traceThen (A.refused n) rest = refused n
+
+-- one point after the other; that they are never used up is the law `trace-step`
+unfoldable pub traceWithin : ℕ → List ℕ → Version → ℕ → Reader → Trace
+traceWithin zero f version base s = failed
+traceWithin (suc more) f version base s = traceThen (nextPoint f version base s) (traceWithin more f version base)
+
+unfoldable pub traceOf : List ℕ → Version → ℕ → Reader → Trace
+traceOf f version base s = traceWithin (turns f) f version base s
+
+-- a border that is about to be read at a place
+abbrev pub borderAt : ℕ → Reader
+borderAt place = record { place = place; moves = 0; begun = false; closed = false; run = Idle; point = pointAt (pos 0) (pos 0); first = pointAt (pos 0) (pos 0) }
