@@ -1,0 +1,41 @@
+-- `zones::lookup::safezone` meets its contract: the calls' promises, put together. Assumes nothing.
+use borrow.Author.Needs.{needs}
+use lib.Ieee.{ofBits, binary32, mul, div, toBits}
+use mathlib.Core.Path.{ap, _∙_}
+use Rattle.zones.proofs.lookup.safezone.Statement.{statement}
+use Rattle.zones.specs.Find.{ninety}
+use Rattle.zones.specs.Lookup.{safezoneBits}
+use Rattle.numbers.specs.Float.Root as R
+use Rattle.zones.proofs.lookup.safezone.Tie as tie
+
+of-u64-requires : tie.Need-of-u64-requires
+of-u64-requires c κs = search needs
+
+sqrt-requires : tie.Need-sqrt-requires
+sqrt-requires c κs = search needs
+
+factor-requires : tie.Need-factor-requires
+factor-requires c κs = search needs
+
+bits-of-requires : tie.Need-bits-of-requires
+bits-of-requires c κs = search needs
+
+returns : tie.Need-returns
+unfolding safezoneBits ofBits
+returns c =
+    let sqrt = c .before .before .sqrt in
+    let of-u64 = c .before .before .before .of-u64 in
+    let factor = c .before .factor in
+    let if1 = c .before .before .before .before .if1 in
+    let distance = sqrt .ensures ∙ ap R.root (of-u64 .ensures) in
+    let factor = factor .ensures in
+    rw (if1 .taken) (c .bits-of .ensures ∙ (λ i. toBits binary32 (div binary32 (mul binary32 (distance i) ninety) (factor i))))
+
+returns-2 : tie.Need-returns-2
+unfolding safezoneBits
+returns-2 c = rw (c .if1 .left)
+
+pub safezone-spec : {M : Type 1} → statement M
+safezone-spec =
+    tie.close
+    (tie.spec of-u64-requires sqrt-requires factor-requires bits-of-requires returns returns-2)

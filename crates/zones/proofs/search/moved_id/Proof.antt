@@ -1,0 +1,33 @@
+-- `zones::search::moved_id` meets its contract. Assumes nothing.
+use borrow.Author.Needs.{needs}
+use mathlib.Core.Path.{_∙_}
+use native.Mathlib.Omega.{arith}
+use Rattle.zones.proofs.search.Turns.{forth, back}
+use Rattle.zones.proofs.search.moved_id.Statement.{statement}
+use Rattle.zones.proofs.search.moved_id.Tie as tie
+
+cast-half : tie.Need-cast-half
+cast-half c = search needs
+
+wrapping-add-u32-requires : tie.Need-wrapping-add-u32-requires
+wrapping-add-u32-requires c κs = search needs
+
+wrapping-sub-u32-requires : tie.Need-wrapping-sub-u32-requires
+wrapping-sub-u32-requires c κs = search needs
+
+returns : tie.Need-returns
+returns c =
+    let args = c .before .before .args in
+    let if1 = c .before .if1 in
+    c .wrapping-add-u32 .ensures ∙ forth (args .metadata) (args .step) (if1 .taken)
+
+returns-2 : tie.Need-returns-2
+returns-2 c =
+    let args = c .before .before .args in
+    let if1 = c .before .if1 in
+    omega (arith, c .wrapping-sub-u32 .ensures, c .wrapping-sub-u32 .ok, back (args .metadata) (args .step) (if1 .left) (omega arith))
+
+pub moved-id-spec : {M : Type 1} → statement M
+moved-id-spec =
+    tie.close
+    (tie.spec cast-half wrapping-add-u32-requires wrapping-sub-u32-requires returns returns-2)
