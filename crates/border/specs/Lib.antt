@@ -2,6 +2,7 @@ pub mod Place
 pub mod Reader
 pub mod Trace
 pub mod Told
+pub mod Written
 pub mod Step
 pub mod Edge
 pub mod Winding

@@ -1,6 +1,6 @@
 pub mod Cutting
+pub mod Places
 pub mod Rounding
 pub mod Squares
 pub mod Smallest
-pub mod Theorem
-pub mod Worked
+pub mod NearestRoot

@@ -5,24 +5,20 @@ use Prim.Native.Nat.{ℕ, _-_, _^_}
 use lib.IntN.{ℤ, pos, negsuc}
 use Rattle.numbers.specs.Answer.{Answer, failed}
 use Rattle.numbers.specs.Varint.{Numeral, numeral, valueOf, sizeOf, tooLong, startOf, forwardAt, backwardAt}
-use Rattle.numbers.specs.declared.point.RawPoint.{RawPoint}
 use Rattle.numbers.specs.Point.{signedOf, evenBits, pointOf}
-
-abbrev at : ℤ → ℤ → RawPoint
-at lat lon = record { lat = lat; lon = lon }
 
 -- a row: what is read and where, and what the document says of it
 pub data Row : Type 0 where
   forward backward : List ℕ → ℕ → Answer Numeral → Row
   signed : ℕ → ℤ → Row
-  point : ℕ → RawPoint → Row
+  point : ℕ → ℤ → ℤ → Row
 
 -- the row with what the definitions say
 pub computed : Row → Row
 computed (forward file place answer) = forward file place (forwardAt file place)
 computed (backward file place answer) = backward file place (backwardAt file place)
 computed (signed value answer) = signed value (signedOf value)
-computed (point value answer) = point value (pointOf value)
+computed (point value lat lon) = point value (pointOf value .lat) (pointOf value .lon)
 
 pub marked : List Row
 marked =
@@ -36,9 +32,9 @@ marked =
     ∷ signed 4294967296 (negsuc 2147483647)
     ∷ backward (0x05 ∷ 0xac ∷ 0x02 ∷ []) 2 (numeral 300 0)
     ∷ backward (0x05 ∷ 0xac ∷ 0x02 ∷ []) 0 failed
-    ∷ point 12 (at (pos 1) (pos 1))
-    ∷ point 3 (at (pos 0) (pos 0))
-    ∷ point 15 (at (negsuc 0) (negsuc 0))
+    ∷ point 12 (pos 1) (pos 1)
+    ∷ point 3 (pos 0) (pos 0)
+    ∷ point 15 (negsuc 0) (negsuc 0)
     ∷ []
 
 -- the definitions and the document agree on every row

@@ -1,13 +1,14 @@
 // Rust's `as` from an integer to f32: the nearest float, and of two that are as near the one whose last digit is even.
 ghost use mathlib.Core.Path.{_≡_};
 ghost use mathlib.Core.Bool.{false};
-ghost use Prim.Native.Nat.{_+_, _*_, _/_, _%_, _^_, _≤_, _<_, compare};
+ghost use Prim.Native.Nat.{_/_, _^_, _≤_, _<_};
 ghost use lib.IntN.{pos, natAbs};
-ghost use lib.Ieee.{binary32, units, size, nearest};
+ghost use lib.Ieee.{binary32, units, size};
+ghost use lib.Ieee.Nearest.{closest};
 ghost use Rattle.numbers.specs.Float.{toF32};
 
 // How many binary digits n has.
-pub fn digits(n: u64) -> u64
+pub(crate) fn digits(n: u64) -> u64
     ensures { λ r. ⌜ r ≡ size n ⌝ }
 {
     64 - (u64::leading_zeros(n) as u64)
@@ -29,13 +30,14 @@ pub(crate) fn assembled(kept: u64, place: u64) -> f32
     f32::from_bits((place * 8388608 + kept) as u32)
 }
 
-// n / unit to the nearest whole number, a tie to the even one.
-fn nearest_quotient(n: u64, unit: u64) -> u64
-    requires { ⌜ (0 < unit) × (unit ≤ 1099511627776) × (n / unit < 16777216) ⌝ }
-    ensures { λ r. ⌜ r ≡ nearest (n / unit) (compare (n % unit * 2) unit) ⌝ }
+// n / 2^k to the nearest whole number, a tie to the even one.
+fn nearest_shifted(n: u64, k: u64) -> u64
+    requires { ⌜ (k ≤ 40) × (n / 2 ^ k < 16777216) ⌝ }
+    ensures { λ r. ⌜ r ≡ closest n (2 ^ k) ⌝ }
 {
-    let kept = n / unit;
-    let twice = n % unit * 2;
+    let unit = power_of_two(k);
+    let kept = n >> k;
+    let twice = (n - (kept << k)) * 2;
     if twice < unit {
         return kept;
     }
@@ -45,15 +47,15 @@ fn nearest_quotient(n: u64, unit: u64) -> u64
     kept + kept % 2
 }
 
-// Up to 24 digits every whole number is a float. A longer one keeps its 24 leading digits, rounded.
+// Up to 2^24 every whole number is a float. A longer one keeps its 24 leading digits, rounded.
 pub fn of_u64(n: u64) -> f32
     ensures { λ r. ⌜ r ≡ toF32 (pos n) ⌝ }
 {
-    if n < 16777216 {
+    if n <= 16777216 {
         return n as f32;
     }
     let dropped = digits(n) - 24;
-    assembled(nearest_quotient(n, power_of_two(dropped)), dropped + 149)
+    assembled(nearest_shifted(n, dropped), dropped + 149)
 }
 
 // The size of n. As an i64 the least i32 can be negated.
@@ -68,9 +70,13 @@ fn magnitude(n: i32) -> u64
     }
 }
 
+// The quick path is the one that coordinates take at a precision of up to 25.
 pub fn of_i32(n: i32) -> f32
     ensures { λ r. ⌜ r ≡ toF32 n ⌝ }
 {
+    if -16777216 <= n && n <= 16777216 {
+        return n as f32;
+    }
     let rounded = of_u64(magnitude(n));
     if n < 0 { -rounded } else { rounded }
 }

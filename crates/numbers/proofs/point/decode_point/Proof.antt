@@ -1,16 +1,12 @@
 -- `numbers::point::decode_point` meets its contract. Assumes nothing.
-use mathlib.Core.Path.{ap, ap₂, _∙_}
+use borrow.Author.Needs.{needs, sfits-of}
 use lib.IntN.{ℤ}
+use mathlib.Core.Path.{ap, ap₂, _∙_}
 use mir.Syntax.{w32}
 use mir.ValLaws.{toZ-ofZ}
-use Rattle.numbers.specs.Point.{signedOf, pointOf}
-use borrow.Author.Needs.{needs, sfits-of}
 use Rattle.numbers.proofs.point.decode_point.Statement.{statement}
+use Rattle.numbers.specs.Point.{signedOf, pointOf}
 use Rattle.numbers.proofs.point.decode_point.Tie as tie
-use Rattle.numbers.proofs.point.decode_point.Reads as reads
-use Rattle.numbers.proofs.point.decode_point.Lts as lts
-use Rattle.numbers.proofs.point.signed.Reads as signed-reads
-use Rattle.numbers.proofs.point.unshuffle.Reads as unshuffle-reads
 
 unshuffle-requires : tie.Need-unshuffle-requires
 unshuffle-requires c κs = search needs

@@ -1,31 +1,78 @@
--- `numbers::float::cut::to_i64` meets its contract. Each end of the range is a law over the width (proofs/Cutting.antt). Assumes nothing.
-use mathlib.Core.Path.{sym, ap, _∙_, subst}
-use lib.Dec.{T}
-use lib.Ieee.{ofBits, neg, binary32, toSigned}
-use lib.Ieee.Compare.{differs-from-itself}
-use borrow.Author.Needs.{needs}
-use Rattle.numbers.proofs.float.Cutting.{above-range, below-range, cut-nan}
+-- `numbers::float::cut::to_i64` meets its contract, by the laws over the width (proofs/float/Cutting.antt). Assumes nothing.
+use lib.Dec.{lit≤}
+use lib.Ieee.{ofBits}
+use mathlib.Core.Path.{refl, sym}
+use mir.Syntax.{w64}
+use Rattle.numbers.proofs.float.Cutting.{asked, part-fits, part-cut, negated-fits, mirrored-cut, cut-above, cut-below, cut-between}
 use Rattle.numbers.proofs.float.cut.to_i64.Statement.{statement}
 use Rattle.numbers.proofs.float.cut.to_i64.Tie as tie
 
-truncating-f32-to-i64-requires : tie.Need-truncating-f32-to-i64-requires
-unfolding ofBits neg
-truncating-f32-to-i64-requires c κs = (subst T (sym (c .before .if1 .taken)) tt, subst T (sym (c .if2 .taken)) tt)
+whole-part-requires : tie.Need-whole-part-requires
+unfolding ofBits
+whole-part-requires c κs = asked w64 _ (lit≤ tt) (c .before .if1 .taken) (c .if2 .taken)
+
+cast-result : tie.Need-cast-result
+unfolding ofBits
+cast-result c =
+    let if1 = c .before .before .if1 in
+    let if2 = c .before .if2 in
+    part-fits w64 _ (lit≤ tt) (if1 .taken) (if2 .taken) (c .whole-part .ensures)
 
 returns : tie.Need-returns
-returns c = search needs
+unfolding ofBits
+returns c =
+    let if1 = c .before .before .if1 in
+    let if2 = c .before .if2 in
+    part-cut w64 _ (lit≤ tt) (if1 .taken) (if2 .taken) (c .whole-part .ensures)
 
 returns-2 : tie.Need-returns-2
-unfolding ofBits neg
-returns-2 c = sym (above-range 63 (c .before .before .args .x) (c .before .if1 .taken) (c .if2 .left))
+unfolding ofBits
+returns-2 c = sym (cut-above 63 _ (c .before .if1 .taken) (c .if2 .left))
+
+whole-part-requires-2 : tie.Need-whole-part-requires-2
+unfolding ofBits
+whole-part-requires-2 c κs = asked w64 _ (lit≤ tt) (c .before .if3 .taken) (c .if4 .taken)
+
+cast-result-2 : tie.Need-cast-result-2
+unfolding ofBits
+cast-result-2 c =
+    let if3 = c .before .before .if3 in
+    let if4 = c .before .if4 in
+    part-fits w64 _ (lit≤ tt) (if3 .taken) (if4 .taken) (c .whole-part2 .ensures)
+
+sub-result : tie.Need-sub-result
+unfolding ofBits
+sub-result c =
+    let if3 = c .before .before .if3 in
+    let if4 = c .before .if4 in
+    negated-fits w64 _ (lit≤ tt) (if3 .taken) (if4 .taken) (c .whole-part2 .ensures)
 
 returns-3 : tie.Need-returns-3
-returns-3 c = sym (ap (toSigned 63) (differs-from-itself (c .before .before .args .x) (subst T (sym (c .if3 .taken)) tt)) ∙ cut-nan 63)
+unfolding ofBits
+returns-3 c =
+    let if3 = c .before .before .if3 in
+    let if4 = c .before .if4 in
+    mirrored-cut w64 _ (lit≤ tt) (if3 .taken) (if4 .taken) (c .whole-part2 .ensures) _ refl
 
 returns-4 : tie.Need-returns-4
-unfolding ofBits neg
-returns-4 c = sym (below-range 63 (c .before .before .args .x) (c .before .if1 .left) (c .if3 .left))
+unfolding ofBits
+returns-4 c = sym (cut-below 63 _ (c .before .if3 .taken) (c .if4 .left))
+
+returns-5 : tie.Need-returns-5
+unfolding ofBits
+returns-5 c = sym (cut-between 63 _ (c .before .if1 .left) (c .if3 .left))
 
 pub to-i64-spec : {M : Type 1} → statement M
 to-i64-spec =
-    tie.close (tie.spec truncating-f32-to-i64-requires returns returns-2 returns-3 returns-4)
+    tie.close
+    (tie.spec
+    whole-part-requires
+    cast-result
+    returns
+    returns-2
+    whole-part-requires-2
+    cast-result-2
+    sub-result
+    returns-3
+    returns-4
+    returns-5)

@@ -1,13 +1,13 @@
 -- `numbers::float::fixed::factor` meets its contract. Assumes nothing.
-use mathlib.Core.Path.{_≡_, sym, ap, _∙_}
 use Prim.Native.Nat.{ℕ, _+_, _-_, _%_, _^_}
-use lib.IntN.{pos, negsuc}
-use lib.Ieee.{binary32, ofInt, neg}
 use borrow.Author.Needs.{needs}
 use borrow.Author.Tests.{eq-eqb, ne-eqb}
-use Rattle.numbers.specs.Float.{toF32, oneShifted}
+use lib.Ieee.{binary32, ofInt, neg}
+use lib.IntN.{pos}
+use mathlib.Core.Path.{_≡_, sym, ap, _∙_}
 use Rattle.numbers.proofs.float.Rounding.{ofInt-neg}
 use Rattle.numbers.proofs.float.fixed.factor.Statement.{statement}
+use Rattle.numbers.specs.Float.{toF32, oneShifted}
 use Rattle.numbers.proofs.float.fixed.factor.Tie as tie
 
 -- the definition's two cases
@@ -30,15 +30,21 @@ of-u64-requires c κs = search needs
 
 returns : tie.Need-returns
 returns c =
-    ap neg (c .before .of-u64 .ensures)
-    ∙ ap (λ (k : ℕ). neg (ofInt binary32 (pos k))) (c .before .before .power-of-two .ensures ∙ ap (λ (j : ℕ). 2 ^ j) (c .if1 .taken))
-    ∙ sym (sign-bit (c .before .before .before .args .precision) (c .if1 .taken))
+    let of-u64 = c .before .of-u64 in
+    let power-of-two = c .before .before .power-of-two in
+    let args = c .before .before .before .args in
+    ap neg (of-u64 .ensures)
+    ∙ ap (λ (k : ℕ). neg (ofInt binary32 (pos k))) (power-of-two .ensures ∙ ap (λ (j : ℕ). 2 ^ j) (c .if1 .taken))
+    ∙ sym (sign-bit (args .precision) (c .if1 .taken))
 
 returns-2 : tie.Need-returns-2
 returns-2 c =
-    c .before .of-u64 .ensures
-    ∙ ap (λ (k : ℕ). ofInt binary32 (pos k)) (c .before .before .power-of-two .ensures)
-    ∙ sym (other-bit (c .before .before .before .args .precision) (c .if1 .left))
+    let of-u64 = c .before .of-u64 in
+    let power-of-two = c .before .before .power-of-two in
+    let args = c .before .before .before .args in
+    of-u64 .ensures
+    ∙ ap (λ (k : ℕ). ofInt binary32 (pos k)) (power-of-two .ensures)
+    ∙ sym (other-bit (args .precision) (c .if1 .left))
 
 pub factor-spec : {M : Type 1} → statement M
 factor-spec =

@@ -1,11 +1,11 @@
 -- `numbers::float::fixed::to_fixed` meets its contract: the body is the definition, once the factor is known. Assumes nothing.
-use mathlib.Core.Path.{_≡_, sym, ap, _∙_}
-use lib.Ieee.{Float, binary32, mul, div, toSigned}
 use borrow.Author.Needs.{needs, sfits-of}
+use lib.Ieee.{Float, binary32, mul, div, toSigned}
+use mathlib.Core.Path.{ap, _∙_}
 use mir.Syntax.{w32}
 use mir.ValLaws.{toZ-ofZ}
-use Rattle.numbers.specs.Float.{fixedPoint}
 use Rattle.numbers.proofs.float.fixed.to_fixed.Statement.{statement}
+use Rattle.numbers.specs.Float.{fixedPoint}
 use Rattle.numbers.proofs.float.fixed.to_fixed.Tie as tie
 
 factor-requires : tie.Need-factor-requires
@@ -17,10 +17,12 @@ to-i32-requires c κs = search needs
 returns : tie.Need-returns
 unfolding fixedPoint
 returns c =
-    let n = c .before .before .args in
+    let args = c .before .before .args in
+    let factor = c .before .factor in
+    let n = args in
     toZ-ofZ w32 (c .to-i32 .result) (sfits-of (c .to-i32 .ok))
     ∙ c .to-i32 .ensures
-    ∙ ap (λ (y : Float). toSigned 31 (mul binary32 (div binary32 (n .input) (n .scale)) y)) (c .before .factor .ensures)
+    ∙ ap (λ (y : Float). toSigned 31 (mul binary32 (div binary32 (n .input) (n .scale)) y)) (factor .ensures)
 
 pub to-fixed-spec : {M : Type 1} → statement M
 to-fixed-spec = tie.close (tie.spec factor-requires to-i32-requires returns)

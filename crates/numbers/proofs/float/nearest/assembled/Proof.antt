@@ -1,13 +1,13 @@
 -- `numbers::float::nearest::assembled` meets its contract (proofs/Rounding.antt, `pattern`). The bits lie below the infinity's. Assumes nothing.
-use mathlib.Core.Path.{_≡_, sym, subst}
-use mathlib.Core.Bool.{Bool, not}
-use Prim.Native.Nat.{ℕ, _+_, _*_, _%_, _≤_}
-use native.Mathlib.Omega.{arith}
-use lib.Dec.{T}
-use lib.Arith.{le→nltb}
-use lib.Ieee.{binary32, nanBits}
-use lib.Ieee.Bits.{nanBits-above}
+use Prim.Native.Nat.{ℕ, _%_, _≤_}
 use borrow.Author.Needs.{needs}
+use lib.Arith.{le→nltb}
+use lib.Dec.{T}
+use lib.Ieee.Bits.{nanBits-above}
+use lib.Ieee.{binary32, nanBits}
+use mathlib.Core.Bool.{Bool, not}
+use mathlib.Core.Path.{sym, subst}
+use native.Mathlib.Omega.{arith}
 use Rattle.numbers.proofs.float.Rounding.{pattern}
 use Rattle.numbers.proofs.float.nearest.assembled.Statement.{statement}
 use Rattle.numbers.proofs.float.nearest.assembled.Tie as tie

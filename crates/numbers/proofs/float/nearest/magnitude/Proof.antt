@@ -1,17 +1,17 @@
 -- `numbers::float::nearest::magnitude` meets its contract. The machine reads each signed number back from its bits, which changes nothing that fits. Assumes nothing.
-use mathlib.Core.Path.{_≡_, refl, sym, ap, _∙_, subst}
-use mathlib.Core.Bool.{Bool, true, false}
-use Prim.Native.Nat.{ℕ, zero, suc, _^_, _≤_, _<_}
-use native.Mathlib.Nat.{lt-of-lt-of-le, lt-of-le-of-lt}
-use native.Mathlib.Omega.{arith}
-use lib.Dec.{T, lit≤, lit<}
-use lib.IntN.{ℤ, pos, negsuc, negℤ, natAbs, _-ℤ_, +ℤ-idl}
-use lib.Signed.{ltZ, mag, nonNeg}
+use Prim.Native.Nat.{ℕ, suc, _^_, _≤_, _<_}
 use borrow.Author.Needs.{sfits-of}
+use lib.Dec.{T, lit≤}
+use lib.IntN.{ℤ, pos, negsuc, negℤ, natAbs, _-ℤ_, +ℤ-idl}
+use lib.Signed.{ltZ, nonNeg}
+use mathlib.Core.Bool.{Bool, true, false}
+use mathlib.Core.Path.{_≡_, refl, sym, ap, _∙_, subst}
 use mir.Syntax.{w32, w64}
 use mir.Val.{Fits, SFits, toZ, ofZ}
 use mir.ValLaws.{toZ-ofZ}
-use Rattle.numbers.proofs.float.Cutting.{not-negative}
+use native.Mathlib.Nat.{lt-of-lt-of-le}
+use native.Mathlib.Omega.{arith}
+use Rattle.numbers.proofs.float.Rounding.{not-negative}
 use Rattle.numbers.proofs.float.nearest.magnitude.Statement.{statement}
 use Rattle.numbers.proofs.float.nearest.magnitude.Tie as tie
 
@@ -50,14 +50,18 @@ cast-wide c = subst (λ (z : ℤ). SFits w64 z) (sym (toZ-ofZ w32 (c .args .n) (
 
 below : (c : tie.Then1) → Turned (c .before .args .n) (pos 0 -ℤ wide (c .before .args .n))
 below c =
-    let n = c .before .args .n in
-    let f = c .before .fits .n in
+    let args = c .before .args in
+    let fits = c .before .fits in
+    let n = args .n in
+    let f = fits .n in
     subst (λ (z : ℤ). Turned n z) (sym (minus-is n f)) (negative n f (ap (λ (z : ℤ). ltZ z (pos 0)) (sym (wide-is n f)) ∙ c .if1 .taken))
 
 from-zero : (c : tie.Else1) → Turned (c .before .args .n) (wide (c .before .args .n))
 from-zero c =
-    let n = c .before .args .n in
-    let f = c .before .fits .n in
+    let args = c .before .args in
+    let fits = c .before .fits in
+    let n = args .n in
+    let f = fits .n in
     subst (λ (z : ℤ). Turned n z) (sym (wide-is n f)) (positive n f (ap (λ (z : ℤ). ltZ z (pos 0)) (sym (wide-is n f)) ∙ c .if1 .left))
 
 -- the number, read back

@@ -1,10 +1,10 @@
 -- `numbers::float::nearest::power_of_two` meets its contract: nothing is shifted out. Assumes nothing.
+use borrow.Author.Needs.{needs}
+use lib.Dec.{lit<}
+use lib.Pow.{shl-exact}
 use mathlib.Core.Path.{_∙_}
 use native.Mathlib.Nat.{one-mul}
 use native.Mathlib.Omega.{arith}
-use lib.Dec.{lit<}
-use lib.Pow.{shl-exact}
-use borrow.Author.Needs.{needs}
 use Rattle.numbers.proofs.float.nearest.power_of_two.Statement.{statement}
 use Rattle.numbers.proofs.float.nearest.power_of_two.Tie as tie
 

@@ -1,15 +1,14 @@
 -- `numbers::float::root::nearest_root` meets its contract: a number has one whole root, so the one found is the definition's. Assumes nothing.
-use mathlib.Core.Path.{_≡_, sym, ap, _∙_, subst}
-use mathlib.Core.Bool.{Bool, cond}
-use Prim.Native.Nat.{ℕ, suc, _+_, _*_, _≤_, _<_}
-use native.Mathlib.Numerals.{add-one}
-use native.Mathlib.Omega.{arith}
-use lib.Dec.{ltb}
+use Prim.Native.Nat.{ℕ, suc, _+_, _*_, _<_}
 use borrow.Author.Needs.{needs}
 use borrow.Author.Tests.{lt-ltb, le-ltb}
-use Rattle.numbers.specs.Float.Root.{nearestRoot}
+use lib.Dec.{ltb}
+use mathlib.Core.Bool.{Bool, cond}
+use mathlib.Core.Path.{_≡_, sym, ap, _∙_}
+use native.Mathlib.Numerals.{add-one}
 use Rattle.numbers.proofs.float.Squares.{IsRoot, one-root, wholeRoot-is}
 use Rattle.numbers.proofs.float.root.nearest_root.Statement.{statement}
+use Rattle.numbers.specs.Float.Root.{nearestRoot}
 use Rattle.numbers.proofs.float.root.nearest_root.Tie as tie
 
 by-root : (n r : ℕ) → n < 281474976710656 → IsRoot n r → nearestRoot n ≡ cond (ltb (r * r + r) n) (suc r) r
@@ -30,17 +29,23 @@ add-result c = search needs
 
 returns : tie.Need-returns
 returns c =
-    let n = c .before .before .args .n in
-    let r = c .before .whole-root .result in
-    let k = c .before .whole-root .ensures in
-    add-one r ∙ sym (by-root n r (c .before .before .pre) (k .0, k .1) ∙ ap (λ (b : Bool). cond b (suc r) r) (lt-ltb (r * r + r) n (c .if1 .taken)))
+    let args = c .before .before .args in
+    let whole-root = c .before .whole-root in
+    let pre = c .before .before .pre in
+    let n = args .n in
+    let r = whole-root .result in
+    let k = whole-root .ensures in
+    add-one r ∙ sym (by-root n r (pre) (k .0, k .1) ∙ ap (λ (b : Bool). cond b (suc r) r) (lt-ltb (r * r + r) n (c .if1 .taken)))
 
 returns-2 : tie.Need-returns-2
 returns-2 c =
-    let n = c .before .before .args .n in
-    let r = c .before .whole-root .result in
-    let k = c .before .whole-root .ensures in
-    sym (by-root n r (c .before .before .pre) (k .0, k .1) ∙ ap (λ (b : Bool). cond b (suc r) r) (le-ltb (r * r + r) n (c .if1 .left)))
+    let args = c .before .before .args in
+    let whole-root = c .before .whole-root in
+    let pre = c .before .before .pre in
+    let n = args .n in
+    let r = whole-root .result in
+    let k = whole-root .ensures in
+    sym (by-root n r (pre) (k .0, k .1) ∙ ap (λ (b : Bool). cond b (suc r) r) (le-ltb (r * r + r) n (c .if1 .left)))
 
 pub nearest-root-spec : {M : Type 1} → statement M
 nearest-root-spec =

@@ -1,16 +1,16 @@
 -- `numbers::float::root::positive_root` meets its contract: the code scales the digits as the definition does (proofs/Smallest.antt). Assumes nothing.
-use mathlib.Core.Path.{_≡_, sym, ap, _∙_, subst}
-use mathlib.Core.Bool.{false}
 use Prim.Native.Nat.{ℕ, _+_, _-_, _*_, _/_, _^_, _≤_, _<_}
-use native.Mathlib.Nat.{lt-of-lt-of-le}
-use native.Mathlib.Omega.{arith}
+use borrow.Author.Needs.{needs}
 use lib.Dec.{lit<, lit≤}
 use lib.Ieee.{binary32, size, units}
-use borrow.Author.Needs.{needs}
-use Rattle.numbers.specs.Float.Root.{nearestRoot}
-use Rattle.numbers.proofs.float.Squares.{IsNearest, nearestRoot-is, nearest-range}
+use mathlib.Core.Bool.{false}
+use mathlib.Core.Path.{_≡_, sym, ap, _∙_, subst}
+use native.Mathlib.Nat.{lt-of-lt-of-le}
+use native.Mathlib.Omega.{arith}
 use Rattle.numbers.proofs.float.Smallest.{Even, even, root-by-digits}
+use Rattle.numbers.proofs.float.Squares.{IsNearest, nearestRoot-is, nearest-range}
 use Rattle.numbers.proofs.float.root.positive_root.Statement.{statement}
+use Rattle.numbers.specs.Float.Root.{nearestRoot}
 use Rattle.numbers.proofs.float.root.positive_root.Tie as tie
 
 taken-apart-requires : tie.Need-taken-apart-requires
@@ -48,9 +48,11 @@ power-of-two-requires c κs = omega (arith, short c)
 square-is : (c : tie.After-power-of-two) → c .before .before .taken-apart .result .digits * c .power-of-two .result
     ≡ c .before .before .taken-apart .result .digits * 2 ^ (c .before .before .taken-apart .result .place + 149 - 2 * ((size (c .before .before .taken-apart .result .digits) + c .before .before .taken-apart .result .place + 102) / 2))
 square-is c =
-    let d = c .before .before .taken-apart .result .digits in
-    let p = c .before .before .taken-apart .result .place in
-    ap (λ (u : ℕ). d * u) (c .power-of-two .ensures) ∙ ap (λ (z : ℕ). d * 2 ^ (p + 149 - 2 * ((z + p + 102) / 2))) (c .before .digits .ensures)
+    let taken-apart = c .before .before .taken-apart in
+    let digits = c .before .digits in
+    let d = taken-apart .result .digits in
+    let p = taken-apart .result .place in
+    ap (λ (u : ℕ). d * u) (c .power-of-two .ensures) ∙ ap (λ (z : ℕ). d * 2 ^ (p + 149 - 2 * ((z + p + 102) / 2))) (digits .ensures)
 
 under : (c : tie.After-power-of-two) → c .before .before .taken-apart .result .digits * c .power-of-two .result < 281474976710656
 under c = subst (λ (x : ℕ). x < 281474976710656) (sym (square-is c)) (scaled (c .before .before) .under)
@@ -78,13 +80,15 @@ assembled-requires c κs =
 
 returns : tie.Need-returns
 returns c =
+    let digits = c .before .before .before .digits in
+    let nearest-root = c .before .nearest-root in
     let apart = c .before .before .before .before in
     let d = apart .taken-apart .result .digits in
     let p = apart .taken-apart .result .place in
     let s = apart .taken-apart .ensures in
     c .assembled .ensures
-    ∙ ap (λ (q : ℕ). units binary32 false q ((c .before .before .before .digits .result + p + 102) / 2)) (c .before .nearest-root .ensures ∙ ap nearestRoot (square-is (c .before .before)))
-    ∙ ap (λ (z : ℕ). units binary32 false (nearestRoot (d * 2 ^ (p + 149 - 2 * ((size d + p + 102) / 2)))) ((z + p + 102) / 2)) (c .before .before .before .digits .ensures)
+    ∙ ap (λ (q : ℕ). units binary32 false q ((digits .result + p + 102) / 2)) (nearest-root .ensures ∙ ap nearestRoot (square-is (c .before .before)))
+    ∙ ap (λ (z : ℕ). units binary32 false (nearestRoot (d * 2 ^ (p + 149 - 2 * ((size d + p + 102) / 2)))) ((z + p + 102) / 2)) (digits .ensures)
     ∙ sym (root-by-digits (apart .before .args .x) d p (apart .before .pre) (s .1 .0) (s .1 .1) (s .0))
 
 pub positive-root-spec : {M : Type 1} → statement M

@@ -1,17 +1,17 @@
 -- `numbers::float::root::sqrt` meets its contract: each way through its tests has one kind of x, at which the definition computes. Assumes nothing.
-use mathlib.Core.Path.{_≡_, refl, sym, ap, _∙_, subst}
+use Prim.Native.Nat.{ℕ, zero, suc, _*_, _≤_, _<_}
+use borrow.Author.Needs.{needs}
+use lib.Dec.{T, ltb, eqb, ltb→lt, lt→ltb, eqb→eq, T-not}
+use lib.Ieee.Fits.{up-pos, and-l}
+use lib.Ieee.Positive.{positive, first-pos}
+use lib.Ieee.{Float, nan, inf, fin, up, down, lt, eq, level, div, ofBits}
+use lib.IntN.{ℤ, pos}
 use mathlib.Core.Bool.{Bool, true, false, not}
-use Prim.Native.Nat.{ℕ, zero, suc, _+_, _*_, _≤_, _<_}
+use mathlib.Core.Path.{_≡_, refl, sym, ap, _∙_, subst}
 use native.Mathlib.Nat.{zero-lt-suc, mul-pos, zero-mul, lt-of-le-of-lt}
 use native.Mathlib.Omega.{arith}
-use lib.IntN.{ℤ, pos}
-use lib.Dec.{T, ltb, eqb, ltb→lt, lt→ltb, eqb→eq, T-not}
-use lib.Ieee.{Float, nan, inf, fin, binary32, up, down, lt, eq, level, div, ofBits}
-use lib.Ieee.Fits.{up-pos, down-pos, and-l, eq→eqb}
-use lib.Ieee.Positive.{positive, first-pos}
-use borrow.Author.Needs.{needs}
-use Rattle.numbers.specs.Float.Root.{root}
 use Rattle.numbers.proofs.float.root.sqrt.Statement.{statement}
+use Rattle.numbers.specs.Float.Root.{root}
 use Rattle.numbers.proofs.float.root.sqrt.Tie as tie
 
 abbrev nought : Float
@@ -83,14 +83,20 @@ has-none (fin false (suc m) e) a b =
 
 positive-root-requires : tie.Need-positive-root-requires
 unfolding ofBits div
-positive-root-requires c κs = is-positive (c .before .before .args .x) (c .before .if1 .taken) (c .if2 .taken)
+positive-root-requires c κs =
+    let args = c .before .before .args in
+    let if1 = c .before .if1 in
+    is-positive (args .x) (if1 .taken) (c .if2 .taken)
 
 returns : tie.Need-returns
 returns c = search needs
 
 returns-2 : tie.Need-returns-2
 unfolding ofBits div
-returns-2 c = is-infinite (c .before .before .args .x) (c .before .if1 .taken) (c .if2 .left)
+returns-2 c =
+    let args = c .before .before .args in
+    let if1 = c .before .if1 in
+    is-infinite (args .x) (if1 .taken) (c .if2 .left)
 
 returns-3 : tie.Need-returns-3
 unfolding ofBits
@@ -98,7 +104,10 @@ returns-3 c = is-zero (c .before .before .args .x) (c .if3 .taken)
 
 returns-4 : tie.Need-returns-4
 unfolding ofBits div
-returns-4 c = has-none (c .before .before .args .x) (c .before .if1 .left) (c .if3 .left)
+returns-4 c =
+    let args = c .before .before .args in
+    let if1 = c .before .if1 in
+    has-none (args .x) (if1 .left) (c .if3 .left)
 
 pub sqrt-spec : {M : Type 1} → statement M
 sqrt-spec = tie.close (tie.spec positive-root-requires returns returns-2 returns-3 returns-4)

@@ -1,17 +1,17 @@
 -- `numbers::float::root::taken_apart` meets its contract (proofs/Smallest.antt, `decoded`). Assumes nothing.
-use mathlib.Core.Path.{_≡_, sym, ap, _∙_, subst}
-use Prim.Native.Nat.{ℕ, _+_, _*_, _%_, _<_}
-use native.Mathlib.Nat.{mul-one, lt-of-lt-of-le}
-use native.Mathlib.Omega.{arith}
-use mathlib.Core.Bool.{not}
+use Prim.Native.Nat.{ℕ, _+_, _%_, _<_}
+use borrow.Author.Needs.{needs}
 use lib.Dec.{T, lit<, lit≤}
-use lib.Ieee.{Float, nan, inf, fin, binary32, fits, isNan, toBits}
 use lib.Ieee.Bits.{toBits-lt}
 use lib.Ieee.Positive.{positive}
-use borrow.Author.Needs.{needs}
-use Rattle.numbers.specs.Float.Root.{unitsOf}
+use lib.Ieee.{Float, nan, inf, fin, binary32, fits, isNan, toBits}
+use mathlib.Core.Bool.{not}
+use mathlib.Core.Path.{sym, _∙_, subst}
+use native.Mathlib.Nat.{mul-one, lt-of-lt-of-le}
+use native.Mathlib.Omega.{arith}
 use Rattle.numbers.proofs.float.Smallest.{Decoded, decoded}
 use Rattle.numbers.proofs.float.root.taken_apart.Statement.{statement}
+use Rattle.numbers.specs.Float.Root.{unitsOf}
 use Rattle.numbers.proofs.float.root.taken_apart.Tie as tie
 
 no-nan : (x : Float) → T (positive x) → T (not (isNan x))

@@ -1,9 +1,9 @@
 -- `numbers::float::root::whole_root` meets its contract. The invariant: the root is from low on and below high. The measure is how many numbers that leaves. Assumes nothing.
-use mathlib.Core.Path.{_≡_, subst}
 use Prim.Native.Nat.{ℕ, _+_, _-_, _*_, _≤_, _<_}
-use native.Mathlib.Nat.{le-trans, lt-of-le-of-lt}
-use native.Mathlib.Omega.{arith}
 use lib.Dec.{lit<}
+use mathlib.Core.Path.{_≡_, subst}
+use native.Mathlib.Nat.{lt-of-le-of-lt}
+use native.Mathlib.Omega.{arith}
 use Rattle.numbers.proofs.float.Squares.{square-le}
 use Rattle.numbers.proofs.float.root.whole_root.Statement.{statement}
 use Rattle.numbers.proofs.float.root.whole_root.Tie as tie
@@ -43,9 +43,11 @@ next low high h k = omega arith
 
 returns : tie.Need-returns Inv-loop μ-loop
 returns c =
-    let at = c .before .loop in
+    let loop = c .before .loop in
+    let args = c .before .before .args in
+    let at = loop in
     let v = at .inv in
-    (v .0, subst (λ (x : ℕ). c .before .before .args .n < x * x) (next (at .low) (at .high) (v .2) (c .loop-test .left)) (v .1), omega arith)
+    (v .0, subst (λ (x : ℕ). args .n < x * x) (next (at .low) (at .high) (v .2) (c .loop-test .left)) (v .1), omega arith)
 
 pub whole-root-spec : {M : Type 1} → statement M
 whole-root-spec =

@@ -1,0 +1,41 @@
+-- `numbers::float::cut::whole_part` meets its contract (proofs/float/Places.antt). Assumes nothing.
+use borrow.Author.Needs.{needs}
+use lib.Dec.{T, lit≤}
+use lib.Ieee.Bits.{toBits-lt}
+use lib.Ieee.{binary32, fits, toBits}
+use mathlib.Core.Path.{sym, subst}
+use native.Mathlib.Nat.{lt-of-lt-of-le}
+use native.Mathlib.Omega.{arith}
+use Rattle.numbers.proofs.float.Places.{Fields, fields-of, placed, no-nan}
+use Rattle.numbers.proofs.float.cut.whole_part.Statement.{statement}
+use Rattle.numbers.specs.Float.Root.{unitsOf}
+use Rattle.numbers.proofs.float.cut.whole_part.Tie as tie
+
+-- what owning an f32 tells: the format holds it
+held : (c : tie.Start) → T (fits binary32 (c .args .x))
+held c = subst T (sym (c .good .0 .1)) tt
+
+known : (c : tie.Start) → Fields (unitsOf (c .args .x)) (toBits binary32 (c .args .x))
+known c = fields-of (c .args .x) (held c) (c .pre .0) (c .pre .1)
+
+float-to-bits-bits : tie.Need-float-to-bits-bits
+float-to-bits-bits c = no-nan (c .args .x) (held c) (c .pre .0) (c .pre .1)
+
+cast-bits : tie.Need-cast-bits
+cast-bits c = record { fits = lt-of-lt-of-le (toBits-lt binary32 (c .args .x) (held c)) (lit≤ tt) }
+
+add-digits : tie.Need-add-digits
+add-digits c = search needs
+
+sub-result : tie.Need-sub-result
+sub-result c = omega (arith, known c .most)
+
+shr-result : tie.Need-shr-result
+shr-result c = omega (arith, known c .least)
+
+returns : tie.Need-returns
+returns c = placed (c .args .x) (held c) (c .pre .0) (c .pre .1)
+
+pub whole-part-spec : {M : Type 1} → statement M
+whole-part-spec =
+    tie.close (tie.spec float-to-bits-bits cast-bits add-digits sub-result shr-result returns)
