@@ -43,6 +43,7 @@ pub struct Reader {
     pub closed: bool,
     pub point: Point,
     pub first: Point,
+    // Last: before the points it would leave a gap that each copy of the state carries along.
     pub run: Run,
 }
 
@@ -198,6 +199,7 @@ fn moves_left(file: &[u8], reader: Reader) -> Varint
     n
 }
 
+// The one call of `plain_pair`: with a second one it would not be compiled in line.
 fn plain_turn(file: &[u8], reader: Reader) -> Turn
     ensures { λ r. ⌜ toldTurn r ≡ plainTurn (now (file .entry)) reader ⌝ }
 {
