@@ -1,3 +1,4 @@
-// Borders: their points as they are read, and what a border says of a location.
+// Borders: their points as they are read, what a border says of a location, and how a border is written.
 pub mod place;
 pub mod reader;
+pub mod writer;
