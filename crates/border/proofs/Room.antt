@@ -1,6 +1,6 @@
 -- How much can still be read. Each turn that gives a point or goes round again leaves less. Assumes nothing.
 use Prim.Native.Nat.{ℕ, suc, _+_, _-_, _*_, _<_, _≤_, min}
-use native.Mathlib.Nat.{mul-le-mul-right, min-le-right, lt-of-lt-of-le, le-refl, suc-mul}
+use native.Mathlib.Nat.{mul-le-mul-right, min-le-right, le-refl, suc-mul}
 use native.Mathlib.Omega.{arith}
 use mathlib.Core.Path.{_≡_, refl}
 use mathlib.Core.Bool.{Bool, true, false}
@@ -14,8 +14,7 @@ use Rattle.numbers.specs.declared.point.{RawPoint.RawPoint}
 use Rattle.numbers.specs.declared.varint.Varint.the-variants.{Number}
 use Rattle.numbers.proofs.Laws.{number-read}
 use Rattle.border.specs.Place.{moveBy, isStill, movedBy, negated}
-use Rattle.border.specs.Reader.{Turn, gives, again, ends, onward, arrived, closing, moved, advanced, shownBy, plainMove, plainPair, plainTurn, asI64, opened, reference, marker, lent, forwardFrom, backwardFrom, packedTurn, turnOf}
-use Rattle.border.specs.declared.place.{Point.Point}
+use Rattle.border.specs.Reader.{Turn, gives, again, ends, onward, arrived, closing, advanced, shownBy, plainMove, plainPair, plainTurn, asI64, opened, reference, marker, lent, forwardFrom, backwardFrom, packedTurn, turnOf}
 use Rattle.border.specs.declared.reader.{Reader.Reader, Run.Run, Version.Version}
 use Rattle.border.specs.declared.reader.Version.the-variants.{Plain, Packed}
 use Rattle.border.specs.declared.reader.Run.the-variants.{Idle, Forward, Backward}
@@ -105,27 +104,18 @@ module _ (f : List ℕ) (b : ℕ) where
   whatever : {A : Type 0} (answer : Answer A) (next : A → Answer Turn) → ((a : A) → All (Less f b) (next a)) → All (Less f b) (answer >>= next)
   whatever {A} answer next k = then-all (λ (a : A). Unit {0}) (Less f b) answer next (any answer) (λ a h. k a)
 
-  abbrev Lower : Reader → Type 0
-  Lower s = left f s < b
-
-  moved-less : (s : Reader) (by : RawPoint) → left f s < b → All Lower (moved s by)
-  unfolding moved
-  moved-less s by h = then-all (λ (p : Point). Unit {0}) Lower (movedBy (s .point) by) _ (any (movedBy (s .point) by)) (λ p u. h)
-
   advanced-less : (s : Reader) (by : RawPoint) → left f s < b → All (Less f b) (advanced s by)
   unfolding advanced
-  advanced-less s by h = then-all Lower (Less f b) (moved s by) _ (moved-less s by h) (λ t l. l)
+  advanced-less s by h = whatever (movedBy (s .point) by) _ (λ p. h)
 
   shown-less : (by : RawPoint) (s : Reader) → left f s < b → Less f b (shownBy by s)
   shown-less by s h = either (Less f b) (isStill by) (again s) (gives s) h h
 
   pair-less : (s : Reader) (by : RawPoint) → ((r : Run) → room (length f) (s .place) r < b) → All (Less f b) (plainMove s by)
   unfolding plainMove
-  pair-less s by h = go (eqb (s .moves) 0)
-    where
-      go : (t : Bool) → All (Less f b) ((if t then found (closing s) else moved (onward s (s .place) (s .moves - 1) Idle) by) >>= λ u. found (shownBy by u))
-      go true = shown-less by (closing s) (h (s .run))
-      go false = then-all Lower (Less f b) (moved (onward s (s .place) (s .moves - 1) Idle) by) _ (moved-less _ by (h Idle)) (λ u l. shown-less by u l)
+  pair-less s by h =
+      either (All (Less f b)) (eqb (s .moves) 0) (found (shownBy by (closing s))) _ (shown-less by (closing s) (h (s .run)))
+      (whatever (movedBy (s .point) by) _ (λ p. shown-less by (arrived (onward s (s .place) (s .moves - 1) Idle) p) (h Idle)))
 
 -- at a later place of the border there is less room than in s, whatever the run
 later : (f : List ℕ) (s : Reader) (place place′ : ℕ) → s .place ≤ place → place < length f → place < place′ → (r : Run) → room (length f) place′ r < left f s

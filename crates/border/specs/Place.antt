@@ -8,6 +8,7 @@ use Rattle.numbers.specs.Answer.{Answer, found, refused, if_then_else_, _>>=_}
 use Rattle.numbers.specs.declared.point.{RawPoint.RawPoint}
 use Rattle.border.specs.declared.place.{Point.Point}
 
+-- a point and a move by their numbers
 abbrev pub pointAt : ℤ → ℤ → Point
 pointAt lat lon = record { lat = record { 0 = lat }; lon = record { 0 = lon } }
 
@@ -18,7 +19,7 @@ abbrev pub isZero : ℤ → Bool
 isZero (pos n) = eqb n 0
 isZero (negsuc n) = false
 
--- a move of two zeros
+-- a zero move
 unfoldable pub isStill : RawPoint → Bool
 isStill by = isZero (by .lat) && isZero (by .lon)
 

@@ -4,7 +4,7 @@ use mathlib.Core.Bool.{true}
 use mathlib.Core.List.{List}
 use lib.Dec.{ltb, leb, eqb}
 use lib.IntN.{ℤ, pos, negsuc, _+ℤ_, _-ℤ_}
-use Rattle.numbers.specs.Answer.{Answer, found, failed, refused, if_then_else_, _>>=_}
+use Rattle.numbers.specs.Answer.{Answer, found, failed, if_then_else_, _>>=_}
 use Rattle.numbers.specs.Varint.{forwardAt, backwardAt}
 use Rattle.numbers.specs.Point.{low32, signedOf, pointOf}
 use Rattle.numbers.specs.declared.point.{RawPoint.RawPoint}
@@ -30,12 +30,9 @@ arrived s p = record { place = s .place; moves = s .moves; begun = true; closed 
 abbrev pub closing : Reader → Reader
 closing s = record { place = s .place; moves = s .moves; begun = s .begun; closed = true; run = s .run; point = s .first; first = s .first }
 
--- a move leads on; in version 1 it always gives its point
-unfoldable pub moved : Reader → RawPoint → Answer Reader
-moved s by = movedBy (s .point) by >>= λ p. found (arrived s p)
-
+-- version 1: each move gives its point
 unfoldable pub advanced : Reader → RawPoint → Answer Turn
-advanced s by = moved s by >>= λ t. found (gives t)
+advanced s by = movedBy (s .point) by >>= λ p. found (gives (arrived s p))
 
 -- "A zero move gives no point", "two zeros drop the closing point"
 abbrev pub shownBy : RawPoint → Reader → Turn
@@ -43,9 +40,9 @@ shownBy by s = if isStill by then again s else gives s
 
 -- a move counts; past the last one the closing point is given
 unfoldable pub plainMove : Reader → RawPoint → Answer Turn
-plainMove s by = do
-  t ← if eqb (s .moves) 0 then found (closing s) else moved (onward s (s .place) (s .moves - 1) Idle) by
-  found (shownBy by t)
+plainMove s by = if eqb (s .moves) 0 then found (shownBy by (closing s)) else do
+  p ← movedBy (s .point) by
+  found (shownBy by (arrived (onward s (s .place) (s .moves - 1) Idle) p))
 
 -- "The closing point also reads two signed numbers"
 unfoldable pub plainPair : List ℕ → Reader → Answer Turn
@@ -60,7 +57,7 @@ plainTurn f s = if s .begun then plainPair f s else do
   count ← forwardAt f (s .place)
   if eqb (count .value) 0 then failed else plainPair f (onward s (count .place) (count .value) Idle)
 
--- version 1: a place counted from the data section, modulo 2 ^ 32
+-- a place counted from the data section, modulo 2 ^ 32
 abbrev pub dataPlace : ℕ → ℤ → ℕ
 dataPlace base z = (base + low32 z) % 2 ^ 32
 
@@ -68,14 +65,11 @@ dataPlace base z = (base + low32 z) % 2 ^ 32
 abbrev pub asI64 : ℕ → ℤ
 asI64 n = if ltb n (2 ^ 63) then pos n else (pos n -ℤ pos (2 ^ 64))
 
--- a reference from its start to its end, by its length: 0 opens none; a backward one starts and ends one byte lower
-abbrev pub runOf : ℕ → ℤ → ℤ → ℤ → Run
-runOf base start end (pos zero) = Idle
-runOf base start end (pos (suc n)) = Forward (dataPlace base start) (dataPlace base end)
-runOf base start end (negsuc n) = Backward (dataPlace base (start -ℤ pos 1)) (dataPlace base (end -ℤ pos 1))
-
+-- a reference of a signed length: 0 opens none; a backward one starts and ends one byte lower
 unfoldable pub opened : ℕ → ℤ → ℤ → Answer Run
-opened base start length = checked 63 (start +ℤ length) >>= λ end. found (runOf base start end length)
+opened base start (pos zero) = found Idle
+opened base start (pos (suc n)) = checked 63 (start +ℤ pos (suc n)) >>= λ end. found (Forward (dataPlace base start) (dataPlace base end))
+opened base start (negsuc n) = checked 63 (start +ℤ negsuc n) >>= λ end. found (Backward (dataPlace base (start -ℤ pos 1)) (dataPlace base (end -ℤ pos 1)))
 
 -- "0 then 1 opens a reference (start, signed length)"
 unfoldable pub reference : List ℕ → ℕ → Reader → Answer Turn
@@ -98,13 +92,14 @@ marker f base s = do
 unfoldable pub lent : ℕ → Answer RawPoint
 lent value = if eqb value 0 then failed else found (pointOf value)
 
--- what is left of a run
+-- what is left of a run that is read forward, and backward
 unfoldable pub forwardFrom : ℕ → ℕ → Run
 forwardFrom next end = if leb end next then Idle else Forward next end
 
 unfoldable pub backwardFrom : ℕ → ℕ → Run
 backwardFrom next end = if leb next end then Idle else Backward next end
 
+-- version 1: the next number, outside a reference, inside one that is read forward, and backward
 unfoldable pub packedTurn : Run → List ℕ → ℕ → Reader → Answer Turn
 packedTurn Idle f base s = do
   number ← forwardAt f (s .place)
@@ -120,6 +115,7 @@ packedTurn (Backward next end) f base s = do
   back ← negated by
   advanced (onward s (s .place) (s .moves) (backwardFrom (number .place) end)) back
 
+-- a closed border has ended; the others are read by their version
 unfoldable pub turnOf : List ℕ → Version → ℕ → Reader → Answer Turn
 turnOf f Plain base s = if s .closed then found ends else plainTurn f s
 turnOf f Packed base s = if s .closed then found ends else packedTurn (s .run) f base s

@@ -16,6 +16,7 @@ pub data Given : Type 0 where
   reaches : Reader → Given
   ended : Given
 
+-- a turn that gives no point is followed by the next
 unfoldable pub roundAgain : (Reader → Answer Given) → Turn → Answer Given
 roundAgain rest (gives s) = found (reaches s)
 roundAgain rest (again s) = rest s
@@ -25,7 +26,7 @@ roundAgain rest ends = found ended
 abbrev pub turns : List ℕ → ℕ
 turns f = suc (suc (length f) * suc (length f))
 
--- turns up to a point or the end; they are never used up (`next-step`)
+-- turns up to a point or the end; that they are never used up is the law `next-step`
 unfoldable pub nextWithin : ℕ → List ℕ → Version → ℕ → Reader → Answer Given
 nextWithin zero f version base s = A.failed
 nextWithin (suc more) f version base s = turnOf f version base s >>= roundAgain (nextWithin more f version base)
@@ -40,13 +41,14 @@ pub data Trace : Type 0 where
   failed : Trace
   refused : ℕ → Trace
 
+-- a point is followed by the rest of the border
 unfoldable pub traceThen : Answer Given → (Reader → Trace) → Trace
 traceThen (found (reaches s)) rest = point (s .point) (rest s)
 traceThen (found ended) rest = closed
 traceThen A.failed rest = failed
 traceThen (A.refused n) rest = refused n
 
--- one point after the other; the turns are never used up (`trace-step`)
+-- one point after the other; that they are never used up is the law `trace-step`
 unfoldable pub traceWithin : ℕ → List ℕ → Version → ℕ → Reader → Trace
 traceWithin zero f version base s = failed
 traceWithin (suc more) f version base s = traceThen (nextPoint f version base s) (traceWithin more f version base)

@@ -44,13 +44,13 @@ fn minus(a: i32) -> Signed
     narrow(0 - (a as i64))
 }
 
-pub enum Moved {
+pub(crate) enum Moved {
     To(Point),
     Over,
 }
 
 // The point that a move leads to.
-pub fn move_by(p: Point, by: RawPoint) -> Moved
+pub(crate) fn move_by(p: Point, by: RawPoint) -> Moved
     ensures { λ r. ⌜ toldMoved r ≡ movedBy p by ⌝ }
 {
     let Signed::Fits(lat) = sum(p.lat.0, by.lat) else {
@@ -65,13 +65,13 @@ pub fn move_by(p: Point, by: RawPoint) -> Moved
     })
 }
 
-pub enum Away {
+pub(crate) enum Away {
     By(RawPoint),
     Over,
 }
 
 // The move back.
-pub fn negate(by: RawPoint) -> Away
+pub(crate) fn negate(by: RawPoint) -> Away
     ensures { λ r. ⌜ toldAway r ≡ negated by ⌝ }
 {
     let Signed::Fits(lat) = minus(by.lat) else {
@@ -84,7 +84,7 @@ pub fn negate(by: RawPoint) -> Away
 }
 
 // Whether a move is two zeros.
-pub fn is_still(by: RawPoint) -> bool
+pub(crate) fn is_still(by: RawPoint) -> bool
     ensures { λ r. ⌜ r ≡ isStill by ⌝ }
 {
     by.lat == 0 && by.lon == 0

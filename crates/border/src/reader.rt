@@ -2,8 +2,9 @@
 ghost use mathlib.Core.Path.{_≡_};
 ghost use lib.IntN.{pos, negsuc};
 ghost use Rattle.numbers.specs.Answer.{found};
+ghost use Rattle.numbers.specs.Varint as varint;
 ghost use Rattle.border.specs.Reader.{onward, arrived, closing, advanced, shownBy, plainMove, plainPair, plainTurn, dataPlace, asI64, opened, reference, marker, forwardFrom, backwardFrom, packedTurn, turnOf};
-ghost use Rattle.border.specs.Told.{stopped, toldRun, toldTurn, told, settledBy, steppedBy};
+ghost use Rattle.border.specs.Told.{counted, stopped, toldRun, toldTurn, told, settledBy, steppedBy};
 ghost use Rattle.border.specs.Trace.{nextPoint, borderAt};
 use crate::place::Away;
 use crate::place::FixedLat;
@@ -40,9 +41,9 @@ pub struct Reader {
     // The first point is known.
     pub begun: bool,
     pub closed: bool,
-    pub run: Run,
     pub point: Point,
     pub first: Point,
+    pub run: Run,
 }
 
 // One turn of the reader's loop. The point that is given is the state's own.
@@ -172,26 +173,43 @@ fn plain_pair(file: &[u8], reader: Reader, place: usize, moves: u64) -> Turn
     plain_move(reader, after, moves, by)
 }
 
-// Version 0: the count comes before the first move.
-fn plain_turn(file: &[u8], reader: Reader) -> Turn
-    ensures { λ r. ⌜ toldTurn r ≡ plainTurn (now (file .entry)) reader ⌝ }
+// Version 0: the moves that are left, and where the next pair stands. The count comes before the first move.
+fn moves_left(file: &[u8], reader: Reader) -> Varint
+    ensures { λ r. ⌜ varint.told r ≡ counted (now (file .entry)) reader ⌝ }
 {
     let place = reader.place;
     if reader.begun {
-        return plain_pair(file, reader, place, reader.moves);
+        return Varint::Number {
+            value: reader.moves,
+            place,
+        };
     }
     let n = read_forward(file, place);
     let Varint::Number {
         value: count,
-        place: after,
+        place: _,
+    } = n
+    else {
+        return n;
+    };
+    if count == 0 {
+        return Varint::Failed;
+    }
+    n
+}
+
+fn plain_turn(file: &[u8], reader: Reader) -> Turn
+    ensures { λ r. ⌜ toldTurn r ≡ plainTurn (now (file .entry)) reader ⌝ }
+{
+    let n = moves_left(file, reader);
+    let Varint::Number {
+        value: moves,
+        place,
     } = n
     else {
         return stop(n);
     };
-    if count == 0 {
-        return Turn::Failed;
-    }
-    plain_pair(file, reader, after, count)
+    plain_pair(file, reader, place, moves)
 }
 
 // A reference, or that its end leaves the i64.
@@ -360,17 +378,17 @@ fn run_forward(file: &[u8], base: u32, reader: Reader, next: usize, end: usize) 
 {
     let n = read_forward(file, next);
     let Varint::Number {
-        value,
+        value: ahead,
         place: after,
     } = n
     else {
         return stop(n);
     };
-    if value == 0 {
+    if ahead == 0 {
         return Turn::Failed;
     }
     let place = reader.place;
-    advance(reader, place, forward_from(after, end), decode_point(value))
+    advance(reader, place, forward_from(after, end), decode_point(ahead))
 }
 
 // Version 1, inside a reference that is read backward.
@@ -379,16 +397,16 @@ fn run_backward(file: &[u8], base: u32, reader: Reader, next: usize, end: usize)
 {
     let n = read_backward(file, next);
     let Varint::Number {
-        value,
+        value: behind,
         place: before,
     } = n
     else {
         return stop(n);
     };
-    if value == 0 {
+    if behind == 0 {
         return Turn::Failed;
     }
-    let Away::By(by) = negate(decode_point(value)) else {
+    let Away::By(by) = negate(decode_point(behind)) else {
         return Turn::Refused(13);
     };
     let place = reader.place;
@@ -481,13 +499,13 @@ pub enum Reply {
 }
 
 // A reply beside the state after it.
-pub struct Stepped {
-    pub reader: Reader,
-    pub reply: Reply,
+struct Stepped {
+    reader: Reader,
+    reply: Reply,
 }
 
 // The end, a failure and a refusal leave the state as it was.
-pub fn step(file: &[u8], version: Version, data_offset: u32, reader: Reader) -> Stepped
+fn step(file: &[u8], version: Version, data_offset: u32, reader: Reader) -> Stepped
     ensures { λ r. ⌜ r ≡ steppedBy reader (nextPoint (now (file .entry)) version «data_offset» reader) ⌝ }
 {
     let n = next_point(file, version, data_offset, reader);

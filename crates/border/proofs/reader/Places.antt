@@ -89,10 +89,6 @@ module _ (base start : ℕ) (fits : start < 2 ^ 64) where
 
   -- ---- a reference
 
-  pub none-opened : found Idle ≡ opened base (asI64 start) (pos 0)
-  unfolding opened checked
-  none-opened = rw (lt-ltb _ _ (inside 0 (omega arith) (λ l. omega arith)))
-
   pub forward-opened : (size : ℕ) → size < 2 ^ 32 → (size ≡ 0 → ⊥) → (start < 2 ^ 63 → start + size < 2 ^ 63)
       → found (Forward (dataPlace base (pos start)) (dataPlace base (pos (start % 2 ^ 32 + size)))) ≡ opened base (asI64 start) (pos size)
   unfolding opened checked
@@ -102,7 +98,8 @@ module _ (base start : ℕ) (fits : start < 2 ^ 64) where
 
   pub forward-over : (size : ℕ) → start < 2 ^ 63 → 2 ^ 63 ≤ start + size → refused 13 ≡ opened base (asI64 start) (pos size)
   unfolding opened checked
-  forward-over size l h = rw (lower l, le-ltb (start + size) (2 ^ 63) h)
+  forward-over zero l h = absurd (omega arith)
+  forward-over (suc k) l h = rw (lower l, le-ltb (start + suc k) (2 ^ 63) h)
 
   pub backward-opened : (more : ℕ) → more < 2 ^ 32 → (2 ^ 63 ≤ start → more < start - 2 ^ 63)
       → found (Backward (dataPlace base (pos (start % 2 ^ 32 + 4294967295))) (dataPlace base (pos (start % 2 ^ 32 + 4294967295 + (4294967295 - more))))) ≡ opened base (asI64 start) (negsuc more)
@@ -113,6 +110,11 @@ module _ (base start : ℕ) (fits : start < 2 ^ 64) where
   pub backward-over : (more : ℕ) → 2 ^ 63 ≤ start → start - 2 ^ 63 ≤ more → refused 13 ≡ opened base (asI64 start) (negsuc more)
   unfolding opened checked
   backward-over more u h = rw (upper u fits, le-ltb (suc (2 ^ 64 - suc start + more)) (2 ^ 63) (omega arith))
+
+-- a length of 0 opens none
+pub none-opened : (base start : ℕ) → found Idle ≡ opened base (asI64 start) (pos 0)
+unfolding opened
+none-opened base start = refl
 
 -- ---- the sign of a length
 

@@ -1,16 +1,15 @@
 -- Each kind of turn, once its numbers are read: what the code goes by, and whoever writes a border. Assumes nothing.
-use mathlib.Core.Path.{_≡_, refl, sym, ap, _∙_}
-use mathlib.Core.Bool.{Bool, true, false}
+use mathlib.Core.Path.{_≡_}
+use mathlib.Core.Bool.{true, false}
 use mathlib.Core.List.{List}
 use Prim.Native.Nat.{ℕ, _-_}
 use borrow.Author.Tests.{eq-eqb, ne-eqb}
-use lib.IntN.{ℤ}
-use Rattle.numbers.specs.Answer.{Answer, found, failed, refused, _>>=_}
+use Rattle.numbers.specs.Answer.{found, failed, refused}
 use Rattle.numbers.specs.Varint.{numeral, forwardAt, backwardAt}
 use Rattle.numbers.specs.Point.{signedOf, pointOf}
 use Rattle.numbers.specs.declared.point.{RawPoint.RawPoint}
 use Rattle.border.specs.Place.{moveBy, movedBy, negated}
-use Rattle.border.specs.Reader.{Turn, gives, again, ends, onward, arrived, closing, moved, advanced, shownBy, plainMove, plainPair, plainTurn, asI64, opened, reference, marker, lent, forwardFrom, backwardFrom, packedTurn, turnOf}
+use Rattle.border.specs.Reader.{gives, again, ends, onward, arrived, closing, advanced, shownBy, plainMove, plainPair, plainTurn, asI64, opened, reference, marker, lent, forwardFrom, backwardFrom, packedTurn, turnOf}
 use Rattle.border.specs.declared.place.{Point.Point}
 use Rattle.border.specs.declared.reader.{Reader.Reader, Run.Run, Version.Version}
 use Rattle.border.specs.declared.reader.Version.the-variants.{Plain, Packed}
@@ -85,11 +84,11 @@ module _ (f : List ℕ) (base : ℕ) (s : Reader) (next end : ℕ) {value later 
 
 module _ (s : Reader) (by : RawPoint) where
   pub advances : {p : Point} → found p ≡ movedBy (s .point) by → advanced s by ≡ found (gives (arrived s p))
-  unfolding advanced moved
+  unfolding advanced
   advances m = rw (← m)
 
   pub advance-over : refused 13 ≡ movedBy (s .point) by → advanced s by ≡ refused 13
-  unfolding advanced moved
+  unfolding advanced
   advance-over m = rw (← m)
 
   -- version 0: past the last move, and before
@@ -98,11 +97,11 @@ module _ (s : Reader) (by : RawPoint) where
   pair-closes h = rw (eq-eqb (s .moves) 0 h)
 
   pub pair-moves : {p : Point} → (s .moves ≡ 0 → ⊥) → found p ≡ movedBy (s .point) by → plainMove s by ≡ found (shownBy by (arrived (onward s (s .place) (s .moves - 1) Idle) p))
-  unfolding plainMove moved
+  unfolding plainMove
   pair-moves h m = rw (ne-eqb (s .moves) 0 h, ← m)
 
   pub pair-over : (s .moves ≡ 0 → ⊥) → refused 13 ≡ movedBy (s .point) by → plainMove s by ≡ refused 13
-  unfolding plainMove moved
+  unfolding plainMove
   pair-over h m = rw (ne-eqb (s .moves) 0 h, ← m)
 
 -- ---- version 0: the count
@@ -127,3 +126,13 @@ pub closed-ends : (f : List ℕ) (version : Version) (base : ℕ) (s : Reader) �
 unfolding turnOf
 closed-ends f Plain base s h = rw h
 closed-ends f Packed base s h = rw h
+
+-- ---- a border that is not closed
+
+pub open-packed : (f : List ℕ) (base : ℕ) (s : Reader) → s .closed ≡ false → turnOf f Packed base s ≡ packedTurn (s .run) f base s
+unfolding turnOf
+open-packed f base s h = rw h
+
+pub open-plain : (f : List ℕ) (base : ℕ) (s : Reader) → s .closed ≡ false → turnOf f Plain base s ≡ plainTurn f s
+unfolding turnOf
+open-plain f base s h = rw h

@@ -1,15 +1,12 @@
 -- `border::place::minus` meets its contract. Assumes nothing.
-use Rattle.border.proofs.place.Whole.{widened, widens, negation-fits}
-use mir.Facts.{toZ-ofZ}
-use mir.Syntax.{w64}
+use borrow.Author.Needs.{needs}
 use lib.IntN.{+ℤ-idl}
 use mathlib.Core.Path.{_∙_}
-use borrow.Author.Needs.{needs}
+use mir.Facts.{toZ-ofZ}
+use mir.Syntax.{w64}
+use Rattle.border.proofs.place.Whole.{widened, widens, negation-fits}
 use Rattle.border.proofs.place.minus.Statement.{statement}
 use Rattle.border.proofs.place.minus.Tie as tie
-use Rattle.border.proofs.place.minus.Reads as reads
-use Rattle.border.proofs.place.minus.Lts as lts
-use Rattle.border.proofs.place.narrow.Reads as narrow-reads
 
 cast-narrow : tie.Need-cast-narrow
 cast-narrow c = widens (c .fits .a)

@@ -1,14 +1,11 @@
 -- `border::place::sum` meets its contract. Assumes nothing.
-use Rattle.border.proofs.place.Whole.{widened, widens, sum-fits}
+use borrow.Author.Needs.{needs}
+use mathlib.Core.Path.{_∙_}
 use mir.Facts.{toZ-ofZ}
 use mir.Syntax.{w64}
-use mathlib.Core.Path.{_∙_}
-use borrow.Author.Needs.{needs}
+use Rattle.border.proofs.place.Whole.{widened, widens, sum-fits}
 use Rattle.border.proofs.place.sum.Statement.{statement}
 use Rattle.border.proofs.place.sum.Tie as tie
-use Rattle.border.proofs.place.sum.Reads as reads
-use Rattle.border.proofs.place.sum.Lts as lts
-use Rattle.border.proofs.place.narrow.Reads as narrow-reads
 
 cast-narrow : tie.Need-cast-narrow
 cast-narrow c = widens (c .fits .a)

@@ -1,16 +1,12 @@
 -- `border::reader::advance` meets its contract. Assumes nothing.
-use Rattle.border.proofs.Steps.{goes, halts}
-use Rattle.border.specs.declared.reader.{Reader.Reader}
-use Rattle.border.specs.Reader.{gives, moved, advanced}
-use Rattle.numbers.specs.Answer.{found}
-use mathlib.Core.Path.{_∙_, ap}
 use borrow.Author.Needs.{needs}
+use mathlib.Core.Path.{sym, ap, _∙_}
+use Rattle.border.proofs.reader.Turns.{advances, advance-over}
 use Rattle.border.proofs.reader.advance.Statement.{statement}
+use Rattle.border.specs.declared.reader.Reader.{Reader}
+use Rattle.border.specs.Reader.{gives, onward}
+use Rattle.numbers.specs.Answer.{found}
 use Rattle.border.proofs.reader.advance.Tie as tie
-use Rattle.border.proofs.reader.advance.Reads as reads
-use Rattle.border.proofs.reader.advance.Lts as lts
-use Rattle.border.proofs.place.move_by.Reads as move-by-reads
-use Rattle.border.proofs.reader.arrive.Reads as arrive-reads
 
 move-by-requires : tie.Need-move-by-requires
 move-by-requires c κs = search needs
@@ -22,16 +18,21 @@ enum-told : tie.Need-enum-told
 enum-told c = search needs
 
 returns : tie.Need-returns
-unfolding advanced moved
-returns c = halts (halts (rw (c .enum-told .given .1) at (c .before .before .move-by .ensures)) _) _
+returns c =
+    let args = c .before .before .before .before .args in
+    let move-by = c .before .before .move-by in
+    sym (advance-over (onward (args .reader) (args .place) (args .reader .moves) (args .run)) (args .by) (rw (c .enum-told .given .1) at (move-by .ensures)))
 
 arrive-requires : tie.Need-arrive-requires
 arrive-requires c κs = search needs
 
 returns-2 : tie.Need-returns-2
-unfolding advanced moved
-returns-2 c = ap (λ (t : Reader). found (gives t)) (c .arrive .ensures)
-    ∙ goes (goes (rw (c .before .before .point .given .1) at (c .before .before .before .before .move-by .ensures)) _) _
+returns-2 c =
+    let args = c .before .before .before .before .before .before .args in
+    let point = c .before .before .point in
+    let move-by = c .before .before .before .before .move-by in
+    ap (λ (t : Reader). found (gives t)) (c .arrive .ensures)
+    ∙ sym (advances (onward (args .reader) (args .place) (args .reader .moves) (args .run)) (args .by) (rw (point .given .1) at (move-by .ensures)))
 
 pub advance-spec : {M : Type 1} → statement M
 advance-spec =

@@ -1,8 +1,6 @@
 -- `border::reader::arrive` meets its contract. Assumes nothing.
 use Rattle.border.proofs.reader.arrive.Statement.{statement}
 use Rattle.border.proofs.reader.arrive.Tie as tie
-use Rattle.border.proofs.reader.arrive.Reads as reads
-use Rattle.border.proofs.reader.arrive.Lts as lts
 
 returns : tie.Need-returns
 returns c = rw (c .before .if1 .taken)

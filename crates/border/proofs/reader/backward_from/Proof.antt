@@ -1,10 +1,8 @@
 -- `border::reader::backward_from` meets its contract. Assumes nothing.
 use borrow.Author.Tests.{le-leb, lt-leb}
-use Rattle.border.specs.Reader.{backwardFrom}
 use Rattle.border.proofs.reader.backward_from.Statement.{statement}
+use Rattle.border.specs.Reader.{backwardFrom}
 use Rattle.border.proofs.reader.backward_from.Tie as tie
-use Rattle.border.proofs.reader.backward_from.Reads as reads
-use Rattle.border.proofs.reader.backward_from.Lts as lts
 
 returns : tie.Need-returns
 unfolding backwardFrom

@@ -1,10 +1,8 @@
 -- `border::reader::forward_from` meets its contract. Assumes nothing.
 use borrow.Author.Tests.{le-leb, lt-leb}
-use Rattle.border.specs.Reader.{forwardFrom}
 use Rattle.border.proofs.reader.forward_from.Statement.{statement}
+use Rattle.border.specs.Reader.{forwardFrom}
 use Rattle.border.proofs.reader.forward_from.Tie as tie
-use Rattle.border.proofs.reader.forward_from.Reads as reads
-use Rattle.border.proofs.reader.forward_from.Lts as lts
 
 returns : tie.Need-returns
 unfolding forwardFrom

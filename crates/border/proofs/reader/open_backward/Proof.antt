@@ -1,17 +1,16 @@
 -- `border::reader::open_backward` meets its contract. Assumes nothing.
-use Rattle.border.proofs.reader.Places.{backward-opened, backward-over}
-use mathlib.Core.Path.{_∙_, ap₂}
+use borrow.Author.Needs.{needs}
 use mathlib.Core.Logic.{⊎-elim}
 use native.Mathlib.Omega.{arith}
-use borrow.Author.Needs.{needs}
+use Rattle.border.proofs.reader.Places.{backward-opened, backward-over}
 use Rattle.border.proofs.reader.open_backward.Statement.{statement}
 use Rattle.border.proofs.reader.open_backward.Tie as tie
-use Rattle.border.proofs.reader.open_backward.Reads as reads
-use Rattle.border.proofs.reader.open_backward.Lts as lts
-use Rattle.border.proofs.reader.data_place.Reads as data-place-reads
 
 returns : tie.Need-returns
-returns c = backward-over (c .before .before .args .base) (c .before .before .args .start) (search needs) (c .before .before .args .more) (c .before .if1 .taken) (c .if2 .taken)
+returns c =
+    let args = c .before .before .args in
+    let if1 = c .before .if1 in
+    backward-over (args .base) (args .start) (search needs) (args .more) (if1 .taken) (c .if2 .taken)
 
 add-before : tie.Need-add-before
 add-before c = search needs
@@ -32,9 +31,13 @@ data-place-requires-2 : tie.Need-data-place-requires-2
 data-place-requires-2 c κs = search needs
 
 returns-2 : tie.Need-returns-2
-returns-2 c = rw (c .before .data-place .ensures, c .data-place2 .ensures)
-    (backward-opened (c .before .before .before .args .base) (c .before .before .before .args .start) (search needs) (c .before .before .before .args .more) (search needs)
-    (⊎-elim (λ w l. w .1 .left) (λ w l. omega arith) (c .before .before .if1 .came)))
+returns-2 c =
+    let data-place = c .before .data-place in
+    let args = c .before .before .before .args in
+    let if1 = c .before .before .if1 in
+    rw (data-place .ensures, c .data-place2 .ensures)
+    (backward-opened (args .base) (args .start) (search needs) (args .more) (search needs)
+    (⊎-elim (λ w l. w .1 .left) (λ w l. omega arith) (if1 .came)))
 
 pub open-backward-spec : {M : Type 1} → statement M
 open-backward-spec =

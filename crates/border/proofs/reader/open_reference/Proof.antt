@@ -1,26 +1,17 @@
 -- `border::reader::open_reference` meets its contract. Assumes nothing.
-use Rattle.border.specs.declared.reader.{Reader.Reader}
-use Rattle.border.specs.declared.reader.Run.the-variants.{Idle}
-use Rattle.numbers.specs.Answer.{found}
-use Rattle.border.specs.Reader.{again, onward, reference}
-use Rattle.border.proofs.reader.Turns.{reference-opens, reference-over}
-use Rattle.numbers.proofs.Laws.{goes-on}
 use borrow.Author.Needs.{needs, sfits-of}
-use mir.ValLaws.{toZ-ofZ}
-use mir.Syntax.{w32}
-use Rattle.numbers.proofs.Laws.{stops}
 use denote.Ref.{now}
 use mathlib.Core.Path.{sym, ap, _∙_}
-use borrow.Author.Needs.{needs}
+use mir.Syntax.{w32}
+use mir.ValLaws.{toZ-ofZ}
+use Rattle.border.proofs.reader.Turns.{reference-opens, reference-over}
 use Rattle.border.proofs.reader.open_reference.Statement.{statement}
+use Rattle.border.specs.declared.reader.Reader.{Reader}
+use Rattle.border.specs.Reader.{again, onward, reference}
+use Rattle.border.specs.declared.reader.Run.the-variants.{Idle}
+use Rattle.numbers.proofs.Laws.{goes-on, stops}
+use Rattle.numbers.specs.Answer.{found}
 use Rattle.border.proofs.reader.open_reference.Tie as tie
-use Rattle.border.proofs.reader.open_reference.Reads as reads
-use Rattle.border.proofs.reader.open_reference.Lts as lts
-use Rattle.border.proofs.reader.go_on.Reads as go-on-reads
-use Rattle.border.proofs.reader.open_run.Reads as open-run-reads
-use Rattle.border.proofs.reader.stop.Reads as stop-reads
-use Rattle.numbers.proofs.point.signed.Reads as signed-reads
-use Rattle.numbers.proofs.varint.read_forward.Reads as read-forward-reads
 
 read-forward-requires : tie.Need-read-forward-requires
 read-forward-requires c κs = search needs
@@ -33,7 +24,10 @@ stop-requires c κs = search needs
 
 returns : tie.Need-returns
 unfolding reference
-returns c = c .stop .ensures ∙ stops (c .before .before .read-forward .result) (c .before .before .read-forward .ensures) (c .before .match .keys2) _ _
+returns c =
+    let read-forward = c .before .before .read-forward in
+    let matched = c .before .match in
+    c .stop .ensures ∙ stops (read-forward .result) (read-forward .ensures) (matched .keys2) _ _
 
 read-forward-requires-2 : tie.Need-read-forward-requires-2
 read-forward-requires-2 c κs = search needs
@@ -46,9 +40,14 @@ stop-requires-2 c κs = search needs
 
 returns-2 : tie.Need-returns-2
 unfolding reference
-returns-2 c = c .stop2 .ensures
-    ∙ stops (c .before .before .read-forward2 .result) (c .before .before .read-forward2 .ensures) (c .before .match2 .keys2) _ _
-    ∙ goes-on (c .before .before .before .before .before .before .read-forward .result) (c .before .before .before .before .before .before .read-forward .ensures) (c .before .before .before .before .n .given .1) _
+returns-2 c =
+    let read-forward2 = c .before .before .read-forward2 in
+    let match2 = c .before .match2 in
+    let read-forward = c .before .before .before .before .before .before .read-forward in
+    let n = c .before .before .before .before .n in
+    c .stop2 .ensures
+    ∙ stops (read-forward2 .result) (read-forward2 .ensures) (match2 .keys2) _ _
+    ∙ goes-on (read-forward .result) (read-forward .ensures) (n .given .1) _
 
 signed-requires : tie.Need-signed-requires
 signed-requires c κs = search needs
@@ -63,14 +62,31 @@ enum-told : tie.Need-enum-told
 enum-told c = search needs
 
 returns-3 : tie.Need-returns-3
-returns-3 c = sym (reference-over (now (c .before .before .before .before .before .before .before .before .before .before .before .before .before .args .file)) (c .before .before .before .before .before .before .before .before .before .before .before .before .before .args .base) (onward (c .before .before .before .before .before .before .before .before .before .before .before .before .before .args .reader) (c .before .before .before .before .before .before .before .before .before .before .before .before .before .args .place) (c .before .before .before .before .before .before .before .before .before .before .before .before .before .args .reader .moves) Idle) (rw (c .before .before .before .before .before .before .before .before .before .n .given .1) at (c .before .before .before .before .before .before .before .before .before .before .before .read-forward .ensures)) (rw (c .before .before .before .before .before .m .given .1) at (c .before .before .before .before .before .before .before .read-forward2 .ensures)) (rw (toZ-ofZ w32 _ (sfits-of (c .before .before .before .signed .ok)) ∙ c .before .before .before .signed .ensures, c .enum-told .given .1) at (c .before .before .open-run .ensures)))
+returns-3 c =
+    let args = c .before .before .before .before .before .before .before .before .before .before .before .before .before .args in
+    let n = c .before .before .before .before .before .before .before .before .before .n in
+    let read-forward = c .before .before .before .before .before .before .before .before .before .before .before .read-forward in
+    let m = c .before .before .before .before .before .m in
+    let read-forward2 = c .before .before .before .before .before .before .before .read-forward2 in
+    let signed = c .before .before .before .signed in
+    let open-run = c .before .before .open-run in
+    sym (reference-over (now (args .file)) (args .base) (onward (args .reader) (args .place) (args .reader .moves) Idle) (rw (n .given .1) at (read-forward .ensures)) (rw (m .given .1) at (read-forward2 .ensures)) (rw (toZ-ofZ w32 _ (sfits-of (signed .ok)) ∙ signed .ensures, c .enum-told .given .1) at (open-run .ensures)))
 
 go-on-requires : tie.Need-go-on-requires
 go-on-requires c κs = search needs
 
 returns-4 : tie.Need-returns-4
-returns-4 c = ap (λ (t : Reader). found (again t)) (c .go-on .ensures)
-    ∙ sym (reference-opens (now (c .before .before .before .before .before .before .before .before .before .before .before .before .before .before .before .args .file)) (c .before .before .before .before .before .before .before .before .before .before .before .before .before .before .before .args .base) (onward (c .before .before .before .before .before .before .before .before .before .before .before .before .before .before .before .args .reader) (c .before .before .before .before .before .before .before .before .before .before .before .before .before .before .before .args .place) (c .before .before .before .before .before .before .before .before .before .before .before .before .before .before .before .args .reader .moves) Idle) (rw (c .before .before .before .before .before .before .before .before .before .before .before .n .given .1) at (c .before .before .before .before .before .before .before .before .before .before .before .before .before .read-forward .ensures)) (rw (c .before .before .before .before .before .before .before .m .given .1) at (c .before .before .before .before .before .before .before .before .before .read-forward2 .ensures)) (rw (toZ-ofZ w32 _ (sfits-of (c .before .before .before .before .before .signed .ok)) ∙ c .before .before .before .before .before .signed .ensures, c .before .before .run .given .1) at (c .before .before .before .before .open-run .ensures)))
+returns-4 c =
+    let args = c .before .before .before .before .before .before .before .before .before .before .before .before .before .before .before .args in
+    let n = c .before .before .before .before .before .before .before .before .before .before .before .n in
+    let read-forward = c .before .before .before .before .before .before .before .before .before .before .before .before .before .read-forward in
+    let m = c .before .before .before .before .before .before .before .m in
+    let read-forward2 = c .before .before .before .before .before .before .before .before .before .read-forward2 in
+    let signed = c .before .before .before .before .before .signed in
+    let run = c .before .before .run in
+    let open-run = c .before .before .before .before .open-run in
+    ap (λ (t : Reader). found (again t)) (c .go-on .ensures)
+    ∙ sym (reference-opens (now (args .file)) (args .base) (onward (args .reader) (args .place) (args .reader .moves) Idle) (rw (n .given .1) at (read-forward .ensures)) (rw (m .given .1) at (read-forward2 .ensures)) (rw (toZ-ofZ w32 _ (sfits-of (signed .ok)) ∙ signed .ensures, run .given .1) at (open-run .ensures)))
 
 pub open-reference-spec : {M : Type 1} → statement M
 open-reference-spec =

@@ -1,13 +1,8 @@
 -- `border::reader::packed_turn` meets its contract. Assumes nothing.
-use mathlib.Core.Path.{_∙_}
 use borrow.Author.Needs.{needs}
+use mathlib.Core.Path.{_∙_}
 use Rattle.border.proofs.reader.packed_turn.Statement.{statement}
 use Rattle.border.proofs.reader.packed_turn.Tie as tie
-use Rattle.border.proofs.reader.packed_turn.Reads as reads
-use Rattle.border.proofs.reader.packed_turn.Lts as lts
-use Rattle.border.proofs.reader.read_move.Reads as read-move-reads
-use Rattle.border.proofs.reader.run_backward.Reads as run-backward-reads
-use Rattle.border.proofs.reader.run_forward.Reads as run-forward-reads
 
 enum-told : tie.Need-enum-told
 enum-told c = search needs

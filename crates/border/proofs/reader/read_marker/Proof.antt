@@ -1,22 +1,15 @@
 -- `border::reader::read_marker` meets its contract. Assumes nothing.
-use Rattle.border.specs.declared.reader.{Reader.Reader}
-use Rattle.border.specs.declared.reader.Run.the-variants.{Idle}
-use Rattle.numbers.specs.Answer.{found}
-use Rattle.border.specs.Reader.{gives, onward, marker}
-use Rattle.border.proofs.reader.Turns.{mark-closes, mark-opens, mark-repeats}
-use Rattle.numbers.proofs.Laws.{stops}
+use borrow.Author.Needs.{needs}
 use denote.Ref.{now}
 use mathlib.Core.Path.{sym, ap, _∙_}
-use borrow.Author.Needs.{needs}
+use Rattle.border.proofs.reader.Turns.{mark-closes, mark-opens, mark-repeats}
 use Rattle.border.proofs.reader.read_marker.Statement.{statement}
+use Rattle.border.specs.declared.reader.Reader.{Reader}
+use Rattle.border.specs.Reader.{gives, onward, marker}
+use Rattle.border.specs.declared.reader.Run.the-variants.{Idle}
+use Rattle.numbers.proofs.Laws.{stops}
+use Rattle.numbers.specs.Answer.{found}
 use Rattle.border.proofs.reader.read_marker.Tie as tie
-use Rattle.border.proofs.reader.read_marker.Reads as reads
-use Rattle.border.proofs.reader.read_marker.Lts as lts
-use Rattle.border.proofs.reader.arrive.Reads as arrive-reads
-use Rattle.border.proofs.reader.close.Reads as close-reads
-use Rattle.border.proofs.reader.open_reference.Reads as open-reference-reads
-use Rattle.border.proofs.reader.stop.Reads as stop-reads
-use Rattle.numbers.proofs.varint.read_forward.Reads as read-forward-reads
 
 read-forward-requires : tie.Need-read-forward-requires
 read-forward-requires c κs = search needs
@@ -29,25 +22,45 @@ stop-requires c κs = search needs
 
 returns : tie.Need-returns
 unfolding marker
-returns c = c .stop .ensures ∙ stops (c .before .before .read-forward .result) (c .before .before .read-forward .ensures) (c .before .match .keys2) _ _
+returns c =
+    let read-forward = c .before .before .read-forward in
+    let matched = c .before .match in
+    c .stop .ensures ∙ stops (read-forward .result) (read-forward .ensures) (matched .keys2) _ _
 
 close-requires : tie.Need-close-requires
 close-requires c κs = search needs
 
 returns-2 : tie.Need-returns-2
-returns-2 c = ap (λ (t : Reader). found (gives t)) (c .close .ensures) ∙ sym (mark-closes (now (c .before .before .before .before .before .before .before .args .file)) (c .before .before .before .before .before .before .before .args .base) (onward (c .before .before .before .before .before .before .before .args .reader) (c .before .before .before .before .before .before .before .args .place) (c .before .before .before .before .before .before .before .args .reader .moves) Idle) (rw (c .before .before .before .n .given .1) at (c .before .before .before .before .before .read-forward .ensures)) (c .before .if1 .taken))
+returns-2 c =
+    let args = c .before .before .before .before .before .before .before .args in
+    let n = c .before .before .before .n in
+    let read-forward = c .before .before .before .before .before .read-forward in
+    let if1 = c .before .if1 in
+    ap (λ (t : Reader). found (gives t)) (c .close .ensures) ∙ sym (mark-closes (now (args .file)) (args .base) (onward (args .reader) (args .place) (args .reader .moves) Idle) (rw (n .given .1) at (read-forward .ensures)) (if1 .taken))
 
 open-reference-requires : tie.Need-open-reference-requires
 open-reference-requires c κs = search needs
 
 returns-3 : tie.Need-returns-3
-returns-3 c = c .open-reference .ensures ∙ sym (mark-opens (now (c .before .before .before .before .before .before .before .before .args .file)) (c .before .before .before .before .before .before .before .before .args .base) (onward (c .before .before .before .before .before .before .before .before .args .reader) (c .before .before .before .before .before .before .before .before .args .place) (c .before .before .before .before .before .before .before .before .args .reader .moves) Idle) (rw (c .before .before .before .before .n .given .1) at (c .before .before .before .before .before .before .read-forward .ensures)) (c .before .before .if1 .left) (c .before .if2 .taken))
+returns-3 c =
+    let args = c .before .before .before .before .before .before .before .before .args in
+    let n = c .before .before .before .before .n in
+    let read-forward = c .before .before .before .before .before .before .read-forward in
+    let if1 = c .before .before .if1 in
+    let if2 = c .before .if2 in
+    c .open-reference .ensures ∙ sym (mark-opens (now (args .file)) (args .base) (onward (args .reader) (args .place) (args .reader .moves) Idle) (rw (n .given .1) at (read-forward .ensures)) (if1 .left) (if2 .taken))
 
 arrive-requires : tie.Need-arrive-requires
 arrive-requires c κs = search needs
 
 returns-4 : tie.Need-returns-4
-returns-4 c = ap (λ (t : Reader). found (gives t)) (c .arrive .ensures) ∙ sym (mark-repeats (now (c .before .before .before .before .before .before .before .before .before .args .file)) (c .before .before .before .before .before .before .before .before .before .args .base) (onward (c .before .before .before .before .before .before .before .before .before .args .reader) (c .before .before .before .before .before .before .before .before .before .args .place) (c .before .before .before .before .before .before .before .before .before .args .reader .moves) Idle) (rw (c .before .before .before .before .before .n .given .1) at (c .before .before .before .before .before .before .before .read-forward .ensures)) (c .before .before .before .if1 .left) (c .before .before .if2 .left))
+returns-4 c =
+    let args = c .before .before .before .before .before .before .before .before .before .args in
+    let n = c .before .before .before .before .before .n in
+    let read-forward = c .before .before .before .before .before .before .before .read-forward in
+    let if1 = c .before .before .before .if1 in
+    let if2 = c .before .before .if2 in
+    ap (λ (t : Reader). found (gives t)) (c .arrive .ensures) ∙ sym (mark-repeats (now (args .file)) (args .base) (onward (args .reader) (args .place) (args .reader .moves) Idle) (rw (n .given .1) at (read-forward .ensures)) (if1 .left) (if2 .left))
 
 pub read-marker-spec : {M : Type 1} → statement M
 read-marker-spec =

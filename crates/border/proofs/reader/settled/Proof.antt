@@ -1,10 +1,8 @@
 -- `border::reader::settled` meets its contract. Assumes nothing.
-use Rattle.border.specs.Trace.{roundAgain}
 use borrow.Author.Needs.{needs}
 use Rattle.border.proofs.reader.settled.Statement.{statement}
+use Rattle.border.specs.Trace.{roundAgain}
 use Rattle.border.proofs.reader.settled.Tie as tie
-use Rattle.border.proofs.reader.settled.Reads as reads
-use Rattle.border.proofs.reader.settled.Lts as lts
 
 enum-known-t : tie.Need-enum-known-t
 enum-known-t c = search needs

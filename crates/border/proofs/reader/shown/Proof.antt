@@ -1,11 +1,8 @@
 -- `border::reader::shown` meets its contract. Assumes nothing.
-use mathlib.Core.Path.{sym, _∙_}
 use borrow.Author.Needs.{needs}
+use mathlib.Core.Path.{sym, _∙_}
 use Rattle.border.proofs.reader.shown.Statement.{statement}
 use Rattle.border.proofs.reader.shown.Tie as tie
-use Rattle.border.proofs.reader.shown.Reads as reads
-use Rattle.border.proofs.reader.shown.Lts as lts
-use Rattle.border.proofs.place.is_still.Reads as is-still-reads
 
 is-still-requires : tie.Need-is-still-requires
 is-still-requires c κs = search needs

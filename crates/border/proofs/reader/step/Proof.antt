@@ -1,11 +1,8 @@
 -- `border::reader::step` meets its contract. Assumes nothing.
-use Rattle.border.specs.Told.{steppedBy}
 use borrow.Author.Needs.{needs}
 use Rattle.border.proofs.reader.step.Statement.{statement}
+use Rattle.border.specs.Told.{steppedBy}
 use Rattle.border.proofs.reader.step.Tie as tie
-use Rattle.border.proofs.reader.step.Reads as reads
-use Rattle.border.proofs.reader.step.Lts as lts
-use Rattle.border.proofs.reader.next_point.Reads as next-point-reads
 
 next-point-requires : tie.Need-next-point-requires
 next-point-requires c κs = search needs
@@ -24,7 +21,10 @@ enum-known-n-2 c = search needs
 
 returns : tie.Need-returns
 unfolding steppedBy
-returns c = rw (← c .before .before .before .before .next-point .ensures, c .before .before .n .given .1)
+returns c =
+    let next-point = c .before .before .before .before .next-point in
+    let n = c .before .before .n in
+    rw (← next-point .ensures, n .given .1)
 
 returns-2 : tie.Need-returns-2
 unfolding steppedBy
@@ -36,7 +36,10 @@ returns-3 c = rw (← c .before .before .next-point .ensures, c .enum-told2 .giv
 
 returns-4 : tie.Need-returns-4
 unfolding steppedBy
-returns-4 c = rw (← c .before .before .before .next-point .ensures, c .before .n2 .given .1)
+returns-4 c =
+    let next-point = c .before .before .before .next-point in
+    let n2 = c .before .n2 in
+    rw (← next-point .ensures, n2 .given .1)
 
 pub step-spec : {M : Type 1} → statement M
 step-spec =

@@ -1,15 +1,11 @@
-use Rattle.border.proofs.reader.Turns.{closed-ends}
 -- `border::reader::turn_once` meets its contract. Assumes nothing.
-use Rattle.border.specs.Reader.{turnOf}
-use denote.Ref.{now}
-use mathlib.Core.Path.{sym, ap, _∙_}
 use borrow.Author.Needs.{needs}
+use denote.Ref.{now}
+use mathlib.Core.Path.{sym, _∙_}
+use Rattle.border.proofs.reader.Turns.{closed-ends}
 use Rattle.border.proofs.reader.turn_once.Statement.{statement}
+use Rattle.border.specs.Reader.{turnOf}
 use Rattle.border.proofs.reader.turn_once.Tie as tie
-use Rattle.border.proofs.reader.turn_once.Reads as reads
-use Rattle.border.proofs.reader.turn_once.Lts as lts
-use Rattle.border.proofs.reader.packed_turn.Reads as packed-turn-reads
-use Rattle.border.proofs.reader.plain_turn.Reads as plain-turn-reads
 
 returns : tie.Need-returns
 returns c = sym (closed-ends (now (c .before .before .args .file)) (c .before .before .args .version) (c .before .before .args .base) (c .before .before .args .reader) (c .if1 .taken))
@@ -28,11 +24,17 @@ plain-turn-requires c κs = search needs
 
 returns-2 : tie.Need-returns-2
 unfolding turnOf
-returns-2 c = c .packed-turn .ensures ∙ rw (c .before .enum-told .given .1, c .before .before .before .if1 .left)
+returns-2 c =
+    let enum-told = c .before .enum-told in
+    let if1 = c .before .before .before .if1 in
+    c .packed-turn .ensures ∙ rw (enum-told .given .1, if1 .left)
 
 returns-3 : tie.Need-returns-3
 unfolding turnOf
-returns-3 c = c .plain-turn .ensures ∙ rw (c .before .enum-told2 .given .1, c .before .before .before .if1 .left)
+returns-3 c =
+    let enum-told2 = c .before .enum-told2 in
+    let if1 = c .before .before .before .if1 in
+    c .plain-turn .ensures ∙ rw (enum-told2 .given .1, if1 .left)
 
 pub turn-once-spec : {M : Type 1} → statement M
 turn-once-spec =
