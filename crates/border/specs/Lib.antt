@@ -13,3 +13,4 @@ pub mod Moves
 pub mod Pieces
 pub mod Writer
 pub mod Stored
+pub mod WrittenAt
