@@ -139,8 +139,10 @@ module _ (by : RawPoint) (h : Moves by) where
   pub packed-back : pointOf (packedNumber by) ≡ by
   unfolding pointOf packedNumber
   packed-back =
-      rw (even-bits 32 (signedForm (by .lat)) (signedForm (by .lon)) (signed-small (by .lat) (h .lat-small)),
-      odd-bits 32 (signedForm (by .lat)) (signedForm (by .lon)) (signed-small (by .lon) (h .lon-small)))
+      rw (
+        even-bits 32 (signedForm (by .lat)) (signedForm (by .lon)) (signed-small (by .lat) (h .lat-small)),
+        odd-bits 32 (signedForm (by .lat)) (signedForm (by .lon)) (signed-small (by .lon) (h .lon-small)),
+      )
       pair-back
 
   pub packed-some : 0 < packedNumber by
