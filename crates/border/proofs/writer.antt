@@ -11,3 +11,5 @@ pub mod Faults
 pub mod Replying
 pub mod Packing
 pub mod Records
+pub mod Inverse
+pub mod Standing

@@ -34,7 +34,7 @@ unfolding movesFrom zipWith
 moves-length p [] = refl
 moves-length p (q ∷ qs) = ap suc (moves-length q qs)
 
-points-length : (lats lons : List ℤ) → length (pointsOf lats lons) ≡ min (length lats) (length lons)
+pub points-length : (lats lons : List ℤ) → length (pointsOf lats lons) ≡ min (length lats) (length lons)
 unfolding pointsOf zipWith
 points-length (x ∷ xs) (y ∷ ys) = omega (arith, points-length xs ys)
 points-length (x ∷ xs) [] = omega arith

@@ -54,7 +54,7 @@ module _ (n : ℕ) (answer : Reply (List ℕ)) where
       by-test false t size = refl
 
 -- ---- the border after its checks
-passing : (t : Bool) (number detail : ℕ) (rest : Reply (Unit {0})) → given tt ≡ (demand t number detail >> rest) → (t ≡ true) × (given tt ≡ rest)
+pub passing : (t : Bool) (number detail : ℕ) (rest : Reply (Unit {0})) → given tt ≡ (demand t number detail >> rest) → (t ≡ true) × (given tt ≡ rest)
 passing true number detail rest e = (refl, e)
 passing false number detail rest e = absurd (let z : _≡_ {A = ℕ} 0 1 = cc in omega arith)
 
