@@ -1,4 +1,4 @@
--- Demand 3, whole: a border that the writer wrote is read as its points, whatever way it was written. Assumes nothing.
+-- A border that the writer wrote stands in a file, and is read as its points, whatever way it was written. Assumes nothing.
 use Prim.Native.Nat.{ℕ, _-_}
 use native.Mathlib.Omega.{arith}
 use mathlib.Core.Path.{_≡_, sym, ap, _∙_}
@@ -11,14 +11,11 @@ use lib.Seq.{take-at}
 use Rattle.numbers.specs.Answer.{if_then_else_}
 use Rattle.border.specs.Moves.{pointsOf}
 use Rattle.border.specs.Trace.{traceOf, borderAt}
-use Rattle.border.specs.Verdict.{judgedAt}
-use Rattle.border.specs.Writer.{Reply, given, refused, borderOf, encodingOf, told, Replied, replied, zeros, fitted}
-use Rattle.border.specs.Written.{Placed, Stands, roundTrip}
-use Rattle.border.specs.declared.place.{FixedLat.FixedLat, FixedLon.FixedLon}
-use Rattle.border.specs.declared.writer.Piece.{Piece}
+use Rattle.border.specs.Writer.{Reply, given, refused, encodingOf, Replied, replied, zeros, fitted}
+use Rattle.border.specs.Written.{Stands, roundTrip}
+use Rattle.border.specs.WrittenAt.{WrittenAt}
 use Rattle.border.specs.declared.writer.Written.the-variants.{Wrote}
 use Rattle.border.proofs.Delivered.{delivered}
-use Rattle.border.proofs.OneVerdict.{one-border-one-verdict}
 use Rattle.border.proofs.writer.Standing.{written-border}
 
 -- what a reply with a length says: the border was accepted, and its bytes are the front of the output
@@ -41,17 +38,9 @@ wrote room size out (given bytes) e = by-test (leb (length bytes) room) e
         let z : _≡_ {A = ℕ} 0 1 = cc in
         absurd (omega arith)
 
--- the border of two lists, accepted in some version with some pieces behind some earlier data, and written at a place of a file
-pub record WrittenAt (version : ℕ) (lats lons : List ℤ) (file : List ℕ) (base place : ℕ) : Type 0 where
-  pub pieces : List Piece
-  pub earlier : List ℕ
-  pub bytes : List ℕ
-  pub accepted : borderOf version lats lons pieces earlier ≡ given bytes
-  pub placed : Placed earlier bytes file base place
-
 module _ {version : ℕ} {lats lons : List ℤ} {file : List ℕ} {base place : ℕ} (h : WrittenAt version lats lons file base place) where
-  stands : Stands (encodingOf version) file base place (pointsOf lats lons)
-  stands =
+  pub written-stands : Stands (encodingOf version) file base place (pointsOf lats lons)
+  written-stands =
       record {
         earlier = h .earlier;
         bytes = h .bytes;
@@ -59,12 +48,6 @@ module _ {version : ℕ} {lats lons : List ℤ} {file : List ℕ} {base place : 
         placed = h .placed;
       }
 
-  -- its points in order, then the first again, closed
+  -- at its place, after the same earlier data, in any file of that version up to 1 GiB: its points in order, then the first again, closed
   pub written-trace : traceOf file (encodingOf version) base (borderAt place) ≡ roundTrip (pointsOf lats lons)
-  written-trace = delivered stands
-
--- "When borders move from encoding version 0 to 1": one border, written twice in any two ways, gives every location the same verdict and distance
-pub one-written-verdict : {version version′ : ℕ} {lats lons : List ℤ} {file file′ : List ℕ} {base base′ place place′ : ℕ}
-    → WrittenAt version lats lons file base place → WrittenAt version′ lats lons file′ base′ place′
-    → (lat : FixedLat) (lon : FixedLon) (asked : Bool) (least : ℕ) → judgedAt file (encodingOf version) base place lat lon asked least ≡ judgedAt file′ (encodingOf version′) base′ place′ lat lon asked least
-one-written-verdict h k = one-border-one-verdict (stands h) (stands k)
+  written-trace = delivered written-stands
