@@ -1,12 +1,18 @@
 -- A promise permits one reply: what an answer says determines it. Assumes nothing.
 use mathlib.Core.Path.{_≡_, refl, sym, ap, _∙_}
+use mathlib.Core.List.{List}
+use Prim.Native.Nat.{ℕ}
 use Rattle.numbers.specs.Answer.{Answer, found, failed, refused}
 use Rattle.border.specs.Told.{told, steppedBy}
 use Rattle.border.specs.Trace.{Given, reaches, ended}
 use Rattle.border.specs.Verdict as Judge
 use Rattle.border.specs.Verdict.{Judgement, reached}
+use Rattle.border.specs.Writer as Writer
+use Rattle.border.specs.Writer.{given, Replied, replied}
 use Rattle.border.specs.declared.verdict.Judged.{Judged}
 use Rattle.border.specs.declared.verdict.Judged.the-variants as J
+use Rattle.border.specs.declared.writer.Written.{Written}
+use Rattle.border.specs.declared.writer.Written.the-variants as W
 use Rattle.border.specs.declared.reader.{Reader.Reader, Next.Next, Reply.Reply}
 use Rattle.border.specs.declared.reader.Next.the-variants.{Point, Ended, Failed, Refused}
 
@@ -48,3 +54,19 @@ unjudged-told (J.Refused n) = refl
 -- `point_in_polygon`
 pub same-judgement : {judgement : Judgement} (a b : Judged) → Judge.told a ≡ judgement → Judge.told b ≡ judgement → a ≡ b
 same-judgement a b e g = sym (unjudged-told a) ∙ ap unjudged (e ∙ sym g) ∙ unjudged-told b
+
+unwritten : Writer.Reply ℕ → Written
+unwritten (given length) = W.Wrote length
+unwritten (Writer.refused number detail) = W.Refused number detail
+
+unwritten-told : (w : Written) → unwritten (Writer.told w) ≡ w
+unfolding unwritten
+unwritten-told (W.Wrote length) = refl
+unwritten-told (W.Refused number detail) = refl
+
+-- `write_border` and `write_border_words`: the reply and the whole output
+pub same-written : {answer : Replied} (a b : Written) {out out′ : List ℕ} → replied a out ≡ answer → replied b out′ ≡ answer → (a ≡ b) × (out ≡ out′)
+same-written a b e g = (
+  sym (unwritten-told a) ∙ ap (λ (x : Replied). unwritten (x .reply)) (e ∙ sym g) ∙ unwritten-told b,
+  ap (λ (x : Replied). x .out) (e ∙ sym g),
+)

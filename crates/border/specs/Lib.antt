@@ -9,3 +9,8 @@ pub mod Winding
 pub mod Distance
 pub mod Verdict
 pub mod Kept
+pub mod Moves
+pub mod Pieces
+pub mod Writer
+pub mod Stored
+pub mod WrittenAt

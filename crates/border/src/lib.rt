@@ -1,7 +1,8 @@
-// Borders: their points as they are read, and what a border says of a location.
+// Borders: their points as they are read, what a border says of a location, and how a border is written.
 pub mod distance;
 pub mod edge;
 pub mod place;
 pub mod reader;
 pub mod verdict;
 pub mod winding;
+pub mod writer;

@@ -1,0 +1,15 @@
+pub mod Stores
+pub mod Digits
+pub mod Signs
+pub mod Indexed
+pub mod Elements
+pub mod Gathering
+pub mod Spelling
+pub mod Lengths
+pub mod Accepting
+pub mod Faults
+pub mod Replying
+pub mod Packing
+pub mod Records
+pub mod Inverse
+pub mod Standing

@@ -1,0 +1,116 @@
+-- Bytes that go into a lent buffer one after another. Assumes nothing.
+use Prim.Native.Nat.{ℕ, zero, suc, _+_, _-_, _*_, _/_, _%_, _^_, _<_, _≤_}
+use native.Mathlib.Nat.{add-assoc, add-zero}
+use native.Mathlib.Numerals.{add-one}
+use native.Mathlib.Omega.{arith}
+use mathlib.Core.Path.{_≡_, refl, sym, ap, _∙_, subst}
+use mathlib.Core.Bool.{Bool, true, false}
+use lib.Dec.{ltb}
+use Rattle.numbers.specs.Answer.{if_then_else_}
+use mathlib.Core.List.{List, [], _∷_, _++_, append-nil}
+use lib.ListN.{length, set, drop, length-append, length-replicate}
+use lib.Seq.{sets, length-sets, set-out, sets-eq, drop-length}
+use borrow.Author.Tests.{lt-ltb, le-ltb}
+use Rattle.border.specs.Moves.{digitsOf, varintOf}
+use Rattle.border.specs.Stored.{Stored}
+use Rattle.border.specs.Writer.{zeros}
+
+sets-append : (xs ys before : List ℕ) (at : ℕ) → sets before at (xs ++ ys) ≡ sets (sets before at xs) (at + length xs) ys
+sets-append [] ys before at = ap (λ (n : ℕ). sets before n ys) (sym (add-zero at))
+sets-append (x ∷ xs) ys before at = sets-append xs ys (set before at x) (suc at) ∙ ap (λ (n : ℕ). sets (sets (set before at x) (suc at) xs) n ys) (omega arith)
+
+pub stored-length : {before bytes after : List ℕ} {at next : ℕ} → Stored before at bytes after next → length after ≡ length before
+stored-length {before} {bytes} {after} {at} s = ap length (s .stored) ∙ length-sets before at bytes
+
+-- of a byte, in the buffer or past its end
+pub stored-one : (before : List ℕ) (at byte : ℕ) → Stored before at (byte ∷ []) (set before at byte) (at + 1)
+stored-one before at byte = record { place-after = refl; stored = refl }
+
+pub stored-past : (before : List ℕ) (at byte : ℕ) → length before ≤ at → Stored before at (byte ∷ []) before (at + 1)
+stored-past before at byte h = record { place-after = refl; stored = sym (set-out before at byte h) }
+
+-- `rest` is what is left to store of `all`
+pub record Left (before : List ℕ) (from : ℕ) (all now : List ℕ) (at : ℕ) (rest : List ℕ) : Type 0 where
+  pub places : at + length rest ≡ from + length all
+  pub same : sets now at rest ≡ sets before from all
+  pub size : length now ≡ length before
+
+module _ {before all : List ℕ} {from : ℕ} where
+  pub left-all : Left before from all before from all
+  left-all = record { places = refl; same = refl; size = refl }
+
+  pub left-step : {now after rest : List ℕ} {at next : ℕ} (bytes : List ℕ) → Left before from all now at (bytes ++ rest) → Stored now at bytes after next → Left before from all after next rest
+  left-step {now} {after} {rest} {at} {next} bytes l s =
+      record {
+        places = omega (arith, s .place-after, l .places, length-append bytes rest);
+        same = ap (λ (xs : List ℕ). sets xs next rest) (s .stored) ∙ ap (λ (n : ℕ). sets (sets now at bytes) n rest) (s .place-after) ∙ sym (sets-append bytes rest now at) ∙ l .same;
+        size = stored-length s ∙ l .size;
+      }
+
+  pub left-none : {now : List ℕ} {at : ℕ} → Left before from all now at [] → Stored before from all now at
+  left-none {now} {at} l = record { place-after = omega (arith, l .places); stored = l .same }
+
+  pub left-last : {now after : List ℕ} {at next : ℕ} (bytes : List ℕ) → Left before from all now at bytes → Stored now at bytes after next → Stored before from all after next
+  left-last {now} {after} {at} {next} bytes l s = record { place-after = omega (arith, s .place-after, l .places); stored = s .stored ∙ l .same }
+
+-- ---- the bytes of a varint
+
+pub digits-last : (k n : ℕ) → n < 128 → digitsOf k n ≡ n ∷ []
+unfolding digitsOf
+digits-last zero n h = refl
+digits-last (suc k) n h = rw (lt-ltb n 128 h)
+
+pub digits-next : (k n : ℕ) → 0 < k → 128 ≤ n → digitsOf k n ≡ (128 + n % 128) ∷ digitsOf (k - 1) (n / 128)
+unfolding digitsOf
+digits-next zero n some h = absurd (omega arith)
+digits-next (suc k) n some h = let e : suc k - 1 ≡ k = omega arith in rw (le-ltb n 128 h, e)
+
+pub few : (t : Bool) (a b : List ℕ) (k : ℕ) → length a ≤ k → length b ≤ k → length (if t then a else b) ≤ k
+few true a b k h g = h
+few false a b k h g = g
+
+digits-few : (k n : ℕ) → length (digitsOf k n) ≤ k + 1
+unfolding digitsOf
+digits-few zero n = omega arith
+digits-few (suc k) n = few (ltb n 128) (n ∷ []) ((128 + n % 128) ∷ digitsOf k (n / 128)) (suc k + 1) (omega arith) (omega (arith, digits-few k (n / 128)))
+
+pub varint-few : (n : ℕ) → length (varintOf n) ≤ 10
+unfolding varintOf
+varint-few n = digits-few 9 n
+
+-- one after another
+pub stored-then : {before middle after : List ℕ} {at next end : ℕ} (xs ys : List ℕ) → Stored before at xs middle next → Stored middle next ys after end → Stored before at (xs ++ ys) after end
+stored-then {before} {middle} {after} {at} {next} {end} xs ys s t = left-last ys (left-step xs (left-all {before = before} {all = xs ++ ys} {from = at}) s) t
+
+-- ---- zeros over the whole buffer
+
+pub zeros-next : (n i : ℕ) → i < n → zeros (n - i) ≡ (0 ∷ []) ++ zeros (n - (i + 1))
+zeros-next n i h = let e : n - i ≡ suc (n - (i + 1)) = omega arith in ap zeros e
+
+pub zeros-all : (n : ℕ) → zeros n ≡ zeros (n - 0)
+zeros-all n = let e : n ≡ n - 0 = omega arith in ap zeros e
+
+pub zeros-done : (n i : ℕ) → i ≡ n → zeros (n - i) ≡ []
+zeros-done n i h = let e : n - i ≡ 0 = omega arith in ap zeros e
+
+-- bytes stored over zeros
+pub stored-front : (before bytes after : List ℕ) (next : ℕ) → Stored before 0 bytes after next → length bytes ≤ length before → after ≡ bytes ++ drop (length bytes) before
+stored-front before bytes after next s h =
+    let e : 0 + length bytes ≡ length bytes = omega arith in
+    s .stored ∙ sets-eq bytes before 0 (omega arith) ∙ ap (λ (k : ℕ). bytes ++ drop k before) e
+
+pub stored-zeros : (before after : List ℕ) (next : ℕ) → Stored before 0 (zeros (length before)) after next → after ≡ zeros (length before)
+stored-zeros before after next s =
+    let n : length (zeros (length before)) ≡ length before = length-replicate {A = ℕ} (length before) 0 in
+    stored-front before (zeros (length before)) after next s (omega (arith, n))
+    ∙ ap (λ (k : ℕ). zeros (length before) ++ drop k before) n
+    ∙ ap (λ (xs : List ℕ). zeros (length before) ++ xs) (drop-length before)
+    ∙ append-nil (zeros (length before))
+
+-- ---- the marks of a piece
+marks : varintOf 0 ++ varintOf 1 ≡ 0 ∷ 1 ∷ []
+unfolding varintOf digitsOf
+marks = refl
+
+pub marked : {before after : List ℕ} {at next : ℕ} → Stored before at (varintOf 0 ++ varintOf 1) after next → Stored before at (0 ∷ 1 ∷ []) after next
+marked {before} {after} {at} {next} s = subst (λ (bs : List ℕ). Stored before at bs after next) marks s

@@ -1,0 +1,79 @@
+-- `border::writer::checks::all_near` meets its contract. Assumes nothing.
+use mathlib.Core.Path.{_≡_, refl, sym, ap, _∙_}
+use mathlib.Core.Bool.{true, false}
+use native.Mathlib.Omega.{arith}
+use borrow.Author.Needs.{needs}
+use borrow.Author.Tests.{not-true, not-false}
+use Prim.Native.Nat.{_-_, _≤_}
+use lib.IntN.{pos}
+use lib.ListN.{length, drop, getD}
+use mir.Facts.{toZ-ofZ}
+use mir.Syntax.{w32}
+use mir.Val.{SFits}
+use Rattle.border.specs.Writer.{every, near}
+use Rattle.border.proofs.writer.Indexed.{every-bad, every-good, every-done}
+use Rattle.border.proofs.writer.checks.all_near.Statement.{statement}
+use Rattle.border.proofs.writer.checks.all_near.Tie as tie
+use Rattle.border.proofs.writer.checks.all_near.Reads as reads
+use Rattle.border.proofs.writer.checks.all_near.Lts as lts
+use Rattle.border.proofs.writer.checks.is_near.Reads as is-near-reads
+
+abbrev Inv-loop : tie.InvT-loop
+Inv-loop list i₀ i = (i ≤ length list) × (every near (drop i list) ≡ every near list)
+
+abbrev μ-loop : tie.MeasureT-loop
+μ-loop list i₀ i = length list - i
+
+loop-holds : tie.Need-loop-holds Inv-loop μ-loop
+loop-holds c = (omega arith, refl)
+
+mul-is-near : tie.Need-mul-is-near Inv-loop μ-loop
+mul-is-near c = omega arith
+
+shared-slice-copy-out-is-near : tie.Need-shared-slice-copy-out-is-near Inv-loop μ-loop
+shared-slice-copy-out-is-near c = omega arith
+
+is-near-requires : tie.Need-is-near-requires Inv-loop μ-loop
+is-near-requires c κs = search needs
+
+returns : tie.Need-returns Inv-loop μ-loop
+returns c =
+    let l = c .before .before .before .before .loop in
+    let zs = c .before .before .before .before .before .args .list .now in
+    let fit : SFits w32 (getD zs (l .i) (pos 0)) = record { sfits = c .before .before .is-near-arg .given } in
+    let bad : near (getD zs (l .i) (pos 0)) ≡ false = ap near (sym (toZ-ofZ fit)) ∙ sym (c .before .is-near .ensures) ∙ not-true _ (c .if1 .taken) in
+    sym (every-bad near zs (l .i) (pos 0) (c .before .before .before .loop-test .taken) bad) ∙ l .inv .1
+
+add-i : tie.Need-add-i Inv-loop μ-loop
+add-i c = omega arith
+
+loop-less : tie.Need-loop-less Inv-loop μ-loop
+loop-less c = omega arith
+
+loop-again : tie.Need-loop-again Inv-loop μ-loop
+loop-again c =
+    let l = c .before .before .before .before .loop in
+    let zs = c .before .before .before .before .before .args .list .now in
+    let fit : SFits w32 (getD zs (l .i) (pos 0)) = record { sfits = c .before .before .is-near-arg .given } in
+    let good : near (getD zs (l .i) (pos 0)) ≡ true = ap near (sym (toZ-ofZ fit)) ∙ sym (c .before .is-near .ensures) ∙ not-false _ (c .if1 .left) in
+    (omega arith, every-good near zs (l .i) (pos 0) (c .before .before .before .loop-test .taken) good ∙ l .inv .1)
+
+returns-2 : tie.Need-returns-2 Inv-loop μ-loop
+unfolding every
+returns-2 c = let l = c .before .loop in sym (every-done near (c .before .before .args .list .now) (l .i) (c .loop-test .left)) ∙ l .inv .1
+
+pub all-near-spec : {M : Type 1} → statement M
+all-near-spec =
+    tie.close
+    (tie.spec
+    Inv-loop
+    μ-loop
+    loop-holds
+    mul-is-near
+    shared-slice-copy-out-is-near
+    is-near-requires
+    returns
+    add-i
+    loop-less
+    loop-again
+    returns-2)

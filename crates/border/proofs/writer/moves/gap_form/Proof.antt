@@ -1,0 +1,40 @@
+-- `border::writer::moves::gap_form` meets its contract. Assumes nothing.
+use mathlib.Core.Path.{_≡_, ap, _∙_}
+use lib.IntN.{ℤ, pos, _-ℤ_}
+use lib.ListN.{getD}
+use Rattle.border.specs.Moves.{signedForm}
+use Rattle.border.specs.Stored.{gapAt}
+use Rattle.border.proofs.writer.Signs.{formed}
+use borrow.Author.Needs.{needs, sfits-of}
+use Rattle.border.proofs.writer.moves.gap_form.Statement.{statement}
+use Rattle.border.proofs.writer.moves.gap_form.Tie as tie
+use Rattle.border.proofs.writer.moves.gap_form.Reads as reads
+use Rattle.border.proofs.writer.moves.gap_form.Lts as lts
+use Rattle.border.proofs.writer.moves.before.Reads as before-reads
+use Rattle.border.proofs.writer.moves.form_of.Reads as form-of-reads
+
+before-requires : tie.Need-before-requires
+before-requires c κs = search needs
+
+mul-form-of : tie.Need-mul-form-of
+mul-form-of c = search needs
+
+shared-slice-copy-out-form-of : tie.Need-shared-slice-copy-out-form-of
+shared-slice-copy-out-form-of c = search needs
+
+form-of-requires : tie.Need-form-of-requires
+form-of-requires c κs = search needs
+
+returns : tie.Need-returns
+unfolding gapAt
+returns c =
+    let a = c .before .before .before .args in
+    let to = getD (a .list .now) (a .i) (pos 0) in
+    let b = c .before .before .before2 in
+    formed (b .result) to (sfits-of (b .ok)) (record { sfits = c .before .form-of-arg .given }) (c .form-of .ensures)
+    ∙ ap (λ (z : ℤ). signedForm (to -ℤ z)) (b .ensures)
+
+pub gap-form-spec : {M : Type 1} → statement M
+gap-form-spec =
+    tie.close
+    (tie.spec before-requires mul-form-of shared-slice-copy-out-form-of form-of-requires returns)

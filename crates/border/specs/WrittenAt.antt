@@ -1,0 +1,16 @@
+-- A border that the writer wrote, at a place of a file.
+use Prim.Native.Nat.{ℕ}
+use mathlib.Core.Path.{_≡_}
+use mathlib.Core.List.{List}
+use lib.IntN.{ℤ}
+use Rattle.border.specs.Writer.{given, borderOf}
+use Rattle.border.specs.Written.{Placed}
+use Rattle.border.specs.declared.writer.{Piece.Piece}
+
+-- the border of two lists, accepted in some version with some pieces behind some earlier data, and written at a place of a file behind the same data
+pub record WrittenAt (version : ℕ) (lats lons : List ℤ) (file : List ℕ) (base place : ℕ) : Type 0 where
+  pub pieces : List Piece
+  pub earlier : List ℕ
+  pub bytes : List ℕ
+  pub accepted : borderOf version lats lons pieces earlier ≡ given bytes
+  pub placed : Placed earlier bytes file base place
