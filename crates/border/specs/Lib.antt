@@ -2,3 +2,8 @@ pub mod Place
 pub mod Reader
 pub mod Trace
 pub mod Told
+pub mod Step
+pub mod Edge
+pub mod Winding
+pub mod Distance
+pub mod Verdict

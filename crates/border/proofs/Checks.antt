@@ -1,0 +1,28 @@
+-- A result that the checked Rust holds against a range, where it was found inside and where not. Assumes nothing.
+use Prim.Native.Nat.{ℕ, _<_, _^_}
+use mathlib.Core.Path.{_≡_, sym, _∙_}
+use mathlib.Core.Bool.{Bool, true, false}
+use lib.Dec.{ltb}
+use lib.IntN.{ℤ}
+use lib.Signed.{mag}
+use mir.Syntax.{w32}
+use mir.Val.{SFits}
+use borrow.Author.Tests.{ltb-true, lt-ltb}
+use Rattle.border.specs.Step.{found, refused, checked}
+
+module _ (bits : ℕ) (z : ℤ) {t : Bool} (e : t ≡ ltb (mag z) (2 ^ bits)) where
+  pub checked-found : t ≡ true → checked bits z ≡ found z
+  unfolding checked
+  checked-found h = rw (sym e ∙ h)
+
+  pub checked-over : t ≡ false → checked bits z ≡ refused 13
+  unfolding checked
+  checked-over h = rw (sym e ∙ h)
+
+-- what is known to fit needs no test
+pub checked-fits : (bits : ℕ) (z : ℤ) → mag z < 2 ^ bits → checked bits z ≡ found z
+unfolding checked
+checked-fits bits z h = rw (lt-ltb _ _ h)
+
+pub narrow : (z : ℤ) {t : Bool} → t ≡ ltb (mag z) (2 ^ 31) → t ≡ true → SFits w32 z
+narrow z e h = record { sfits = ltb-true _ _ (sym e ∙ h) }

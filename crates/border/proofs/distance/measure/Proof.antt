@@ -1,0 +1,43 @@
+-- `border::distance::measure` meets its contract: the lesser of the two distances. Assumes nothing.
+use mir.Syntax.{w32}
+use mir.Val.{toZ, ofZ}
+use native.Mathlib.Omega.{arith}
+use Prim.Native.Nat.{min}
+use mathlib.Core.Path.{_≡_}
+use Rattle.border.specs.Distance.{measured}
+use borrow.Author.Needs.{needs}
+use Rattle.border.proofs.distance.measure.Statement.{statement}
+use Rattle.border.proofs.distance.measure.Tie as tie
+
+distance-of-requires : tie.Need-distance-of-requires
+distance-of-requires c κs = search needs
+
+enum-known-new : tie.Need-enum-known-new
+enum-known-new c = search needs
+
+enum-told : tie.Need-enum-told
+enum-told c = search needs
+
+returns : tie.Need-returns
+unfolding measured
+returns c =
+    rw (← c .before .before .distance-of .ensures, c .enum-told .given .1)
+
+returns-2 : tie.Need-returns-2
+unfolding measured
+returns-2 c =
+    let less : c .before .before .before .before .new .given .0 .0 ≡ min (c .before .before .before .before .new .given .0 .0) (c .before .before .before .before .before .before .before .args .tally .least) = omega arith in
+    let told = c .struct-told .given in
+    let w = c .before .before .before .before .before .before .before .args .tally .winding in
+    let p : toZ w32 (ofZ w32 w) ≡ w = search needs in
+    rw (← c .before .before .before .before .before .before .distance-of .ensures, c .before .before .before .before .new .given .1, ← less, p)
+
+returns-3 : tie.Need-returns-3
+unfolding measured
+returns-3 c =
+    let less : c .before .before .before .before .before .before .args .tally .least ≡ min (c .before .before .before .new .given .0 .0) (c .before .before .before .before .before .before .args .tally .least) = omega arith in
+    rw (← c .before .before .before .before .before .distance-of .ensures, c .before .before .before .new .given .1, ← less)
+
+pub measure-spec : {M : Type 1} → statement M
+measure-spec =
+    tie.close (tie.spec distance-of-requires enum-known-new enum-told returns returns-2 returns-3)

@@ -1,0 +1,14 @@
+-- `border::edge::foot` meets its contract: the body is the definition, with 1 by its bit pattern. Assumes nothing.
+use mathlib.Core.Path.{refl}
+use lib.Ieee.{ofBits}
+use Rattle.border.specs.Edge.{closestOn}
+use Rattle.border.proofs.edge.foot.Statement.{statement}
+use Rattle.border.proofs.edge.foot.Tie as tie
+
+returns : tie.Need-returns
+unfolding closestOn ofBits
+returns c =
+    refl
+
+pub foot-spec : {M : Type 1} → statement M
+foot-spec = tie.close (tie.spec returns)

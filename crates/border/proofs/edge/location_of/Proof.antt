@@ -1,0 +1,19 @@
+-- `border::edge::location_of` meets its contract: its two conversions. Assumes nothing.
+use Rattle.border.proofs.Signs.{float-of}
+use borrow.Author.Needs.{needs}
+use Rattle.border.proofs.edge.location_of.Statement.{statement}
+use Rattle.border.proofs.edge.location_of.Tie as tie
+
+of-i32-requires : tie.Need-of-i32-requires
+of-i32-requires c κs = search needs
+
+of-i32-requires-2 : tie.Need-of-i32-requires-2
+of-i32-requires-2 c κs = search needs
+
+returns : tie.Need-returns
+returns c =
+    let p = c .before .before .before .before .args .point in
+    rw (float-of {n = p .lat .0} (search needs) (c .before .before .of-i32 .ensures), float-of {n = p .lon .0} (search needs) (c .of-i322 .ensures))
+
+pub location-of-spec : {M : Type 1} → statement M
+location-of-spec = tie.close (tie.spec of-i32-requires of-i32-requires-2 returns)

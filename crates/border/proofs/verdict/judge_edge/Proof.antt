@@ -1,0 +1,39 @@
+-- `border::verdict::judge_edge` meets its contract: what its calls ensure, in the order of the definition. Assumes nothing.
+use Rattle.border.proofs.Kept.{quadrant-kept, location-kept}
+use Rattle.border.proofs.winding.Cases.{stays}
+use Rattle.border.specs.Distance.{measured}
+use Rattle.border.specs.Verdict.{along}
+use borrow.Author.Needs.{needs}
+use Rattle.border.proofs.verdict.judge_edge.Statement.{statement}
+use Rattle.border.proofs.verdict.judge_edge.Tie as tie
+
+wound-requires : tie.Need-wound-requires
+wound-requires c κs =
+    (c .pre .fixed, quadrant-kept _ _ (c .pre .left), quadrant-kept _ _ (c .pre .reached))
+
+enum-known-turned : tie.Need-enum-known-turned
+enum-known-turned c = search needs
+
+returns : tie.Need-returns
+unfolding along
+returns c =
+    rw (← c .before .wound .ensures) (stays (c .before .wound .result) _ (c .match .keys2))
+
+measure-requires : tie.Need-measure-requires
+measure-requires c κs =
+    (c .before .before .before .before .before .pre .fixed, location-kept _ _ (c .before .before .before .before .before .pre .left) (c .if1 .taken), location-kept _ _ (c .before .before .before .before .before .pre .reached) (c .if1 .taken))
+
+returns-2 : tie.Need-returns-2
+unfolding along
+returns-2 c =
+    rw (← c .before .before .before .before .before .wound .ensures, c .before .before .before .turned .given .1, c .before .if1 .taken) (c .measure .ensures)
+
+returns-3 : tie.Need-returns-3
+unfolding along measured
+returns-3 c =
+    rw (← c .before .before .before .before .wound .ensures, c .before .before .turned .given .1, c .if1 .left)
+
+pub judge-edge-spec : {M : Type 1} → statement M
+judge-edge-spec =
+    tie.close
+    (tie.spec wound-requires enum-known-turned returns measure-requires returns-2 returns-3)

@@ -1,0 +1,140 @@
+-- `border::verdict::point_in_polygon` meets its contract. The loop's invariant: what is left of the border, judged from where it has
+-- come to, is what the whole gives; and what is kept of the last point is right. The measure is what can still be read. Assumes nothing.
+use mathlib.Core.Path.{_≡_, refl, sym, ap, _∙_}
+use lib.IntN.{pos}
+use denote.Ref.{now}
+use borrow.Author.Needs.{needs}
+use Rattle.numbers.specs.Answer.{Answer}
+use Rattle.border.specs.Step.{Step, told}
+use Rattle.border.specs.Edge.{seenFrom}
+use Rattle.border.specs.Told as R
+use Rattle.border.specs.Trace.{Given, point, nextPoint, traceThen, traceOf, borderAt}
+use Rattle.border.specs.Verdict.{none, after, lastOf, passing, thenOn, judge, judgedAt}
+use Rattle.border.specs.declared.place.Point.{Point}
+use Rattle.border.specs.declared.reader.Reader.{Reader}
+use Rattle.border.specs.declared.verdict.Tally.{Tally}
+use Rattle.border.proofs.Room.{left}
+use Rattle.border.proofs.Trace.{trace-step, point-less}
+use Rattle.border.proofs.verdict.Cases.{judge-end, decides}
+use Rattle.border.proofs.Kept.{point-kept, seen-again}
+use Rattle.border.proofs.verdict.point_in_polygon.Statement.{statement}
+use Rattle.border.proofs.verdict.point_in_polygon.Tie as tie
+
+abbrev Inv-loop : tie.InvT-loop
+Inv-loop file version data-offset place asked least fix at reader₀ begun₀ last₀ tally₀ reader begun last tally =
+    (judge fix asked (lastOf begun (last .point)) tally (traceOf file version data-offset reader)
+    ≡ judge fix asked none (record { winding = pos 0; least = least }) (traceOf file version data-offset (borderAt place)))
+    × (last ≡ seenFrom fix asked (last .point))
+
+abbrev μ-loop : tie.MeasureT-loop
+μ-loop file version data-offset place asked least fix at reader₀ begun₀ last₀ tally₀ reader begun last tally =
+    left file reader
+
+location-of-requires : tie.Need-location-of-requires Inv-loop μ-loop
+location-of-requires c κs = search needs
+
+open-border-requires : tie.Need-open-border-requires Inv-loop μ-loop
+open-border-requires c κs = search needs
+
+seen-from-requires : tie.Need-seen-from-requires Inv-loop μ-loop
+seen-from-requires c κs = c .before .location-of .ensures
+
+loop-holds : tie.Need-loop-holds Inv-loop μ-loop
+loop-holds c = (rw (c .before .open-border .ensures), seen-again _ _ _ (c .seen-from .ensures))
+
+next-point-requires : tie.Need-next-point-requires Inv-loop μ-loop
+next-point-requires c κs = search needs
+
+enum-known-next : tie.Need-enum-known-next Inv-loop μ-loop
+enum-known-next c = search needs
+
+ended-requires : tie.Need-ended-requires Inv-loop μ-loop
+ended-requires c κs = search needs
+
+returns : tie.Need-returns Inv-loop μ-loop
+unfolding judgedAt
+returns c =
+    let a = c .before .before .before .before .before .before .before .before .args in
+    let l = c .before .before .before .loop in
+    let fix : Point = record { lat = a .lat; lon = a .lon } in
+    let rest = traceOf (now (a .file)) (a .version) (a .data-offset) in
+    let judged = judge fix (a .asked) (lastOf (l .begun) (l .last .point)) (l .tally) in
+    c .ended .ensures
+    ∙ judge-end fix (a .asked) (lastOf (l .begun) (l .last .point)) (l .tally) (c .before .before .next-point .result) rest (c .before .match .keys2)
+    ∙ ap (λ (n : Answer Given). judged (traceThen n rest)) (c .before .before .next-point .ensures)
+    ∙ ap judged (sym (trace-step (now (a .file)) (a .version) (a .data-offset) (l .reader)))
+    ∙ l .inv .0
+
+seen-from-requires-2 : tie.Need-seen-from-requires-2 Inv-loop μ-loop
+seen-from-requires-2 c κs = c .before .before .before .before .before .before .before .location-of .ensures
+
+judge-point-requires : tie.Need-judge-point-requires Inv-loop μ-loop
+judge-point-requires c κs =
+    record { fixed = c .before .before .before .before .before .before .before .before .location-of .ensures; left = c .before .before .before .before .before .loop .inv .1; reached = seen-again _ _ _ (c .seen-from2 .ensures) }
+
+enum-known-passed : tie.Need-enum-known-passed Inv-loop μ-loop
+enum-known-passed c = search needs
+
+stopped-requires : tie.Need-stopped-requires Inv-loop μ-loop
+stopped-requires c κs = search needs
+
+-- the step that was taken, followed by the rest of the border
+stepped : (c : tie.After-judge-point Inv-loop μ-loop) →
+    let a = c .before .before .before .before .before .before .before .before .before .before .before .args in
+    let l = c .before .before .before .before .before .before .loop in
+    let fix : Point = record { lat = a .lat; lon = a .lon } in
+    thenOn (a .asked) (l .tally .least) (told (c .judge-point .result)) (λ (later : Tally). judge fix (a .asked) (after (c .before .seen-from2 .result .point)) later (traceOf (now (a .file)) (a .version) (a .data-offset) (c .before .before .before .next .given .0 .0)))
+    ≡ judge fix (a .asked) none (record { winding = pos 0; least = a .least }) (traceOf (now (a .file)) (a .version) (a .data-offset) (borderAt (a .place)))
+unfolding judge traceThen
+stepped c =
+    let a = c .before .before .before .before .before .before .before .before .before .before .before .args in
+    let l = c .before .before .before .before .before .before .loop in
+    let fix : Point = record { lat = a .lat; lon = a .lon } in
+    let rest = traceOf (now (a .file)) (a .version) (a .data-offset) in
+    let last = lastOf (l .begun) (l .last .point) in
+    let later = c .before .before .before .next .given .0 .0 in
+    let said = ap R.told (sym (c .before .before .before .next .given .1)) ∙ c .before .before .before .before .before .next-point .ensures in
+    ap (λ (s : Step Tally). thenOn (a .asked) (l .tally .least) s (λ (t : Tally). judge fix (a .asked) (after (c .before .seen-from2 .result .point)) t (rest later))) (c .judge-point .ensures)
+    ∙ ap (λ (p : Point). judge fix (a .asked) last (l .tally) (point p (rest later))) (point-kept _ _ _ (c .before .seen-from2 .ensures))
+    ∙ ap (λ (n : Answer Given). judge fix (a .asked) last (l .tally) (traceThen n rest)) said
+    ∙ ap (judge fix (a .asked) last (l .tally)) (sym (trace-step (now (a .file)) (a .version) (a .data-offset) (l .reader)))
+    ∙ l .inv .0
+
+returns-2 : tie.Need-returns-2 Inv-loop μ-loop
+unfolding judgedAt
+returns-2 c =
+    c .stopped .ensures ∙ decides (c .before .before .judge-point .result) _ _ _ (c .before .match2 .keys2) ∙ stepped (c .before .before)
+
+loop-less : tie.Need-loop-less Inv-loop μ-loop
+loop-less c =
+    let a = c .before .before .before .before .before .before .before .before .before .before .before .before .before .before .args in
+    let l = c .before .before .before .before .before .before .before .before .before .loop in
+    let said = ap R.told (sym (c .before .before .before .before .before .before .next .given .1)) ∙ c .before .before .before .before .before .before .before .before .next-point .ensures in
+    point-less (now (a .file)) (a .version) (a .data-offset) (l .reader) (c .before .before .before .before .before .before .next .given .0 .0) said
+
+loop-again : tie.Need-loop-again Inv-loop μ-loop
+unfolding thenOn
+loop-again c =
+    (rw (c .before .passed .given .1) at (stepped (c .before .before .before)), seen-again _ _ _ (c .before .before .before .before .seen-from2 .ensures))
+
+pub point-in-polygon-spec : {M : Type 1} → statement M
+point-in-polygon-spec =
+    tie.close
+    (tie.spec
+    Inv-loop
+    μ-loop
+    location-of-requires
+    open-border-requires
+    seen-from-requires
+    loop-holds
+    next-point-requires
+    enum-known-next
+    ended-requires
+    returns
+    seen-from-requires-2
+    judge-point-requires
+    enum-known-passed
+    stopped-requires
+    returns-2
+    loop-less
+    loop-again)

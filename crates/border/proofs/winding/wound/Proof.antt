@@ -1,0 +1,87 @@
+-- `border::winding::wound` meets its contract: what its calls ensure, by how many quadrants the edge leads on. Assumes nothing.
+use native.Mathlib.Omega.{arith}
+use borrow.Author.Tests.{eq-eqb, ne-eqb}
+use Prim.Native.Nat.{_+_, _-_, _%_}
+use mathlib.Core.Path.{_≡_}
+use Rattle.border.proofs.winding.Cases.{stays}
+use Rattle.border.proofs.Kept.{quadrant-small}
+use Rattle.border.specs.Winding.{quarterBy, woundBy}
+use borrow.Author.Needs.{needs}
+use Rattle.border.proofs.winding.wound.Statement.{statement}
+use Rattle.border.proofs.winding.wound.Tie as tie
+
+keep-clear-requires : tie.Need-keep-clear-requires
+keep-clear-requires c κs = search needs
+
+returns : tie.Need-returns
+unfolding woundBy quarterBy
+returns c =
+    let none : (c .before .before .before .before .before .before .args .to .quadrant + 4 - c .before .before .before .before .before .before .args .from .quadrant) % 4 ≡ 0 = omega (arith, c .before .if1 .taken) in
+    rw (← c .before .before .before .before .before .before .pre .1, ← c .before .before .before .before .before .before .pre .2, none) (c .keep-clear .ensures)
+
+add-quarters : tie.Need-add-quarters
+add-quarters c =
+    let a = c .before .before .before .before .before .before .args in
+    let p = c .before .before .before .before .before .before .pre in
+    record { fits = omega (arith, p .2, quadrant-small (a .fix) (a .to .point)) }
+
+sub-quarters : tie.Need-sub-quarters
+sub-quarters c =
+    let a = c .before .before .before .before .before .before .before .args in
+    let p = c .before .before .before .before .before .before .before .pre in
+    omega (arith, p .1, quadrant-small (a .fix) (a .from .point))
+
+location-of-requires : tie.Need-location-of-requires
+location-of-requires c κs = search needs
+
+location-of-requires-2 : tie.Need-location-of-requires-2
+location-of-requires-2 c κs = search needs
+
+edge-between-requires : tie.Need-edge-between-requires
+edge-between-requires c κs = search needs
+
+cross-requires : tie.Need-cross-requires
+cross-requires c κs = search needs
+
+returns-2 : tie.Need-returns-2
+unfolding woundBy
+returns-2 c =
+    rw (← c .before .before .before .before .before .before .before .before .before .before .before .before .pre .1, ← c .before .before .before .before .before .before .before .before .before .before .before .before .pre .2, eq-eqb _ _ (c .before .before .before .before .if2 .taken)) (rw (c .before .edge-between .ensures) at (c .cross .ensures))
+
+quarter-requires : tie.Need-quarter-requires
+quarter-requires c κs = search needs
+
+enum-known-turned : tie.Need-enum-known-turned
+enum-known-turned c = search needs
+
+returns-3 : tie.Need-returns-3
+unfolding woundBy
+returns-3 c =
+    rw (← c .before .before .before .before .before .before .before .before .before .before .pre .1, ← c .before .before .before .before .before .before .before .before .before .before .pre .2, ne-eqb _ _ (c .before .before .if2 .left), ← c .before .quarter .ensures) (stays (c .before .quarter .result) _ (c .match .keys2))
+
+keep-clear-requires-2 : tie.Need-keep-clear-requires-2
+keep-clear-requires-2 c κs = search needs
+
+returns-4 : tie.Need-returns-4
+unfolding woundBy
+returns-4 c =
+    rw (← c .before .before .before .before .before .before .before .before .before .before .before .before .before .pre .1, ← c .before .before .before .before .before .before .before .before .before .before .before .before .before .pre .2, ne-eqb _ _ (c .before .before .before .before .before .if2 .left), ← c .before .before .before .before .quarter .ensures, c .before .before .turned .given .1) (c .keep-clear2 .ensures)
+
+pub wound-spec : {M : Type 1} → statement M
+wound-spec =
+    tie.close
+    (tie.spec
+    keep-clear-requires
+    returns
+    add-quarters
+    sub-quarters
+    location-of-requires
+    location-of-requires-2
+    edge-between-requires
+    cross-requires
+    returns-2
+    quarter-requires
+    enum-known-turned
+    returns-3
+    keep-clear-requires-2
+    returns-4)
