@@ -1,0 +1,93 @@
+-- `zones::fields::write_match` meets its contract. The loop's invariant is `Filling`: the text so far stands at the front of a buffer that is zero
+-- beyond it. Assumes nothing.
+use Rattle.zones.proofs.fields.Filling.{Filling, starts, filling-length, ends, faulted, kept-length, filled}
+use Rattle.zones.specs.declared.header.Sections.{Sections}
+use Rattle.zones.specs.declared.header.Preamble.{Preamble}
+use Rattle.zones.specs.declared.header.Head.{Head}
+use Rattle.zones.specs.Fields.{fieldsFrom}
+use lib.ListN.{length, take}
+use native.Mathlib.Omega.{arith}
+use Prim.Native.Nat.{_-_}
+use mathlib.Core.Path.{_≡_, refl, sym, ap, _∙_}
+use borrow.Author.Needs.{needs}
+use Rattle.zones.proofs.fields.write_match.Statement.{statement}
+use Rattle.zones.proofs.fields.write_match.Tie as tie
+use Rattle.zones.proofs.fields.write_match.Reads as reads
+use Rattle.zones.proofs.fields.write_match.Lts as lts
+use Rattle.zones.proofs.field.write_field.Reads as write-field-reads
+
+abbrev headOf : Preamble → Sections → Head
+headOf preamble sections = record { preamble = preamble; sections = sections }
+
+abbrev Inv-loop : tie.InvT-loop
+Inv-loop text₀ from file start preamble sections place₀ at₀ tag₀ text place at tag = Filling file (headOf preamble sections) (length text₀) (preamble .count) (fieldsFrom file (headOf preamble sections) (length text₀) (preamble .count) 0 start (take from text₀)) text at place tag
+
+abbrev μ-loop : tie.MeasureT-loop
+μ-loop text₀ from file start preamble sections place₀ at₀ tag₀ text place at tag = preamble .count - tag
+
+loop-holds : tie.Need-loop-holds Inv-loop μ-loop
+loop-holds c = starts _ _ _ _ (c .before .before .before .before .args .text .now) (c .before .before .before .before .args .from) _ (c .before .before .before .before .pre .0) (c .before .before .before .before .pre .1) refl
+
+sub-write-field : tie.Need-sub-write-field Inv-loop μ-loop
+sub-write-field c = omega (arith, c .before .before .loop .inv .held .fits, filling-length _ _ _ _ (c .before .before .loop .inv))
+
+part-write-field-start : tie.Need-part-write-field-start Inv-loop μ-loop
+part-write-field-start c = omega (arith, c .before .before .loop .inv .held .fits, filling-length _ _ _ _ (c .before .before .loop .inv))
+
+part-write-field-end : tie.Need-part-write-field-end Inv-loop μ-loop
+part-write-field-end c = search needs
+
+write-field-requires : tie.Need-write-field-requires Inv-loop μ-loop
+write-field-requires c κs = search needs
+
+enum-known-field : tie.Need-enum-known-field Inv-loop μ-loop
+enum-known-field c = search needs
+
+enum-known-why : tie.Need-enum-known-why Inv-loop μ-loop
+enum-known-why c = search needs
+
+same-length : tie.Need-same-length Inv-loop μ-loop
+same-length c = kept-length _ _ _ _ (c .before .before .before .before .before .before .before .before .before .loop .inv) (c .before .before .before .before .before .before .before .if1 .taken) (c .before .before .before .before .before .write-field .result) (c .before .before .before .before .before .write-field .last .0) (c .before .before .before .before .before .write-field .ensures .0) (c .before .before .before .before .before .write-field .ensures .1)
+
+returns : tie.Need-returns Inv-loop μ-loop
+returns c = faulted _ _ _ _ (c .before .before .before .before .before .before .before .before .before .loop .inv) (c .before .before .before .before .before .before .before .if1 .taken) (c .before .before .before .before .before .write-field .result) (c .before .before .before .before .before .write-field .last .0) (c .before .before .before .before .before .write-field .ensures .0) _ (c .before .why .given .1)
+
+loop-again : tie.Need-loop-again Inv-loop μ-loop
+loop-again c = filled _ _ _ _ (c .before .before .before .before .before .before .before .before .before .before .loop .inv) (c .before .before .before .before .before .before .before .before .if1 .taken) (c .before .before .before .before .before .before .write-field .result) (c .before .before .before .before .before .before .write-field .last .0) (c .before .before .before .before .before .before .write-field .ensures .0) (c .before .before .before .before .before .before .write-field .ensures .1) (c .before .before .field .given .1)
+
+add-at : tie.Need-add-at Inv-loop μ-loop
+add-at c = omega (arith, loop-again c .held .fits, c .before .before .before .before .before .before .before .before .before .before .before .before .before .before .before .good)
+
+add-tag : tie.Need-add-tag Inv-loop μ-loop
+add-tag c = omega (arith, c .before .before .before .before .before .before .before .before .if1 .taken, c .before .before .before .before .before .before .before .before .before .struct-known .given)
+
+loop-less : tie.Need-loop-less Inv-loop μ-loop
+loop-less c = omega (arith, c .before .before .before .before .before .before .before .before .if1 .taken)
+
+same-length-2 : tie.Need-same-length-2 Inv-loop μ-loop
+same-length-2 c = filling-length _ _ _ _ (c .before .before .loop .inv)
+
+returns-2 : tie.Need-returns-2 Inv-loop μ-loop
+returns-2 c = ends _ _ _ _ (c .before .before .loop .inv) (c .if1 .left)
+
+pub write-match-spec : {M : Type 1} → statement M
+write-match-spec =
+    tie.close
+    (tie.spec
+    Inv-loop
+    μ-loop
+    loop-holds
+    sub-write-field
+    part-write-field-start
+    part-write-field-end
+    write-field-requires
+    enum-known-field
+    enum-known-why
+    same-length
+    returns
+    add-at
+    add-tag
+    loop-less
+    loop-again
+    same-length-2
+    returns-2)

@@ -1,0 +1,28 @@
+-- `zones::find::fix_of` meets its contract: each number read back from its bits. Assumes nothing.
+use mathlib.Core.Path.{_∙_}
+use lib.Ieee.{ofBits}
+use mir.Syntax.{w32}
+use mir.ValLaws.{toZ-ofZ}
+use borrow.Author.Needs.{sfits-of}
+use Rattle.zones.specs.Find.{fixOf}
+use borrow.Author.Needs.{needs}
+use Rattle.zones.proofs.find.fix_of.Statement.{statement}
+use Rattle.zones.proofs.find.fix_of.Tie as tie
+use Rattle.zones.proofs.find.fix_of.Reads as reads
+use Rattle.zones.proofs.find.fix_of.Lts as lts
+use Rattle.numbers.proofs.float.fixed.to_fixed.Reads as to-fixed-reads
+
+to-fixed-requires : tie.Need-to-fixed-requires
+to-fixed-requires c κs = search needs
+
+to-fixed-requires-2 : tie.Need-to-fixed-requires-2
+to-fixed-requires-2 c κs = search needs
+
+returns : tie.Need-returns
+unfolding fixOf ofBits
+returns c = let lat = toZ-ofZ w32 (c .before .to-fixed .result) (sfits-of (c .before .to-fixed .ok)) ∙ c .before .to-fixed .ensures in
+    let lon = toZ-ofZ w32 (c .to-fixed2 .result) (sfits-of (c .to-fixed2 .ok)) ∙ c .to-fixed2 .ensures in
+    λ i. record { lat = record { 0 = lat i }; lon = record { 0 = lon i } }
+
+pub fix-of-spec : {M : Type 1} → statement M
+fix-of-spec = tie.close (tie.spec to-fixed-requires to-fixed-requires-2 returns)

@@ -1,0 +1,4 @@
+mod Gathering
+mod Merging
+pub mod Summaries
+mod Fronts

@@ -1,0 +1,52 @@
+-- `zones::search::turn_at` meets its contract, by the row's cases. Assumes nothing.
+use Rattle.zones.proofs.search.Turns.{row-failed, row-refused}
+use Rattle.zones.specs.Table.{toldRow}
+use Rattle.zones.specs.Search.{turnAt, turnOf, readTurn}
+use mathlib.Core.Path.{_≡_, refl, sym, ap, _∙_}
+use borrow.Author.Needs.{needs}
+use Rattle.zones.proofs.search.turn_at.Statement.{statement}
+use Rattle.zones.proofs.search.turn_at.Tie as tie
+use Rattle.zones.proofs.search.turn_at.Reads as reads
+use Rattle.zones.proofs.search.turn_at.Lts as lts
+use Rattle.zones.proofs.search.on_entry.Reads as on-entry-reads
+use Rattle.zones.proofs.table.entry_at.Reads as entry-at-reads
+
+entry-at-requires : tie.Need-entry-at-requires
+entry-at-requires c κs = search needs
+
+enum-known-row : tie.Need-enum-known-row
+enum-known-row c = search needs
+
+on-entry-requires : tie.Need-on-entry-requires
+on-entry-requires c κs = search needs
+
+enum-told : tie.Need-enum-told
+enum-told c = search needs
+
+enum-told-2 : tie.Need-enum-told-2
+enum-told-2 c = search needs
+
+returns : tie.Need-returns
+unfolding turnAt turnOf
+returns c = c .on-entry .ensures ∙ ap (readTurn _ _ _ _) (sym (ap toldRow (c .before .before .row .given .1)) ∙ c .before .before .before .before .entry-at .ensures)
+
+returns-2 : tie.Need-returns-2
+unfolding turnAt turnOf
+returns-2 c = ap (readTurn _ _ _ _) (row-failed (c .before .before .entry-at .result) (enum-told (c .before)) ∙ c .before .before .entry-at .ensures)
+
+returns-3 : tie.Need-returns-3
+unfolding turnAt turnOf
+returns-3 c = ap (readTurn _ _ _ _) (row-refused (c .before .before .entry-at .result) (enum-told-2 (c .before)) ∙ c .before .before .entry-at .ensures)
+
+pub turn-at-spec : {M : Type 1} → statement M
+turn-at-spec =
+    tie.close
+    (tie.spec
+    entry-at-requires
+    enum-known-row
+    on-entry-requires
+    enum-told
+    enum-told-2
+    returns
+    returns-2
+    returns-3)

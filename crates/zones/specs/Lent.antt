@@ -1,0 +1,40 @@
+-- What goes into lent buffers: how a call's reply goes with what a definition gives, and an entry point's reply with all that it was lent.
+use mathlib.Core.Path.{_≡_}
+use mathlib.Core.List.{List}
+use Prim.Native.Nat.{ℕ}
+use Rattle.zones.specs.Lists.{zeros, padded}
+use Rattle.zones.specs.Reply.{Reply, given, refused}
+use Rattle.zones.specs.Hits.{words}
+use Rattle.zones.specs.declared.hits.Hit.{Hit}
+
+-- the same refusal, or both give, and what they give goes together; a refusal says nothing of the buffers, which are zeroed after it
+unfoldable pub Agrees : {A B : Type 0} → (A → B → Type 0) → Reply A → Reply B → Type 0
+Agrees so (given a) (given b) = so a b
+Agrees so (refused why) (refused why′) = why ≡ why′
+Agrees so (given a) (refused why) = ⊥
+Agrees so (refused why) (given b) = ⊥
+
+-- ---- entry points
+-- what one answers, and what it puts into the lent list and the lent text
+pub record Outcome (A : Type 0) : Type 0 where
+  pub answer : A
+  pub matches : List Hit
+  pub text : List ℕ
+
+-- its reply, and the words and bytes that it was lent
+pub record Replied (A : Type 0) : Type 0 where
+  pub reply : Reply A
+  pub hits : List ℕ
+  pub text : List ℕ
+
+abbrev pub replied : {A : Type 0} → Reply A → List ℕ → List ℕ → Replied A
+replied reply hits text = record { reply = reply; hits = hits; text = text }
+
+-- output beyond the answer is zero, and all of it where it is refused
+unfoldable pub repliedOf : {A : Type 0} → ℕ → ℕ → Reply (Outcome A) → Replied A
+repliedOf n room (given o) = replied (given (o .answer)) (padded n (words (o .matches))) (padded room (o .text))
+repliedOf n room (refused why) = replied (refused why) (zeros n) (zeros room)
+
+-- the buffers hold an outcome
+abbrev pub Filled : {A : Type 0} → ℕ → ℕ → List ℕ → List ℕ → Outcome A → A → Type 0
+Filled n room hits text o answer = replied (given answer) hits text ≡ repliedOf n room (given o)

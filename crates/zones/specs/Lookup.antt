@@ -1,0 +1,47 @@
+-- Lookup, as document 01 has it.
+use mathlib.Core.Bool.{Bool}
+use mathlib.Core.List.{List, []}
+use Prim.Native.Nat.{ℕ, _/_}
+use lib.IntN.{pos}
+use lib.Ieee.{binary32, toBits}
+use lib.ListN.{length}
+use Rattle.numbers.specs.Answer.{if_then_else_}
+use Rattle.numbers.specs.Float.{toF32, oneShifted, _⊠_, _⊘_}
+use Rattle.numbers.specs.Float.Root.{root}
+use Rattle.zones.specs.Reply.{Reply, given, refused, _>>=_}
+use Rattle.zones.specs.Hits.{width}
+use Rattle.zones.specs.Find.{ninety, matchedIn}
+use Rattle.zones.specs.Fields.{fieldsOf}
+use Rattle.zones.specs.Lent.{Outcome, Replied, repliedOf}
+use Rattle.zones.specs.declared.location.Location.{Location}
+use Rattle.zones.specs.declared.lookup.Zones.{Zones}
+use Rattle.zones.specs.declared.lookup.Looked.{Looked}
+use Rattle.zones.specs.declared.lookup.Looked.the-variants as L
+
+-- the root of the least squared distance as f32, times 90, over 2 ^ (precision - 1), which is -2 ^ 31 at precision 32; 0 if not asked
+unfoldable pub safezoneBits : Bool → ℕ → ℕ → ℕ
+safezoneBits asked least precision = if asked then toBits binary32 (root (toF32 (pos least)) ⊠ ninety ⊘ toF32 (oneShifted precision)) else 0
+
+-- the matches and their fields, with so many words for hits and so many bytes for text
+unfoldable pub zonesIn : List ℕ → Location → Bool → ℕ → ℕ → Reply (Outcome Zones)
+zonesIn file location asked n room = do
+  found ← matchedIn file location asked (n / width)
+  text ← fieldsOf file (found .head) room (found .matches) []
+  given (record {
+    answer = record {
+      matches = length (found .matches);
+      mark = found .mark;
+      safezone = safezoneBits asked (found .least) (found .head .preamble .precision);
+      used = length text;
+    };
+    matches = found .matches;
+    text = text;
+  })
+
+-- the reply and both lent buffers
+unfoldable pub lookedUp : List ℕ → Location → Bool → ℕ → ℕ → Replied Zones
+lookedUp file location asked n room = repliedOf n room (zonesIn file location asked n room)
+
+abbrev pub toldLooked : Looked → Reply Zones
+toldLooked (L.Zones zones) = given zones
+toldLooked (L.Refused why) = refused why

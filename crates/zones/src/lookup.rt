@@ -1,0 +1,86 @@
+// Lookup: the matches in the lent words, their fields in the lent text.
+ghost use mathlib.Core.Path.{_≡_};
+ghost use lib.ListN.{length};
+ghost use Rattle.zones.specs.Lists.{zeros};
+ghost use Rattle.zones.specs.Lent.{Agrees, Filled, replied};
+ghost use Rattle.zones.specs.Lookup.{safezoneBits, zonesIn, lookedUp, toldLooked};
+use crate::fields::Fields;
+use crate::fields::write_fields;
+use crate::find::Found;
+use crate::find::find;
+use crate::location::Location;
+use crate::refusal::Refusal;
+use crate::zero::zero_both;
+use numbers::float::bits::bits_of;
+use numbers::float::fixed::factor;
+use numbers::float::nearest::of_u64;
+use numbers::float::root::sqrt;
+
+// How many matches, the end mark, the safezone's bits (0 if not asked), and how much of the text is used.
+pub struct Zones {
+    pub matches: usize,
+    pub mark: u8,
+    pub safezone: u32,
+    pub used: usize,
+}
+
+pub enum Looked {
+    Zones(Zones),
+    Refused(Refusal),
+}
+
+fn safezone(asked: bool, least: u64, precision: u8) -> u32
+    ensures { λ r. ⌜ r ≡ safezoneBits asked least precision ⌝ }
+{
+    if asked {
+        return bits_of(sqrt(of_u64(least)) * 90.0 / factor(precision));
+    }
+    0
+}
+
+// In buffers that are zero.
+fn look(file: &[u8], location: Location, asked: bool, hits: &mut [u32], text: &mut [u8]) -> Looked
+    requires { ⌜ (now hits ≡ zeros (length (now hits))) × (now text ≡ zeros (length (now text))) ⌝ }
+    ensures { λ r. ⌜ Agrees (Filled (length (now (hits .entry))) (length (now (text .entry))) (now (hits .exit)) (now (text .exit)))
+        (zonesIn (now (file .entry)) location asked (length (now (hits .entry))) (length (now (text .entry)))) (toldLooked r) ⌝ }
+{
+    let found = match find(file, location, asked, hits) {
+        Found::Matches(found) => found,
+        Found::Refused(why) => return Looked::Refused(why),
+    };
+    let head = found.head;
+    let preamble = head.preamble;
+    let matches = found.count;
+    let used = match write_fields(text, file, head, hits, matches) {
+        Fields::Used(used) => used,
+        Fields::Refused(why) => return Looked::Refused(why),
+    };
+    let safezone = safezone(asked, found.least, preamble.precision);
+    Looked::Zones(Zones {
+        matches,
+        mark: found.mark,
+        safezone,
+        used,
+    })
+}
+
+pub fn lookup(
+    file: &[u8],
+    location: Location,
+    asked: bool,
+    hits: &mut [u32],
+    text: &mut [u8],
+) -> Looked
+    ensures { λ r. ⌜ replied (toldLooked r) (now (hits .exit)) (now (text .exit))
+        ≡ lookedUp (now (file .entry)) location asked (length (now (hits .entry))) (length (now (text .entry))) ⌝ }
+{
+    zero_both(hits, text);
+    let zones = match look(file, location, asked, hits, text) {
+        Looked::Zones(zones) => zones,
+        Looked::Refused(why) => {
+            zero_both(hits, text);
+            return Looked::Refused(why);
+        }
+    };
+    Looked::Zones(zones)
+}
