@@ -5,7 +5,8 @@ use mathlib.Core.Bool.{Bool, true, false}
 use lib.Dec.{lit≤}
 use lib.Signed.{leZ}
 use Rattle.numbers.specs.Answer.{if_then_else_}
-use Rattle.border.specs.Edge.{quadrantOf, locationOf, seenFrom}
+use Rattle.border.specs.Edge.{quadrantOf, locationOf}
+use Rattle.border.specs.Kept.{seenFrom}
 use Rattle.border.specs.declared.place.Point.{Point}
 use Rattle.border.specs.declared.edge.{Location.Location, Seen.Seen}
 

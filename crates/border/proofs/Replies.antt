@@ -3,6 +3,10 @@ use mathlib.Core.Path.{_≡_, refl, sym, ap, _∙_}
 use Rattle.numbers.specs.Answer.{Answer, found, failed, refused}
 use Rattle.border.specs.Told.{told, steppedBy}
 use Rattle.border.specs.Trace.{Given, reaches, ended}
+use Rattle.border.specs.Verdict as Judge
+use Rattle.border.specs.Verdict.{Judgement, reached}
+use Rattle.border.specs.declared.verdict.Judged.{Judged}
+use Rattle.border.specs.declared.verdict.Judged.the-variants as J
 use Rattle.border.specs.declared.reader.{Reader.Reader, Next.Next, Reply.Reply}
 use Rattle.border.specs.declared.reader.Next.the-variants.{Point, Ended, Failed, Refused}
 
@@ -29,3 +33,18 @@ pub same-step : (s : Reader) (answer : Answer Given) {a b : Reply} {t u : Reader
     → (b ≡ steppedBy s answer .reply) × (u ≡ steppedBy s answer .reader)
     → (a ≡ b) × (t ≡ u)
 same-step s answer e g = (e .0 ∙ sym (g .0), e .1 ∙ sym (g .1))
+
+unjudged : Judgement → Judged
+unjudged (reached verdict least) = J.Answered verdict least
+unjudged (Judge.failed least) = J.Failed least
+unjudged (Judge.refused n) = J.Refused n
+
+unjudged-told : (j : Judged) → unjudged (Judge.told j) ≡ j
+unfolding unjudged
+unjudged-told (J.Answered verdict least) = refl
+unjudged-told (J.Failed least) = refl
+unjudged-told (J.Refused n) = refl
+
+-- `point_in_polygon`
+pub same-judgement : {judgement : Judgement} (a b : Judged) → Judge.told a ≡ judgement → Judge.told b ≡ judgement → a ≡ b
+same-judgement a b e g = sym (unjudged-told a) ∙ ap unjudged (e ∙ sym g) ∙ unjudged-told b

@@ -14,6 +14,7 @@ use mir.Facts.{toZ-ofZ, sfits-widen}
 use borrow.Author.Tests.{ltb-true, leb-true, lt-ltb, le-leb, eq-eqb, ne-eqb, eqb-true}
 use Rattle.numbers.specs.Float.{toF32}
 use Rattle.border.specs.Edge.{sameZ, between}
+use Rattle.border.proofs.place.Whole.{widened, sum-fits, difference-fits}
 
 -- ---- tests
 
@@ -56,12 +57,6 @@ same-eq (negsuc a) (negsuc b) e = let p = both (leb b a) (leb a b) e in ap negsu
 
 -- ---- an i32 that is passed to a call or tested is read back from its bits
 
-pub widened : {z : ℤ} → SFits w32 z → toZ w64 (ofZ w64 (toZ w32 (ofZ w32 z))) ≡ z
-widened h = ap (λ (x : ℤ). toZ w64 (ofZ w64 x)) (toZ-ofZ h) ∙ toZ-ofZ (sfits-widen tt h)
-
-pub widens : {z : ℤ} → SFits w32 z → SFits w64 (toZ w32 (ofZ w32 z))
-widens h = rw (toZ-ofZ h) (sfits-widen tt h)
-
 pub float-of : {x : Float} {n : ℤ} → SFits w32 n → x ≡ toF32 (toZ w32 (ofZ w32 n)) → x ≡ toF32 n
 float-of f e = e ∙ ap toF32 (toZ-ofZ f)
 
@@ -90,33 +85,9 @@ between-read f g h e = rw (toZ-ofZ {w = w32} f, toZ-ofZ {w = w32} g, toZ-ofZ {w 
 
 -- ---- exact sums and differences, in an i64
 
-mag-cond : (t : Bool) (a b : ℕ) (m : ℕ) → a ≤ m → b ≤ m → mag (cond t (negsuc a) (pos b)) ≤ m
-mag-cond true a b m h k = h
-mag-cond false a b m h k = k
-
-mag-sum : (a b : ℤ) → mag (a +ℤ b) ≤ mag a + mag b + 1
-mag-sum (pos a) (pos b) = omega arith
-mag-sum (pos a) (negsuc b) = mag-cond (ltb a (suc b)) (suc b - suc a) (a - suc b) (a + b + 1) (omega arith) (omega arith)
-mag-sum (negsuc a) (pos b) = mag-cond (ltb b (suc a)) (suc a - suc b) (b - suc a) (a + b + 1) (omega arith) (omega arith)
-mag-sum (negsuc a) (negsuc b) = omega arith
-
-mag-neg : (a : ℤ) → mag (negℤ a) ≤ mag a + 1
-mag-neg (pos zero) = omega arith
-mag-neg (pos (suc n)) = omega arith
-mag-neg (negsuc n) = omega arith
-
-small : {z : ℤ} {n : ℕ} → mag z ≤ n → n < 2 ^ 63 → SFits w64 z
-small h k = record { sfits = lt-of-le-of-lt h k }
-
 module _ {a b : ℤ} (f : SFits w32 a) (g : SFits w32 b) where
-  pub sum-fits : SFits w64 (a +ℤ b)
-  sum-fits = small {z = a +ℤ b} (mag-sum a b) (let x : mag a < 2 ^ 31 = f .sfits in let y : mag b < 2 ^ 31 = g .sfits in omega arith)
-
-  pub difference-fits : SFits w64 (a -ℤ b)
-  difference-fits = small {z = a -ℤ b} (mag-sum a (negℤ b)) (let x : mag a < 2 ^ 31 = f .sfits in let y : mag b < 2 ^ 31 = g .sfits in omega (arith, mag-neg b))
-
   pub exact-sum : toZ w64 (ofZ w64 (toZ w64 (ofZ w64 (toZ w32 (ofZ w32 a))) +ℤ toZ w64 (ofZ w64 (toZ w32 (ofZ w32 b))))) ≡ a +ℤ b
-  exact-sum = rw (widened f, widened g, toZ-ofZ {w = w64} sum-fits)
+  exact-sum = rw (widened f, widened g, toZ-ofZ {w = w64} (sum-fits f g))
 
   pub exact-difference : toZ w64 (ofZ w64 (toZ w64 (ofZ w64 (toZ w32 (ofZ w32 a))) -ℤ toZ w64 (ofZ w64 (toZ w32 (ofZ w32 b))))) ≡ a -ℤ b
-  exact-difference = rw (widened f, widened g, toZ-ofZ {w = w64} difference-fits)
+  exact-difference = rw (widened f, widened g, toZ-ofZ {w = w64} (difference-fits f g))

@@ -1,7 +1,6 @@
 -- Edges of a border in f32, each operation rounded once, in the Rust's order; boxes; quadrants.
 use Prim.Native.Nat.{ℕ}
 use mathlib.Core.Bool.{Bool, false, _&&_, _||_}
-use mathlib.Core.Path.{_≡_}
 use lib.IntN.{ℤ, pos}
 use lib.Ieee.{Float, fin}
 use lib.Signed.{leZ}
@@ -9,7 +8,7 @@ use Rattle.numbers.specs.Answer.{if_then_else_}
 use Rattle.numbers.specs.Float.{toF32, cut32, _⊞_, _⊟_, _⊠_, _⊘_}
 use Rattle.border.specs.Place.{pointAt}
 use Rattle.border.specs.declared.place.Point.{Point}
-use Rattle.border.specs.declared.edge.{Location.Location, Slope.Slope, Seen.Seen, Edge.Edge}
+use Rattle.border.specs.declared.edge.{Location.Location, Slope.Slope, Edge.Edge}
 use Rattle.border.specs.declared.edge.Edge.the-variants.{Sloped, EqualLongitude, EqualLatitude}
 
 -- ---- points
@@ -74,13 +73,3 @@ closestOn (EqualLatitude lat) at = record { lat = toF32 (lat .0); lon = at .lon 
 -- a location cut to a point
 abbrev pub cutOf : Location → Point
 cutOf at = pointAt (cut32 (at .lat)) (cut32 (at .lon))
-
--- what is kept of a point that was passed: its quadrant, and its floats if the distance is asked for
-unfoldable pub seenFrom : Point → Bool → Point → Seen
-seenFrom fix asked p = record { point = p; quadrant = quadrantOf fix p; location = if asked then locationOf p else locationOf fix }
-
--- what the code keeps is right
-pub record Sighted (fix : Point) (at : Location) (asked : Bool) (last next : Seen) : Type 0 where
-  pub fixed : at ≡ locationOf fix
-  pub left : last ≡ seenFrom fix asked (last .point)
-  pub reached : next ≡ seenFrom fix asked (next .point)

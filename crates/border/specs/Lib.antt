@@ -2,8 +2,10 @@ pub mod Place
 pub mod Reader
 pub mod Trace
 pub mod Told
+pub mod Written
 pub mod Step
 pub mod Edge
 pub mod Winding
 pub mod Distance
 pub mod Verdict
+pub mod Kept

@@ -1,7 +1,11 @@
 -- What the cases of the reader's answers say, and what the thin form answers and leaves.
+use Prim.Native.Nat.{ℕ}
+use mathlib.Core.List.{List}
+use lib.Dec.{eqb}
 use lib.IntN.{ℤ}
-use Rattle.numbers.specs.Answer.{Answer, found, failed, refused, _>>=_}
+use Rattle.numbers.specs.Answer.{Answer, found, failed, refused, if_then_else_, _>>=_}
 use Rattle.numbers.specs.Varint as varint
+use Rattle.numbers.specs.Varint.{Numeral}
 use Rattle.numbers.specs.declared.point.{RawPoint.RawPoint}
 use Rattle.numbers.specs.declared.varint.{Varint.Varint}
 use Rattle.border.specs.Reader.{Turn, gives, again, ends}
@@ -44,6 +48,13 @@ toldTurn (T.Refused n) = refused n
 -- a number that could not be read ends the turn
 abbrev pub stopped : Varint → Answer Turn
 stopped n = varint.told n >>= λ number. failed
+
+-- version 0: the moves that are left, and where the next pair stands; the count comes first
+unfoldable pub counted : List ℕ → Reader → Answer Numeral
+counted f s =
+    if s .begun
+    then found (record { value = s .moves; place = s .place })
+    else (varint.forwardAt f (s .place) >>= λ count. if eqb (count .value) 0 then failed else found count)
 
 abbrev pub told : Next → Answer Given
 told (N.Point s) = found (reaches s)

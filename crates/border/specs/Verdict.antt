@@ -12,8 +12,7 @@ use Rattle.border.specs.Edge.{sameZ, samePoint}
 use Rattle.border.specs.Winding.{woundBy}
 use Rattle.border.specs.Distance.{measured}
 use Rattle.border.specs.declared.place.{FixedLat.FixedLat, FixedLon.FixedLon, Point.Point}
-use Rattle.border.specs.declared.reader.{Version.Version, Next.Next}
-use Rattle.border.specs.declared.reader.Next.the-variants as N
+use Rattle.border.specs.declared.reader.Version.{Version}
 use Rattle.border.specs.declared.verdict.{Tally.Tally, Verdict.Verdict, Judged.Judged}
 use Rattle.border.specs.declared.verdict.Verdict.the-variants.{NotInZone, InZone, InExcludedZone, OnBorderVertex, OnBorderSegment}
 use Rattle.border.specs.declared.verdict.Judged.the-variants as J
@@ -34,9 +33,6 @@ told (J.Refused n) = refused n
 pub data Last : Type 0 where
   none : Last
   after : Point → Last
-
-abbrev pub lastOf : Bool → Point → Last
-lastOf begun p = if begun then after p else none
 
 -- the edge from the point before: the winding, then the least distance. None leads to the first point.
 unfoldable pub along : Point → Bool → Last → Point → Tally → Step Tally
@@ -77,10 +73,3 @@ judge fix asked last tally (T.refused n) = refused n
 unfoldable pub judgedAt : List ℕ → Version → ℕ → ℕ → FixedLat → FixedLon → Bool → ℕ → Judgement
 judgedAt file version data-offset place lat lon asked least =
     judge (record { lat = lat; lon = lon }) asked none (record { winding = pos 0; least = least }) (traceOf file version data-offset (borderAt place))
-
--- a border that gives no further point
-abbrev pub endedAt : Next → Bool → Tally → Judgement
-endedAt N.Ended asked tally = closedAt asked tally
-endedAt N.Failed asked tally = failed (tally .least)
-endedAt (N.Refused n) asked tally = refused n
-endedAt (N.Point s) asked tally = failed (tally .least)

@@ -2,7 +2,8 @@
 ghost use mathlib.Core.Path.{_≡_};
 ghost use mathlib.Core.Bool.{_&&_};
 ghost use lib.Signed.{leZ};
-ghost use Rattle.border.specs.Edge.{samePoint, between, inBox, quadrantOf, locationOf, slopeOf, edgeOf, closestOn, cutOf, seenFrom, straight};
+ghost use Rattle.border.specs.Edge.{samePoint, between, inBox, quadrantOf, locationOf, slopeOf, edgeOf, closestOn, cutOf, straight};
+ghost use Rattle.border.specs.Kept.{seenFrom};
 use crate::place::FixedLat;
 use crate::place::FixedLon;
 use crate::place::Point;

@@ -2,8 +2,9 @@
 ghost use mathlib.Core.Path.{_≡_};
 ghost use lib.IntN.{pos, negsuc};
 ghost use Rattle.numbers.specs.Answer.{found};
+ghost use Rattle.numbers.specs.Varint as varint;
 ghost use Rattle.border.specs.Reader.{onward, arrived, closing, advanced, shownBy, plainMove, plainPair, plainTurn, dataPlace, asI64, opened, reference, marker, forwardFrom, backwardFrom, packedTurn, turnOf};
-ghost use Rattle.border.specs.Told.{stopped, toldRun, toldTurn, told, settledBy, steppedBy};
+ghost use Rattle.border.specs.Told.{counted, stopped, toldRun, toldTurn, told, settledBy, steppedBy};
 ghost use Rattle.border.specs.Trace.{nextPoint, borderAt};
 use crate::place::Away;
 use crate::place::FixedLat;
@@ -40,9 +41,10 @@ pub struct Reader {
     // The first point is known.
     pub begun: bool,
     pub closed: bool,
-    pub run: Run,
     pub point: Point,
     pub first: Point,
+    // Last: before the points it would leave a gap that each copy of the state carries along.
+    pub run: Run,
 }
 
 // One turn of the reader's loop. The point that is given is the state's own.
@@ -172,26 +174,44 @@ fn plain_pair(file: &[u8], reader: Reader, place: usize, moves: u64) -> Turn
     plain_move(reader, after, moves, by)
 }
 
-// Version 0: the count comes before the first move.
-fn plain_turn(file: &[u8], reader: Reader) -> Turn
-    ensures { λ r. ⌜ toldTurn r ≡ plainTurn (now (file .entry)) reader ⌝ }
+// Version 0: the moves that are left, and where the next pair stands. The count comes before the first move.
+fn moves_left(file: &[u8], reader: Reader) -> Varint
+    ensures { λ r. ⌜ varint.told r ≡ counted (now (file .entry)) reader ⌝ }
 {
     let place = reader.place;
     if reader.begun {
-        return plain_pair(file, reader, place, reader.moves);
+        return Varint::Number {
+            value: reader.moves,
+            place,
+        };
     }
     let n = read_forward(file, place);
     let Varint::Number {
         value: count,
-        place: after,
+        place: _,
+    } = n
+    else {
+        return n;
+    };
+    if count == 0 {
+        return Varint::Failed;
+    }
+    n
+}
+
+// The one call of `plain_pair`: with a second one it would not be compiled in line.
+fn plain_turn(file: &[u8], reader: Reader) -> Turn
+    ensures { λ r. ⌜ toldTurn r ≡ plainTurn (now (file .entry)) reader ⌝ }
+{
+    let n = moves_left(file, reader);
+    let Varint::Number {
+        value: moves,
+        place,
     } = n
     else {
         return stop(n);
     };
-    if count == 0 {
-        return Turn::Failed;
-    }
-    plain_pair(file, reader, after, count)
+    plain_pair(file, reader, place, moves)
 }
 
 // A reference, or that its end leaves the i64.

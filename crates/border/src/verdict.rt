@@ -1,7 +1,7 @@
 // A border's verdict on a location, over its points as they are read.
 ghost use mathlib.Core.Path.{_≡_};
-ghost use Rattle.border.specs.Edge.{Sighted};
-ghost use Rattle.border.specs.Verdict.{told, after, lastOf, along, passing, onBorder, closedAt, endedAt, thenOn, judgedAt};
+ghost use Rattle.border.specs.Kept.{Sighted, lastOf, endedAt};
+ghost use Rattle.border.specs.Verdict.{told, after, along, passing, onBorder, closedAt, thenOn, judgedAt};
 ghost use Rattle.border.specs.Verdict as verdict;
 ghost use Rattle.border.specs.Step as step;
 use crate::distance::measure;

@@ -43,7 +43,7 @@ pub fn backward(line: &[u8]) -> bool {
     reads_as(line, numbers::varint::read_backward(&space[..size], place))
 }
 
-fn is_integer(line: &[u8], k: usize, value: i32) -> bool {
+pub fn is_integer(line: &[u8], k: usize, value: i32) -> bool {
     value as i64 == integer(word(line, k))
 }
 
@@ -60,7 +60,7 @@ pub fn point(line: &[u8]) -> bool {
 }
 
 // The i32 of a word: its signed form is twice its size, and one more below zero.
-fn small_integer(word: &[u8]) -> i32 {
+pub fn small_integer(word: &[u8]) -> i32 {
     let twice = decimal(word) % 0x1_0000_0000 * 2;
     if is_negative(word) {
         return numbers::point::signed(twice + 1);

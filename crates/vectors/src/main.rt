@@ -1,5 +1,6 @@
 // Compares what the library answers with recorded cases, a line each, from standard input. Prints a line that comes out
 // wrong, and for each kind of case how many were compared and how many were wrong.
+mod borders;
 mod leaf;
 mod text;
 
@@ -10,7 +11,7 @@ use libc::STDOUT_FILENO;
 use text::word;
 
 // A kind is a place in the list of names. A line of no such kind is wrong.
-const KINDS: usize = 11;
+const KINDS: usize = 12;
 
 fn kind_of(names: &[u8], line: &[u8]) -> usize {
     let mut kind = 0;
@@ -36,6 +37,7 @@ fn is_right(kind: usize, line: &[u8]) -> bool {
         8 => leaf::sqrt(line),
         9 => leaf::fixed(line),
         10 => leaf::safezone(line),
+        11 => borders::border(line),
         _ => false,
     }
 }
@@ -104,11 +106,11 @@ fn report(names: &[u8], compared: &[u64], wrong: &[u64]) {
 
 fn main() {
     let names =
-        b"varint backward signed point i32_to_f32 u64_to_f32 f32_to_i32 f32_to_i64 sqrt fixed safezone unknown";
-    let mut space = [0u8; 65536];
+        b"varint backward signed point i32_to_f32 u64_to_f32 f32_to_i32 f32_to_i64 sqrt fixed safezone border unknown";
+    let mut space = [0u8; 131072];
     let size = io::read_full(STDIN_FILENO, &mut space);
-    let mut compared = [0u64; 12];
-    let mut wrong = [0u64; 12];
+    let mut compared = [0u64; 13];
+    let mut wrong = [0u64; 13];
     run_all(names, &space[..size], &mut compared, &mut wrong);
     report(names, &compared, &wrong);
 }

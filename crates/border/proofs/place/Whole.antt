@@ -47,6 +47,12 @@ negation-fits {a} h =
       sfits = lt-of-le-of-lt (mag-sum (pos 0) (negℤ a)) (let x : mag a < 2 ^ 31 = h .sfits in omega (arith, mag-neg a));
     }
 
+pub difference-fits : {a b : ℤ} → SFits w32 a → SFits w32 b → SFits w64 (a -ℤ b)
+difference-fits {a} {b} h k =
+    record {
+      sfits = lt-of-le-of-lt (mag-sum a (negℤ b)) (let x : mag a < 2 ^ 31 = h .sfits in let y : mag b < 2 ^ 31 = k .sfits in omega (arith, mag-neg b));
+    }
+
 differ : {A : Type 0} → false ≡ true → A
 differ e = absurd (subst T (sym e) tt)
 

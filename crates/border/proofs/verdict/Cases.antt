@@ -10,7 +10,8 @@ use Rattle.border.proofs.verdict.Passed as Passed'
 use Rattle.border.specs.Step.{told}
 use Rattle.border.specs.Told as R
 use Rattle.border.specs.Trace.{Trace, traceThen}
-use Rattle.border.specs.Verdict.{Judgement, refused, Last, thenOn, endedAt, judge}
+use Rattle.border.specs.Verdict.{Judgement, refused, Last, thenOn, judge}
+use Rattle.border.specs.Kept.{endedAt}
 use Rattle.border.specs.declared.place.Point.{Point}
 use Rattle.border.specs.declared.reader.{Reader.Reader, Next.Next}
 use Rattle.border.specs.declared.reader.Next.the-variants as N

@@ -1,15 +1,15 @@
 -- The loops that write fields: the text so far stands at the front of a buffer that is zero beyond it. Assumes nothing.
 use mathlib.Core.Path.{_≡_, refl, sym, ap, _∙_}
 use mathlib.Core.Bool.{Bool, true, false}
-use mathlib.Core.List.{List, [], _∷_, _++_, append-assoc}
+use mathlib.Core.List.{List, [], _∷_, _++_}
 use Prim.Native.Nat.{ℕ, zero, suc, _+_, _-_, _≤_, _<_}
 use native.Mathlib.Numerals.{add-one}
 use native.Mathlib.Nat.{sub-zero}
 use native.Mathlib.Omega.{arith}
 use borrow.Author.Tests.{leb-true}
 use lib.Dec.{leb}
-use lib.ListN.{length, getD, take, drop, length-append, length-replicate, drop-of-length-le}
-use lib.Seq.{take-at, drop-at, drop-cons, length-take-le}
+use lib.ListN.{length, getD, take, drop, length-append, drop-of-length-le}
+use lib.Seq.{drop-cons, length-take-le}
 use Rattle.zones.specs.Lists.{zeros, padded, over}
 use Rattle.zones.specs.Reply.{Reply, given, refused, plain, demand, _>>=_, _>>_}
 use Rattle.zones.specs.Text.{bytesOf, textAt}
@@ -27,53 +27,8 @@ use Rattle.zones.specs.declared.fields.Fields.{Fields}
 use Rattle.zones.specs.declared.fields.Fields.the-variants as F
 use Rattle.zones.proofs.Laws.{given-from, carried, onward}
 use Rattle.zones.proofs.Agreeing.{Gave, agree-given, agree-refused, gave, refused-so}
-use Rattle.zones.proofs.Buffers.{zeros-drop, over-length, tail-lent, lent-length, tail-back}
-
--- ---- a text in a buffer
-pub record Held (room : ℕ) (out text : List ℕ) (at : ℕ) : Type 0 where
-  pub sized : length out ≡ at
-  pub fits : at ≤ room
-  pub kept : text ≡ padded room out
-
-module _ {room : ℕ} {out text : List ℕ} {at : ℕ} (g : Held room out text at) where
-  pub held-length : length text ≡ room
-  held-length = ap length (g .kept) ∙ length-append out (zeros (room - length out)) ∙ rw length-replicate (omega (arith, g .sized, g .fits))
-
-  pub held-front : take at text ≡ out
-  held-front = ap (take at) (g .kept) ∙ take-at out (zeros (room - length out)) at (g .sized)
-
-  -- what remains of the buffer, lent
-  abbrev lent : List ℕ
-  lent = take (length text - at) (drop at text)
-
-  pub remains-length : length lent ≡ room - length out
-  remains-length = lent-length at text ∙ omega (arith, held-length, g .sized)
-
-  remains : lent ≡ zeros (room - at)
-  remains = tail-lent at text ∙ ap (drop at) (g .kept) ∙ drop-at out (zeros (room - length out)) at (g .sized) ∙ ap (λ (n : ℕ). zeros (room - n)) (g .sized)
-
-  -- and what the buffer holds once s was written over the front of it
-  pub written : (s last : List ℕ) {n : ℕ} → length s ≡ n → n ≤ room - length out → last ≡ over s lent → Held room (out ++ s) (take at text ++ (last ++ drop (length text - at) (drop at text))) (at + n)
-  written s last {n} l h e =
-      let size : length (out ++ s) ≡ at + n = length-append out s ∙ omega (arith, g .sized, l) in
-      let left : room - at - length s ≡ room - length (out ++ s) = omega (arith, size, l) in
-      record {
-        sized = size;
-        fits = omega (arith, g .sized, g .fits);
-        kept =
-            tail-back at text last
-            ∙ ap (λ (r : List ℕ). r ++ last) held-front
-            ∙ ap (λ (r : List ℕ). out ++ r) (e ∙ ap (over s) remains ∙ ap (λ (r : List ℕ). s ++ r) (zeros-drop (length s) (room - at) ∙ ap zeros left))
-            ∙ sym (append-assoc out s (zeros (room - length (out ++ s))));
-      }
-
-pub held-all : {room : ℕ} {out text : List ℕ} {at : ℕ} → length text ≡ room → Wrote room text out at → Held room out text at
-held-all {room} {out} same w =
-    record {
-      sized = sym (w .said);
-      fits = omega (arith, w .said, ap length (w .kept) ∙ length-append out (zeros (room - length out)), length-replicate {A = ℕ} (room - length out) 0, same);
-      kept = w .kept;
-    }
+use Rattle.zones.proofs.Buffers.{over-length, tail-back}
+use Rattle.zones.proofs.Holding.{Held, held-length, held-front, remains-length, written, held-all}
 
 -- ---- one field
 -- what went out, by what the code says of it

@@ -74,3 +74,14 @@ module _ {n : ℕ} {ws : List ℕ} {found : Found} {ended : Ended} (s : Sought n
         said = λ i. record { head = head; count = count i; mark = mark i; least = least i };
         kept = m .1 ∙ (λ i. padded (same i) (words (merged (front-is i))));
       }
+
+-- ---- the matches, as the lent words have them
+module _ {n : ℕ} {ws : List ℕ} {found : Matched} {matches : Matches} (m : Matching n ws found matches) where
+  pub count-is : matches .count ≡ length (found .matches)
+  count-is = ap (λ (x : Matches). x .count) (m .said)
+
+  pub matches-room : length ws ≡ n → matches .count ≤ length ws / width
+  matches-room same = rw count-is (padded-room n (found .matches) (m .kept) same)
+
+  pub matches-are : take (matches .count) (slots ws) ≡ found .matches
+  matches-are = ap (λ (k : ℕ). take k (slots ws)) count-is ∙ padded-slots n (found .matches) (m .kept)

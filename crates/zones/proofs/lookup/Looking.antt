@@ -17,18 +17,7 @@ use Rattle.zones.specs.declared.find.Matches.{Matches}
 use Rattle.zones.specs.declared.lookup.Zones.{Zones}
 use Rattle.zones.proofs.Laws.{carried, onward}
 use Rattle.zones.proofs.Agreeing.{Gave, agree-given, agree-refused, gave, refused-so}
-use Rattle.zones.proofs.hits.Words.{padded-slots, padded-room}
-
--- ---- the matches, as the lent words have them
-module _ {n : ℕ} {ws : List ℕ} {found : Matched} {matches : Matches} (m : Matching n ws found matches) where
-  counted : matches .count ≡ length (found .matches)
-  counted = ap (λ (x : Matches). x .count) (m .said)
-
-  pub matches-room : length ws ≡ n → matches .count ≤ length ws / width
-  matches-room same = rw counted (padded-room n (found .matches) (m .kept) same)
-
-  pub matches-are : take (matches .count) (slots ws) ≡ found .matches
-  matches-are = ap (λ (k : ℕ). take k (slots ws)) counted ∙ padded-slots n (found .matches) (m .kept)
+use Rattle.zones.proofs.find.Finding.{count-is, matches-are}
 
 module _ (file : List ℕ) (location : Location) (asked : Bool) (n room : ℕ) where
   pub no-match : {why : Refusal} (hs ts : List ℕ) → refused why ≡ matchedIn file location asked (n / width) → Agrees (Filled n room hs ts) (zonesIn file location asked n room) (refused why)
@@ -55,4 +44,4 @@ module _ (file : List ℕ) (location : Location) (asked : Bool) (n room : ℕ) w
           let text = gave (Wrote room ts) _ a e in
           let bits : zone ≡ safezoneBits asked (found .least) (found .head .preamble .precision) = z ∙ (λ i. safezoneBits asked (g .fits .said i .least) (g .fits .said i .head .preamble .precision)) in
           agree-given (Filled n room ws ts) (onward (text .is ∙ fields-so) _ ∙ onward (g .is) _)
-          (λ i. replied (given (record { matches = counted (g .fits) i; mark = g .fits .said i .mark; safezone = bits i; used = text .fits .said i })) (g .fits .kept i) (text .fits .kept i))
+          (λ i. replied (given (record { matches = count-is (g .fits) i; mark = g .fits .said i .mark; safezone = bits i; used = text .fits .said i })) (g .fits .kept i) (text .fits .kept i))

@@ -1,12 +1,12 @@
 -- `border::distance::measure` meets its contract: the lesser of the two distances. Assumes nothing.
+use Prim.Native.Nat.{min}
+use borrow.Author.Needs.{needs}
+use mathlib.Core.Path.{_≡_}
 use mir.Syntax.{w32}
 use mir.Val.{toZ, ofZ}
 use native.Mathlib.Omega.{arith}
-use Prim.Native.Nat.{min}
-use mathlib.Core.Path.{_≡_}
-use Rattle.border.specs.Distance.{measured}
-use borrow.Author.Needs.{needs}
 use Rattle.border.proofs.distance.measure.Statement.{statement}
+use Rattle.border.specs.Distance.{measured}
 use Rattle.border.proofs.distance.measure.Tie as tie
 
 distance-of-requires : tie.Need-distance-of-requires
@@ -26,17 +26,23 @@ returns c =
 returns-2 : tie.Need-returns-2
 unfolding measured
 returns-2 c =
-    let less : c .before .before .before .before .new .given .0 .0 ≡ min (c .before .before .before .before .new .given .0 .0) (c .before .before .before .before .before .before .before .args .tally .least) = omega arith in
+    let new = c .before .before .before .before .new in
+    let args = c .before .before .before .before .before .before .before .args in
+    let distance-of = c .before .before .before .before .before .before .distance-of in
+    let less : new .given .0 .0 ≡ min (new .given .0 .0) (args .tally .least) = omega arith in
     let told = c .struct-told .given in
-    let w = c .before .before .before .before .before .before .before .args .tally .winding in
+    let w = args .tally .winding in
     let p : toZ w32 (ofZ w32 w) ≡ w = search needs in
-    rw (← c .before .before .before .before .before .before .distance-of .ensures, c .before .before .before .before .new .given .1, ← less, p)
+    rw (← distance-of .ensures, new .given .1, ← less, p)
 
 returns-3 : tie.Need-returns-3
 unfolding measured
 returns-3 c =
-    let less : c .before .before .before .before .before .before .args .tally .least ≡ min (c .before .before .before .new .given .0 .0) (c .before .before .before .before .before .before .args .tally .least) = omega arith in
-    rw (← c .before .before .before .before .before .distance-of .ensures, c .before .before .before .new .given .1, ← less)
+    let args = c .before .before .before .before .before .before .args in
+    let new = c .before .before .before .new in
+    let distance-of = c .before .before .before .before .before .distance-of in
+    let less : args .tally .least ≡ min (new .given .0 .0) (args .tally .least) = omega arith in
+    rw (← distance-of .ensures, new .given .1, ← less)
 
 pub measure-spec : {M : Type 1} → statement M
 measure-spec =

@@ -1,11 +1,11 @@
 -- `border::distance::square` meets its contract: a square is not negative. Assumes nothing.
-use native.Mathlib.Omega.{arith}
-use lib.IntN.{_*ℤ_}
-use mir.Val.{SFits}
-use mir.Syntax.{w64}
-use mir.Facts.{toZ-ofZ}
-use Rattle.border.proofs.Squares.{square-not-negative, square-size}
 use borrow.Author.Needs.{needs}
+use lib.IntN.{_*ℤ_}
+use mir.Facts.{toZ-ofZ}
+use mir.Syntax.{w64}
+use mir.Val.{SFits}
+use native.Mathlib.Omega.{arith}
+use Rattle.border.proofs.Squares.{square-not-negative, square-size}
 use Rattle.border.proofs.distance.square.Statement.{statement}
 use Rattle.border.proofs.distance.square.Tie as tie
 

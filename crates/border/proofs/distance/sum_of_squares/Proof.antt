@@ -1,9 +1,9 @@
 -- `border::distance::sum_of_squares` meets its contract: what its calls ensure, modulo 2^64. Assumes nothing.
-use mathlib.Core.Path.{_∙_}
-use mir.Syntax.{w64}
-use mir.Facts.{toZ-ofZ}
-use Rattle.border.proofs.Squares.{fourfold}
 use borrow.Author.Needs.{needs}
+use mathlib.Core.Path.{_∙_}
+use mir.Facts.{toZ-ofZ}
+use mir.Syntax.{w64}
+use Rattle.border.proofs.Squares.{fourfold}
 use Rattle.border.proofs.distance.sum_of_squares.Statement.{statement}
 use Rattle.border.proofs.distance.sum_of_squares.Tie as tie
 
@@ -21,8 +21,11 @@ wrapping-add-u64-requires c κs = search needs
 
 returns : tie.Need-returns
 returns c =
-    let y = rw (toZ-ofZ {w = w64} (c .before .before .before .fits .lat)) at (c .before .before .square .ensures) in
-    let x = rw (toZ-ofZ {w = w64} (c .before .before .before .fits .lon)) at (c .before .square2 .ensures) in
+    let fits = c .before .before .before .fits in
+    let square = c .before .before .square in
+    let square2 = c .before .square2 in
+    let y = rw (toZ-ofZ {w = w64} (fits .lat)) at (square .ensures) in
+    let x = rw (toZ-ofZ {w = w64} (fits .lon)) at (square2 .ensures) in
     c .wrapping-add-u64 .ensures ∙ fourfold _ _ ∙ rw (y, x)
 
 pub sum-of-squares-spec : {M : Type 1} → statement M

@@ -1,8 +1,8 @@
 -- `border::edge::closest` meets its contract: in each arm the edge is that arm's constructor, at which the definition computes. Assumes nothing.
-use Rattle.border.proofs.Signs.{float-of}
-use Rattle.border.specs.Edge.{closestOn}
 use borrow.Author.Needs.{needs}
+use Rattle.border.proofs.Signs.{float-of}
 use Rattle.border.proofs.edge.closest.Statement.{statement}
+use Rattle.border.specs.Edge.{closestOn}
 use Rattle.border.proofs.edge.closest.Tie as tie
 
 enum-known-edge : tie.Need-enum-known-edge

@@ -1,8 +1,8 @@
 -- `border::edge::foot` meets its contract: the body is the definition, with 1 by its bit pattern. Assumes nothing.
-use mathlib.Core.Path.{refl}
 use lib.Ieee.{ofBits}
-use Rattle.border.specs.Edge.{closestOn}
+use mathlib.Core.Path.{refl}
 use Rattle.border.proofs.edge.foot.Statement.{statement}
+use Rattle.border.specs.Edge.{closestOn}
 use Rattle.border.proofs.edge.foot.Tie as tie
 
 returns : tie.Need-returns

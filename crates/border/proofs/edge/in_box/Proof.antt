@@ -1,7 +1,7 @@
 -- `border::edge::in_box` meets its contract: what its calls ensure. Assumes nothing.
-use Rattle.border.specs.Edge.{inBox}
 use borrow.Author.Needs.{needs}
 use Rattle.border.proofs.edge.in_box.Statement.{statement}
+use Rattle.border.specs.Edge.{inBox}
 use Rattle.border.proofs.edge.in_box.Tie as tie
 
 lat-between-requires : tie.Need-lat-between-requires
@@ -13,7 +13,9 @@ lon-between-requires c κs = search needs
 returns : tie.Need-returns
 unfolding inBox
 returns c =
-    rw (← c .before .before .lat-between .ensures, c .before .if1 .taken) (c .lon-between .ensures)
+    let lat-between = c .before .before .lat-between in
+    let if1 = c .before .if1 in
+    rw (← lat-between .ensures, if1 .taken) (c .lon-between .ensures)
 
 returns-2 : tie.Need-returns-2
 unfolding inBox

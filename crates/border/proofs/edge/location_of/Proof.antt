@@ -1,6 +1,6 @@
 -- `border::edge::location_of` meets its contract: its two conversions. Assumes nothing.
-use Rattle.border.proofs.Signs.{float-of}
 use borrow.Author.Needs.{needs}
+use Rattle.border.proofs.Signs.{float-of}
 use Rattle.border.proofs.edge.location_of.Statement.{statement}
 use Rattle.border.proofs.edge.location_of.Tie as tie
 
@@ -12,8 +12,10 @@ of-i32-requires-2 c κs = search needs
 
 returns : tie.Need-returns
 returns c =
-    let p = c .before .before .before .before .args .point in
-    rw (float-of {n = p .lat .0} (search needs) (c .before .before .of-i32 .ensures), float-of {n = p .lon .0} (search needs) (c .of-i322 .ensures))
+    let args = c .before .before .before .before .args in
+    let of-i32 = c .before .before .of-i32 in
+    let p = args .point in
+    rw (float-of {n = p .lat .0} (search needs) (of-i32 .ensures), float-of {n = p .lon .0} (search needs) (c .of-i322 .ensures))
 
 pub location-of-spec : {M : Type 1} → statement M
 location-of-spec = tie.close (tie.spec of-i32-requires of-i32-requires-2 returns)

@@ -3,19 +3,20 @@ use borrow.Author.Needs.{needs}
 use mir.Syntax.{w32}
 use mir.Val.{SFits}
 use Rattle.border.proofs.Signs.{same-bits, same-read, differ-read}
-use Rattle.border.specs.Edge.{samePoint}
 use Rattle.border.proofs.edge.same_point.Statement.{statement}
+use Rattle.border.specs.Edge.{samePoint}
 use Rattle.border.proofs.edge.same_point.Tie as tie
 
 returns : tie.Need-returns
 unfolding samePoint
 returns c =
     let a = c .before .before .before .before .before .before .before .before .before .args in
+    let if1 = c .before .before .before .before .if1 in
     let x : SFits w32 (a .one .lat .0) = search needs in
     let y : SFits w32 (a .other .lat .0) = search needs in
     let u : SFits w32 (a .one .lon .0) = search needs in
     let v : SFits w32 (a .other .lon .0) = search needs in
-    rw (same-read x y (c .before .before .before .before .if1 .taken)) (same-bits u v)
+    rw (same-read x y (if1 .taken)) (same-bits u v)
 
 returns-2 : tie.Need-returns-2
 unfolding samePoint

@@ -1,7 +1,7 @@
 -- `border::edge::seen_from` meets its contract: what its calls ensure. Assumes nothing.
-use Rattle.border.specs.Edge.{seenFrom}
 use borrow.Author.Needs.{needs}
 use Rattle.border.proofs.edge.seen_from.Statement.{statement}
+use Rattle.border.specs.Kept.{seenFrom}
 use Rattle.border.proofs.edge.seen_from.Tie as tie
 
 quadrant-of-requires : tie.Need-quadrant-of-requires
@@ -13,12 +13,16 @@ location-of-requires c κs = search needs
 returns : tie.Need-returns
 unfolding seenFrom
 returns c =
-    rw (c .before .if1 .taken, c .before .before .quadrant-of .ensures, c .location-of .ensures)
+    let if1 = c .before .if1 in
+    let quadrant-of = c .before .before .quadrant-of in
+    rw (if1 .taken, quadrant-of .ensures, c .location-of .ensures)
 
 returns-2 : tie.Need-returns-2
 unfolding seenFrom
 returns-2 c =
-    rw (c .if1 .left, c .before .quadrant-of .ensures, c .before .before .pre)
+    let quadrant-of = c .before .quadrant-of in
+    let pre = c .before .before .pre in
+    rw (c .if1 .left, quadrant-of .ensures, pre)
 
 pub seen-from-spec : {M : Type 1} → statement M
 seen-from-spec = tie.close (tie.spec quadrant-of-requires location-of-requires returns returns-2)

@@ -1,7 +1,7 @@
 -- `border::edge::slope_between` meets its contract: the body is the definition. Assumes nothing.
 use mathlib.Core.Path.{refl}
-use Rattle.border.specs.Edge.{slopeOf}
 use Rattle.border.proofs.edge.slope_between.Statement.{statement}
+use Rattle.border.specs.Edge.{slopeOf}
 use Rattle.border.proofs.edge.slope_between.Tie as tie
 
 returns : tie.Need-returns

@@ -1,24 +1,14 @@
--- `border::reader::plain_turn` meets its contract. Assumes nothing.
-use borrow.Author.Needs.{needs}
+-- `border::reader::plain_turn` meets its contract: it goes on from the moves that are left. Assumes nothing.
+use mathlib.Core.Path.{_∙_}
 use denote.Ref.{now}
-use mathlib.Core.Path.{sym, _∙_}
-use Rattle.border.proofs.reader.Turns.{counted-before, count-fails, count-read}
+use Rattle.numbers.proofs.Laws.{stops, goes-on}
+use Rattle.border.proofs.reader.Counts.{pairFrom, counted-turn}
+use borrow.Author.Needs.{needs}
 use Rattle.border.proofs.reader.plain_turn.Statement.{statement}
-use Rattle.border.specs.Reader.{plainTurn}
-use Rattle.numbers.proofs.Laws.{stops}
 use Rattle.border.proofs.reader.plain_turn.Tie as tie
 
-plain-pair-requires : tie.Need-plain-pair-requires
-plain-pair-requires c κs = search needs
-
-returns : tie.Need-returns
-returns c =
-    let args = c .before .before .before .args in
-    let if1 = c .before .if1 in
-    c .plain-pair .ensures ∙ sym (counted-before (now (args .file)) (args .reader) (if1 .taken))
-
-read-forward-requires : tie.Need-read-forward-requires
-read-forward-requires c κs = search needs
+moves-left-requires : tie.Need-moves-left-requires
+moves-left-requires c κs = search needs
 
 enum-known-n : tie.Need-enum-known-n
 enum-known-n c = search needs
@@ -26,44 +16,20 @@ enum-known-n c = search needs
 stop-requires : tie.Need-stop-requires
 stop-requires c κs = search needs
 
+returns : tie.Need-returns
+returns c =
+    let f = now (c .before .before .before .before .args .file) in
+    c .stop .ensures ∙ stops (c .before .before .moves-left .result) (c .before .before .moves-left .ensures) (c .before .match .keys2) _ (pairFrom f (c .before .before .before .before .args .reader)) ∙ counted-turn f (c .before .before .before .before .args .reader)
+
+plain-pair-requires : tie.Need-plain-pair-requires
+plain-pair-requires c κs = search needs
+
 returns-2 : tie.Need-returns-2
-unfolding plainTurn
 returns-2 c =
-    let if1 = c .before .before .before .if1 in
-    let read-forward = c .before .before .read-forward in
-    let matched = c .before .match in
-    rw (if1 .left) (c .stop .ensures ∙ stops (read-forward .result) (read-forward .ensures) (matched .keys2) _ _)
-
-returns-3 : tie.Need-returns-3
-returns-3 c =
-    let args = c .before .before .before .before .before .before .before .args in
-    let if1 = c .before .before .before .before .before .if1 in
-    let n = c .before .before .n in
-    let read-forward = c .before .before .before .before .read-forward in
-    sym (count-fails (now (args .file)) (args .reader) (if1 .left) (rw (n .given .1) at (read-forward .ensures)) (c .if2 .taken))
-
-plain-pair-requires-2 : tie.Need-plain-pair-requires-2
-plain-pair-requires-2 c κs = search needs
-
-returns-4 : tie.Need-returns-4
-returns-4 c =
-    let args = c .before .before .before .before .before .before .before .before .args in
-    let if1 = c .before .before .before .before .before .before .if1 in
-    let n = c .before .before .before .n in
-    let read-forward = c .before .before .before .before .before .read-forward in
-    let if2 = c .before .if2 in
-    c .plain-pair2 .ensures ∙ sym (count-read (now (args .file)) (args .reader) (if1 .left) (rw (n .given .1) at (read-forward .ensures)) (if2 .left))
+    let f = now (c .before .before .before .before .before .before .args .file) in
+    c .plain-pair .ensures ∙ goes-on (c .before .before .before .before .moves-left .result) (c .before .before .before .before .moves-left .ensures) (c .before .before .n .given .1) (pairFrom f (c .before .before .before .before .before .before .args .reader)) ∙ counted-turn f (c .before .before .before .before .before .before .args .reader)
 
 pub plain-turn-spec : {M : Type 1} → statement M
 plain-turn-spec =
     tie.close
-    (tie.spec
-    plain-pair-requires
-    returns
-    read-forward-requires
-    enum-known-n
-    stop-requires
-    returns-2
-    returns-3
-    plain-pair-requires-2
-    returns-4)
+    (tie.spec moves-left-requires enum-known-n stop-requires returns plain-pair-requires returns-2)

@@ -1,11 +1,11 @@
 -- `border::verdict::closed` meets its contract: the three tests decide as the definition does. Assumes nothing.
+use borrow.Author.Needs.{needs}
 use lib.IntN.{pos, negsuc}
 use mir.Syntax.{w32}
 use mir.Val.{SFits}
 use Rattle.border.proofs.Signs.{same-read, differ-read}
-use Rattle.border.specs.Verdict.{closedAt}
-use borrow.Author.Needs.{needs}
 use Rattle.border.proofs.verdict.closed.Statement.{statement}
+use Rattle.border.specs.Verdict.{closedAt}
 use Rattle.border.proofs.verdict.closed.Tie as tie
 
 minus-four : SFits w32 (negsuc 3)
@@ -26,14 +26,19 @@ returns c =
 returns-2 : tie.Need-returns-2
 unfolding closedAt
 returns-2 c =
-    let w : SFits w32 (c .before .before .before .args .tally .winding) = search needs in
-    rw (differ-read w minus-four (c .before .if1 .left), same-read w four (c .if2 .taken))
+    let args = c .before .before .before .args in
+    let if1 = c .before .if1 in
+    let w : SFits w32 (args .tally .winding) = search needs in
+    rw (differ-read w minus-four (if1 .left), same-read w four (c .if2 .taken))
 
 returns-3 : tie.Need-returns-3
 unfolding closedAt
 returns-3 c =
-    let w : SFits w32 (c .before .before .before .before .args .tally .winding) = search needs in
-    rw (differ-read w minus-four (c .before .before .if1 .left), differ-read w four (c .before .if2 .left), same-read w zero (c .if3 .taken))
+    let args = c .before .before .before .before .args in
+    let if1 = c .before .before .if1 in
+    let if2 = c .before .if2 in
+    let w : SFits w32 (args .tally .winding) = search needs in
+    rw (differ-read w minus-four (if1 .left), differ-read w four (if2 .left), same-read w zero (c .if3 .taken))
 
 on-border-requires : tie.Need-on-border-requires
 on-border-requires c κs = search needs
@@ -41,8 +46,12 @@ on-border-requires c κs = search needs
 returns-4 : tie.Need-returns-4
 unfolding closedAt
 returns-4 c =
-    let w : SFits w32 (c .before .before .before .before .before .args .tally .winding) = search needs in
-    rw (differ-read w minus-four (c .before .before .before .if1 .left), differ-read w four (c .before .before .if2 .left), differ-read w zero (c .before .if3 .left)) (c .on-border .ensures)
+    let args = c .before .before .before .before .before .args in
+    let if1 = c .before .before .before .if1 in
+    let if2 = c .before .before .if2 in
+    let if3 = c .before .if3 in
+    let w : SFits w32 (args .tally .winding) = search needs in
+    rw (differ-read w minus-four (if1 .left), differ-read w four (if2 .left), differ-read w zero (if3 .left)) (c .on-border .ensures)
 
 pub closed-spec : {M : Type 1} → statement M
 closed-spec = tie.close (tie.spec returns returns-2 returns-3 on-border-requires returns-4)

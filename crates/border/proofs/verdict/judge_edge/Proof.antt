@@ -1,10 +1,10 @@
 -- `border::verdict::judge_edge` meets its contract: what its calls ensure, in the order of the definition. Assumes nothing.
+use borrow.Author.Needs.{needs}
 use Rattle.border.proofs.Kept.{quadrant-kept, location-kept}
+use Rattle.border.proofs.verdict.judge_edge.Statement.{statement}
 use Rattle.border.proofs.winding.Cases.{stays}
 use Rattle.border.specs.Distance.{measured}
 use Rattle.border.specs.Verdict.{along}
-use borrow.Author.Needs.{needs}
-use Rattle.border.proofs.verdict.judge_edge.Statement.{statement}
 use Rattle.border.proofs.verdict.judge_edge.Tie as tie
 
 wound-requires : tie.Need-wound-requires
@@ -21,17 +21,23 @@ returns c =
 
 measure-requires : tie.Need-measure-requires
 measure-requires c κs =
-    (c .before .before .before .before .before .pre .fixed, location-kept _ _ (c .before .before .before .before .before .pre .left) (c .if1 .taken), location-kept _ _ (c .before .before .before .before .before .pre .reached) (c .if1 .taken))
+    let pre = c .before .before .before .before .before .pre in
+    (pre .fixed, location-kept _ _ (pre .left) (c .if1 .taken), location-kept _ _ (pre .reached) (c .if1 .taken))
 
 returns-2 : tie.Need-returns-2
 unfolding along
 returns-2 c =
-    rw (← c .before .before .before .before .before .wound .ensures, c .before .before .before .turned .given .1, c .before .if1 .taken) (c .measure .ensures)
+    let wound = c .before .before .before .before .before .wound in
+    let turned = c .before .before .before .turned in
+    let if1 = c .before .if1 in
+    rw (← wound .ensures, turned .given .1, if1 .taken) (c .measure .ensures)
 
 returns-3 : tie.Need-returns-3
 unfolding along measured
 returns-3 c =
-    rw (← c .before .before .before .before .wound .ensures, c .before .before .turned .given .1, c .if1 .left)
+    let wound = c .before .before .before .before .wound in
+    let turned = c .before .before .turned in
+    rw (← wound .ensures, turned .given .1, c .if1 .left)
 
 pub judge-edge-spec : {M : Type 1} → statement M
 judge-edge-spec =

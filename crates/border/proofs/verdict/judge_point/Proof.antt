@@ -1,7 +1,7 @@
 -- `border::verdict::judge_point` meets its contract: what its calls ensure, in the order of the definition. Assumes nothing.
-use Rattle.border.specs.Verdict.{along, passing}
 use borrow.Author.Needs.{needs}
 use Rattle.border.proofs.verdict.judge_point.Statement.{statement}
+use Rattle.border.specs.Verdict.{along, passing}
 use Rattle.border.proofs.verdict.judge_point.Tie as tie
 
 same-point-requires : tie.Need-same-point-requires
@@ -18,12 +18,17 @@ judge-edge-requires c κs = search needs
 returns-2 : tie.Need-returns-2
 unfolding passing
 returns-2 c =
-    rw (← c .before .before .before .same-point .ensures, c .before .before .if1 .left, c .before .if2 .taken) (c .judge-edge .ensures)
+    let same-point = c .before .before .before .same-point in
+    let if1 = c .before .before .if1 in
+    let if2 = c .before .if2 in
+    rw (← same-point .ensures, if1 .left, if2 .taken) (c .judge-edge .ensures)
 
 returns-3 : tie.Need-returns-3
 unfolding passing along
 returns-3 c =
-    rw (← c .before .before .same-point .ensures, c .before .if1 .left, c .if2 .left)
+    let same-point = c .before .before .same-point in
+    let if1 = c .before .if1 in
+    rw (← same-point .ensures, if1 .left, c .if2 .left)
 
 pub judge-point-spec : {M : Type 1} → statement M
 judge-point-spec =

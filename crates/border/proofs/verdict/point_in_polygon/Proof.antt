@@ -1,23 +1,22 @@
 -- `border::verdict::point_in_polygon` meets its contract. The loop's invariant: what is left of the border, judged from where it has
 -- come to, is what the whole gives; and what is kept of the last point is right. The measure is what can still be read. Assumes nothing.
-use mathlib.Core.Path.{_≡_, refl, sym, ap, _∙_}
-use lib.IntN.{pos}
-use denote.Ref.{now}
 use borrow.Author.Needs.{needs}
-use Rattle.numbers.specs.Answer.{Answer}
-use Rattle.border.specs.Step.{Step, told}
-use Rattle.border.specs.Edge.{seenFrom}
-use Rattle.border.specs.Told as R
-use Rattle.border.specs.Trace.{Given, point, nextPoint, traceThen, traceOf, borderAt}
-use Rattle.border.specs.Verdict.{none, after, lastOf, passing, thenOn, judge, judgedAt}
-use Rattle.border.specs.declared.place.Point.{Point}
-use Rattle.border.specs.declared.reader.Reader.{Reader}
-use Rattle.border.specs.declared.verdict.Tally.{Tally}
+use denote.Ref.{now}
+use lib.IntN.{pos}
+use mathlib.Core.Path.{_≡_, sym, ap, _∙_}
+use Rattle.border.proofs.Kept.{point-kept, seen-again}
 use Rattle.border.proofs.Room.{left}
 use Rattle.border.proofs.Trace.{trace-step, point-less}
 use Rattle.border.proofs.verdict.Cases.{judge-end, decides}
-use Rattle.border.proofs.Kept.{point-kept, seen-again}
 use Rattle.border.proofs.verdict.point_in_polygon.Statement.{statement}
+use Rattle.border.specs.Kept.{seenFrom, lastOf}
+use Rattle.border.specs.Step.{Step, told}
+use Rattle.border.specs.Trace.{Given, point, traceThen, traceOf, borderAt}
+use Rattle.border.specs.Verdict.{none, after, thenOn, judge, judgedAt}
+use Rattle.border.specs.declared.place.Point.{Point}
+use Rattle.border.specs.declared.verdict.Tally.{Tally}
+use Rattle.numbers.specs.Answer.{Answer}
+use Rattle.border.specs.Told as R
 use Rattle.border.proofs.verdict.point_in_polygon.Tie as tie
 
 abbrev Inv-loop : tie.InvT-loop
@@ -55,22 +54,29 @@ returns : tie.Need-returns Inv-loop μ-loop
 unfolding judgedAt
 returns c =
     let a = c .before .before .before .before .before .before .before .before .args in
-    let l = c .before .before .before .loop in
+    let loop = c .before .before .before .loop in
+    let next-point = c .before .before .next-point in
+    let matched = c .before .match in
+    let l = loop in
     let fix : Point = record { lat = a .lat; lon = a .lon } in
     let rest = traceOf (now (a .file)) (a .version) (a .data-offset) in
     let judged = judge fix (a .asked) (lastOf (l .begun) (l .last .point)) (l .tally) in
     c .ended .ensures
-    ∙ judge-end fix (a .asked) (lastOf (l .begun) (l .last .point)) (l .tally) (c .before .before .next-point .result) rest (c .before .match .keys2)
-    ∙ ap (λ (n : Answer Given). judged (traceThen n rest)) (c .before .before .next-point .ensures)
+    ∙ judge-end fix (a .asked) (lastOf (l .begun) (l .last .point)) (l .tally) (next-point .result) rest (matched .keys2)
+    ∙ ap (λ (n : Answer Given). judged (traceThen n rest)) (next-point .ensures)
     ∙ ap judged (sym (trace-step (now (a .file)) (a .version) (a .data-offset) (l .reader)))
     ∙ l .inv .0
 
 seen-from-requires-2 : tie.Need-seen-from-requires-2 Inv-loop μ-loop
-seen-from-requires-2 c κs = c .before .before .before .before .before .before .before .location-of .ensures
+seen-from-requires-2 c κs =
+    let location-of = c .before .before .before .before .before .before .before .location-of in
+    location-of .ensures
 
 judge-point-requires : tie.Need-judge-point-requires Inv-loop μ-loop
 judge-point-requires c κs =
-    record { fixed = c .before .before .before .before .before .before .before .before .location-of .ensures; left = c .before .before .before .before .before .loop .inv .1; reached = seen-again _ _ _ (c .seen-from2 .ensures) }
+    let location-of = c .before .before .before .before .before .before .before .before .location-of in
+    let loop = c .before .before .before .before .before .loop in
+    record { fixed = location-of .ensures; left = loop .inv .1; reached = seen-again _ _ _ (c .seen-from2 .ensures) }
 
 enum-known-passed : tie.Need-enum-known-passed Inv-loop μ-loop
 enum-known-passed c = search needs
@@ -88,14 +94,18 @@ stepped : (c : tie.After-judge-point Inv-loop μ-loop) →
 unfolding judge traceThen
 stepped c =
     let a = c .before .before .before .before .before .before .before .before .before .before .before .args in
-    let l = c .before .before .before .before .before .before .loop in
+    let loop = c .before .before .before .before .before .before .loop in
+    let next = c .before .before .before .next in
+    let next-point = c .before .before .before .before .before .next-point in
+    let seen-from2 = c .before .seen-from2 in
+    let l = loop in
     let fix : Point = record { lat = a .lat; lon = a .lon } in
     let rest = traceOf (now (a .file)) (a .version) (a .data-offset) in
     let last = lastOf (l .begun) (l .last .point) in
-    let later = c .before .before .before .next .given .0 .0 in
-    let said = ap R.told (sym (c .before .before .before .next .given .1)) ∙ c .before .before .before .before .before .next-point .ensures in
-    ap (λ (s : Step Tally). thenOn (a .asked) (l .tally .least) s (λ (t : Tally). judge fix (a .asked) (after (c .before .seen-from2 .result .point)) t (rest later))) (c .judge-point .ensures)
-    ∙ ap (λ (p : Point). judge fix (a .asked) last (l .tally) (point p (rest later))) (point-kept _ _ _ (c .before .seen-from2 .ensures))
+    let later = next .given .0 .0 in
+    let said = ap R.told (sym (next .given .1)) ∙ next-point .ensures in
+    ap (λ (s : Step Tally). thenOn (a .asked) (l .tally .least) s (λ (t : Tally). judge fix (a .asked) (after (seen-from2 .result .point)) t (rest later))) (c .judge-point .ensures)
+    ∙ ap (λ (p : Point). judge fix (a .asked) last (l .tally) (point p (rest later))) (point-kept _ _ _ (seen-from2 .ensures))
     ∙ ap (λ (n : Answer Given). judge fix (a .asked) last (l .tally) (traceThen n rest)) said
     ∙ ap (judge fix (a .asked) last (l .tally)) (sym (trace-step (now (a .file)) (a .version) (a .data-offset) (l .reader)))
     ∙ l .inv .0
@@ -103,19 +113,26 @@ stepped c =
 returns-2 : tie.Need-returns-2 Inv-loop μ-loop
 unfolding judgedAt
 returns-2 c =
-    c .stopped .ensures ∙ decides (c .before .before .judge-point .result) _ _ _ (c .before .match2 .keys2) ∙ stepped (c .before .before)
+    let judge-point = c .before .before .judge-point in
+    let match2 = c .before .match2 in
+    c .stopped .ensures ∙ decides (judge-point .result) _ _ _ (match2 .keys2) ∙ stepped (c .before .before)
 
 loop-less : tie.Need-loop-less Inv-loop μ-loop
 loop-less c =
     let a = c .before .before .before .before .before .before .before .before .before .before .before .before .before .before .args in
-    let l = c .before .before .before .before .before .before .before .before .before .loop in
-    let said = ap R.told (sym (c .before .before .before .before .before .before .next .given .1)) ∙ c .before .before .before .before .before .before .before .before .next-point .ensures in
-    point-less (now (a .file)) (a .version) (a .data-offset) (l .reader) (c .before .before .before .before .before .before .next .given .0 .0) said
+    let loop = c .before .before .before .before .before .before .before .before .before .loop in
+    let next = c .before .before .before .before .before .before .next in
+    let next-point = c .before .before .before .before .before .before .before .before .next-point in
+    let l = loop in
+    let said = ap R.told (sym (next .given .1)) ∙ next-point .ensures in
+    point-less (now (a .file)) (a .version) (a .data-offset) (l .reader) (next .given .0 .0) said
 
 loop-again : tie.Need-loop-again Inv-loop μ-loop
 unfolding thenOn
 loop-again c =
-    (rw (c .before .passed .given .1) at (stepped (c .before .before .before)), seen-again _ _ _ (c .before .before .before .before .seen-from2 .ensures))
+    let passed = c .before .passed in
+    let seen-from2 = c .before .before .before .before .seen-from2 in
+    (rw (passed .given .1) at (stepped (c .before .before .before)), seen-again _ _ _ (seen-from2 .ensures))
 
 pub point-in-polygon-spec : {M : Type 1} → statement M
 point-in-polygon-spec =

@@ -1,8 +1,8 @@
 -- `border::verdict::stopped` meets its contract: past the `else` the step meets the border. Assumes nothing.
-use Rattle.border.specs.Verdict.{thenOn}
-use Rattle.border.proofs.verdict.Cases.{unmet}
 use borrow.Author.Needs.{needs}
+use Rattle.border.proofs.verdict.Cases.{unmet}
 use Rattle.border.proofs.verdict.stopped.Statement.{statement}
+use Rattle.border.specs.Verdict.{thenOn}
 use Rattle.border.proofs.verdict.stopped.Tie as tie
 
 enum-known-passed : tie.Need-enum-known-passed

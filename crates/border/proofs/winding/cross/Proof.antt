@@ -1,11 +1,11 @@
 -- `border::winding::cross` meets its contract: what its calls ensure. Assumes nothing.
+use borrow.Author.Needs.{needs}
 use mathlib.Core.Path.{_≡_}
 use mir.Syntax.{w32}
 use mir.Val.{toZ, ofZ}
 use Rattle.border.proofs.winding.Cases.{straight-across}
-use Rattle.border.specs.Winding.{acrossBy}
-use borrow.Author.Needs.{needs}
 use Rattle.border.proofs.winding.cross.Statement.{statement}
+use Rattle.border.specs.Winding.{acrossBy}
 use Rattle.border.proofs.winding.cross.Tie as tie
 
 enum-known-edge : tie.Need-enum-known-edge
@@ -36,19 +36,29 @@ enum-told-2 c = search needs
 returns-2 : tie.Need-returns-2
 unfolding acrossBy
 returns-2 c =
-    let x = c .before .before .by .given .0 .0 in
+    let by = c .before .before .by in
+    let edge = c .before .before .before .before .before .before .before .edge in
+    let crossing-of = c .before .before .before .before .before .crossing-of in
+    let turn-at = c .before .before .before .before .turn-at in
+    let x = by .given .0 .0 in
     let p : toZ w32 (ofZ w32 x) ≡ x = search needs in
-    rw (c .before .before .before .before .before .before .before .edge .given .1, ← c .before .before .before .before .before .crossing-of .ensures, ← c .before .before .before .before .turn-at .ensures, c .before .before .by .given .1) (rw p at (c .turn .ensures))
+    rw (edge .given .1, ← crossing-of .ensures, ← turn-at .ensures, by .given .1) (rw p at (c .turn .ensures))
 
 returns-3 : tie.Need-returns-3
 unfolding acrossBy
 returns-3 c =
-    rw (c .before .before .before .before .before .edge .given .1, ← c .before .before .before .crossing-of .ensures, ← c .before .before .turn-at .ensures, c .enum-told .given .1)
+    let edge = c .before .before .before .before .before .edge in
+    let crossing-of = c .before .before .before .crossing-of in
+    let turn-at = c .before .before .turn-at in
+    rw (edge .given .1, ← crossing-of .ensures, ← turn-at .ensures, c .enum-told .given .1)
 
 returns-4 : tie.Need-returns-4
 unfolding acrossBy
 returns-4 c =
-    rw (c .before .before .before .before .before .edge .given .1, ← c .before .before .before .crossing-of .ensures, ← c .before .before .turn-at .ensures, c .enum-told2 .given .1)
+    let edge = c .before .before .before .before .before .edge in
+    let crossing-of = c .before .before .before .crossing-of in
+    let turn-at = c .before .before .turn-at in
+    rw (edge .given .1, ← crossing-of .ensures, ← turn-at .ensures, c .enum-told2 .given .1)
 
 pub cross-spec : {M : Type 1} → statement M
 cross-spec =

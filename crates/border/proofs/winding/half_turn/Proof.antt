@@ -1,7 +1,7 @@
 -- `border::winding::half_turn` meets its contract: the two tests decide as the definition does. Assumes nothing.
 use borrow.Author.Tests.{lt-ltb, le-ltb}
-use Rattle.border.specs.Winding.{halfTurn}
 use Rattle.border.proofs.winding.half_turn.Statement.{statement}
+use Rattle.border.specs.Winding.{halfTurn}
 use Rattle.border.proofs.winding.half_turn.Tie as tie
 
 returns : tie.Need-returns

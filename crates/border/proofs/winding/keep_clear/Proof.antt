@@ -1,7 +1,7 @@
 -- `border::winding::keep_clear` meets its contract: the two tests decide as the definition does. Assumes nothing.
-use Rattle.border.specs.Winding.{clearOf}
 use borrow.Author.Needs.{needs}
 use Rattle.border.proofs.winding.keep_clear.Statement.{statement}
+use Rattle.border.specs.Winding.{clearOf}
 use Rattle.border.proofs.winding.keep_clear.Tie as tie
 
 is-straight-requires : tie.Need-is-straight-requires
@@ -13,12 +13,18 @@ in-box-requires c κs = search needs
 returns : tie.Need-returns
 unfolding clearOf
 returns c =
-    rw (← c .before .before .before .is-straight .ensures, c .before .before .if1 .taken, ← c .before .in-box .ensures, c .if2 .taken)
+    let is-straight = c .before .before .before .is-straight in
+    let if1 = c .before .before .if1 in
+    let in-box = c .before .in-box in
+    rw (← is-straight .ensures, if1 .taken, ← in-box .ensures, c .if2 .taken)
 
 returns-2 : tie.Need-returns-2
 unfolding clearOf
 returns-2 c =
-    rw (← c .before .before .before .is-straight .ensures, c .before .before .if1 .taken, ← c .before .in-box .ensures, c .if2 .left)
+    let is-straight = c .before .before .before .is-straight in
+    let if1 = c .before .before .if1 in
+    let in-box = c .before .in-box in
+    rw (← is-straight .ensures, if1 .taken, ← in-box .ensures, c .if2 .left)
 
 returns-3 : tie.Need-returns-3
 unfolding clearOf

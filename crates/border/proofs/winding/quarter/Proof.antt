@@ -1,8 +1,8 @@
 -- `border::winding::quarter` meets its contract: the two tests decide as the definition does. Assumes nothing.
-use borrow.Author.Tests.{eq-eqb, ne-eqb}
-use Rattle.border.specs.Winding.{quarterBy}
 use borrow.Author.Needs.{needs}
+use borrow.Author.Tests.{eq-eqb, ne-eqb}
 use Rattle.border.proofs.winding.quarter.Statement.{statement}
+use Rattle.border.specs.Winding.{quarterBy}
 use Rattle.border.proofs.winding.quarter.Tie as tie
 
 turn-requires : tie.Need-turn-requires
@@ -19,7 +19,9 @@ turn-requires-2 c κs = search needs
 returns-2 : tie.Need-returns-2
 unfolding quarterBy
 returns-2 c =
-    rw (ne-eqb _ _ (c .before .before .if1 .left), eq-eqb _ _ (c .before .if2 .taken)) (c .turn2 .ensures)
+    let if1 = c .before .before .if1 in
+    let if2 = c .before .if2 in
+    rw (ne-eqb _ _ (if1 .left), eq-eqb _ _ (if2 .taken)) (c .turn2 .ensures)
 
 returns-3 : tie.Need-returns-3
 unfolding quarterBy

@@ -1,20 +1,23 @@
 -- `border::winding::turn` meets its contract: the exact sum, where it is in the range of an i32. Assumes nothing.
+use borrow.Author.Needs.{needs}
 use lib.IntN.{_+ℤ_}
-use mir.Syntax.{w32}
 use mir.Facts.{toZ-ofZ}
+use mir.Syntax.{w32}
 use mir.Val.{SFits}
 use Rattle.border.proofs.Checks.{checked-found, checked-over, narrow}
-use Rattle.border.proofs.Signs.{widened, widens, sum-fits, exact-sum}
-use Rattle.border.specs.Winding.{turned}
-use borrow.Author.Needs.{needs}
+use Rattle.border.proofs.Signs.{exact-sum}
+use Rattle.border.proofs.place.Whole.{widened, widens, sum-fits}
 use Rattle.border.proofs.winding.turn.Statement.{statement}
+use Rattle.border.specs.Winding.{turned}
 use Rattle.border.proofs.winding.turn.Tie as tie
 
 cast-sum : tie.Need-cast-sum
 cast-sum c =
-    let b = c .before .before .fits .by in
+    let fits = c .before .before .fits in
+    let args = c .before .before .args in
+    let b = fits .by in
     let told = c .struct-told .given in
-    let w : SFits w32 (c .before .before .args .tally .winding) = search needs in
+    let w : SFits w32 (args .tally .winding) = search needs in
     widens w
 
 cast-sum-2 : tie.Need-cast-sum-2
@@ -23,9 +26,11 @@ cast-sum-2 c =
 
 add-sum : tie.Need-add-sum
 add-sum c =
-    let b = c .before .before .fits .by in
+    let fits = c .before .before .fits in
+    let args = c .before .before .args in
+    let b = fits .by in
     let told = c .struct-told .given in
-    let w : SFits w32 (c .before .before .args .tally .winding) = search needs in
+    let w : SFits w32 (args .tally .winding) = search needs in
     rw (widened w, widened b) (sum-fits w b)
 
 fits-i32-requires : tie.Need-fits-i32-requires
@@ -33,31 +38,43 @@ fits-i32-requires c κs = search needs
 
 cast-t8 : tie.Need-cast-t8
 cast-t8 c =
-    let b = c .before .before .before .before .fits .by in
-    let told = c .before .before .struct-told .given in
-    let w : SFits w32 (c .before .before .before .before .args .tally .winding) = search needs in
-    let sum = c .before .before .before .before .args .tally .winding +ℤ c .before .before .before .before .args .by in
-    let e = rw (exact-sum w b) at (c .before .fits-i32 .ensures) in
+    let fits = c .before .before .before .before .fits in
+    let struct-told = c .before .before .struct-told in
+    let args = c .before .before .before .before .args in
+    let fits-i32 = c .before .fits-i32 in
+    let b = fits .by in
+    let told = struct-told .given in
+    let w : SFits w32 (args .tally .winding) = search needs in
+    let sum = args .tally .winding +ℤ args .by in
+    let e = rw (exact-sum w b) at (fits-i32 .ensures) in
     rw (exact-sum w b) (narrow sum e (c .if1 .taken))
 
 returns : tie.Need-returns
 unfolding turned
 returns c =
-    let b = c .before .before .before .before .fits .by in
-    let told = c .before .before .struct-told .given in
-    let w : SFits w32 (c .before .before .before .before .args .tally .winding) = search needs in
-    let sum = c .before .before .before .before .args .tally .winding +ℤ c .before .before .before .before .args .by in
-    let e = rw (exact-sum w b) at (c .before .fits-i32 .ensures) in
+    let fits = c .before .before .before .before .fits in
+    let struct-told = c .before .before .struct-told in
+    let args = c .before .before .before .before .args in
+    let fits-i32 = c .before .fits-i32 in
+    let b = fits .by in
+    let told = struct-told .given in
+    let w : SFits w32 (args .tally .winding) = search needs in
+    let sum = args .tally .winding +ℤ args .by in
+    let e = rw (exact-sum w b) at (fits-i32 .ensures) in
     rw (exact-sum w b, toZ-ofZ {w = w32} (narrow sum e (c .if1 .taken)), checked-found 31 sum e (c .if1 .taken))
 
 returns-2 : tie.Need-returns-2
 unfolding turned
 returns-2 c =
-    let b = c .before .before .before .before .fits .by in
-    let told = c .before .before .struct-told .given in
-    let w : SFits w32 (c .before .before .before .before .args .tally .winding) = search needs in
-    let sum = c .before .before .before .before .args .tally .winding +ℤ c .before .before .before .before .args .by in
-    let e = rw (exact-sum w b) at (c .before .fits-i32 .ensures) in
+    let fits = c .before .before .before .before .fits in
+    let struct-told = c .before .before .struct-told in
+    let args = c .before .before .before .before .args in
+    let fits-i32 = c .before .fits-i32 in
+    let b = fits .by in
+    let told = struct-told .given in
+    let w : SFits w32 (args .tally .winding) = search needs in
+    let sum = args .tally .winding +ℤ args .by in
+    let e = rw (exact-sum w b) at (fits-i32 .ensures) in
     rw (checked-over 31 sum e (c .if1 .left))
 
 pub turn-spec : {M : Type 1} → statement M

@@ -1,14 +1,15 @@
 -- `border::winding::turn_at` meets its contract: the bounds that fit, and the tests against them, decide as the definition does. Assumes nothing.
-use lib.IntN.{pos, _+ℤ_, _-ℤ_}
+use borrow.Author.Needs.{needs}
 use borrow.Author.Tests.{not-true, not-false}
+use lib.IntN.{pos, _+ℤ_, _-ℤ_}
 use mathlib.Core.Path.{_≡_}
 use mir.Syntax.{w32}
 use mir.Val.{SFits, toZ, ofZ}
 use Rattle.border.proofs.Checks.{checked-found, checked-over}
-use Rattle.border.proofs.Signs.{widened, widens, sum-fits, difference-fits, exact-sum, exact-difference}
-use Rattle.border.specs.Winding.{turnAt}
-use borrow.Author.Needs.{needs}
+use Rattle.border.proofs.Signs.{exact-sum, exact-difference}
+use Rattle.border.proofs.place.Whole.{widened, widens, sum-fits, difference-fits}
 use Rattle.border.proofs.winding.turn_at.Statement.{statement}
+use Rattle.border.specs.Winding.{turnAt}
 use Rattle.border.proofs.winding.turn_at.Tie as tie
 
 one : SFits w32 (pos 1)
@@ -21,12 +22,14 @@ cast-met c =
 
 cast-left : tie.Need-cast-left
 cast-left c =
-    let x : SFits w32 (c .before .before .before .before .args .fix .0) = search needs in
+    let args = c .before .before .before .before .args in
+    let x : SFits w32 (args .fix .0) = search needs in
     widens x
 
 sub-left : tie.Need-sub-left
 sub-left c =
-    let x : SFits w32 (c .before .before .before .before .args .fix .0) = search needs in
+    let args = c .before .before .before .before .args in
+    let x : SFits w32 (args .fix .0) = search needs in
     rw (widened x) (difference-fits x one)
 
 fits-i32-requires : tie.Need-fits-i32-requires
@@ -36,9 +39,10 @@ returns : tie.Need-returns
 unfolding turnAt
 returns c =
     let a = c .before .before .before .before .before .before .args in
+    let fits-i32 = c .before .fits-i32 in
     let x : SFits w32 (a .fix .0) = search needs in
     let y : SFits w32 (a .crossing .0) = search needs in
-    let left = rw (exact-difference x one) at (c .before .fits-i32 .ensures) in
+    let left = rw (exact-difference x one) at (fits-i32 .ensures) in
     rw (checked-over 31 (a .fix .0 -ℤ pos 1) left (not-true _ (c .if1 .taken)))
 
 half-turn-requires : tie.Need-half-turn-requires
@@ -48,20 +52,25 @@ returns-2 : tie.Need-returns-2
 unfolding turnAt
 returns-2 c =
     let a = c .before .before .before .before .before .before .before .before .args in
+    let fits-i32 = c .before .before .before .fits-i32 in
+    let if1 = c .before .before .if1 in
+    let if2 = c .before .if2 in
     let x : SFits w32 (a .fix .0) = search needs in
     let y : SFits w32 (a .crossing .0) = search needs in
-    let left = rw (exact-difference x one) at (c .before .before .before .fits-i32 .ensures) in
+    let left = rw (exact-difference x one) at (fits-i32 .ensures) in
     let r : toZ w32 (ofZ w32 (c .half-turn .result)) ≡ c .half-turn .result = search needs in
-    rw (checked-found 31 (a .fix .0 -ℤ pos 1) left (not-false _ (c .before .before .if1 .left)), rw (widened y, exact-difference x one) at (c .before .if2 .taken), r, c .half-turn .ensures)
+    rw (checked-found 31 (a .fix .0 -ℤ pos 1) left (not-false _ (if1 .left)), rw (widened y, exact-difference x one) at (if2 .taken), r, c .half-turn .ensures)
 
 cast-right : tie.Need-cast-right
 cast-right c =
-    let x : SFits w32 (c .before .before .before .before .before .before .before .before .before .args .fix .0) = search needs in
+    let args = c .before .before .before .before .before .before .before .before .before .args in
+    let x : SFits w32 (args .fix .0) = search needs in
     widens x
 
 add-right : tie.Need-add-right
 add-right c =
-    let x : SFits w32 (c .before .before .before .before .before .before .before .before .before .args .fix .0) = search needs in
+    let args = c .before .before .before .before .before .before .before .before .before .args in
+    let x : SFits w32 (args .fix .0) = search needs in
     rw (widened x) (sum-fits x one)
 
 fits-i32-requires-2 : tie.Need-fits-i32-requires-2
@@ -71,11 +80,15 @@ returns-3 : tie.Need-returns-3
 unfolding turnAt
 returns-3 c =
     let a = c .before .before .before .before .before .before .before .before .before .before .before .args in
+    let fits-i32 = c .before .before .before .before .before .before .fits-i32 in
+    let fits-i322 = c .before .fits-i322 in
+    let if1 = c .before .before .before .before .before .if1 in
+    let if2 = c .before .before .before .before .if2 in
     let x : SFits w32 (a .fix .0) = search needs in
     let y : SFits w32 (a .crossing .0) = search needs in
-    let left = rw (exact-difference x one) at (c .before .before .before .before .before .before .fits-i32 .ensures) in
-    let right = rw (exact-sum x one) at (c .before .fits-i322 .ensures) in
-    rw (checked-found 31 (a .fix .0 -ℤ pos 1) left (not-false _ (c .before .before .before .before .before .if1 .left)), rw (widened y, exact-difference x one) at (c .before .before .before .before .if2 .left), checked-over 31 (a .fix .0 +ℤ pos 1) right (not-true _ (c .if3 .taken)))
+    let left = rw (exact-difference x one) at (fits-i32 .ensures) in
+    let right = rw (exact-sum x one) at (fits-i322 .ensures) in
+    rw (checked-found 31 (a .fix .0 -ℤ pos 1) left (not-false _ (if1 .left)), rw (widened y, exact-difference x one) at (if2 .left), checked-over 31 (a .fix .0 +ℤ pos 1) right (not-true _ (c .if3 .taken)))
 
 half-turn-requires-2 : tie.Need-half-turn-requires-2
 half-turn-requires-2 c κs = search needs
@@ -84,22 +97,33 @@ returns-4 : tie.Need-returns-4
 unfolding turnAt
 returns-4 c =
     let a = c .before .before .before .before .before .before .before .before .before .before .before .before .before .args in
+    let fits-i32 = c .before .before .before .before .before .before .before .before .fits-i32 in
+    let fits-i322 = c .before .before .before .fits-i322 in
+    let if1 = c .before .before .before .before .before .before .before .if1 in
+    let if2 = c .before .before .before .before .before .before .if2 in
+    let if3 = c .before .before .if3 in
+    let if4 = c .before .if4 in
     let x : SFits w32 (a .fix .0) = search needs in
     let y : SFits w32 (a .crossing .0) = search needs in
-    let left = rw (exact-difference x one) at (c .before .before .before .before .before .before .before .before .fits-i32 .ensures) in
-    let right = rw (exact-sum x one) at (c .before .before .before .fits-i322 .ensures) in
+    let left = rw (exact-difference x one) at (fits-i32 .ensures) in
+    let right = rw (exact-sum x one) at (fits-i322 .ensures) in
     let r : toZ w32 (ofZ w32 (c .half-turn2 .result)) ≡ c .half-turn2 .result = search needs in
-    rw (checked-found 31 (a .fix .0 -ℤ pos 1) left (not-false _ (c .before .before .before .before .before .before .before .if1 .left)), rw (widened y, exact-difference x one) at (c .before .before .before .before .before .before .if2 .left), checked-found 31 (a .fix .0 +ℤ pos 1) right (not-false _ (c .before .before .if3 .left)), rw (widened y, exact-sum x one) at (c .before .if4 .taken), r, c .half-turn2 .ensures)
+    rw (checked-found 31 (a .fix .0 -ℤ pos 1) left (not-false _ (if1 .left)), rw (widened y, exact-difference x one) at (if2 .left), checked-found 31 (a .fix .0 +ℤ pos 1) right (not-false _ (if3 .left)), rw (widened y, exact-sum x one) at (if4 .taken), r, c .half-turn2 .ensures)
 
 returns-5 : tie.Need-returns-5
 unfolding turnAt
 returns-5 c =
     let a = c .before .before .before .before .before .before .before .before .before .before .before .before .args in
+    let fits-i32 = c .before .before .before .before .before .before .before .fits-i32 in
+    let fits-i322 = c .before .before .fits-i322 in
+    let if1 = c .before .before .before .before .before .before .if1 in
+    let if2 = c .before .before .before .before .before .if2 in
+    let if3 = c .before .if3 in
     let x : SFits w32 (a .fix .0) = search needs in
     let y : SFits w32 (a .crossing .0) = search needs in
-    let left = rw (exact-difference x one) at (c .before .before .before .before .before .before .before .fits-i32 .ensures) in
-    let right = rw (exact-sum x one) at (c .before .before .fits-i322 .ensures) in
-    rw (checked-found 31 (a .fix .0 -ℤ pos 1) left (not-false _ (c .before .before .before .before .before .before .if1 .left)), rw (widened y, exact-difference x one) at (c .before .before .before .before .before .if2 .left), checked-found 31 (a .fix .0 +ℤ pos 1) right (not-false _ (c .before .if3 .left)), rw (widened y, exact-sum x one) at (c .if4 .left))
+    let left = rw (exact-difference x one) at (fits-i32 .ensures) in
+    let right = rw (exact-sum x one) at (fits-i322 .ensures) in
+    rw (checked-found 31 (a .fix .0 -ℤ pos 1) left (not-false _ (if1 .left)), rw (widened y, exact-difference x one) at (if2 .left), checked-found 31 (a .fix .0 +ℤ pos 1) right (not-false _ (if3 .left)), rw (widened y, exact-sum x one) at (c .if4 .left))
 
 pub turn-at-spec : {M : Type 1} → statement M
 turn-at-spec =

@@ -11,6 +11,8 @@ cast-result : tie.Need-cast-result
 cast-result c =
     let args = c .before .args in
     let fits = c .before .fits in
+    let args = args in
+    let fits = fits in
     let value = args .value in
     let held = fits .value in
     rw (toZ-ofZ w32 value held) (widens w32 w64 (lit≤ tt) value held)

@@ -72,6 +72,7 @@ loop-less c = search needs
 loop-again : tie.Need-loop-again Inv-loop μ-loop
 loop-again c =
     let loop = c .before .before .before .before .before .before .before .loop in
+    let loop = loop in
     simp length-set (omega arith, omega arith, loop .inv .2)
 
 same-length-3 : tie.Need-same-length-3 Inv-loop μ-loop

@@ -1,20 +1,15 @@
 -- `zones::fields::write_fields` meets its contract. The loop's invariant is `Writing`: the matches that are left give the whole. Assumes nothing.
+use Prim.Native.Nat.{_-_, _≤_}
+use borrow.Author.Needs.{needs}
+use lib.ListN.{length, take}
+use mathlib.Core.List.{[]}
+use native.Mathlib.Omega.{arith}
 use Rattle.zones.proofs.fields.Filling.{Writing, begins, writing-length, from-here, all-written, match-refused, match-written}
+use Rattle.zones.proofs.fields.write_fields.Statement.{statement}
 use Rattle.zones.proofs.hits.Words.{count-slots, slot-is}
 use Rattle.zones.specs.Fields.{fieldsOf}
 use Rattle.zones.specs.Hits.{slots}
-use lib.ListN.{length, take}
-use native.Mathlib.Omega.{arith}
-use Prim.Native.Nat.{_-_, _≤_}
-use mathlib.Core.List.{[]}
-use borrow.Author.Needs.{needs}
-use Rattle.zones.proofs.fields.write_fields.Statement.{statement}
 use Rattle.zones.proofs.fields.write_fields.Tie as tie
-use Rattle.zones.proofs.fields.write_fields.Reads as reads
-use Rattle.zones.proofs.fields.write_fields.Lts as lts
-use Rattle.zones.proofs.fields.fields_place.Reads as fields-place-reads
-use Rattle.zones.proofs.fields.write_match.Reads as write-match-reads
-use Rattle.zones.proofs.hits.hit_at.Reads as hit-at-reads
 
 abbrev Inv-loop : tie.InvT-loop
 Inv-loop text₀ file head hits count at₀ i₀ text at i = Writing file head (length text₀) (take count (slots hits)) (fieldsOf file head (length text₀) (take count (slots hits)) []) text at i × (i ≤ count)
@@ -26,16 +21,23 @@ loop-holds : tie.Need-loop-holds Inv-loop μ-loop
 loop-holds c = (begins _ _ _ _ _ (c .before .before .before .pre .0), omega arith)
 
 hit-at-requires : tie.Need-hit-at-requires Inv-loop μ-loop
-hit-at-requires c κs = omega (arith, c .before .before .before .before .before .pre .1)
+hit-at-requires c κs =
+    let pre = c .before .before .before .before .before .pre in
+    omega (arith, pre .1)
 
 add-i : tie.Need-add-i Inv-loop μ-loop
-add-i c = omega (arith, c .before .loop-test .taken, c .before .before .before .before .before .before .fits)
+add-i c =
+    let loop-test = c .before .loop-test in
+    let fits = c .before .before .before .before .before .before .fits in
+    omega (arith, loop-test .taken, fits)
 
 fields-place-requires : tie.Need-fields-place-requires Inv-loop μ-loop
 fields-place-requires c κs = search needs
 
 write-match-requires : tie.Need-write-match-requires Inv-loop μ-loop
-write-match-requires c κs = from-here _ _ _ _ (c .before .before .before .before .loop .inv .0)
+write-match-requires c κs =
+    let loop = c .before .before .before .before .loop in
+    from-here _ _ _ _ (loop .inv .0)
 
 enum-known-next : tie.Need-enum-known-next Inv-loop μ-loop
 enum-known-next c = search needs
@@ -44,22 +46,50 @@ enum-known-why : tie.Need-enum-known-why Inv-loop μ-loop
 enum-known-why c = search needs
 
 same-length : tie.Need-same-length Inv-loop μ-loop
-same-length c = omega (arith, c .before .before .before .before .text .given, writing-length _ _ _ _ (c .before .before .before .before .before .before .before .before .before .before .loop .inv .0))
+same-length c =
+    let text = c .before .before .before .before .text in
+    let loop = c .before .before .before .before .before .before .before .before .before .before .loop in
+    omega (arith, text .given, writing-length _ _ _ _ (loop .inv .0))
 
 returns : tie.Need-returns Inv-loop μ-loop
-returns c = match-refused _ _ _ _ (c .before .before .before .before .before .before .before .before .before .before .loop .inv .0) (omega (arith, c .before .before .before .before .before .before .before .before .before .loop-test .taken, count-slots (c .before .before .before .before .before .before .before .before .before .before .before .before .before .before .args .hits .now) (c .before .before .before .before .before .before .before .before .before .before .before .before .before .before .args .count) (c .before .before .before .before .before .before .before .before .before .before .before .before .before .before .pre .1))) _ (slot-is (c .before .before .before .before .before .before .before .before .before .before .before .before .before .before .args .hits .now) (c .before .before .before .before .before .before .before .before .before .before .before .before .before .before .args .count) (c .before .before .before .before .before .before .before .before .before .before .before .before .before .before .pre .1) _ _ (c .before .before .before .before .before .before .before .before .before .loop-test .taken) (c .before .before .before .before .before .before .before .before .hit-at .ensures)) _ (c .before .before .before .before .before .before .before .fields-place .ensures) (c .before .before .before .before .before .write-match .result) (c .before .before .before .before .before .write-match .last .0) (c .before .before .before .before .before .write-match .ensures) _ (c .before .why .given .1)
+returns c =
+    let loop = c .before .before .before .before .before .before .before .before .before .before .loop in
+    let loop-test = c .before .before .before .before .before .before .before .before .before .loop-test in
+    let args = c .before .before .before .before .before .before .before .before .before .before .before .before .before .before .args in
+    let pre = c .before .before .before .before .before .before .before .before .before .before .before .before .before .before .pre in
+    let hit-at = c .before .before .before .before .before .before .before .before .hit-at in
+    let fields-place = c .before .before .before .before .before .before .before .fields-place in
+    let write-match = c .before .before .before .before .before .write-match in
+    let why = c .before .why in
+    match-refused _ _ _ _ (loop .inv .0) (omega (arith, loop-test .taken, count-slots (args .hits .now) (args .count) (pre .1))) _ (slot-is (args .hits .now) (args .count) (pre .1) _ _ (loop-test .taken) (hit-at .ensures)) _ (fields-place .ensures) (write-match .result) (write-match .last .0) (write-match .ensures) _ (why .given .1)
 
 loop-less : tie.Need-loop-less Inv-loop μ-loop
-loop-less c = omega (arith, c .before .before .before .before .before .before .before .before .before .loop-test .taken)
+loop-less c =
+    let loop-test = c .before .before .before .before .before .before .before .before .before .loop-test in
+    omega (arith, loop-test .taken)
 
 loop-again : tie.Need-loop-again Inv-loop μ-loop
-loop-again c = (match-written _ _ _ _ (c .before .before .before .before .before .before .before .before .before .before .loop .inv .0) (omega (arith, c .before .before .before .before .before .before .before .before .before .loop-test .taken, count-slots (c .before .before .before .before .before .before .before .before .before .before .before .before .before .before .args .hits .now) (c .before .before .before .before .before .before .before .before .before .before .before .before .before .before .args .count) (c .before .before .before .before .before .before .before .before .before .before .before .before .before .before .pre .1))) _ (slot-is (c .before .before .before .before .before .before .before .before .before .before .before .before .before .before .args .hits .now) (c .before .before .before .before .before .before .before .before .before .before .before .before .before .before .args .count) (c .before .before .before .before .before .before .before .before .before .before .before .before .before .before .pre .1) _ _ (c .before .before .before .before .before .before .before .before .before .loop-test .taken) (c .before .before .before .before .before .before .before .before .hit-at .ensures)) _ (c .before .before .before .before .before .before .before .fields-place .ensures) (c .before .before .before .before .before .write-match .result) (c .before .before .before .before .before .write-match .last .0) (c .before .before .before .before .before .write-match .ensures) (omega (arith, c .before .before .before .before .text .given, writing-length _ _ _ _ (c .before .before .before .before .before .before .before .before .before .before .loop .inv .0))) (c .before .next .given .1), omega (arith, c .before .before .before .before .before .before .before .before .before .loop-test .taken))
+loop-again c =
+    let loop = c .before .before .before .before .before .before .before .before .before .before .loop in
+    let loop-test = c .before .before .before .before .before .before .before .before .before .loop-test in
+    let args = c .before .before .before .before .before .before .before .before .before .before .before .before .before .before .args in
+    let pre = c .before .before .before .before .before .before .before .before .before .before .before .before .before .before .pre in
+    let hit-at = c .before .before .before .before .before .before .before .before .hit-at in
+    let fields-place = c .before .before .before .before .before .before .before .fields-place in
+    let write-match = c .before .before .before .before .before .write-match in
+    let text = c .before .before .before .before .text in
+    let next = c .before .next in
+    (match-written _ _ _ _ (loop .inv .0) (omega (arith, loop-test .taken, count-slots (args .hits .now) (args .count) (pre .1))) _ (slot-is (args .hits .now) (args .count) (pre .1) _ _ (loop-test .taken) (hit-at .ensures)) _ (fields-place .ensures) (write-match .result) (write-match .last .0) (write-match .ensures) (omega (arith, text .given, writing-length _ _ _ _ (loop .inv .0))) (next .given .1), omega (arith, loop-test .taken))
 
 same-length-2 : tie.Need-same-length-2 Inv-loop μ-loop
 same-length-2 c = writing-length _ _ _ _ (c .before .loop .inv .0)
 
 returns-2 : tie.Need-returns-2 Inv-loop μ-loop
-returns-2 c = all-written _ _ _ _ (c .before .loop .inv .0) (omega (arith, c .loop-test .left, count-slots (c .before .before .before .before .before .args .hits .now) (c .before .before .before .before .before .args .count) (c .before .before .before .before .before .pre .1)))
+returns-2 c =
+    let loop = c .before .loop in
+    let args = c .before .before .before .before .before .args in
+    let pre = c .before .before .before .before .before .pre in
+    all-written _ _ _ _ (loop .inv .0) (omega (arith, c .loop-test .left, count-slots (args .hits .now) (args .count) (pre .1)))
 
 pub write-fields-spec : {M : Type 1} → statement M
 write-fields-spec =

@@ -1,20 +1,17 @@
 -- `zones::fields::write_match` meets its contract. The loop's invariant is `Filling`: the text so far stands at the front of a buffer that is zero
 -- beyond it. Assumes nothing.
-use Rattle.zones.proofs.fields.Filling.{Filling, starts, filling-length, ends, faulted, kept-length, filled}
-use Rattle.zones.specs.declared.header.Sections.{Sections}
-use Rattle.zones.specs.declared.header.Preamble.{Preamble}
-use Rattle.zones.specs.declared.header.Head.{Head}
-use Rattle.zones.specs.Fields.{fieldsFrom}
-use lib.ListN.{length, take}
-use native.Mathlib.Omega.{arith}
 use Prim.Native.Nat.{_-_}
-use mathlib.Core.Path.{_≡_, refl, sym, ap, _∙_}
 use borrow.Author.Needs.{needs}
+use lib.ListN.{length, take}
+use mathlib.Core.Path.{refl}
+use native.Mathlib.Omega.{arith}
+use Rattle.zones.proofs.fields.Filling.{Filling, starts, filling-length, ends, faulted, kept-length, filled}
 use Rattle.zones.proofs.fields.write_match.Statement.{statement}
+use Rattle.zones.specs.Fields.{fieldsFrom}
+use Rattle.zones.specs.declared.header.Head.{Head}
+use Rattle.zones.specs.declared.header.Preamble.{Preamble}
+use Rattle.zones.specs.declared.header.Sections.{Sections}
 use Rattle.zones.proofs.fields.write_match.Tie as tie
-use Rattle.zones.proofs.fields.write_match.Reads as reads
-use Rattle.zones.proofs.fields.write_match.Lts as lts
-use Rattle.zones.proofs.field.write_field.Reads as write-field-reads
 
 abbrev headOf : Preamble → Sections → Head
 headOf preamble sections = record { preamble = preamble; sections = sections }
@@ -26,7 +23,10 @@ abbrev μ-loop : tie.MeasureT-loop
 μ-loop text₀ from file start preamble sections place₀ at₀ tag₀ text place at tag = preamble .count - tag
 
 loop-holds : tie.Need-loop-holds Inv-loop μ-loop
-loop-holds c = starts _ _ _ _ (c .before .before .before .before .args .text .now) (c .before .before .before .before .args .from) _ (c .before .before .before .before .pre .0) (c .before .before .before .before .pre .1) refl
+loop-holds c =
+    let args = c .before .before .before .before .args in
+    let pre = c .before .before .before .before .pre in
+    starts _ _ _ _ (args .text .now) (args .from) _ (pre .0) (pre .1) refl
 
 sub-write-field : tie.Need-sub-write-field Inv-loop μ-loop
 sub-write-field c = omega (arith, c .before .before .loop .inv .held .fits, filling-length _ _ _ _ (c .before .before .loop .inv))
@@ -47,22 +47,43 @@ enum-known-why : tie.Need-enum-known-why Inv-loop μ-loop
 enum-known-why c = search needs
 
 same-length : tie.Need-same-length Inv-loop μ-loop
-same-length c = kept-length _ _ _ _ (c .before .before .before .before .before .before .before .before .before .loop .inv) (c .before .before .before .before .before .before .before .if1 .taken) (c .before .before .before .before .before .write-field .result) (c .before .before .before .before .before .write-field .last .0) (c .before .before .before .before .before .write-field .ensures .0) (c .before .before .before .before .before .write-field .ensures .1)
+same-length c =
+    let loop = c .before .before .before .before .before .before .before .before .before .loop in
+    let if1 = c .before .before .before .before .before .before .before .if1 in
+    let write-field = c .before .before .before .before .before .write-field in
+    kept-length _ _ _ _ (loop .inv) (if1 .taken) (write-field .result) (write-field .last .0) (write-field .ensures .0) (write-field .ensures .1)
 
 returns : tie.Need-returns Inv-loop μ-loop
-returns c = faulted _ _ _ _ (c .before .before .before .before .before .before .before .before .before .loop .inv) (c .before .before .before .before .before .before .before .if1 .taken) (c .before .before .before .before .before .write-field .result) (c .before .before .before .before .before .write-field .last .0) (c .before .before .before .before .before .write-field .ensures .0) _ (c .before .why .given .1)
+returns c =
+    let loop = c .before .before .before .before .before .before .before .before .before .loop in
+    let if1 = c .before .before .before .before .before .before .before .if1 in
+    let write-field = c .before .before .before .before .before .write-field in
+    let why = c .before .why in
+    faulted _ _ _ _ (loop .inv) (if1 .taken) (write-field .result) (write-field .last .0) (write-field .ensures .0) _ (why .given .1)
 
 loop-again : tie.Need-loop-again Inv-loop μ-loop
-loop-again c = filled _ _ _ _ (c .before .before .before .before .before .before .before .before .before .before .loop .inv) (c .before .before .before .before .before .before .before .before .if1 .taken) (c .before .before .before .before .before .before .write-field .result) (c .before .before .before .before .before .before .write-field .last .0) (c .before .before .before .before .before .before .write-field .ensures .0) (c .before .before .before .before .before .before .write-field .ensures .1) (c .before .before .field .given .1)
+loop-again c =
+    let loop = c .before .before .before .before .before .before .before .before .before .before .loop in
+    let if1 = c .before .before .before .before .before .before .before .before .if1 in
+    let write-field = c .before .before .before .before .before .before .write-field in
+    let field = c .before .before .field in
+    filled _ _ _ _ (loop .inv) (if1 .taken) (write-field .result) (write-field .last .0) (write-field .ensures .0) (write-field .ensures .1) (field .given .1)
 
 add-at : tie.Need-add-at Inv-loop μ-loop
-add-at c = omega (arith, loop-again c .held .fits, c .before .before .before .before .before .before .before .before .before .before .before .before .before .before .before .good)
+add-at c =
+    let good = c .before .before .before .before .before .before .before .before .before .before .before .before .before .before .before .good in
+    omega (arith, loop-again c .held .fits, good)
 
 add-tag : tie.Need-add-tag Inv-loop μ-loop
-add-tag c = omega (arith, c .before .before .before .before .before .before .before .before .if1 .taken, c .before .before .before .before .before .before .before .before .before .struct-known .given)
+add-tag c =
+    let if1 = c .before .before .before .before .before .before .before .before .if1 in
+    let struct-known = c .before .before .before .before .before .before .before .before .before .struct-known in
+    omega (arith, if1 .taken, struct-known .given)
 
 loop-less : tie.Need-loop-less Inv-loop μ-loop
-loop-less c = omega (arith, c .before .before .before .before .before .before .before .before .if1 .taken)
+loop-less c =
+    let if1 = c .before .before .before .before .before .before .before .before .if1 in
+    omega (arith, if1 .taken)
 
 same-length-2 : tie.Need-same-length-2 Inv-loop μ-loop
 same-length-2 c = filling-length _ _ _ _ (c .before .before .loop .inv)

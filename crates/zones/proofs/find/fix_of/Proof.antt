@@ -1,16 +1,12 @@
 -- `zones::find::fix_of` meets its contract: each number read back from its bits. Assumes nothing.
-use mathlib.Core.Path.{_∙_}
+use borrow.Author.Needs.{sfits-of, needs}
 use lib.Ieee.{ofBits}
+use mathlib.Core.Path.{_∙_}
 use mir.Syntax.{w32}
 use mir.ValLaws.{toZ-ofZ}
-use borrow.Author.Needs.{sfits-of}
-use Rattle.zones.specs.Find.{fixOf}
-use borrow.Author.Needs.{needs}
 use Rattle.zones.proofs.find.fix_of.Statement.{statement}
+use Rattle.zones.specs.Find.{fixOf}
 use Rattle.zones.proofs.find.fix_of.Tie as tie
-use Rattle.zones.proofs.find.fix_of.Reads as reads
-use Rattle.zones.proofs.find.fix_of.Lts as lts
-use Rattle.numbers.proofs.float.fixed.to_fixed.Reads as to-fixed-reads
 
 to-fixed-requires : tie.Need-to-fixed-requires
 to-fixed-requires c κs = search needs

@@ -2,8 +2,6 @@
 use borrow.Author.Tests.{le-leb, lt-leb}
 use Rattle.zones.proofs.find.is_precision.Statement.{statement}
 use Rattle.zones.proofs.find.is_precision.Tie as tie
-use Rattle.zones.proofs.find.is_precision.Reads as reads
-use Rattle.zones.proofs.find.is_precision.Lts as lts
 
 returns : tie.Need-returns
 returns c = simp (le-leb _ _ (c .if1 .taken))

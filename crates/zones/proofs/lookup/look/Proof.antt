@@ -1,24 +1,22 @@
 -- `zones::lookup::look` meets its contract, by how far it came. Assumes nothing.
-use Rattle.zones.proofs.lookup.Looking.{matches-room, no-match, no-fields, looked}
+use Prim.Native.Nat.{_/_}
+use borrow.Author.Needs.{needs}
+use lib.ListN.{length}
+use mathlib.Core.Path.{ap}
+use native.Mathlib.Omega.{arith}
 use Rattle.zones.proofs.Agreeing.{gave, refused-so}
+use Rattle.zones.proofs.find.Finding.{matches-room}
+use Rattle.zones.proofs.lookup.Looking.{no-match, no-fields, looked}
+use Rattle.zones.proofs.lookup.look.Statement.{statement}
 use Rattle.zones.specs.Fields.{toldFields}
 use Rattle.zones.specs.Find.{matchedIn, toldFound, Matching}
 use Rattle.zones.specs.Hits.{width}
-use lib.ListN.{length}
-use Prim.Native.Nat.{_/_}
-use native.Mathlib.Omega.{arith}
-use mathlib.Core.Path.{_≡_, refl, sym, ap, _∙_}
-use borrow.Author.Needs.{needs}
-use Rattle.zones.proofs.lookup.look.Statement.{statement}
 use Rattle.zones.proofs.lookup.look.Tie as tie
-use Rattle.zones.proofs.lookup.look.Reads as reads
-use Rattle.zones.proofs.lookup.look.Lts as lts
-use Rattle.zones.proofs.fields.write_fields.Reads as write-fields-reads
-use Rattle.zones.proofs.find.find.Reads as find-reads
-use Rattle.zones.proofs.lookup.safezone.Reads as safezone-reads
 
 find-requires : tie.Need-find-requires
-find-requires c κs = c .before .before .before .before .pre .0
+find-requires c κs =
+    let pre = c .before .before .before .before .pre in
+    pre .0
 
 enum-known-found : tie.Need-enum-known-found
 enum-known-found c = search needs
@@ -30,10 +28,20 @@ same-length : tie.Need-same-length
 same-length c = search needs
 
 returns : tie.Need-returns
-returns c = no-match (c .before .before .before .before .before .before .before .before .before .before .args .file .now) (c .before .before .before .before .before .before .before .before .before .before .args .location) (c .before .before .before .before .before .before .before .before .before .before .args .asked) (length (c .before .before .before .before .before .before .before .before .before .before .args .hits .now)) (length (c .before .before .before .before .before .before .before .before .before .before .args .text .now)) _ _ (refused-so (Matching (length (c .before .before .before .before .before .before .before .before .before .before .args .hits .now)) _) (matchedIn (c .before .before .before .before .before .before .before .before .before .before .args .file .now) (c .before .before .before .before .before .before .before .before .before .before .args .location) (c .before .before .before .before .before .before .before .before .before .before .args .asked) (length (c .before .before .before .before .before .before .before .before .before .before .args .hits .now) / width)) (c .before .before .before .before .before .find .ensures) (ap toldFound (c .before .why .given .1)))
+returns c =
+    let args = c .before .before .before .before .before .before .before .before .before .before .args in
+    let find = c .before .before .before .before .before .find in
+    let why = c .before .why in
+    no-match (args .file .now) (args .location) (args .asked) (length (args .hits .now)) (length (args .text .now)) _ _ (refused-so (Matching (length (args .hits .now)) _) (matchedIn (args .file .now) (args .location) (args .asked) (length (args .hits .now) / width)) (find .ensures) (ap toldFound (why .given .1)))
 
 write-fields-requires : tie.Need-write-fields-requires
-write-fields-requires c κs = (c .before .before .before .before .before .before .before .before .before .before .before .before .before .before .pre .1, matches-room ((gave (Matching (length (c .before .before .before .before .before .before .before .before .before .before .before .before .before .before .args .hits .now)) (c .before .before .before .before .before .before .before .before .before .find .last .1 .1 .1 .0)) (matchedIn (c .before .before .before .before .before .before .before .before .before .before .before .before .before .before .args .file .now) (c .before .before .before .before .before .before .before .before .before .before .before .before .before .before .args .location) (c .before .before .before .before .before .before .before .before .before .before .before .before .before .before .args .asked) (length (c .before .before .before .before .before .before .before .before .before .before .before .before .before .before .args .hits .now) / width)) (c .before .before .before .before .before .before .before .before .before .find .ensures) (ap toldFound (c .before .before .before .before .before .found .given .1))) .fits) (omega (arith, c .before .before .before .before .before .before .before .before .hits .given)))
+write-fields-requires c κs =
+    let pre = c .before .before .before .before .before .before .before .before .before .before .before .before .before .before .pre in
+    let args = c .before .before .before .before .before .before .before .before .before .before .before .before .before .before .args in
+    let find = c .before .before .before .before .before .before .before .before .before .find in
+    let found = c .before .before .before .before .before .found in
+    let hits = c .before .before .before .before .before .before .before .before .hits in
+    (pre .1, matches-room ((gave (Matching (length (args .hits .now)) (find .last .1 .1 .1 .0)) (matchedIn (args .file .now) (args .location) (args .asked) (length (args .hits .now) / width)) (find .ensures) (ap toldFound (found .given .1))) .fits) (omega (arith, hits .given)))
 
 enum-known-used : tie.Need-enum-known-used
 enum-known-used c = search needs
@@ -48,7 +56,13 @@ same-length-3 : tie.Need-same-length-3
 same-length-3 c = search needs
 
 returns-2 : tie.Need-returns-2
-returns-2 c = no-fields (c .before .before .before .before .before .before .before .before .before .before .before .before .before .before .before .before .before .before .before .before .args .file .now) (c .before .before .before .before .before .before .before .before .before .before .before .before .before .before .before .before .before .before .before .before .args .location) (c .before .before .before .before .before .before .before .before .before .before .before .before .before .before .before .before .before .before .before .before .args .asked) (length (c .before .before .before .before .before .before .before .before .before .before .before .before .before .before .before .before .before .before .before .before .args .hits .now)) (length (c .before .before .before .before .before .before .before .before .before .before .before .before .before .before .before .before .before .before .before .before .args .text .now)) (gave (Matching (length (c .before .before .before .before .before .before .before .before .before .before .before .before .before .before .before .before .before .before .before .before .args .hits .now)) (c .before .before .before .before .before .before .before .before .before .before .before .before .before .before .before .find .last .1 .1 .1 .0)) (matchedIn (c .before .before .before .before .before .before .before .before .before .before .before .before .before .before .before .before .before .before .before .before .args .file .now) (c .before .before .before .before .before .before .before .before .before .before .before .before .before .before .before .before .before .before .before .before .args .location) (c .before .before .before .before .before .before .before .before .before .before .before .before .before .before .before .before .before .before .before .before .args .asked) (length (c .before .before .before .before .before .before .before .before .before .before .before .before .before .before .before .before .before .before .before .before .args .hits .now) / width)) (c .before .before .before .before .before .before .before .before .before .before .before .before .before .before .before .find .ensures) (ap toldFound (c .before .before .before .before .before .before .before .before .before .before .before .found .given .1))) (c .before .before .before .before .before .write-fields .last .0) (c .before .before .before .before .before .write-fields .ensures) _ _ (ap toldFields (c .before .why2 .given .1))
+returns-2 c =
+    let args = c .before .before .before .before .before .before .before .before .before .before .before .before .before .before .before .before .before .before .before .before .args in
+    let find = c .before .before .before .before .before .before .before .before .before .before .before .before .before .before .before .find in
+    let found = c .before .before .before .before .before .before .before .before .before .before .before .found in
+    let write-fields = c .before .before .before .before .before .write-fields in
+    let why2 = c .before .why2 in
+    no-fields (args .file .now) (args .location) (args .asked) (length (args .hits .now)) (length (args .text .now)) (gave (Matching (length (args .hits .now)) (find .last .1 .1 .1 .0)) (matchedIn (args .file .now) (args .location) (args .asked) (length (args .hits .now) / width)) (find .ensures) (ap toldFound (found .given .1))) (write-fields .last .0) (write-fields .ensures) _ _ (ap toldFields (why2 .given .1))
 
 safezone-requires : tie.Need-safezone-requires
 safezone-requires c κs = search needs
@@ -60,7 +74,13 @@ same-length-5 : tie.Need-same-length-5
 same-length-5 c = search needs
 
 returns-3 : tie.Need-returns-3
-returns-3 c = looked (c .before .before .before .before .before .before .before .before .before .before .before .before .before .before .before .before .before .before .before .before .before .args .file .now) (c .before .before .before .before .before .before .before .before .before .before .before .before .before .before .before .before .before .before .before .before .before .args .location) (c .before .before .before .before .before .before .before .before .before .before .before .before .before .before .before .before .before .before .before .before .before .args .asked) (length (c .before .before .before .before .before .before .before .before .before .before .before .before .before .before .before .before .before .before .before .before .before .args .hits .now)) (length (c .before .before .before .before .before .before .before .before .before .before .before .before .before .before .before .before .before .before .before .before .before .args .text .now)) (gave (Matching (length (c .before .before .before .before .before .before .before .before .before .before .before .before .before .before .before .before .before .before .before .before .before .args .hits .now)) (c .before .before .before .before .before .before .before .before .before .before .before .before .before .before .before .before .find .last .1 .1 .1 .0)) (matchedIn (c .before .before .before .before .before .before .before .before .before .before .before .before .before .before .before .before .before .before .before .before .before .args .file .now) (c .before .before .before .before .before .before .before .before .before .before .before .before .before .before .before .before .before .before .before .before .before .args .location) (c .before .before .before .before .before .before .before .before .before .before .before .before .before .before .before .before .before .before .before .before .before .args .asked) (length (c .before .before .before .before .before .before .before .before .before .before .before .before .before .before .before .before .before .before .before .before .before .args .hits .now) / width)) (c .before .before .before .before .before .before .before .before .before .before .before .before .before .before .before .before .find .ensures) (ap toldFound (c .before .before .before .before .before .before .before .before .before .before .before .before .found .given .1))) (c .before .before .before .before .before .before .write-fields .last .0) (c .before .before .before .before .before .before .write-fields .ensures) (ap toldFields (c .before .before .used .given .1)) (c .safezone .ensures)
+returns-3 c =
+    let args = c .before .before .before .before .before .before .before .before .before .before .before .before .before .before .before .before .before .before .before .before .before .args in
+    let find = c .before .before .before .before .before .before .before .before .before .before .before .before .before .before .before .before .find in
+    let found = c .before .before .before .before .before .before .before .before .before .before .before .before .found in
+    let write-fields = c .before .before .before .before .before .before .write-fields in
+    let used = c .before .before .used in
+    looked (args .file .now) (args .location) (args .asked) (length (args .hits .now)) (length (args .text .now)) (gave (Matching (length (args .hits .now)) (find .last .1 .1 .1 .0)) (matchedIn (args .file .now) (args .location) (args .asked) (length (args .hits .now) / width)) (find .ensures) (ap toldFound (found .given .1))) (write-fields .last .0) (write-fields .ensures) (ap toldFields (used .given .1)) (c .safezone .ensures)
 
 pub look-spec : {M : Type 1} → statement M
 look-spec =

@@ -1,22 +1,15 @@
 -- `zones::merge::gather` meets its contract. The loop's invariant is `Gathering`: of the slots from `from` on, those passed are cleared and tallied.
 -- Assumes nothing.
-use Rattle.zones.proofs.merge.Gathering.{Gathering, begins, gathered-length, gathered, passes, takes}
-use Rattle.zones.proofs.hits.Words.{words-length}
-use Rattle.zones.specs.Hits.{width, slots, putHit}
-use lib.ListN.{length}
-use native.Mathlib.Omega.{arith}
 use Prim.Native.Nat.{_-_, _*_}
-use mathlib.Core.Path.{_≡_, refl, ap, _∙_}
 use borrow.Author.Needs.{needs}
+use lib.ListN.{length}
+use mathlib.Core.Path.{_≡_, refl, ap, _∙_}
+use native.Mathlib.Omega.{arith}
+use Rattle.zones.proofs.hits.Words.{words-length}
+use Rattle.zones.proofs.merge.Gathering.{Gathering, begins, gathered-length, gathered, passes, takes}
 use Rattle.zones.proofs.merge.gather.Statement.{statement}
+use Rattle.zones.specs.Hits.{width, slots, putHit}
 use Rattle.zones.proofs.merge.gather.Tie as tie
-use Rattle.zones.proofs.merge.gather.Reads as reads
-use Rattle.zones.proofs.merge.gather.Lts as lts
-use Rattle.zones.proofs.hits.hit_at.Reads as hit-at-reads
-use Rattle.zones.proofs.hits.none.Reads as none-reads
-use Rattle.zones.proofs.hits.put_hit.Reads as put-hit-reads
-use Rattle.zones.proofs.hits.room.Reads as room-reads
-use Rattle.zones.proofs.merge.joined.Reads as joined-reads
 
 abbrev Inv-loop : tie.InvT-loop
 Inv-loop hits₀ from id room t₀ j₀ hits t j = Gathering (slots hits₀) from id hits t j × (length hits₀ ≡ width * length (slots hits₀))
@@ -28,44 +21,77 @@ room-requires : tie.Need-room-requires Inv-loop μ-loop
 room-requires c κs = search needs
 
 loop-holds : tie.Need-loop-holds Inv-loop μ-loop
-loop-holds c = (begins _ _ _ _ _ (c .before .before .before .pre .0) (c .before .before .before .pre .1) refl, ap length (c .before .before .before .pre .0) ∙ words-length (slots (c .before .before .before .args .hits .now)))
+loop-holds c =
+    let pre = c .before .before .before .pre in
+    let args = c .before .before .before .args in
+    (begins _ _ _ _ _ (pre .0) (pre .1) refl, ap length (pre .0) ∙ words-length (slots (args .hits .now)))
 
 hit-at-requires : tie.Need-hit-at-requires Inv-loop μ-loop
-hit-at-requires c κs = omega (arith, gathered-length (c .before .before .loop .inv .0), c .before .before .loop .inv .1, c .before .loop-test .taken, c .before .before .before .room .ensures)
+hit-at-requires c κs =
+    let loop = c .before .before .loop in
+    let loop-test = c .before .loop-test in
+    let room = c .before .before .before .room in
+    omega (arith, gathered-length (loop .inv .0), loop .inv .1, loop-test .taken, room .ensures)
 
 add-j : tie.Need-add-j Inv-loop μ-loop
-add-j c = omega (arith, c .before .before .loop-test .taken, c .before .before .before .before .room .ok)
+add-j c =
+    let loop-test = c .before .before .loop-test in
+    let room = c .before .before .before .before .room in
+    omega (arith, loop-test .taken, room .ok)
 
 joined-requires : tie.Need-joined-requires Inv-loop μ-loop
-joined-requires c κs = (omega (arith, c .before .before .before .before .before .loop .inv .0 .small, c .before .before .before .before .loop-test .taken, c .before .before .before .before .before .before .room .ensures, c .before .before .before .before .before .before .before .before .before .good), omega (arith, c .before .before .before .before .before .loop .inv .0 .small′, c .before .before .before .before .loop-test .taken, c .before .before .before .before .before .before .room .ensures, c .before .before .before .before .before .before .before .before .before .good))
+joined-requires c κs =
+    let loop = c .before .before .before .before .before .loop in
+    let loop-test = c .before .before .before .before .loop-test in
+    let room = c .before .before .before .before .before .before .room in
+    let good = c .before .before .before .before .before .before .before .before .before .good in
+    (omega (arith, loop .inv .0 .small, loop-test .taken, room .ensures, good), omega (arith, loop .inv .0 .small′, loop-test .taken, room .ensures, good))
 
 none-requires : tie.Need-none-requires Inv-loop μ-loop
 none-requires c κs = search needs
 
 put-hit-requires : tie.Need-put-hit-requires Inv-loop μ-loop
-put-hit-requires c κs = omega (arith, gathered-length (c .before .before .before .before .before .before .before .before .loop .inv .0), c .before .before .before .before .before .before .before .before .loop .inv .1, c .before .before .before .before .before .before .before .loop-test .taken, c .before .before .before .before .before .before .before .before .before .room .ensures)
+put-hit-requires c κs =
+    let loop = c .before .before .before .before .before .before .before .before .loop in
+    let loop-test = c .before .before .before .before .before .before .before .loop-test in
+    let room = c .before .before .before .before .before .before .before .before .before .room in
+    omega (arith, gathered-length (loop .inv .0), loop .inv .1, loop-test .taken, room .ensures)
 
 loop-less : tie.Need-loop-less Inv-loop μ-loop
-loop-less c = omega (arith, c .before .before .before .before .before .before .before .before .before .before .loop-test .taken)
+loop-less c =
+    let loop-test = c .before .before .before .before .before .before .before .before .before .before .loop-test in
+    omega (arith, loop-test .taken)
 
 loop-again : tie.Need-loop-again Inv-loop μ-loop
-loop-again c = let joined = c .before .before .before .before .before .joined in (
-  takes (c .before .before .before .before .before .before .before .before .before .before .before .loop .inv .0) (omega (arith, c .before .before .before .before .before .before .before .before .before .before .before .loop .inv .1, c .before .before .before .before .before .before .before .before .before .before .loop-test .taken, c .before .before .before .before .before .before .before .before .before .before .before .before .room .ensures)) (c .before .before .before .before .before .before .before .before .hit-at .result) (c .before .before .before .before .before .before .before .before .hit-at .ensures) _ _ (c .before .before .before .before .before .before .if1 .taken)
-      (c .before .before .put-hit .ensures ∙ ap (putHit (c .before .before .before .before .before .before .before .before .before .before .before .loop .hits) (c .before .before .before .before .before .before .before .before .before .before .before .loop .j)) (c .before .before .before .none .ensures)) (joined .ensures .0) (joined .ensures .1 .0) (joined .ensures .1 .1),
-  c .before .before .before .before .before .before .before .before .before .before .before .loop .inv .1,
-)
+loop-again c =
+    let joined = c .before .before .before .before .before .joined in
+    let joined = joined in (
+      takes (c .before .before .before .before .before .before .before .before .before .before .before .loop .inv .0) (omega (arith, c .before .before .before .before .before .before .before .before .before .before .before .loop .inv .1, c .before .before .before .before .before .before .before .before .before .before .loop-test .taken, c .before .before .before .before .before .before .before .before .before .before .before .before .room .ensures)) (c .before .before .before .before .before .before .before .before .hit-at .result) (c .before .before .before .before .before .before .before .before .hit-at .ensures) _ _ (c .before .before .before .before .before .before .if1 .taken)
+          (c .before .before .put-hit .ensures ∙ ap (putHit (c .before .before .before .before .before .before .before .before .before .before .before .loop .hits) (c .before .before .before .before .before .before .before .before .before .before .before .loop .j)) (c .before .before .before .none .ensures)) (joined .ensures .0) (joined .ensures .1 .0) (joined .ensures .1 .1),
+      c .before .before .before .before .before .before .before .before .before .before .before .loop .inv .1,
+    )
 
 loop-less-2 : tie.Need-loop-less-2 Inv-loop μ-loop
-loop-less-2 c = omega (arith, c .before .before .before .before .loop-test .taken)
+loop-less-2 c =
+    let loop-test = c .before .before .before .before .loop-test in
+    omega (arith, loop-test .taken)
 
 loop-again-2 : tie.Need-loop-again-2 Inv-loop μ-loop
-loop-again-2 c = (passes (c .before .before .before .before .before .loop .inv .0) (omega (arith, c .before .before .before .before .before .loop .inv .1, c .before .before .before .before .loop-test .taken, c .before .before .before .before .before .before .room .ensures)) (c .before .before .hit-at .result) (c .before .before .hit-at .ensures) (c .if1 .left), c .before .before .before .before .before .loop .inv .1)
+loop-again-2 c =
+    let loop = c .before .before .before .before .before .loop in
+    let loop-test = c .before .before .before .before .loop-test in
+    let room = c .before .before .before .before .before .before .room in
+    let hit-at = c .before .before .hit-at in
+    (passes (loop .inv .0) (omega (arith, loop .inv .1, loop-test .taken, room .ensures)) (hit-at .result) (hit-at .ensures) (c .if1 .left), loop .inv .1)
 
 same-length : tie.Need-same-length Inv-loop μ-loop
 same-length c = omega (arith, gathered-length (c .before .loop .inv .0), c .before .loop .inv .1)
 
 returns : tie.Need-returns Inv-loop μ-loop
-returns c = gathered (c .before .loop .inv .0) (omega (arith, c .before .loop .inv .1, c .loop-test .left, c .before .before .room .ensures))
+returns c =
+    let loop = c .before .loop in
+    let room = c .before .before .room in
+    gathered (loop .inv .0) (omega (arith, loop .inv .1, c .loop-test .left, room .ensures))
 
 pub gather-spec : {M : Type 1} → statement M
 gather-spec =

@@ -1,25 +1,26 @@
-use Rattle.zones.specs.Merge.{tallied}
 -- `zones::merge::kind_of` meets its contract. Assumes nothing.
-use mathlib.Core.Path.{_≡_, refl, sym, ap, _∙_}
-use native.Mathlib.Omega.{arith}
-use borrow.Author.Tests.{ne-eqb}
 use Rattle.zones.proofs.merge.Summaries.{last-border, counts-differ, counts-equal}
 use Rattle.zones.proofs.merge.kind_of.Statement.{statement}
+use Rattle.zones.specs.Merge.{tallied}
 use Rattle.zones.proofs.merge.kind_of.Tie as tie
-use Rattle.zones.proofs.merge.kind_of.Reads as reads
-use Rattle.zones.proofs.merge.kind_of.Lts as lts
 
 returns : tie.Need-returns
 returns c = let t = c .before .before .args .t in
     last-border (tallied t .balance) (t .border) (c .if1 .taken)
 
 returns-2 : tie.Need-returns-2
-returns-2 c = let t = c .before .before .before .before .args .t in
-    counts-differ (t .inside) (t .excluded) (t .border) (c .before .before .if1 .left) (c .if2 .taken)
+returns-2 c =
+    let args = c .before .before .before .before .args in
+    let if1 = c .before .before .if1 in
+    let t = args .t in
+    counts-differ (t .inside) (t .excluded) (t .border) (if1 .left) (c .if2 .taken)
 
 returns-3 : tie.Need-returns-3
-returns-3 c = let t = c .before .before .before .before .args .t in
-    counts-equal (t .inside) (t .excluded) (t .border) (c .before .before .if1 .left) (c .if2 .left)
+returns-3 c =
+    let args = c .before .before .before .before .args in
+    let if1 = c .before .before .if1 in
+    let t = args .t in
+    counts-equal (t .inside) (t .excluded) (t .border) (if1 .left) (c .if2 .left)
 
 pub kind-of-spec : {M : Type 1} → statement M
 kind-of-spec = tie.close (tie.spec returns returns-2 returns-3)

@@ -1,12 +1,9 @@
 -- `zones::merge::merge_front` meets its contract: the front of the words is lent, and the rest is zero already. Assumes nothing.
-use Rattle.zones.proofs.merge.Fronts.{lent-length, lent-shaped, lent-real, count-merged, words-now}
-use native.Mathlib.Omega.{arith}
 use borrow.Author.Needs.{needs}
+use native.Mathlib.Omega.{arith}
+use Rattle.zones.proofs.merge.Fronts.{lent-length, lent-shaped, lent-real, count-merged, words-now}
 use Rattle.zones.proofs.merge.merge_front.Statement.{statement}
 use Rattle.zones.proofs.merge.merge_front.Tie as tie
-use Rattle.zones.proofs.merge.merge_front.Reads as reads
-use Rattle.zones.proofs.merge.merge_front.Lts as lts
-use Rattle.zones.proofs.merge.merge.Reads as merge-reads
 
 mul-words : tie.Need-mul-words
 mul-words c = search needs
@@ -15,16 +12,27 @@ slice-relend-prefix-merge : tie.Need-slice-relend-prefix-merge
 slice-relend-prefix-merge c = search needs
 
 slice-aggregate-merge : tie.Need-slice-aggregate-merge
-slice-aggregate-merge c = lent-length (c .before .before .args .hits .now) (c .before .before .args .count) (c .before .before .pre .0) (c .before .before .pre .1)
+slice-aggregate-merge c =
+    let args = c .before .before .args in
+    let pre = c .before .before .pre in
+    lent-length (args .hits .now) (args .count) (pre .0) (pre .1)
 
 merge-requires : tie.Need-merge-requires
-merge-requires c κs = (lent-shaped (c .before .before .args .hits .now) (c .before .before .args .count) (c .before .before .pre .0) (c .before .before .pre .1), lent-real (c .before .before .args .hits .now) (c .before .before .args .count) (c .before .before .pre .0) (c .before .before .pre .1) (c .before .before .pre .2))
+merge-requires c κs =
+    let args = c .before .before .args in
+    let pre = c .before .before .pre in
+    (lent-shaped (args .hits .now) (args .count) (pre .0) (pre .1), lent-real (args .hits .now) (args .count) (pre .0) (pre .1) (pre .2))
 
 same-length : tie.Need-same-length
 same-length c = search needs
 
 returns : tie.Need-returns
-returns c = (count-merged (c .before .before .before .before .before .args .hits .now) (c .before .before .before .before .before .args .count) (c .before .before .before .before .before .pre .0) (c .before .before .before .before .before .pre .1) (c .before .before .merge .result) (c .before .before .merge .last .0) (c .before .before .merge .ensures) (omega (arith, c .before .hits .given)), words-now (c .before .before .before .before .before .args .hits .now) (c .before .before .before .before .before .args .count) (c .before .before .before .before .before .pre .0) (c .before .before .before .before .before .pre .1) (c .before .before .merge .result) (c .before .before .merge .last .0) (c .before .before .merge .ensures) (omega (arith, c .before .hits .given)))
+returns c =
+    let args = c .before .before .before .before .before .args in
+    let pre = c .before .before .before .before .before .pre in
+    let merge = c .before .before .merge in
+    let hits = c .before .hits in
+    (count-merged (args .hits .now) (args .count) (pre .0) (pre .1) (merge .result) (merge .last .0) (merge .ensures) (omega (arith, hits .given)), words-now (args .hits .now) (args .count) (pre .0) (pre .1) (merge .result) (merge .last .0) (merge .ensures) (omega (arith, hits .given)))
 
 pub merge-front-spec : {M : Type 1} → statement M
 merge-front-spec =

@@ -1,17 +1,9 @@
 -- `zones::search::judged` meets its contract, by the judgement's cases. Assumes nothing.
-use Rattle.zones.proofs.search.Turns.{outside, met}
-use Rattle.zones.specs.declared.search.Turn.the-variants.{On}
-use Rattle.zones.specs.declared.search.Cursor.{Cursor}
-use Rattle.zones.specs.Search.{withLeast, judgedTurn}
-use mathlib.Core.Path.{_≡_, refl, sym, ap, _∙_}
 use borrow.Author.Needs.{needs}
+use Rattle.zones.proofs.search.Turns.{outside, met}
 use Rattle.zones.proofs.search.judged.Statement.{statement}
+use Rattle.zones.specs.Search.{judgedTurn}
 use Rattle.zones.proofs.search.judged.Tie as tie
-use Rattle.zones.proofs.search.judged.Reads as reads
-use Rattle.zones.proofs.search.judged.Lts as lts
-use Rattle.zones.proofs.search.kind_of.Reads as kind-of-reads
-use Rattle.zones.proofs.search.past.Reads as past-reads
-use Rattle.zones.proofs.search.with_least.Reads as with-least-reads
 
 enum-known-judgement : tie.Need-enum-known-judgement
 enum-known-judgement c = search needs
@@ -26,7 +18,12 @@ kind-of-requires : tie.Need-kind-of-requires
 kind-of-requires c κs = search needs
 
 returns : tie.Need-returns
-returns c = outside _ _ (c .before .before .before .before .before .judgement .given .1) (c .before .kind-of .ensures) (c .before .before .before .past .ensures) (c .before .before .with-least .ensures) (c .if1 .taken)
+returns c =
+    let judgement = c .before .before .before .before .before .judgement in
+    let kind-of = c .before .kind-of in
+    let past = c .before .before .before .past in
+    let with-least = c .before .before .with-least in
+    outside _ _ (judgement .given .1) (kind-of .ensures) (past .ensures) (with-least .ensures) (c .if1 .taken)
 
 enum-known-judgement-2 : tie.Need-enum-known-judgement-2
 enum-known-judgement-2 c = search needs
@@ -35,7 +32,12 @@ enum-known-judgement-3 : tie.Need-enum-known-judgement-3
 enum-known-judgement-3 c = search needs
 
 returns-2 : tie.Need-returns-2
-returns-2 c = met _ _ (c .before .before .before .before .before .judgement .given .1) (c .before .kind-of .ensures) (c .before .before .before .past .ensures) (c .before .before .with-least .ensures) (c .if1 .left)
+returns-2 c =
+    let judgement = c .before .before .before .before .before .judgement in
+    let kind-of = c .before .kind-of in
+    let past = c .before .before .before .past in
+    let with-least = c .before .before .with-least in
+    met _ _ (judgement .given .1) (kind-of .ensures) (past .ensures) (with-least .ensures) (c .if1 .left)
 
 returns-3 : tie.Need-returns-3
 unfolding judgedTurn

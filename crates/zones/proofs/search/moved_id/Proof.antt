@@ -1,14 +1,10 @@
 -- `zones::search::moved_id` meets its contract. Assumes nothing.
-use Rattle.zones.proofs.search.Turns.{forth, back}
-use native.Mathlib.Omega.{arith}
-use mathlib.Core.Path.{_≡_, refl, sym, ap, _∙_}
 use borrow.Author.Needs.{needs}
+use mathlib.Core.Path.{_∙_}
+use native.Mathlib.Omega.{arith}
+use Rattle.zones.proofs.search.Turns.{forth, back}
 use Rattle.zones.proofs.search.moved_id.Statement.{statement}
 use Rattle.zones.proofs.search.moved_id.Tie as tie
-use Rattle.zones.proofs.search.moved_id.Reads as reads
-use Rattle.zones.proofs.search.moved_id.Lts as lts
-use Rattle.std.proofs.num.wrapping_add_u32.Reads as wrapping-add-u32-reads
-use Rattle.std.proofs.num.wrapping_sub_u32.Reads as wrapping-sub-u32-reads
 
 cast-half : tie.Need-cast-half
 cast-half c = search needs
@@ -20,10 +16,16 @@ wrapping-sub-u32-requires : tie.Need-wrapping-sub-u32-requires
 wrapping-sub-u32-requires c κs = search needs
 
 returns : tie.Need-returns
-returns c = c .wrapping-add-u32 .ensures ∙ forth (c .before .before .args .metadata) (c .before .before .args .step) (c .before .if1 .taken)
+returns c =
+    let args = c .before .before .args in
+    let if1 = c .before .if1 in
+    c .wrapping-add-u32 .ensures ∙ forth (args .metadata) (args .step) (if1 .taken)
 
 returns-2 : tie.Need-returns-2
-returns-2 c = omega (arith, c .wrapping-sub-u32 .ensures, c .wrapping-sub-u32 .ok, back (c .before .before .args .metadata) (c .before .before .args .step) (c .before .if1 .left) (omega arith))
+returns-2 c =
+    let args = c .before .before .args in
+    let if1 = c .before .if1 in
+    omega (arith, c .wrapping-sub-u32 .ensures, c .wrapping-sub-u32 .ok, back (args .metadata) (args .step) (if1 .left) (omega arith))
 
 pub moved-id-spec : {M : Type 1} → statement M
 moved-id-spec =

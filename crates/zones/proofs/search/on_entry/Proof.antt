@@ -1,19 +1,12 @@
 -- `zones::search::on_entry` meets its contract, by the tests that led to each answer. Assumes nothing.
-use Rattle.zones.proofs.search.Turns.{stops-above, not-held, held}
-use Rattle.zones.specs.declared.search.Turn.the-variants.{On}
-use Rattle.zones.specs.declared.search.Cursor.{Cursor}
-use Rattle.zones.specs.Search.{judgeIn, judgedTurn}
-use mathlib.Core.Path.{_≡_, refl, sym, ap, _∙_}
 use borrow.Author.Needs.{needs}
+use mathlib.Core.Path.{sym, ap, _∙_}
+use Rattle.zones.proofs.search.Turns.{stops-above, not-held, held}
 use Rattle.zones.proofs.search.on_entry.Statement.{statement}
+use Rattle.zones.specs.Search.{judgeIn, judgedTurn}
+use Rattle.zones.specs.declared.search.Cursor.{Cursor}
+use Rattle.zones.specs.declared.search.Turn.the-variants.{On}
 use Rattle.zones.proofs.search.on_entry.Tie as tie
-use Rattle.zones.proofs.search.on_entry.Reads as reads
-use Rattle.zones.proofs.search.on_entry.Lts as lts
-use Rattle.zones.proofs.search.judge.Reads as judge-reads
-use Rattle.zones.proofs.search.judged.Reads as judged-reads
-use Rattle.zones.proofs.search.past.Reads as past-reads
-use Rattle.zones.proofs.table.holds.Reads as holds-reads
-use Rattle.zones.proofs.table.is_above.Reads as is-above-reads
 
 is-above-requires : tie.Need-is-above-requires
 is-above-requires c κs = search needs
@@ -34,12 +27,25 @@ judged-requires : tie.Need-judged-requires
 judged-requires c κs = search needs
 
 returns-2 : tie.Need-returns-2
-returns-2 c = let below = sym (c .before .before .before .before .before .before .is-above .ensures) ∙ c .before .before .before .before .before .if1 .left in
-    let border = c .before .judge .ensures ∙ ap (λ (at : Cursor). judgeIn (c .before .before .before .before .before .before .before .before .before .args .file .now) (c .before .before .before .before .before .before .before .before .before .args .head) (c .before .before .before .before .before .before .before .before .before .args .fix) (c .before .before .before .before .before .before .before .before .before .args .asked) (at .polygon) (c .before .before .before .before .before .before .before .before .before .args .at .least)) (c .before .before .before .before .past .ensures) in
-    c .judged .ensures ∙ ap (judgedTurn _ _) border ∙ held _ _ _ _ _ below (sym (c .before .before .before .holds .ensures) ∙ c .before .before .if2 .taken)
+returns-2 c =
+    let is-above = c .before .before .before .before .before .before .is-above in
+    let if1 = c .before .before .before .before .before .if1 in
+    let judge = c .before .judge in
+    let args = c .before .before .before .before .before .before .before .before .before .args in
+    let past = c .before .before .before .before .past in
+    let holds = c .before .before .before .holds in
+    let if2 = c .before .before .if2 in
+    let below = sym (is-above .ensures) ∙ if1 .left in
+    let border = judge .ensures ∙ ap (λ (at : Cursor). judgeIn (args .file .now) (args .head) (args .fix) (args .asked) (at .polygon) (args .at .least)) (past .ensures) in
+    c .judged .ensures ∙ ap (judgedTurn _ _) border ∙ held _ _ _ _ _ below (sym (holds .ensures) ∙ if2 .taken)
 
 returns-3 : tie.Need-returns-3
-returns-3 c = ap On (c .before .before .past .ensures) ∙ not-held _ _ _ _ _ (sym (c .before .before .before .before .is-above .ensures) ∙ c .before .before .before .if1 .left) (sym (c .before .holds .ensures) ∙ c .if2 .left)
+returns-3 c =
+    let past = c .before .before .past in
+    let is-above = c .before .before .before .before .is-above in
+    let if1 = c .before .before .before .if1 in
+    let holds = c .before .holds in
+    ap On (past .ensures) ∙ not-held _ _ _ _ _ (sym (is-above .ensures) ∙ if1 .left) (sym (holds .ensures) ∙ c .if2 .left)
 
 pub on-entry-spec : {M : Type 1} → statement M
 on-entry-spec =

@@ -1,14 +1,10 @@
 -- `zones::search::past` meets its contract: each sum by its own promise. Assumes nothing.
-use native.Mathlib.Nat.{add-mod-mod}
 use Prim.Native.Nat.{_^_}
-use mathlib.Core.Path.{_≡_, refl, sym, ap, _∙_}
 use borrow.Author.Needs.{needs}
+use mathlib.Core.Path.{_∙_}
+use native.Mathlib.Nat.{add-mod-mod}
 use Rattle.zones.proofs.search.past.Statement.{statement}
 use Rattle.zones.proofs.search.past.Tie as tie
-use Rattle.zones.proofs.search.past.Reads as reads
-use Rattle.zones.proofs.search.past.Lts as lts
-use Rattle.std.proofs.num.wrapping_add_u32.Reads as wrapping-add-u32-reads
-use Rattle.zones.proofs.search.moved_id.Reads as moved-id-reads
 
 cast-polygon : tie.Need-cast-polygon
 cast-polygon c = search needs
@@ -23,8 +19,12 @@ wrapping-add-u32-requires-2 : tie.Need-wrapping-add-u32-requires-2
 wrapping-add-u32-requires-2 c κs = search needs
 
 returns : tie.Need-returns
-returns c = let metadata = c .before .before .moved-id .ensures in
-    let polygon = c .before .wrapping-add-u32 .ensures ∙ add-mod-mod (c .before .before .before .before .args .at .polygon) (c .before .before .before .before .args .entry .polygon) (2 ^ 32) in
+returns c =
+    let moved-id = c .before .before .moved-id in
+    let wrapping-add-u32 = c .before .wrapping-add-u32 in
+    let args = c .before .before .before .before .args in
+    let metadata = moved-id .ensures in
+    let polygon = wrapping-add-u32 .ensures ∙ add-mod-mod (args .at .polygon) (args .entry .polygon) (2 ^ 32) in
     let id = c .wrapping-add-u322 .ensures in
     cc
 

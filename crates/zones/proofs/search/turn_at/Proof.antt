@@ -1,15 +1,11 @@
 -- `zones::search::turn_at` meets its contract, by the row's cases. Assumes nothing.
-use Rattle.zones.proofs.search.Turns.{row-failed, row-refused}
-use Rattle.zones.specs.Table.{toldRow}
-use Rattle.zones.specs.Search.{turnAt, turnOf, readTurn}
-use mathlib.Core.Path.{_≡_, refl, sym, ap, _∙_}
 use borrow.Author.Needs.{needs}
+use mathlib.Core.Path.{sym, ap, _∙_}
+use Rattle.zones.proofs.search.Turns.{row-failed, row-refused}
 use Rattle.zones.proofs.search.turn_at.Statement.{statement}
+use Rattle.zones.specs.Search.{turnAt, turnOf, readTurn}
+use Rattle.zones.specs.Table.{toldRow}
 use Rattle.zones.proofs.search.turn_at.Tie as tie
-use Rattle.zones.proofs.search.turn_at.Reads as reads
-use Rattle.zones.proofs.search.turn_at.Lts as lts
-use Rattle.zones.proofs.search.on_entry.Reads as on-entry-reads
-use Rattle.zones.proofs.table.entry_at.Reads as entry-at-reads
 
 entry-at-requires : tie.Need-entry-at-requires
 entry-at-requires c κs = search needs
@@ -28,7 +24,10 @@ enum-told-2 c = search needs
 
 returns : tie.Need-returns
 unfolding turnAt turnOf
-returns c = c .on-entry .ensures ∙ ap (readTurn _ _ _ _) (sym (ap toldRow (c .before .before .row .given .1)) ∙ c .before .before .before .before .entry-at .ensures)
+returns c =
+    let row = c .before .before .row in
+    let entry-at = c .before .before .before .before .entry-at in
+    c .on-entry .ensures ∙ ap (readTurn _ _ _ _) (sym (ap toldRow (row .given .1)) ∙ entry-at .ensures)
 
 returns-2 : tie.Need-returns-2
 unfolding turnAt turnOf

@@ -2,8 +2,6 @@
 use borrow.Author.Tests.{eq-eqb, ne-eqb}
 use Rattle.zones.proofs.search.version_of.Statement.{statement}
 use Rattle.zones.proofs.search.version_of.Tie as tie
-use Rattle.zones.proofs.search.version_of.Reads as reads
-use Rattle.zones.proofs.search.version_of.Lts as lts
 
 returns : tie.Need-returns
 returns c = simp (eq-eqb _ _ (c .if1 .taken))

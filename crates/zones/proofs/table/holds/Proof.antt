@@ -1,13 +1,9 @@
 -- `zones::table::holds` meets its contract, by the tests that led to each answer. Assumes nothing.
+use borrow.Author.Needs.{needs}
 use mathlib.Core.Path.{sym, _∙_}
 use Rattle.zones.proofs.table.Tests.{none-of, not-second, the-third}
-use borrow.Author.Needs.{needs}
 use Rattle.zones.proofs.table.holds.Statement.{statement}
 use Rattle.zones.proofs.table.holds.Tie as tie
-use Rattle.zones.proofs.table.holds.Reads as reads
-use Rattle.zones.proofs.table.holds.Lts as lts
-use Rattle.zones.proofs.table.lat_upto.Reads as lat-upto-reads
-use Rattle.zones.proofs.table.lon_upto.Reads as lon-upto-reads
 
 lat-upto-requires : tie.Need-lat-upto-requires
 lat-upto-requires c κs = search needs
@@ -19,10 +15,19 @@ lon-upto-requires-2 : tie.Need-lon-upto-requires-2
 lon-upto-requires-2 c κs = search needs
 
 returns : tie.Need-returns
-returns c = the-third _ _ _ _ (sym (c .before .before .before .before .lat-upto .ensures) ∙ c .before .before .before .if1 .taken) (sym (c .before .before .lon-upto .ensures) ∙ c .before .if2 .taken) (c .lon-upto2 .ensures)
+returns c =
+    let lat-upto = c .before .before .before .before .lat-upto in
+    let if1 = c .before .before .before .if1 in
+    let lon-upto = c .before .before .lon-upto in
+    let if2 = c .before .if2 in
+    the-third _ _ _ _ (sym (lat-upto .ensures) ∙ if1 .taken) (sym (lon-upto .ensures) ∙ if2 .taken) (c .lon-upto2 .ensures)
 
 returns-2 : tie.Need-returns-2
-returns-2 c = not-second _ _ _ (sym (c .before .before .before .lat-upto .ensures) ∙ c .before .before .if1 .taken) (sym (c .before .lon-upto .ensures) ∙ c .if2 .left)
+returns-2 c =
+    let lat-upto = c .before .before .before .lat-upto in
+    let if1 = c .before .before .if1 in
+    let lon-upto = c .before .lon-upto in
+    not-second _ _ _ (sym (lat-upto .ensures) ∙ if1 .taken) (sym (lon-upto .ensures) ∙ c .if2 .left)
 
 returns-3 : tie.Need-returns-3
 returns-3 c = none-of _ _ _ (sym (c .before .lat-upto .ensures) ∙ c .if1 .left)

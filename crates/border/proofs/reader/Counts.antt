@@ -1,0 +1,34 @@
+-- Version 0: a turn goes on from the moves that are left, which the count gives first. Assumes nothing.
+use Prim.Native.Nat.{ℕ}
+use mathlib.Core.Path.{_≡_, refl}
+use mathlib.Core.Bool.{Bool, true, false}
+use mathlib.Core.List.{List}
+use lib.Dec.{eqb}
+use Rattle.numbers.specs.Answer.{Answer, found, failed, refused, if_then_else_, _>>=_}
+use Rattle.numbers.specs.Varint.{Numeral, forwardAt}
+use Rattle.border.specs.Reader.{Turn, onward, plainPair, plainTurn}
+use Rattle.border.specs.Told.{counted}
+use Rattle.border.specs.declared.reader.Reader.{Reader}
+use Rattle.border.specs.declared.reader.Run.the-variants.{Idle}
+
+module _ (k : Numeral → Answer Turn) where
+  chosen : (t : Bool) (n : Numeral) → ((if t then failed else found n) >>= k) ≡ (if t then failed else k n)
+  chosen true n = refl
+  chosen false n = refl
+
+  read-on : (m : Answer Numeral) → ((m >>= λ n. if eqb (n .value) 0 then failed else found n) >>= k) ≡ (m >>= λ n. if eqb (n .value) 0 then failed else k n)
+  read-on (found n) = chosen (eqb (n .value) 0) n
+  read-on failed = refl
+  read-on (refused n) = refl
+
+  started : (t : Bool) (n : Numeral) (m : Answer Numeral) → ((if t then found n else (m >>= λ c. if eqb (c .value) 0 then failed else found c)) >>= k) ≡ (if t then k n else (m >>= λ c. if eqb (c .value) 0 then failed else k c))
+  started true n m = refl
+  started false n m = read-on m
+
+module _ (f : List ℕ) (s : Reader) where
+  abbrev pub pairFrom : Numeral → Answer Turn
+  pairFrom n = plainPair f (onward s (n .place) (n .value) Idle)
+
+  pub counted-turn : (counted f s >>= pairFrom) ≡ plainTurn f s
+  unfolding counted plainTurn plainPair
+  counted-turn = started pairFrom (s .begun) (record { value = s .moves; place = s .place }) (forwardAt f (s .place))

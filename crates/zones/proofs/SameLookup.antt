@@ -1,0 +1,51 @@
+-- What the promises of both lookups fix: two replies that one permits are equal, with both lent buffers. Assumes nothing.
+use mathlib.Core.Path.{_≡_, refl, sym, ap, _∙_}
+use mathlib.Core.Bool.{Bool}
+use mathlib.Core.List.{List}
+use Prim.Native.Nat.{ℕ}
+use Rattle.zones.specs.Reply.{Reply, given, refused}
+use Rattle.zones.specs.Lent.{Replied, replied}
+use Rattle.zones.specs.Lookup.{lookedUp, toldLooked}
+use Rattle.zones.specs.Simple.{simplyLooked, toldSimple}
+use Rattle.zones.specs.declared.location.Location.{Location}
+use Rattle.zones.specs.declared.lookup.Zones.{Zones}
+use Rattle.zones.specs.declared.lookup.Looked.{Looked}
+use Rattle.zones.specs.declared.lookup.Looked.the-variants as L
+use Rattle.zones.specs.declared.simple.Described.{Described}
+use Rattle.zones.specs.declared.simple.Simple.{Simple}
+use Rattle.zones.specs.declared.simple.Simple.the-variants as S
+
+-- what is told can be told back, so it determines the answer
+module _ {A R : Type 0} (told : R → Reply A) (back : Reply A → R) (again : (r : R) → back (told r) ≡ r) where
+  one-reply : (whole : Replied A) (r r′ : R) (hs hs′ ts ts′ : List ℕ) → replied (told r) hs ts ≡ whole → replied (told r′) hs′ ts′ ≡ whole → (r ≡ r′) × (hs ≡ hs′) × (ts ≡ ts′)
+  one-reply whole r r′ hs hs′ ts ts′ e e′ =
+      let same = e ∙ sym e′ in
+      (sym (again r) ∙ ap (λ (x : Replied A). back (x .reply)) same ∙ again r′, ap (λ (x : Replied A). x .hits) same, ap (λ (x : Replied A). x .text) same)
+
+lookedBack : Reply Zones → Looked
+lookedBack (given zones) = L.Zones zones
+lookedBack (refused why) = L.Refused why
+
+looked-again : (r : Looked) → lookedBack (toldLooked r) ≡ r
+unfolding lookedBack
+looked-again (L.Zones zones) = refl
+looked-again (L.Refused why) = refl
+
+simpleBack : Reply Described → Simple
+simpleBack (given described) = S.Described described
+simpleBack (refused why) = S.Refused why
+
+simple-again : (r : Simple) → simpleBack (toldSimple r) ≡ r
+unfolding simpleBack
+simple-again (S.Described described) = refl
+simple-again (S.Refused why) = refl
+
+pub same-lookup : (file : List ℕ) (location : Location) (asked : Bool) (n room : ℕ) (r r′ : Looked) (hs hs′ ts ts′ : List ℕ)
+    → replied (toldLooked r) hs ts ≡ lookedUp file location asked n room → replied (toldLooked r′) hs′ ts′ ≡ lookedUp file location asked n room
+    → (r ≡ r′) × (hs ≡ hs′) × (ts ≡ ts′)
+same-lookup file location asked n room = one-reply toldLooked lookedBack looked-again (lookedUp file location asked n room)
+
+pub same-simple-lookup : (file : List ℕ) (location : Location) (n room : ℕ) (r r′ : Simple) (hs hs′ ts ts′ : List ℕ)
+    → replied (toldSimple r) hs ts ≡ simplyLooked file location n room → replied (toldSimple r′) hs′ ts′ ≡ simplyLooked file location n room
+    → (r ≡ r′) × (hs ≡ hs′) × (ts ≡ ts′)
+same-simple-lookup file location n room = one-reply toldSimple simpleBack simple-again (simplyLooked file location n room)

@@ -1,0 +1,5 @@
+mod Names
+mod Joining
+mod Picking
+mod Describing
+mod Replies

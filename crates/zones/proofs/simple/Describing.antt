@@ -1,0 +1,104 @@
+-- The first match's description, by how far the code came. Assumes nothing.
+use mathlib.Core.Path.{_≡_, refl, sym, ap, _∙_}
+use mathlib.Core.Bool.{Bool, true, false}
+use mathlib.Core.List.{List, [], _∷_, _++_}
+use mathlib.Core.Option.{Option, none, some}
+use Prim.Native.Nat.{ℕ, _/_, _<_}
+use native.Mathlib.Nat.{sub-zero}
+use native.Mathlib.Omega.{arith}
+use borrow.Author.Tests.{le-leb}
+use denote.Enum.Declared.{tagOf, declared}
+use lib.Dec.{leb}
+use lib.ListN.{length, getD, drop}
+use lib.Seq.{drop-cons}
+use Rattle.zones.specs.Lists.{zeros, padded}
+use Rattle.zones.specs.Reply.{Reply, given, refused, plain, demand, _>>=_, _>>_}
+use Rattle.zones.specs.Text.{bytesOf}
+use Rattle.zones.specs.Hits.{noHit}
+use Rattle.zones.specs.Fields.{fieldsPlace, Wrote}
+use Rattle.zones.specs.Lent.{Agrees}
+use Rattle.zones.specs.Simple.{begun, pickedFrom, pickedOf, joined, descriptionOf, bytesIn, lengthIn, fitting, wordedOf, Worded}
+use Rattle.zones.specs.declared.header.Head.{Head}
+use Rattle.zones.specs.declared.hits.Hit.{Hit}
+use Rattle.zones.specs.declared.refusal.Refusal.{Refusal}
+use Rattle.zones.specs.declared.text.Text.{Text}
+use Rattle.zones.specs.declared.simple.Value.{Value}
+use Rattle.zones.specs.declared.simple.Value.the-variants as X
+use Rattle.zones.specs.declared.simple.Picked.{Picked}
+use Rattle.zones.specs.declared.simple.Description.{Description}
+use Rattle.zones.specs.declared.simple.Description.the-variants as D
+use Rattle.zones.proofs.simple.Value as K
+use Rattle.zones.proofs.Laws.{carried, onward, met}
+use Rattle.zones.proofs.Agreeing.{agree-given, agree-refused, gave, refused-so}
+
+pub is-missing : (value : Value) → tagOf (declared K.enum) value ≡ 1 → value ≡ X.Missing
+is-missing (X.At text) t = absurd (omega (arith, t))
+is-missing X.Missing t = refl
+
+abbrev both : List ℕ → Text → Text → List ℕ
+both file first second = bytesOf file first ++ bytesOf file second
+
+-- what fits is what was to fit
+fitted : (room : ℕ) (all : List ℕ) {bytes : List ℕ} → given bytes ≡ fitting room all → bytes ≡ all
+fitted room all {bytes} e = go (leb (length all) room) e
+  where
+    go : (test : Bool) → given bytes ≡ (demand test (plain 18) >> given all) → bytes ≡ all
+    go true e = cc
+    go false e = let z : _≡_ {A = ℕ} 0 1 = cc in absurd (omega arith)
+
+module _ (file : List ℕ) (head : Head) (room : ℕ) (all : List Hit) where
+  -- from a description to what goes out
+  worded : (d : Option (List ℕ)) → given d ≡ descriptionOf file head all → (fitting room (bytesIn d) >>= λ bytes. given d) ≡ wordedOf file head room all
+  unfolding wordedOf
+  worded d e = onward e (λ x. fitting room (bytesIn x) >>= λ bytes. given x)
+
+  nothing : {text : List ℕ} → text ≡ zeros room → given none ≡ descriptionOf file head all → Agrees (Worded room text) (wordedOf file head room all) (given D.Missing)
+  nothing z e =
+      let empty : given [] ≡ fitting room [] = met (le-leb 0 room (omega arith)) (plain 18) (given []) in
+      agree-given (Worded room _) (onward empty (λ bytes. given none) ∙ worded none e) (record { said = refl; kept = simp sub-zero z })
+
+  pub no-matches : {text : List ℕ} → text ≡ zeros room → all ≡ [] → Agrees (Worded room text) (wordedOf file head room all) (given D.Missing)
+  unfolding descriptionOf
+  no-matches z e = nothing z (ap (descriptionOf file head) (sym e))
+
+  module _ (some-match : 0 < length all) {got : Hit} (is : got ≡ getD all 0 noHit) {place : ℕ} (p : place ≡ fieldsPlace head (got .metadata)) where
+    abbrev picks : Reply Picked
+    picks = pickedFrom file head (head .preamble .count) 0 7 place (begun (head .preamble .kind))
+
+    described : (picks >>= λ picked. given (joined file (picked .one) (picked .two))) ≡ descriptionOf file head all
+    unfolding descriptionOf
+    described =
+        let cons : all ≡ got ∷ drop 1 all = drop-cons all 0 noHit some-match ∙ ap (λ (h : Hit). h ∷ drop 1 all) (sym is) in
+        rw (p) (sym (ap (descriptionOf file head) cons))
+
+    pub not-picked : {why : Refusal} (text : List ℕ) → refused why ≡ picks → Agrees (Worded room text) (wordedOf file head room all) (refused why)
+    unfolding wordedOf
+    not-picked text e = agree-refused (Worded room text) (carried (carried e _ ∙ described) _)
+
+    module _ {picked : Picked} (e : given picked ≡ picks) where
+      so : given (joined file (picked .one) (picked .two)) ≡ descriptionOf file head all
+      so = onward e _ ∙ described
+
+      pub no-one : {text : List ℕ} → text ≡ zeros room → picked .one ≡ X.Missing → Agrees (Worded room text) (wordedOf file head room all) (given D.Missing)
+      no-one z m = nothing z (ap (λ (v : Value). given (joined file v (picked .two))) (sym m) ∙ so)
+
+      module _ {first : Text} (one : picked .one ≡ X.At first) where
+        pub no-two : {text : List ℕ} → text ≡ zeros room → picked .two ≡ X.Missing → Agrees (Worded room text) (wordedOf file head room all) (given D.Missing)
+        no-two z m = nothing z (sym (λ i. given (joined file (one i) (m i))) ∙ so)
+
+        module _ {second : Text} (two : picked .two ≡ X.At second) where
+          goes-out : (fitting room (both file first second) >>= λ bytes. given (some (both file first second))) ≡ wordedOf file head room all
+          goes-out = worded (some (both file first second)) (sym (λ i. given (joined file (one i) (two i))) ∙ so)
+
+          module _ (last : List ℕ) {reply : Reply ℕ} (a : Agrees (Wrote room last) (fitting room (both file first second)) reply) where
+            pub no-room : {why : Refusal} (text : List ℕ) → reply ≡ refused why → Agrees (Worded room text) (wordedOf file head room all) (refused why)
+            no-room text r =
+                agree-refused (Worded room text)
+                (carried (refused-so (Wrote room last) (fitting room (both file first second)) a r) (λ bytes. given (some (both file first second))) ∙ goes-out)
+
+            pub written : {size : ℕ} → reply ≡ given size → Agrees (Worded room last) (wordedOf file head room all) (given (D.Length size))
+            written r =
+                let o = gave (Wrote room last) (fitting room (both file first second)) a r in
+                let same = fitted room (both file first second) (o .is) in
+                agree-given (Worded room last) (onward (o .is) (λ bytes. given (some (both file first second))) ∙ goes-out)
+                (record { said = ap D.Length (o .fits .said ∙ ap length same); kept = o .fits .kept ∙ ap (padded room) same })

@@ -1,0 +1,71 @@
+-- From the matches to the outcome, by how far the code came. Assumes nothing.
+use mathlib.Core.Path.{_≡_, refl, sym, ap, _∙_}
+use mathlib.Core.Bool.{false}
+use mathlib.Core.List.{List}
+use mathlib.Core.Option.{Option}
+use Prim.Native.Nat.{ℕ, _/_}
+use native.Mathlib.Omega.{arith}
+use denote.Enum.Declared.{tagOf, declared}
+use lib.ListN.{take}
+use Rattle.zones.specs.Reply.{Reply, given, refused, _>>_}
+use Rattle.zones.specs.Hits.{width, slots}
+use Rattle.zones.specs.Find.{Matched, matchedIn, Matching}
+use Rattle.zones.specs.Lent.{Agrees, replied, repliedOf, Filled}
+use Rattle.zones.specs.Simple.{checked, wordedOf, Worded, describedIn, toldChecked}
+use Rattle.zones.specs.declared.refusal.Refusal.{Refusal}
+use Rattle.zones.specs.declared.location.Location.{Location}
+use Rattle.zones.specs.declared.find.Matches.{Matches}
+use Rattle.zones.specs.declared.simple.Checked.{Checked}
+use Rattle.zones.specs.declared.simple.Checked.the-variants as C
+use Rattle.zones.specs.declared.simple.Description.{Description}
+use Rattle.zones.specs.declared.simple.Described.{Described}
+use Rattle.zones.proofs.simple.Checked as K
+use Rattle.zones.proofs.Laws.{carried, onward}
+use Rattle.zones.proofs.Agreeing.{Gave, agree-given, agree-refused, gave, refused-so}
+use Rattle.zones.proofs.find.Finding.{count-is, matches-are}
+
+-- a step that gives nothing but that it was passed
+module _ {B : Type 0} {step : Reply (Unit {0})} where
+  stopped-at : {why : Refusal} → refused why ≡ step → (next : Reply B) → refused why ≡ (step >> next)
+  stopped-at e next = ap (λ (r : Reply (Unit {0})). r >> next) e
+
+  passed : given tt ≡ step → (next : Reply B) → next ≡ (step >> next)
+  passed e next = ap (λ (r : Reply (Unit {0})). r >> next) e
+
+pub is-good : (c : Checked) → tagOf (declared K.enum) c ≡ 0 → given tt ≡ toldChecked c
+is-good C.Good t = refl
+is-good (C.Refused why) t = absurd (omega (arith, t))
+
+module _ (file : List ℕ) (location : Location) (n room : ℕ) where
+  pub no-match : {why : Refusal} (hs ts : List ℕ) → refused why ≡ matchedIn file location false (n / width) → Agrees (Filled n room hs ts) (describedIn file location n room) (refused why)
+  unfolding describedIn
+  no-match hs ts e = agree-refused (Filled n room hs ts) (carried e _)
+
+  module _ {ws : List ℕ} {matches : Matches} (g : Gave (Matching n ws) (matchedIn file location false (n / width)) matches) where
+    abbrev found : Matched
+    found = g .it
+
+    checked-so : checked file (matches .head) (take (matches .count) (slots ws)) ≡ checked file (found .head) (found .matches)
+    checked-so = λ i. checked file (g .fits .said i .head) (matches-are (g .fits) i)
+
+    pub not-checked : {why : Refusal} (hs ts : List ℕ) → refused why ≡ checked file (matches .head) (take (matches .count) (slots ws)) → Agrees (Filled n room hs ts) (describedIn file location n room) (refused why)
+    unfolding describedIn
+    not-checked hs ts e = agree-refused (Filled n room hs ts) (stopped-at (e ∙ checked-so) _ ∙ onward (g .is) _)
+
+    worded-so : wordedOf file (matches .head) room (take (matches .count) (slots ws)) ≡ wordedOf file (found .head) room (found .matches)
+    worded-so = λ i. wordedOf file (g .fits .said i .head) room (matches-are (g .fits) i)
+
+    module _ (good : given tt ≡ checked file (matches .head) (take (matches .count) (slots ws))) (ts : List ℕ) {reply : Reply Description}
+        (a : Agrees (Worded room ts) (wordedOf file (matches .head) room (take (matches .count) (slots ws))) reply) where
+      pub not-described : {why : Refusal} (hs ts′ : List ℕ) → reply ≡ refused why → Agrees (Filled n room hs ts′) (describedIn file location n room) (refused why)
+      unfolding describedIn
+      not-described hs ts′ e =
+          agree-refused (Filled n room hs ts′)
+          (carried (refused-so (Worded room ts) _ a e ∙ worded-so) _ ∙ passed (good ∙ checked-so) _ ∙ onward (g .is) _)
+
+      pub described : {d : Description} → reply ≡ given d → Agrees (Filled n room ws ts) (describedIn file location n room) (given (record { matches = matches .count; mark = matches .mark; description = d }))
+      unfolding describedIn repliedOf
+      described e =
+          let words = gave (Worded room ts) _ a e in
+          agree-given (Filled n room ws ts) (onward (words .is ∙ worded-so) _ ∙ passed (good ∙ checked-so) _ ∙ onward (g .is) _)
+          (λ i. replied (given (record { matches = count-is (g .fits) i; mark = g .fits .said i .mark; description = words .fits .said i })) (g .fits .kept i) (words .fits .kept i))

@@ -1,0 +1,97 @@
+-- `zones::simple::check` meets its contract. The loop's invariant: the matches that are left give the whole. Assumes nothing.
+use Prim.Native.Nat.{_-_, _≤_}
+use borrow.Author.Needs.{needs}
+use lib.ListN.{take, drop}
+use mathlib.Core.Path.{_≡_, refl}
+use native.Mathlib.Omega.{arith}
+use Rattle.zones.proofs.hits.Words.{count-slots, slot-is}
+use Rattle.zones.proofs.simple.Picking.{all-checked, match-good, match-bad}
+use Rattle.zones.proofs.simple.check.Statement.{statement}
+use Rattle.zones.specs.Hits.{slots}
+use Rattle.zones.specs.Simple.{checked}
+use Rattle.zones.proofs.simple.check.Tie as tie
+
+abbrev Inv-loop : tie.InvT-loop
+Inv-loop file head hits count i₀ i = (checked file head (drop i (take count (slots hits))) ≡ checked file head (take count (slots hits))) × (i ≤ count)
+
+abbrev μ-loop : tie.MeasureT-loop
+μ-loop file head hits count i₀ i = count - i
+
+loop-holds : tie.Need-loop-holds Inv-loop μ-loop
+loop-holds c = (refl, omega arith)
+
+hit-at-requires : tie.Need-hit-at-requires Inv-loop μ-loop
+hit-at-requires c κs =
+    let pre = c .before .before .before .before .pre in
+    omega (arith, pre)
+
+add-i : tie.Need-add-i Inv-loop μ-loop
+add-i c =
+    let loop-test = c .before .loop-test in
+    let fits = c .before .before .before .before .before .fits in
+    omega (arith, loop-test .taken, fits)
+
+fields-place-requires : tie.Need-fields-place-requires Inv-loop μ-loop
+fields-place-requires c κs = search needs
+
+pick-requires : tie.Need-pick-requires Inv-loop μ-loop
+pick-requires c κs = search needs
+
+enum-told : tie.Need-enum-told Inv-loop μ-loop
+enum-told c = search needs
+
+loop-less : tie.Need-loop-less Inv-loop μ-loop
+loop-less c =
+    let loop-test = c .before .before .before .before .before .loop-test in
+    omega (arith, loop-test .taken)
+
+loop-again : tie.Need-loop-again Inv-loop μ-loop
+loop-again c =
+    let args = c .before .before .before .before .before .before .before .before .before .args in
+    let loop = c .before .before .before .before .before .before .loop in
+    let loop-test = c .before .before .before .before .before .loop-test in
+    let pre = c .before .before .before .before .before .before .before .before .before .pre in
+    let hit-at = c .before .before .before .before .hit-at in
+    let fields-place = c .before .before .before .fields-place in
+    let pick = c .before .before .pick in
+    (match-good (args .file .now) (args .head) (take (args .count) (slots (args .hits .now))) (loop .i) (loop .inv .0) (omega (arith, loop-test .taken, count-slots (args .hits .now) (args .count) (pre))) (slot-is (args .hits .now) (args .count) (pre) _ _ (loop-test .taken) (hit-at .ensures)) (fields-place .ensures) (pick .result) (pick .ensures) (enum-told (c .before)), omega (arith, loop-test .taken))
+
+enum-known-why : tie.Need-enum-known-why Inv-loop μ-loop
+enum-known-why c = search needs
+
+returns : tie.Need-returns Inv-loop μ-loop
+returns c =
+    let args = c .before .before .before .before .before .before .before .before .before .before .args in
+    let loop = c .before .before .before .before .before .before .before .loop in
+    let loop-test = c .before .before .before .before .before .before .loop-test in
+    let pre = c .before .before .before .before .before .before .before .before .before .before .pre in
+    let hit-at = c .before .before .before .before .before .hit-at in
+    let fields-place = c .before .before .before .before .fields-place in
+    let pick = c .before .before .before .pick in
+    let why = c .before .why in
+    match-bad (args .file .now) (args .head) (take (args .count) (slots (args .hits .now))) (loop .i) (loop .inv .0) (omega (arith, loop-test .taken, count-slots (args .hits .now) (args .count) (pre))) (slot-is (args .hits .now) (args .count) (pre) _ _ (loop-test .taken) (hit-at .ensures)) (fields-place .ensures) (pick .result) (pick .ensures) (why .given .1)
+
+returns-2 : tie.Need-returns-2 Inv-loop μ-loop
+returns-2 c =
+    let args = c .before .before .before .before .args in
+    let loop = c .before .loop in
+    let pre = c .before .before .before .before .pre in
+    all-checked (args .file .now) (args .head) (take (args .count) (slots (args .hits .now))) (loop .i) (loop .inv .0) (omega (arith, c .loop-test .left, count-slots (args .hits .now) (args .count) (pre)))
+
+pub check-spec : {M : Type 1} → statement M
+check-spec =
+    tie.close
+    (tie.spec
+    Inv-loop
+    μ-loop
+    loop-holds
+    hit-at-requires
+    add-i
+    fields-place-requires
+    pick-requires
+    enum-told
+    loop-less
+    loop-again
+    enum-known-why
+    returns
+    returns-2)

@@ -1,0 +1,71 @@
+-- `zones::simple::is_called` meets its contract. The loop's invariant: what is left is the same exactly if all is. Assumes nothing.
+use Prim.Native.Nat.{_≤_, _-_}
+use lib.ListN.{length, drop}
+use mathlib.Core.List.{map}
+use mathlib.Core.Path.{_≡_, refl}
+use native.Mathlib.Omega.{arith}
+use Rattle.zones.proofs.simple.Names.{not-as-long, differs, goes-on, all-same}
+use Rattle.zones.proofs.simple.is_called.Statement.{statement}
+use Rattle.zones.specs.Simple.{same}
+use Rattle.zones.specs.Utf8.{unmasked}
+use Rattle.zones.proofs.simple.is_called.Tie as tie
+
+abbrev Inv-loop : tie.InvT-loop
+Inv-loop stored name i₀ i = (i ≤ length name) × (length stored ≡ length name) × (same (drop i (map unmasked stored)) (drop i name) ≡ same (map unmasked stored) name)
+
+abbrev μ-loop : tie.MeasureT-loop
+μ-loop stored name i₀ i = length name - i
+
+returns : tie.Need-returns Inv-loop μ-loop
+returns c = not-as-long (c .before .args .stored .now) (c .before .args .name .now) (c .if1 .taken)
+
+loop-holds : tie.Need-loop-holds Inv-loop μ-loop
+loop-holds c = (omega arith, c .if1 .left, refl)
+
+shared-slice-read-if2 : tie.Need-shared-slice-read-if2 Inv-loop μ-loop
+shared-slice-read-if2 c = omega (arith, c .before .before .loop .inv .1)
+
+shared-slice-read-if2-2 : tie.Need-shared-slice-read-if2-2 Inv-loop μ-loop
+shared-slice-read-if2-2 c = omega arith
+
+returns-2 : tie.Need-returns-2 Inv-loop μ-loop
+returns-2 c =
+    let args = c .before .before .before .before .before .before .args in
+    let loop = c .before .before .before .before .loop in
+    let loop-test = c .before .before .before .loop-test in
+    differs (args .stored .now) (args .name .now) (loop .i) (loop .inv .1) (loop .inv .2) (loop-test .taken) (c .if2 .taken)
+
+add-i : tie.Need-add-i Inv-loop μ-loop
+add-i c = omega arith
+
+loop-less : tie.Need-loop-less Inv-loop μ-loop
+loop-less c = omega (arith, c .before .before .before .loop-test .taken)
+
+loop-again : tie.Need-loop-again Inv-loop μ-loop
+loop-again c =
+    let loop-test = c .before .before .before .loop-test in
+    let loop = c .before .before .before .before .loop in
+    let args = c .before .before .before .before .before .before .args in
+    (omega (arith, loop-test .taken), loop .inv .1, goes-on (args .stored .now) (args .name .now) (loop .i) (loop .inv .1) (loop .inv .2) (loop-test .taken) (c .if2 .left))
+
+returns-3 : tie.Need-returns-3 Inv-loop μ-loop
+returns-3 c =
+    let args = c .before .before .before .args in
+    let loop = c .before .loop in
+    all-same (args .stored .now) (args .name .now) (loop .i) (loop .inv .1) (loop .inv .2) (c .loop-test .left)
+
+pub is-called-spec : {M : Type 1} → statement M
+is-called-spec =
+    tie.close
+    (tie.spec
+    Inv-loop
+    μ-loop
+    returns
+    loop-holds
+    shared-slice-read-if2
+    shared-slice-read-if2-2
+    returns-2
+    add-i
+    loop-less
+    loop-again
+    returns-3)

@@ -1,0 +1,127 @@
+-- `zones::simple::pick` meets its contract. The loop's invariant: the fields that are left give the whole. Assumes nothing.
+use Prim.Native.Nat.{_-_, _≤_}
+use borrow.Author.Needs.{needs}
+use mathlib.Core.Path.{_≡_, sym, ap, _∙_}
+use native.Mathlib.Omega.{arith}
+use Rattle.zones.proofs.simple.Picking.{starts, all-picked, no-name, name-inside, no-value, goes}
+use Rattle.zones.proofs.simple.pick.Statement.{statement}
+use Rattle.zones.specs.Simple.{begun, pickedFrom}
+use Rattle.zones.specs.Text.{toldRead}
+use Rattle.zones.specs.declared.header.Head.{Head}
+use Rattle.zones.specs.declared.header.Preamble.{Preamble}
+use Rattle.zones.specs.declared.header.Sections.{Sections}
+use Rattle.zones.proofs.simple.pick.Tie as tie
+
+abbrev headOf : Preamble → Sections → Head
+headOf preamble sections = record { preamble = preamble; sections = sections }
+
+abbrev Inv-loop : tie.InvT-loop
+Inv-loop file start preamble sections names blame index₀ name₀ place₀ last₀ index name place last = (pickedFrom file (headOf preamble sections) (names - index) index name place last ≡ pickedFrom file (headOf preamble sections) names 0 7 start (begun (preamble .kind))) × (index ≤ names)
+
+abbrev μ-loop : tie.MeasureT-loop
+μ-loop file start preamble sections names blame index₀ name₀ place₀ last₀ index name place last = names - index
+
+cast-names : tie.Need-cast-names Inv-loop μ-loop
+cast-names c = search needs
+
+begun-requires : tie.Need-begun-requires Inv-loop μ-loop
+begun-requires c κs = search needs
+
+loop-holds : tie.Need-loop-holds Inv-loop μ-loop
+loop-holds c = (starts _ _ _ _ (c .begun .ensures), omega arith)
+
+read-header-text-requires : tie.Need-read-header-text-requires Inv-loop μ-loop
+read-header-text-requires c κs = search needs
+
+enum-known-called : tie.Need-enum-known-called Inv-loop μ-loop
+enum-known-called c = search needs
+
+enum-known-why : tie.Need-enum-known-why Inv-loop μ-loop
+enum-known-why c = search needs
+
+returns : tie.Need-returns Inv-loop μ-loop
+returns c =
+    let loop = c .before .before .before .before .before .loop in
+    let loop-test = c .before .before .before .before .loop-test in
+    let why = c .before .why in
+    let read-header-text = c .before .before .before .read-header-text in
+    no-name _ _ _ _ _ _ _ (loop .inv .0) (loop-test .taken) (sym (ap toldRead (why .given .1)) ∙ read-header-text .ensures)
+
+read-text-requires : tie.Need-read-text-requires Inv-loop μ-loop
+read-text-requires c κs = search needs
+
+enum-known-value : tie.Need-enum-known-value Inv-loop μ-loop
+enum-known-value c = search needs
+
+enum-known-why-2 : tie.Need-enum-known-why-2 Inv-loop μ-loop
+enum-known-why-2 c = search needs
+
+returns-2 : tie.Need-returns-2 Inv-loop μ-loop
+returns-2 c =
+    let loop = c .before .before .before .before .before .before .before .before .before .loop in
+    let loop-test = c .before .before .before .before .before .before .before .before .loop-test in
+    let called = c .before .before .before .before .before .called in
+    let read-header-text = c .before .before .before .before .before .before .before .read-header-text in
+    let why2 = c .before .why2 in
+    let read-text = c .before .before .before .read-text in
+    no-value _ _ _ _ _ _ _ (loop .inv .0) (loop-test .taken) (sym (ap toldRead (called .given .1)) ∙ read-header-text .ensures) (sym (ap toldRead (why2 .given .1)) ∙ read-text .ensures)
+
+part-of-requires : tie.Need-part-of-requires Inv-loop μ-loop
+part-of-requires c κs =
+    let loop = c .before .before .before .before .before .before .before .before .before .loop in
+    let loop-test = c .before .before .before .before .before .before .before .before .loop-test in
+    let called = c .before .before .before .before .before .called in
+    let read-header-text = c .before .before .before .before .before .before .before .read-header-text in
+    name-inside _ _ _ _ _ _ _ (loop .inv .0) (loop-test .taken) (sym (ap toldRead (called .given .1)) ∙ read-header-text .ensures)
+
+newer-requires : tie.Need-newer-requires Inv-loop μ-loop
+newer-requires c κs = search needs
+
+add-index : tie.Need-add-index Inv-loop μ-loop
+add-index c =
+    let loop-test = c .before .before .before .before .before .before .before .before .before .before .loop-test in
+    let struct-known = c .before .before .before .before .before .before .before .before .before .before .before .before .before .struct-known in
+    omega (arith, loop-test .taken, struct-known .given)
+
+loop-less : tie.Need-loop-less Inv-loop μ-loop
+loop-less c =
+    let loop-test = c .before .before .before .before .before .before .before .before .before .before .loop-test in
+    omega (arith, loop-test .taken)
+
+loop-again : tie.Need-loop-again Inv-loop μ-loop
+loop-again c =
+    let loop = c .before .before .before .before .before .before .before .before .before .before .before .loop in
+    let loop-test = c .before .before .before .before .before .before .before .before .before .before .loop-test in
+    let called = c .before .before .before .before .before .before .before .called in
+    let read-header-text = c .before .before .before .before .before .before .before .before .before .read-header-text in
+    let value = c .before .before .before .value in
+    let read-text = c .before .before .before .before .before .read-text in
+    let part-of = c .before .part-of in
+    (goes _ _ _ _ _ _ _ (loop .inv .0) (loop-test .taken) (sym (ap toldRead (called .given .1)) ∙ read-header-text .ensures) (sym (ap toldRead (value .given .1)) ∙ read-text .ensures) (part-of .ensures) (c .newer .ensures), omega (arith, loop-test .taken))
+
+returns-3 : tie.Need-returns-3 Inv-loop μ-loop
+returns-3 c = all-picked _ _ _ _ _ _ _ (c .before .loop .inv .0) (c .loop-test .left)
+
+pub pick-spec : {M : Type 1} → statement M
+pick-spec =
+    tie.close
+    (tie.spec
+    Inv-loop
+    μ-loop
+    cast-names
+    begun-requires
+    loop-holds
+    read-header-text-requires
+    enum-known-called
+    enum-known-why
+    returns
+    read-text-requires
+    enum-known-value
+    enum-known-why-2
+    returns-2
+    part-of-requires
+    newer-requires
+    add-index
+    loop-less
+    loop-again
+    returns-3)
