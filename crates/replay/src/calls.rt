@@ -6,6 +6,10 @@ use crate::reply::Reply;
 use crate::reply::answered;
 use crate::reply::failed;
 use crate::reply::refused;
+use numbers::float::bits::of_bits;
+use zones::location::Location;
+use zones::lookup::Looked;
+use zones::lookup::lookup;
 use zones::opening::Opened;
 use zones::opening::open;
 use zones::refusal::plain;
@@ -23,6 +27,27 @@ fn run_open(file: &[u8], text: &mut [u8]) -> Reply {
             opening.used as u64,
         ]),
         Opened::Refused(why) => refused(why),
+    }
+}
+
+// The latitude and the longitude of a record.
+fn location_of(record: &[u8]) -> Location {
+    let lat = of_bits(word_at(record, 5));
+    let lon = of_bits(word_at(record, 9));
+    Location { lat, lon }
+}
+
+fn run_lookup(record: &[u8], file: &[u8], slots: &mut [u32], text: &mut [u8]) -> Reply {
+    let asked = byte_at(record, 13) != 0;
+    match lookup(file, location_of(record), asked, slots, text) {
+        Looked::Zones(zones) => answered([
+            zones.matches as u64,
+            zones.mark as u64,
+            zones.safezone as u64,
+            zones.used as u64,
+            0,
+        ]),
+        Looked::Refused(why) => refused(why),
     }
 }
 
@@ -56,11 +81,12 @@ fn run_utf8(file: &[u8]) -> Reply {
     }
 }
 
-// 1 is open. Of this program's own, 5 is a string, with its place where a lookup has the latitude and the metadata offset where it has the
+// 1 is open and 2 lookup. Of this program's own, 5 is a string, with its place where a lookup has the latitude and the metadata offset where it has the
 // longitude, and 6 is UTF-8, over bytes that are stored XOR 0x80.
 pub fn run(record: &[u8], file: &[u8], slots: &mut [u32], text: &mut [u8]) -> Reply {
     match byte_at(record, 0) {
         1 => run_open(file, text),
+        2 => run_lookup(record, file, slots, text),
         5 => run_string(file, word_at(record, 9), size_at(record, 5), text),
         _ => run_utf8(file),
     }

@@ -16,7 +16,7 @@ use Rattle.zones.specs.Search.{searched}
 use Rattle.zones.specs.Merge.{merged}
 use Rattle.zones.specs.declared.header.Head.{Head}
 use Rattle.zones.specs.declared.hits.Hit.{Hit}
-use Rattle.zones.specs.declared.table.Fix.{Fix}
+use Rattle.border.specs.declared.place.Point.{Point}
 use Rattle.zones.specs.declared.location.Location.{Location}
 use Rattle.zones.specs.declared.find.Matches.{Matches}
 use Rattle.zones.specs.declared.find.Found.{Found}
@@ -30,7 +30,7 @@ abbrev pub halfTurn : Float
 halfTurn = fin false 45 (pos 2)
 
 -- the location as fixed coordinates, at a precision
-unfoldable pub fixOf : Location → ℕ → Fix
+unfoldable pub fixOf : Location → ℕ → Point
 fixOf location precision = record {
   lat = record { 0 = fixedPoint (location .lat) ninety precision };
   lon = record { 0 = fixedPoint (location .lon) halfTurn precision };

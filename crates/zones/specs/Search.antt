@@ -21,7 +21,7 @@ use Rattle.zones.specs.Table.{entryAt, isAbove, holds}
 use Rattle.zones.specs.declared.header.Head.{Head}
 use Rattle.zones.specs.declared.hits.Hit.{Hit}
 use Rattle.zones.specs.declared.table.Entry.{Entry}
-use Rattle.zones.specs.declared.table.Fix.{Fix}
+use Rattle.border.specs.declared.place.Point.{Point}
 use Rattle.zones.specs.declared.search.Cursor.{Cursor}
 use Rattle.zones.specs.declared.search.Turn.{Turn}
 use Rattle.zones.specs.declared.search.Turn.the-variants.{On, Met, Stopped, Refused}
@@ -59,7 +59,7 @@ judgedTurn at entry (J.failed least) = Stopped 3 least
 judgedTurn at entry (J.refused n) = Refused n
 
 -- over the reading of an entry at a place, and the judging of a border at a place of the data with the least distance so far
-module _ (read : ℕ → Answer Entry) (judge : ℕ → ℕ → Judgement) (fix : Fix) where
+module _ (read : ℕ → Answer Entry) (judge : ℕ → ℕ → Judgement) (fix : Point) where
   -- a lower latitude above the location stops the search with mark 1; where the box holds the location the border is judged
   unfoldable pub entryTurn : Cursor → Entry → Turn
   entryTurn at entry =
@@ -109,16 +109,16 @@ abbrev pub versionOf : ℕ → Version
 versionOf byte = if eqb byte 0 then Plain else Packed
 
 -- the border at a place of the data, counted modulo 2 ^ 32
-abbrev pub judgeIn : List ℕ → Head → Fix → Bool → ℕ → ℕ → Judgement
+abbrev pub judgeIn : List ℕ → Head → Point → Bool → ℕ → ℕ → Judgement
 judgeIn file head fix asked polygon least =
     let start = head .sections .«data» in
     judgedAt file (versionOf (head .preamble .version)) start ((start + polygon) % 2 ^ 32) (fix .lat) (fix .lon) asked least
 
-unfoldable pub turnAt : List ℕ → Head → Fix → Bool → Cursor → Turn
+unfoldable pub turnAt : List ℕ → Head → Point → Bool → Cursor → Turn
 turnAt file head fix asked = turnOf (entryAt file) (judgeIn file head fix asked) fix
 
 -- from the table's start, with so many slots for hits
-unfoldable pub searched : List ℕ → Head → Fix → Bool → ℕ → Reply Found
+unfoldable pub searched : List ℕ → Head → Point → Bool → ℕ → Reply Found
 searched file head fix asked room = searchedBy (turnAt file head fix asked) (head .sections .table) (head .sections .metadata) room
 
 -- ---- the code's answers

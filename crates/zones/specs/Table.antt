@@ -11,7 +11,7 @@ use Rattle.border.specs.declared.place.FixedLat.{FixedLat}
 use Rattle.border.specs.declared.place.FixedLon.{FixedLon}
 use Rattle.zones.specs.declared.table.Bounds.{Bounds}
 use Rattle.zones.specs.declared.table.Entry.{Entry}
-use Rattle.zones.specs.declared.table.Fix.{Fix}
+use Rattle.border.specs.declared.place.Point.{Point}
 use Rattle.zones.specs.declared.table.Row.{Row}
 use Rattle.zones.specs.declared.table.Row.the-variants.{Read, Failed, Refused}
 
@@ -51,10 +51,10 @@ entryAt file place = do
   stepsAt file (d .place) (boundsOf (a .value) (b .value) (c .value) (d .value))
 
 -- the lower latitude is above the location
-abbrev pub isAbove : Bounds → Fix → Bool
+abbrev pub isAbove : Bounds → Point → Bool
 isAbove bounds fix = ltZ (fix .lat .0) (bounds .«min_lat» .0)
 
 -- the box holds the location, which its lower latitude is not above
-abbrev pub holds : Bounds → Fix → Bool
+abbrev pub holds : Bounds → Point → Bool
 holds bounds fix =
     leZ (fix .lat .0) (bounds .«max_lat» .0) && leZ (bounds .«min_lon» .0) (fix .lon .0) && leZ (fix .lon .0) (bounds .«max_lon» .0)

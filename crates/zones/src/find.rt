@@ -15,9 +15,9 @@ use crate::refusal::Refusal;
 use crate::refusal::plain;
 use crate::search::Searched;
 use crate::search::search;
-use crate::table::Fix;
 use border::place::FixedLat;
 use border::place::FixedLon;
+use border::place::Point;
 use numbers::float::fixed::to_fixed;
 
 // The header, the number of matches, the end mark and the least squared distance.
@@ -33,10 +33,10 @@ pub enum Found {
     Refused(Refusal),
 }
 
-fn fix_of(location: Location, precision: u8) -> Fix
+fn fix_of(location: Location, precision: u8) -> Point
     ensures { λ r. ⌜ r ≡ fixOf location precision ⌝ }
 {
-    Fix {
+    Point {
         lat: FixedLat(to_fixed(location.lat, 90.0, precision)),
         lon: FixedLon(to_fixed(location.lon, 180.0, precision)),
     }

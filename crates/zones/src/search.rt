@@ -16,11 +16,11 @@ use crate::hits::room;
 use crate::refusal::Refusal;
 use crate::refusal::plain;
 use crate::table::Entry;
-use crate::table::Fix;
 use crate::table::Row;
 use crate::table::entry_at;
 use crate::table::holds;
 use crate::table::is_above;
+use border::place::Point;
 use border::reader::Version;
 use border::verdict::Judged;
 use border::verdict::Verdict;
@@ -140,7 +140,7 @@ fn judged(at: Cursor, entry: Entry, judgement: Judged) -> Turn
 }
 
 // The judging of the border at a place of the data.
-fn judge(file: &[u8], head: Head, fix: Fix, asked: bool, polygon: u32, least: u64) -> Judged
+fn judge(file: &[u8], head: Head, fix: Point, asked: bool, polygon: u32, least: u64) -> Judged
     ensures { λ r. ⌜ told r ≡ judgeIn (now (file .entry)) head fix asked polygon least ⌝ }
 {
     let preamble = head.preamble;
@@ -151,7 +151,7 @@ fn judge(file: &[u8], head: Head, fix: Fix, asked: bool, polygon: u32, least: u6
     point_in_polygon(file, version, start, place, fix.lat, fix.lon, asked, least)
 }
 
-fn on_entry(file: &[u8], head: Head, fix: Fix, asked: bool, at: Cursor, entry: Entry) -> Turn
+fn on_entry(file: &[u8], head: Head, fix: Point, asked: bool, at: Cursor, entry: Entry) -> Turn
     ensures { λ r. ⌜ r ≡ entryTurn (entryAt (now (file .entry))) (judgeIn (now (file .entry)) head fix asked) fix at entry ⌝ }
 {
     let bounds = entry.bounds;
@@ -169,7 +169,7 @@ fn on_entry(file: &[u8], head: Head, fix: Fix, asked: bool, at: Cursor, entry: E
     Turn::On(next)
 }
 
-fn turn_at(file: &[u8], head: Head, fix: Fix, asked: bool, at: Cursor) -> Turn
+fn turn_at(file: &[u8], head: Head, fix: Point, asked: bool, at: Cursor) -> Turn
     ensures { λ r. ⌜ r ≡ turnAt (now (file .entry)) head fix asked at ⌝ }
 {
     let row = entry_at(file, at.place);
@@ -184,7 +184,7 @@ fn turn_at(file: &[u8], head: Head, fix: Fix, asked: bool, at: Cursor) -> Turn
 }
 
 // The hits go into the lent words, in the order in which they are met.
-pub fn search(file: &[u8], head: Head, fix: Fix, asked: bool, hits: &mut [u32]) -> Searched
+pub fn search(file: &[u8], head: Head, fix: Point, asked: bool, hits: &mut [u32]) -> Searched
     requires { ⌜ now hits ≡ zeros (length (now hits)) ⌝ }
     ensures { λ r. ⌜ Agrees (Sought (length (now (hits .entry))) (now (hits .exit)))
         (searched (now (file .entry)) head fix asked (length (now (hits .entry)) / width)) (toldSearched r) ⌝ }

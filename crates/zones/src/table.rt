@@ -4,15 +4,10 @@ ghost use lib.Signed.{ltZ, leZ};
 ghost use Rattle.zones.specs.Table.{toldRow, stoppedBy, entryAt, stepsAt, boundsOf, isAbove, holds};
 use border::place::FixedLat;
 use border::place::FixedLon;
+use border::place::Point;
 use numbers::point::signed;
 use numbers::varint::Varint;
 use numbers::varint::read_forward;
-
-// The location, as fixed coordinates.
-pub struct Fix {
-    pub lat: FixedLat,
-    pub lon: FixedLon,
-}
 
 pub struct Bounds {
     pub min_lat: FixedLat,
@@ -145,14 +140,14 @@ fn lat_below(a: FixedLat, b: FixedLat) -> bool
 }
 
 // Whether the lower latitude is above the location.
-pub fn is_above(bounds: Bounds, fix: Fix) -> bool
+pub fn is_above(bounds: Bounds, fix: Point) -> bool
     ensures { λ r. ⌜ r ≡ isAbove bounds fix ⌝ }
 {
     lat_below(fix.lat, bounds.min_lat)
 }
 
 // Whether the box holds the location, which its lower latitude is not above.
-pub fn holds(bounds: Bounds, fix: Fix) -> bool
+pub fn holds(bounds: Bounds, fix: Point) -> bool
     ensures { λ r. ⌜ r ≡ holds bounds fix ⌝ }
 {
     if lat_upto(fix.lat, bounds.max_lat) {

@@ -14,7 +14,7 @@ use Rattle.zones.specs.Find.{fixOf, isPrecision, Matched, matchedIn, Mat
 use Rattle.zones.specs.declared.header.Head.{Head}
 use Rattle.zones.specs.declared.hits.Hit.{Hit}
 use Rattle.zones.specs.declared.refusal.Refusal.{Refusal}
-use Rattle.zones.specs.declared.table.Fix.{Fix}
+use Rattle.border.specs.declared.place.Point.{Point}
 use Rattle.zones.specs.declared.search.Ended.{Ended}
 use Rattle.zones.specs.declared.location.Location.{Location}
 use Rattle.zones.specs.declared.find.Matches.{Matches}
@@ -31,9 +31,9 @@ module _ (file : List ℕ) (location : Location) (asked : Bool) (room : ℕ) whe
     unfolding matchedIn
     no-precision p = unmet p _ _ ∙ onward e _
 
-    module _ (p : isPrecision (head .preamble .precision) ≡ true) {fix : Fix} (f : fix ≡ fixOf location (head .preamble .precision)) where
+    module _ (p : isPrecision (head .preamble .precision) ≡ true) {fix : Point} (f : fix ≡ fixOf location (head .preamble .precision)) where
       at-fix : searched file head fix asked room ≡ searched file head (fixOf location (head .preamble .precision)) asked room
-      at-fix = ap (λ (x : Fix). searched file head x asked room) f
+      at-fix = ap (λ (x : Point). searched file head x asked room) f
 
       pub no-search : {why : Refusal} → refused why ≡ searched file head fix asked room → refused why ≡ matchedIn file location asked room
       unfolding matchedIn

@@ -19,7 +19,7 @@ use Rattle.zones.specs.Table.{entryAt, stepsAt, isAbove, holds}
 use Rattle.zones.specs.Search.{pastEntry, withLeast, kindOf, judgedTurn, entryTurn, readTurn, turnOf, judgeIn, turnAt}
 use Rattle.zones.specs.declared.header.Head.{Head}
 use Rattle.zones.specs.declared.table.Entry.{Entry}
-use Rattle.zones.specs.declared.table.Fix.{Fix}
+use Rattle.border.specs.declared.place.Point.{Point}
 use Rattle.zones.specs.declared.search.Cursor.{Cursor}
 use Rattle.zones.specs.declared.search.Turn.{Turn}
 use Rattle.zones.specs.declared.search.Turn.the-variants.{On, Met, Stopped, Refused}
@@ -70,7 +70,7 @@ either : (test : Bool) (place : ℕ) (t u : Turn) → (test ≡ true → Leads p
 either true place t u h k = h refl
 either false place t u h k = k refl
 
-module _ (judge : ℕ → ℕ → Judgement) (fix : Fix) (at : Cursor) where
+module _ (judge : ℕ → ℕ → Judgement) (fix : Point) (at : Cursor) where
   judged-leads : (entry : Entry) → at .place < entry .next → (judgement : Judgement) → Leads (at .place) (judgedTurn at entry judgement)
   unfolding Leads judgedTurn
   judged-leads entry h (reached verdict least) =
@@ -99,6 +99,6 @@ module _ (judge : ℕ → ℕ → Judgement) (fix : Fix) (at : Cursor) where
     leads = read-leads (read (at .place)) refl
 
 -- in a file
-pub leads-in : (file : List ℕ) (head : Head) (fix : Fix) (asked : Bool) (at : Cursor) → Leads (at .place) (turnAt file head fix asked at)
+pub leads-in : (file : List ℕ) (head : Head) (fix : Point) (asked : Bool) (at : Cursor) → Leads (at .place) (turnAt file head fix asked at)
 unfolding turnAt
 leads-in file head fix asked at = leads (judgeIn file head fix asked) fix at (entryAt file) (entry-grows file (at .place))

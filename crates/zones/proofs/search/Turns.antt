@@ -19,7 +19,7 @@ use Rattle.zones.specs.Table.{toldRow, isAbove, holds}
 use Rattle.zones.specs.Search.{pastEntry, withLeast, kindOf, judgedTurn, entryTurn, versionOf, judgeIn}
 use Rattle.zones.specs.declared.header.Head.{Head}
 use Rattle.zones.specs.declared.table.Entry.{Entry}
-use Rattle.zones.specs.declared.table.Fix.{Fix}
+use Rattle.border.specs.declared.place.Point.{Point}
 use Rattle.zones.specs.declared.table.Row.{Row}
 use Rattle.zones.specs.declared.table.Row.the-variants as W
 use Rattle.zones.specs.declared.search.Cursor.{Cursor}
@@ -41,7 +41,7 @@ module _ (id step : ℕ) where
   back e h = simp (ne-eqb _ _ e) (negated (step / 2) h)
 
 -- ---- a judged border
-module _ (file : List ℕ) (head : Head) (fix : Fix) (asked : Bool) (polygon least : ℕ) where
+module _ (file : List ℕ) (head : Head) (fix : Point) (asked : Bool) (polygon least : ℕ) where
   pub judged-in : {version : Version} {place : ℕ} {judgement : Judgement} → version ≡ versionOf (head .preamble .version) → place ≡ (head .sections .«data» + polygon) % 2 ^ 32
       → judgement ≡ judgedAt file version (head .sections .«data») place (fix .lat) (fix .lon) asked least → judgement ≡ judgeIn file head fix asked polygon least
   judged-in v p j = j ∙ (λ i. judgedAt file (v i) (head .sections .«data») (p i) (fix .lat) (fix .lon) asked least)
@@ -60,7 +60,7 @@ module _ (at : Cursor) (entry : Entry) {judgement : Judged} {verdict : Verdict} 
   met z = (λ i. Met (hitOf (at .id) (next-is i .metadata) (k i)) (next-is i)) ∙ rw is (simp (ne-eqb _ _ (λ e. z (k ∙ e))))
 
 -- ---- an entry
-module _ (read : ℕ → Answer Entry) (judge : ℕ → ℕ → Judgement) (fix : Fix) (at : Cursor) (entry : Entry) where
+module _ (read : ℕ → Answer Entry) (judge : ℕ → ℕ → Judgement) (fix : Point) (at : Cursor) (entry : Entry) where
   pub stops-above : isAbove (entry .bounds) fix ≡ true → Stopped 1 (at .least) ≡ entryTurn read judge fix at entry
   unfolding entryTurn
   stops-above e = rw e

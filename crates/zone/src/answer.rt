@@ -1,0 +1,20 @@
+// What is asked of the library.
+use crate::bytes::word_at;
+use numbers::float::bits::of_bits;
+use zones::location::Location;
+use zones::lookup::Looked;
+use zones::lookup::lookup;
+use zones::refusal::plain;
+
+// Latitude and longitude (f32 bits, low byte first), then the file.
+pub fn answer(input: &[u8], hits: &mut [u32], text: &mut [u8]) -> Looked {
+    if 65536 < input.len() {
+        return Looked::Refused(plain(1));
+    }
+    if input.len() < 8 {
+        return Looked::Refused(plain(2));
+    }
+    let lat = of_bits(word_at(input, 0));
+    let lon = of_bits(word_at(input, 4));
+    lookup(&input[8..], Location { lat, lon }, true, hits, text)
+}
