@@ -12,7 +12,7 @@ use native.Mathlib.Omega.{arith}
 use Rattle.numbers.specs.declared.point.{RawPoint.RawPoint}
 use Rattle.border.specs.declared.place.{Point.Point}
 use Rattle.border.specs.declared.reader.{Reader.Reader, Run.Run, Version.Version}
-use Rattle.border.proofs.FromNumbers.{whole-forward, whole-clear, whole-backward, whole-some}
+use Rattle.numbers.proofs.Wholes.{whole-forward, whole-clear, whole-backward, whole-some}
 use Rattle.border.proofs.Trace.{gives-trace, again-trace, ends-trace}
 use Rattle.border.proofs.reader.Turns.{closed-ends}
 use Rattle.border.specs.Place.{movedBy}

@@ -16,16 +16,16 @@ use Rattle.border.proofs.WrittenTrace.{written-stands}
 
 -- One border stands in two files, in whatever way it was written. At every fixed latitude and longitude, with the distance asked for or not, and after every least
 -- distance so far, `point_in_polygon` replies the same.
-pub one-border-one-verdict : {version version′ : Version} {file file′ : List ℕ} {base base′ place place′ : ℕ} {points : List Point}
+pub standing-border-one-verdict : {version version′ : Version} {file file′ : List ℕ} {base base′ place place′ : ℕ} {points : List Point}
     → Stands version file base place points → Stands version′ file′ base′ place′ points
     → (lat : FixedLat) (lon : FixedLon) (asked : Bool) (least : ℕ) → judgedAt file version base place lat lon asked least ≡ judgedAt file′ version′ base′ place′ lat lon asked least
 unfolding judgedAt
-one-border-one-verdict h k lat lon asked least = one-border-one-judgement (judge (record { lat = lat; lon = lon }) asked none (record { winding = pos 0; least = least })) h k
+standing-border-one-verdict h k lat lon asked least = one-border-one-judgement (judge (record { lat = lat; lon = lon }) asked none (record { winding = pos 0; least = least })) h k
 
 -- So for every pair of accepted ways to write one border, at every fixed latitude and longitude, with the distance asked for or not, and after every least distance so
 -- far, `point_in_polygon` replies the same: verdict and distance, failure or refusal.
-pub written-border-one-verdict : {version version′ : ℕ} {lats lons : List ℤ} {file file′ : List ℕ} {base base′ place place′ : ℕ}
+pub one-border-one-verdict : {version version′ : ℕ} {lats lons : List ℤ} {file file′ : List ℕ} {base base′ place place′ : ℕ}
     → WrittenAt version lats lons file base place → WrittenAt version′ lats lons file′ base′ place′
     → (lat : FixedLat) (lon : FixedLon) (asked : Bool) (least : ℕ)
     → judgedAt file (encodingOf version) base place lat lon asked least ≡ judgedAt file′ (encodingOf version′) base′ place′ lat lon asked least
-written-border-one-verdict h k = one-border-one-verdict (written-stands h) (written-stands k)
+one-border-one-verdict h k = standing-border-one-verdict (written-stands h) (written-stands k)

@@ -11,14 +11,13 @@ use Rattle.numbers.specs.Answer.{Answer, found, failed, refused, if_then_else_,
 use Rattle.numbers.specs.Varint.{Numeral, forwardAt, backwardAt}
 use Rattle.numbers.specs.Point.{pointOf, signedOf}
 use Rattle.numbers.specs.declared.point.{RawPoint.RawPoint}
-use Rattle.numbers.specs.declared.varint.Varint.the-variants.{Number}
-use Rattle.numbers.proofs.Laws.{number-read}
 use Rattle.border.specs.Place.{moveBy, isStill, movedBy, negated}
 use Rattle.border.specs.Reader.{Turn, gives, again, ends, onward, arrived, closing, advanced, shownBy, plainMove, plainPair, plainTurn, asI64, opened, reference, marker, lent, forwardFrom, backwardFrom, packedTurn, turnOf}
 use Rattle.border.specs.declared.reader.{Reader.Reader, Run.Run, Version.Version}
 use Rattle.border.specs.declared.reader.Version.the-variants.{Plain, Packed}
 use Rattle.border.specs.declared.reader.Run.the-variants.{Idle, Forward, Backward}
-use Rattle.border.proofs.FromNumbers.{All, then-all, any, Before, backward-read}
+use Rattle.numbers.proofs.Answers.{All, then-all, any}
+use Rattle.numbers.proofs.Laws.{Read, forward-read, Before, backward-read}
 
 -- ---- the measure
 
@@ -69,23 +68,6 @@ backward-lower n place next next′ end h k =
     (omega arith)
     (omega arith)
 
--- ---- numbers
-
--- the place inside the file, and the place after the number
-pub record After (f : List ℕ) (place : ℕ) (number : Numeral) : Type 0 where
-  pub inside : place < length f
-  pub grows : place < number .place
-
-pub forward-read : (f : List ℕ) (place : ℕ) → All (After f place) (forwardAt f place)
-forward-read f place = go (forwardAt f place) refl
-  where
-    go : (answer : Answer Numeral) → answer ≡ forwardAt f place → All (After f place) answer
-    go (found n) e =
-        let read = number-read f place {a = Number (n .value) (n .place)} e refl in
-        record { inside = read .inside; grows = read .grows }
-    go failed e = tt
-    go (refused k) e = tt
-
 -- ---- turns
 
 -- where the turn goes on, there is less room than b
@@ -96,7 +78,7 @@ Less f b ends = Unit
 
 module _ (f : List ℕ) (b : ℕ) where
   after : (place : ℕ) (next : Numeral → Answer Turn) → ((n : Numeral) → place < length f → place < n .place → All (Less f b) (next n)) → All (Less f b) (forwardAt f place >>= next)
-  after place next k = then-all (After f place) (Less f b) (forwardAt f place) next (forward-read f place) (λ n h. k n (h .inside) (h .grows))
+  after place next k = then-all (λ (number : Numeral). Read f place (number .value) (number .place)) (Less f b) (forwardAt f place) next (forward-read f place) (λ n h. k n (h .inside) (h .grows))
 
   before : (place : ℕ) (next : Numeral → Answer Turn) → ((n : Numeral) → place < length f → n .place < place → All (Less f b) (next n)) → All (Less f b) (backwardAt f place >>= next)
   before place next k = then-all (Before f place) (Less f b) (backwardAt f place) next (backward-read f place) (λ n h. k n (h .inside) (h .falls))

@@ -9,7 +9,7 @@ use Rattle.numbers.specs.Answer.{Answer, found, _>>=_}
 use Rattle.border.specs.Reader.{Turn, gives, again, ends, turnOf}
 use Rattle.border.specs.Trace.{Given, reaches, ended, roundAgain, turns, nextWithin, nextPoint, Trace, point, closed, failed, refused, traceThen, traceWithin, traceOf}
 use Rattle.border.specs.declared.reader.{Reader.Reader, Version.Version}
-use Rattle.border.proofs.FromNumbers.{All}
+use Rattle.numbers.proofs.Answers.{All}
 use Rattle.border.proofs.Room.{left, room-most, Less, turn-lowers}
 
 -- where there is a next point, there is less room than b

@@ -24,7 +24,7 @@ use Rattle.border.specs.Written.{Whole, Splits, Turned, Borrowed, Versio
 use Rattle.border.specs.declared.place.{Point.Point}
 use Rattle.border.specs.declared.reader.Version.the-variants.{Plain, Packed}
 use Rattle.border.specs.declared.writer.{Piece.Piece}
-use Rattle.border.proofs.FromNumbers.{read-whole}
+use Rattle.numbers.proofs.Wholes.{read-whole}
 use Rattle.border.proofs.OnWay.{one-byte}
 use Rattle.border.proofs.writer.Faults.{both-true, sizes}
 use Rattle.border.proofs.writer.Indexed.{points-length, moves-length}

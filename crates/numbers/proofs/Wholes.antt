@@ -1,66 +1,17 @@
--- Laws of numbers' `forwardAt` and `backwardAt`: where a number that was read backward stands, and how a whole number at a place reads. Assumes nothing.
-use mathlib.Core.Path.{_≡_, refl, sym, ap, _∙_}
-use mathlib.Core.Bool.{Bool, true, false, _&&_}
-use mathlib.Core.List.{List, [], _∷_, _++_}
+-- A whole number at a place of a file: how it reads forward and backward, and that a number that was read to its end is one. Assumes nothing.
 use Prim.Native.Nat.{ℕ, zero, suc, _+_, _-_, _*_, _%_, _^_, _<_, _≤_, min}
-use native.Mathlib.Nat.{add-suc, add-zero}
-use native.Mathlib.Omega.{arith}
 use borrow.Author.Tests.{ltb-true, ltb-false, lt-ltb, le-ltb}
 use lib.Dec.{ltb}
 use lib.ListN.{length, getD, drop, length-append, length-drop, List·getD-append}
 use lib.Seq.{getD-drop, drop-drop, drop-append-seam}
-use Rattle.numbers.specs.Answer.{Answer, found, failed, refused, if_then_else_, _>>=_}
+use mathlib.Core.Bool.{Bool, true, false}
+use mathlib.Core.List.{List, [], _∷_, _++_}
+use mathlib.Core.Path.{_≡_, refl, sym, ap, _∙_}
+use native.Mathlib.Nat.{add-suc, add-zero}
+use native.Mathlib.Omega.{arith}
 use Rattle.numbers.proofs.Answers.{found-one, not-failed, not-refused}
+use Rattle.numbers.specs.Answer.{if_then_else_}
 use Rattle.numbers.specs.Varint.{Numeral, numeral, isLast, valueOf, sizeOf, tooLong, forwardAt, startOf, backwardAt}
-
-start-le : (file : List ℕ) (place : ℕ) → startOf file place ≤ place
-unfolding startOf
-start-le file zero = omega arith
-start-le file (suc k) = go (isLast (getD file k 0)) (start-le file k)
-  where
-    go : (t : Bool) → startOf file k ≤ k → (if t then suc k else startOf file k) ≤ suc k
-    go true h = omega arith
-    go false h = omega arith
-
--- whatever is found has the property
-abbrev pub All : {A : Type 0} → (A → Type 0) → Answer A → Type 0
-All P (found a) = P a
-All P failed = Unit
-All P (refused n) = Unit
-
-pub then-all : {A B : Type 0} (P : A → Type 0) (Q : B → Type 0) (answer : Answer A) (next : A → Answer B) → All P answer → ((a : A) → P a → All Q (next a)) → All Q (answer >>= next)
-then-all P Q (found a) next h k = k a h
-then-all P Q failed next h k = tt
-then-all P Q (refused n) next h k = tt
-
-pub any : {A : Type 0} (answer : Answer A) → All (λ (a : A). Unit {0}) answer
-any (found a) = tt
-any failed = tt
-any (refused n) = tt
-
--- the place inside the file, and the place before the number
-pub record Before (file : List ℕ) (place : ℕ) (number : Numeral) : Type 0 where
-  pub inside : place < length file
-  pub falls : number .place < place
-
-pub backward-read : (file : List ℕ) (place : ℕ) → All (Before file place) (backwardAt file place)
-unfolding backwardAt
-backward-read file place = go (ltb place (length file)) (isLast (getD file place 0)) (ltb 0 (startOf file place)) refl refl
-  where
-    go : (a b c : Bool) → ltb place (length file) ≡ a → ltb 0 (startOf file place) ≡ c
-        → All (Before file place) (if a && b && c then (forwardAt file (startOf file place) >>= λ number. numeral (number .value) (startOf file place - 1)) else failed)
-    go true true true e g =
-        then-all (λ (n : Numeral). Unit {0}) (Before file place) (forwardAt file (startOf file place)) _ (any (forwardAt file (startOf file place)))
-        (λ number h. record { inside = ltb-true _ _ e; falls = omega (arith, ltb-true 0 (startOf file place) g, start-le file place) })
-    go true true false e g = tt
-    go true false true e g = tt
-    go true false false e g = tt
-    go false true true e g = tt
-    go false true false e g = tt
-    go false false true e g = tt
-    go false false false e g = tt
-
--- ---- a whole number: its size is just its bytes
 
 -- the high bit is clear in its last byte and set in the others
 data Digits : List ℕ → Type 0 where
