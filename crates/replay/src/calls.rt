@@ -4,7 +4,7 @@ use crate::record::size_at;
 use crate::record::word_at;
 use crate::reply::Reply;
 use crate::reply::answered;
-use crate::reply::failed;
+use crate::reply::answered_none;
 use crate::reply::refused;
 use numbers::float::bits::of_bits;
 use zones::location::Location;
@@ -13,6 +13,10 @@ use zones::lookup::lookup;
 use zones::opening::Opened;
 use zones::opening::open;
 use zones::refusal::plain;
+use zones::simple::Described;
+use zones::simple::Description;
+use zones::simple::Simple;
+use zones::simple::simple_lookup;
 use zones::text::String;
 use zones::text::read_string;
 use zones::utf8::is_utf8;
@@ -51,6 +55,23 @@ fn run_lookup(record: &[u8], file: &[u8], slots: &mut [u32], text: &mut [u8]) ->
     }
 }
 
+fn described(found: Described) -> Reply {
+    let matches = found.matches as u64;
+    let mark = found.mark as u64;
+    let description = found.description;
+    match description {
+        Description::Length(size) => answered([matches, mark, size as u64, 0, 0]),
+        Description::Missing => answered_none([matches, mark, 0, 0, 0]),
+    }
+}
+
+fn run_simple(record: &[u8], file: &[u8], slots: &mut [u32], text: &mut [u8]) -> Reply {
+    match simple_lookup(file, location_of(record), slots, text) {
+        Simple::Described(found) => described(found),
+        Simple::Refused(why) => refused(why),
+    }
+}
+
 // As many bytes as the text has, from a place of the file on, each XOR 0x80.
 fn unmask(file: &[u8], start: usize, text: &mut [u8]) {
     let mut i = 0;
@@ -67,7 +88,7 @@ fn run_string(file: &[u8], metadata: u32, place: usize, text: &mut [u8]) -> Repl
             unmask(file, string.start, text);
             answered([string.size as u64, string.next as u64, 0, 0, 0])
         }
-        String::Failed => failed(),
+        String::Failed => answered_none([0; 5]),
         String::Refused(number) => refused(plain(number)),
     }
 }
@@ -81,12 +102,13 @@ fn run_utf8(file: &[u8]) -> Reply {
     }
 }
 
-// 1 is open and 2 lookup. Of this program's own, 5 is a string, with its place where a lookup has the latitude and the metadata offset where it has the
+// 1 is open, 2 lookup and 3 simple lookup. Of this program's own, 5 is a string, with its place where a lookup has the latitude and the metadata offset where it has the
 // longitude, and 6 is UTF-8, over bytes that are stored XOR 0x80.
 pub fn run(record: &[u8], file: &[u8], slots: &mut [u32], text: &mut [u8]) -> Reply {
     match byte_at(record, 0) {
         1 => run_open(file, text),
         2 => run_lookup(record, file, slots, text),
+        3 => run_simple(record, file, slots, text),
         5 => run_string(file, word_at(record, 9), size_at(record, 5), text),
         _ => run_utf8(file),
     }

@@ -88,7 +88,7 @@ fn judge_file(record: &[u8]) -> Verdict {
 
 pub fn judge(record: &[u8]) -> Verdict {
     match byte_at(record, 0) {
-        1 | 2 | 5 | 6 => judge_file(record),
+        1 | 2 | 3 | 5 | 6 => judge_file(record),
         _ => Verdict::Skipped,
     }
 }

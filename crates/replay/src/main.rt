@@ -105,6 +105,7 @@ fn print_op(name: &[u8], cases: u64) {
 fn report(tally: &[u64]) {
     print_op(b"open", counted(tally, 1));
     print_op(b"lookup", counted(tally, 2));
+    print_op(b"simple", counted(tally, 3));
     print_op(b"string", counted(tally, 5));
     print_op(b"utf8", counted(tally, 6));
     io::write_all(STDOUT_FILENO, b"replay: ");

@@ -33,13 +33,14 @@ pub fn refused(why: Refusal) -> Reply {
     }
 }
 
-pub fn failed() -> Reply {
+// A string that can't be read, or a simple lookup with no description.
+pub fn answered_none(words: [u64; 5]) -> Reply {
     Reply {
         outcome: 2,
         number: 0,
         cause: 0,
         detail: 0,
-        words: [0; 5],
+        words,
     }
 }
 

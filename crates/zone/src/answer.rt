@@ -1,4 +1,8 @@
-// What is asked of the library.
+// What is asked of the library, and what it answers.
+ghost use lib.ListN.{length};
+ghost use Rattle.zones.specs.Lent.{Agrees, Filled};
+ghost use Rattle.zones.specs.Lookup.{toldLooked};
+ghost use Rattle.zone.specs.Answer.{answerOf};
 use crate::bytes::word_at;
 use numbers::float::bits::of_bits;
 use zones::location::Location;
@@ -7,7 +11,10 @@ use zones::lookup::lookup;
 use zones::refusal::plain;
 
 // Latitude and longitude (f32 bits, low byte first), then the file.
-pub fn answer(input: &[u8], hits: &mut [u32], text: &mut [u8]) -> Looked {
+pub fn answer(input: &[u8], hits: &mut [u32], text: &mut [u8]) -> Looked
+    ensures { λ r. ⌜ Agrees (Filled (length (now (hits .entry))) (length (now (text .entry))) (now (hits .exit)) (now (text .exit)))
+        (answerOf (now (input .entry)) (length (now (hits .entry))) (length (now (text .entry)))) (toldLooked r) ⌝ }
+{
     if 65536 < input.len() {
         return Looked::Refused(plain(1));
     }

@@ -1,18 +1,28 @@
 // Numbers in bytes.
-
-fn wide(byte: u8) -> u32 {
-    byte as u32
-}
+ghost use mathlib.Core.Path.{_≡_};
+ghost use Prim.Native.Nat.{_+_, _≤_, _<_};
+ghost use lib.ListN.{length};
+ghost use Rattle.zone.specs.Answer.{wordAt};
 
 // The byte at a place; 0 past the end.
 pub fn byte_at(bytes: &[u8], at: usize) -> u8 {
     if at < bytes.len() { bytes[at] } else { 0 }
 }
 
-// The four bytes at a place, low byte first.
-pub fn word_at(bytes: &[u8], at: usize) -> u32 {
-    wide(byte_at(bytes, at))
-        | wide(byte_at(bytes, std::num::wrapping_add_usize(at, 1))) << 8
-        | wide(byte_at(bytes, std::num::wrapping_add_usize(at, 2))) << 16
-        | wide(byte_at(bytes, std::num::wrapping_add_usize(at, 3))) << 24
+fn wide(byte: u8) -> u32
+    ensures { λ r. ⌜ (r ≡ byte) × (r < 256) ⌝ }
+{
+    byte as u32
+}
+
+// Four bytes, low byte first.
+pub fn word_at(bytes: &[u8], at: usize) -> u32
+    requires { ⌜ at + 4 ≤ length (now bytes) ⌝ }
+    ensures { λ r. ⌜ r ≡ wordAt (now (bytes .entry)) at ⌝ }
+{
+    let first = wide(bytes[at]);
+    let second = wide(bytes[at + 1]);
+    let third = wide(bytes[at + 2]);
+    let fourth = wide(bytes[at + 3]);
+    first + 256 * second + 65536 * third + 16777216 * fourth
 }

@@ -1,0 +1,2 @@
+pub mod FromZones
+pub mod Asking

@@ -1,0 +1,26 @@
+-- What the program asks of the library, as document 01 has it: latitude and longitude, then the file.
+use mathlib.Core.Bool.{true}
+use mathlib.Core.List.{List}
+use Prim.Native.Nat.{ℕ, _+_, _*_}
+use lib.Dec.{leb}
+use lib.Ieee.{binary32, ofBits}
+use lib.ListN.{length, drop, getD}
+use Rattle.zones.specs.Reply.{Reply, plain, demand, _>>_}
+use Rattle.zones.specs.Lent.{Outcome}
+use Rattle.zones.specs.Lookup.{zonesIn}
+use Rattle.zones.specs.declared.location.Location.{Location}
+use Rattle.zones.specs.declared.lookup.Zones.{Zones}
+
+-- four bytes, low byte first
+abbrev pub wordAt : List ℕ → ℕ → ℕ
+wordAt bytes at = getD bytes at 0 + 256 * getD bytes (at + 1) 0 + 65536 * getD bytes (at + 2) 0 + 16777216 * getD bytes (at + 3) 0
+
+abbrev pub locationOf : List ℕ → Location
+locationOf input = record { lat = ofBits binary32 (wordAt input 0); lon = ofBits binary32 (wordAt input 4) }
+
+-- over 65,536 bytes refusal 1, under eight 2; else what the lookup says, with so many words for hits and bytes for text
+unfoldable pub answerOf : List ℕ → ℕ → ℕ → Reply (Outcome Zones)
+answerOf input n room = do
+  demand (leb (length input) 65536) (plain 1)
+  demand (leb 8 (length input)) (plain 2)
+  zonesIn (drop 8 input) (locationOf input) true n room
