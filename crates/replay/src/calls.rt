@@ -1,0 +1,67 @@
+// The calls that a record on a file can ask for, each with its reply in the record's words. What is lent is slots and text.
+use crate::record::byte_at;
+use crate::record::size_at;
+use crate::record::word_at;
+use crate::reply::Reply;
+use crate::reply::answered;
+use crate::reply::failed;
+use crate::reply::refused;
+use zones::opening::Opened;
+use zones::opening::open;
+use zones::refusal::plain;
+use zones::text::String;
+use zones::text::read_string;
+use zones::utf8::is_utf8;
+
+fn run_open(file: &[u8], text: &mut [u8]) -> Reply {
+    match open(file, text) {
+        Opened::Opening(opening) => answered([
+            opening.kind as u64,
+            opening.version as u64,
+            opening.precision as u64,
+            opening.count as u64,
+            opening.used as u64,
+        ]),
+        Opened::Refused(why) => refused(why),
+    }
+}
+
+// As many bytes as the text has, from a place of the file on, each XOR 0x80.
+fn unmask(file: &[u8], start: usize, text: &mut [u8]) {
+    let mut i = 0;
+    while i < text.len() {
+        text[i] = byte_at(file, std::num::wrapping_add_usize(start, i)) ^ 0x80;
+        i += 1;
+    }
+}
+
+// Size and next place, and the bytes in the text.
+fn run_string(file: &[u8], metadata: u32, place: usize, text: &mut [u8]) -> Reply {
+    match read_string(file, metadata, place) {
+        String::Text(string) => {
+            unmask(file, string.start, text);
+            answered([string.size as u64, string.next as u64, 0, 0, 0])
+        }
+        String::Failed => failed(),
+        String::Refused(number) => refused(plain(number)),
+    }
+}
+
+// 1 for UTF-8, else 0.
+fn run_utf8(file: &[u8]) -> Reply {
+    if is_utf8(file) {
+        answered([1, 0, 0, 0, 0])
+    } else {
+        answered([0; 5])
+    }
+}
+
+// 1 is open. Of this program's own, 5 is a string, with its place where a lookup has the latitude and the metadata offset where it has the
+// longitude, and 6 is UTF-8, over bytes that are stored XOR 0x80.
+pub fn run(record: &[u8], file: &[u8], slots: &mut [u32], text: &mut [u8]) -> Reply {
+    match byte_at(record, 0) {
+        1 => run_open(file, text),
+        5 => run_string(file, word_at(record, 9), size_at(record, 5), text),
+        _ => run_utf8(file),
+    }
+}

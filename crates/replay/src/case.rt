@@ -1,0 +1,94 @@
+// One recorded case: a call on lent buffers that are filled with AA, and what came of it.
+ghost use mathlib.Core.Path.{_≡_};
+ghost use Prim.Native.Nat.{_+_, _*_, _≤_};
+ghost use lib.ListN.{length};
+use crate::calls::run;
+use crate::record::byte_at;
+use crate::record::long_at;
+use crate::record::same_words;
+use crate::record::size_at;
+use crate::reply::Reply;
+use crate::reply::print_reply;
+use crate::reply::recorded;
+use crate::reply::same_reply;
+use libc::STDOUT_FILENO;
+
+pub enum Verdict {
+    Right,
+    Wrong,
+    // Too large for the buffers, of another length than its parts have, or of an unknown op.
+    Skipped,
+}
+
+// What was got, where the reply, the slots or the text is another than recorded.
+fn print_wrong(part: &[u8], record: &[u8], got: Reply) -> Verdict {
+    io::write_all(STDOUT_FILENO, b"wrong ");
+    io::write_all(STDOUT_FILENO, part);
+    io::write_all(STDOUT_FILENO, b": op ");
+    io::print_decimal(STDOUT_FILENO, byte_at(record, 0) as u64);
+    io::write_all(STDOUT_FILENO, b" id ");
+    io::print_decimal(STDOUT_FILENO, long_at(record, 1));
+    io::write_all(STDOUT_FILENO, b" got");
+    print_reply(got);
+    io::write_all(STDOUT_FILENO, b"\n");
+    Verdict::Wrong
+}
+
+fn filled_slots() -> [u32; 4096]
+    ensures { λ r. ⌜ 4096 ≡ length r ⌝ }
+{
+    [0xAAAA_AAAA; 4096]
+}
+
+fn filled_text() -> [u8; 16384]
+    ensures { λ r. ⌜ 16384 ≡ length r ⌝ }
+{
+    [0xAA; 16384]
+}
+
+// A record on a file: 26 bytes of what is asked, the file, the reply's 34 bytes, the slots, the text.
+fn run_case(record: &[u8], reply: usize, slots: &mut [u32], text: &mut [u8]) -> Verdict
+    requires { ⌜ (26 ≤ reply) × (reply + 34 + 4 * length (now slots) + length (now text) ≡ length (now «record»)) ⌝ }
+{
+    let got = run(record, &record[26..reply], slots, text);
+    let words = reply + 34;
+    let bytes = words + 4 * slots.len();
+    if !same_reply(got, recorded(&record[reply..words])) {
+        return print_wrong(b"reply", record, got);
+    }
+    if !same_words(slots, &record[words..bytes]) {
+        return print_wrong(b"slots", record, got);
+    }
+    if !check::same(text, &record[bytes..]) {
+        return print_wrong(b"text", record, got);
+    }
+    Verdict::Right
+}
+
+fn judge_file(record: &[u8]) -> Verdict {
+    let count = size_at(record, 14);
+    let room = size_at(record, 18);
+    let size = size_at(record, 22);
+    if 4096 < count {
+        return Verdict::Skipped;
+    }
+    if 16384 < room {
+        return Verdict::Skipped;
+    }
+    if 65536 < size {
+        return Verdict::Skipped;
+    }
+    if record.len() != 60 + size + 4 * count + room {
+        return Verdict::Skipped;
+    }
+    let mut slots = filled_slots();
+    let mut text = filled_text();
+    run_case(record, 26 + size, &mut slots[..count], &mut text[..room])
+}
+
+pub fn judge(record: &[u8]) -> Verdict {
+    match byte_at(record, 0) {
+        1 | 5 | 6 => judge_file(record),
+        _ => Verdict::Skipped,
+    }
+}

@@ -1,0 +1,46 @@
+// Numbers in a record, low byte first.
+
+fn wide(byte: u8) -> u32 {
+    byte as u32
+}
+
+// The byte at a place; 0 past the end.
+pub fn byte_at(record: &[u8], at: usize) -> u8 {
+    if at < record.len() { record[at] } else { 0 }
+}
+
+// The four bytes at a place; 0 where one of them is past the end.
+pub fn word_at(record: &[u8], at: usize) -> u32 {
+    if record.len() < 4 {
+        return 0;
+    }
+    if record.len() - 4 < at {
+        return 0;
+    }
+    wide(record[at])
+        | wide(record[at + 1]) << 8
+        | wide(record[at + 2]) << 16
+        | wide(record[at + 3]) << 24
+}
+
+// The same, and as an index.
+pub fn long_at(record: &[u8], at: usize) -> u64 {
+    word_at(record, at) as u64
+}
+
+pub fn size_at(record: &[u8], at: usize) -> usize {
+    word_at(record, at) as usize
+}
+
+pub fn same_words(words: &[u32], bytes: &[u8]) -> bool {
+    let mut i = 0;
+    let mut at = 0;
+    while i < words.len() {
+        if words[i] != word_at(bytes, at) {
+            return false;
+        }
+        i += 1;
+        at = std::num::wrapping_add_usize(at, 4);
+    }
+    true
+}

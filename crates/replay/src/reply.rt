@@ -1,0 +1,90 @@
+// A reply in the words of a record.
+use crate::record::byte_at;
+use crate::record::long_at;
+use libc::STDOUT_FILENO;
+use zones::refusal::Refusal;
+
+pub struct Reply {
+    // 0 answered, 1 refused, 2 failed or none.
+    pub outcome: u8,
+    pub number: u64,
+    pub cause: u8,
+    pub detail: u64,
+    pub words: [u64; 5],
+}
+
+pub fn answered(words: [u64; 5]) -> Reply {
+    Reply {
+        outcome: 0,
+        number: 0,
+        cause: 0,
+        detail: 0,
+        words,
+    }
+}
+
+pub fn refused(why: Refusal) -> Reply {
+    Reply {
+        outcome: 1,
+        number: why.number as u64,
+        cause: why.cause,
+        detail: why.detail,
+        words: [0; 5],
+    }
+}
+
+pub fn failed() -> Reply {
+    Reply {
+        outcome: 2,
+        number: 0,
+        cause: 0,
+        detail: 0,
+        words: [0; 5],
+    }
+}
+
+// The reply that 34 bytes of a record hold.
+pub fn recorded(bytes: &[u8]) -> Reply {
+    Reply {
+        outcome: byte_at(bytes, 0),
+        number: long_at(bytes, 1),
+        cause: byte_at(bytes, 5),
+        detail: long_at(bytes, 6) | long_at(bytes, 10) << 32,
+        words: [
+            long_at(bytes, 14),
+            long_at(bytes, 18),
+            long_at(bytes, 22),
+            long_at(bytes, 26),
+            long_at(bytes, 30),
+        ],
+    }
+}
+
+pub fn same_reply(a: Reply, b: Reply) -> bool {
+    a.outcome == b.outcome
+        && a.number == b.number
+        && a.cause == b.cause
+        && a.detail == b.detail
+        && a.words[0] == b.words[0]
+        && a.words[1] == b.words[1]
+        && a.words[2] == b.words[2]
+        && a.words[3] == b.words[3]
+        && a.words[4] == b.words[4]
+}
+
+fn print_next(n: u64) {
+    io::write_all(STDOUT_FILENO, b" ");
+    io::print_decimal(STDOUT_FILENO, n);
+}
+
+pub fn print_reply(reply: Reply) {
+    print_next(reply.outcome as u64);
+    print_next(reply.number);
+    print_next(reply.cause as u64);
+    print_next(reply.detail);
+    print_next(reply.words[0]);
+    print_next(reply.words[1]);
+    print_next(reply.words[2]);
+    print_next(reply.words[3]);
+    print_next(reply.words[4]);
+}
