@@ -11,6 +11,7 @@ use crate::reply::Reply;
 use crate::reply::print_reply;
 use crate::reply::recorded;
 use crate::reply::same_reply;
+use crate::write::run_write;
 use libc::STDOUT_FILENO;
 
 pub enum Verdict {
@@ -86,9 +87,72 @@ fn judge_file(record: &[u8]) -> Verdict {
     run_case(record, 26 + size, &mut slots[..count], &mut text[..room])
 }
 
+// A record of the writer: 26 bytes of sizes, what is asked, the reply's 34 bytes, the output.
+fn run_written(
+    record: &[u8],
+    lats: usize,
+    lons: usize,
+    words: usize,
+    earlier: usize,
+    reply: usize,
+    out: &mut [u8],
+) -> Verdict
+    requires { ⌜ (lats ≤ 1024) × (lons ≤ 1024) × (words ≤ 160) × (earlier ≤ reply) × (reply + 34 + length (now out) ≡ length (now «record»)) ⌝ }
+{
+    let got = run_write(
+        record,
+        byte_at(record, 5),
+        lats,
+        lons,
+        words,
+        &record[earlier..reply],
+        out,
+    );
+    let bytes = reply + 34;
+    if !same_reply(got, recorded(&record[reply..bytes])) {
+        return print_wrong(b"reply", record, got);
+    }
+    if !check::same(out, &record[bytes..]) {
+        return print_wrong(b"output", record, got);
+    }
+    Verdict::Right
+}
+
+fn judge_write(record: &[u8]) -> Verdict {
+    let lats = size_at(record, 6);
+    let lons = size_at(record, 10);
+    let pieces = size_at(record, 14);
+    let size = size_at(record, 18);
+    let room = size_at(record, 22);
+    if 1024 < lats {
+        return Verdict::Skipped;
+    }
+    if 1024 < lons {
+        return Verdict::Skipped;
+    }
+    if 32 < pieces {
+        return Verdict::Skipped;
+    }
+    if 65536 < size {
+        return Verdict::Skipped;
+    }
+    if 16384 < room {
+        return Verdict::Skipped;
+    }
+    let words = 5 * pieces;
+    let earlier = 26 + 4 * lats + 4 * lons + 4 * words;
+    let reply = earlier + size;
+    if record.len() != reply + 34 + room {
+        return Verdict::Skipped;
+    }
+    let mut out = filled_text();
+    run_written(record, lats, lons, words, earlier, reply, &mut out[..room])
+}
+
 pub fn judge(record: &[u8]) -> Verdict {
     match byte_at(record, 0) {
         1 | 2 | 3 | 5 | 6 => judge_file(record),
+        4 => judge_write(record),
         _ => Verdict::Skipped,
     }
 }

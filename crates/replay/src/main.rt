@@ -3,6 +3,7 @@ mod calls;
 mod case;
 mod record;
 mod reply;
+mod write;
 
 ghost use Prim.Native.Nat.{_≤_};
 ghost use Rattle.io.specs.Counts.{Counts};
@@ -106,6 +107,7 @@ fn report(tally: &[u64]) {
     print_op(b"open", counted(tally, 1));
     print_op(b"lookup", counted(tally, 2));
     print_op(b"simple", counted(tally, 3));
+    print_op(b"write", counted(tally, 4));
     print_op(b"string", counted(tally, 5));
     print_op(b"utf8", counted(tally, 6));
     io::write_all(STDOUT_FILENO, b"replay: ");
