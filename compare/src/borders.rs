@@ -108,7 +108,9 @@ pub fn points(r: &mut Random, fix: (i32, i32)) -> Vec<Point> {
     if r.one_in(2) {
         points.reverse();
     }
-    points.iter().map(|p| (p.0 as i32 as i64, p.1 as i32 as i64)).collect()
+    let held = r.one_in(2);
+    let part = |x: i64| if held { x.clamp(i32::MIN as i64, i32::MAX as i64) } else { x as i32 as i64 };
+    points.iter().map(|p| (part(p.0), part(p.1))).collect()
 }
 
 fn plain(r: &mut Random, style: Style, data: &mut Data, points: &[Point]) {
@@ -159,6 +161,9 @@ fn reference(r: &mut Random, style: Style, data: &mut Data) -> Point {
         if r.one_in(20) {
             length += r.between(-2, 2);
         }
+    }
+    if r.one_in(40) {
+        from = r.pick(&[(1 << 63) - 1, 1 << 63, u64::MAX, 1 << 32]);
     }
     if r.one_in(40) {
         length = r.pick(&[0, 1 << 32, i32::MAX as i64, i32::MIN as i64, 1, -1]);

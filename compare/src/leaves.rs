@@ -19,8 +19,8 @@ pub fn hex(bytes: &[u8]) -> String {
 fn number_bytes(r: &mut Random) -> Vec<u8> {
     let style = Style { overlong: 3, wild: 0, eleven: 12 };
     let mut out = Vec::new();
-    for _ in 0..r.below(4) {
-        let value = r.wild();
+    for _ in 0..r.below(7) {
+        let value = if r.one_in(2) { r.wild() } else { r.wild() % 20_000 };
         out.extend(style.number(r, value));
     }
     if r.one_in(4) {
@@ -63,7 +63,7 @@ fn float(r: &mut Random) -> f32 {
     }
 }
 
-fn told(answer: &Result<Option<(u64, u32)>, Refusal>) -> String {
+fn answered(answer: &Result<Option<(u64, u32)>, Refusal>) -> String {
     match answer {
         Ok(Some((value, next))) => format!("{value} {next}"),
         Ok(None) => "fails".into(),
@@ -89,57 +89,85 @@ fn sort_of(x: f32) -> &'static str {
     if x.is_nan() { "NaN" } else if x.is_infinite() { "infinity" } else if x.is_subnormal() { "subnormal" } else { "number" }
 }
 
+/// What a line asks: a number (a place, a value, or the bits of a float), bytes, and for a coordinate its scale.
+#[derive(Clone)]
+pub struct Leaf {
+    kind: &'static str,
+    x: u64,
+    file: Vec<u8>,
+    scale: f32,
+    precision: u32,
+}
+
+pub fn case(kind: &'static str, r: &mut Random) -> Leaf {
+    let mut leaf = Leaf { kind, x: 0, file: Vec::new(), scale: r.pick(&[90.0, 180.0]), precision: r.between(1, 32) as u32 };
+    match kind {
+        "varint" => {
+            leaf.file = number_bytes(r);
+            leaf.x = place(r, leaf.file.len()) as u64;
+        }
+        "backward" => {
+            leaf.file = number_bytes(r);
+            leaf.x = place_backward(r, &leaf.file) as u64;
+        }
+        "f32_to_i32" | "f32_to_i64" => leaf.x = float(r).to_bits() as u64,
+        "sqrt" => leaf.x = (float(r).to_bits() & if r.one_in(8) { u32::MAX } else { 0x7FFF_FFFF }) as u64,
+        "fixed" if r.one_in(2) => leaf.x = ((r.below(1 << 24) as f32 / (1 << 23) as f32 - 1.0) * leaf.scale).to_bits() as u64,
+        "fixed" => leaf.x = float(r).to_bits() as u64,
+        "i32_to_f32" => leaf.x = (if r.one_in(2) { r.next() } else { r.wild() }) as u32 as u64,
+        "u64_to_f32" if r.one_in(2) => leaf.x = r.next(),
+        _ => leaf.x = r.wild(),
+    }
+    leaf
+}
+
 /// The line, and what it counts as.
-pub fn line(kind: &str, r: &mut Random) -> (String, &'static str) {
+pub fn told(leaf: &Leaf) -> (String, &'static str) {
+    let (kind, x, float, integer) = (leaf.kind, leaf.x, f32::from_bits(leaf.x as u32), leaf.x as i32);
     match kind {
         "varint" | "backward" => {
-            let file = number_bytes(r);
-            let at = if kind == "varint" { place(r, file.len()) } else { place_backward(r, &file) };
-            let raw = hooks::raw(file.clone(), 1, 0, 0);
-            let answer = caught(|| if kind == "varint" { hooks::forward(&raw, at) } else { hooks::backward(&raw, at) });
-            (format!("{kind} {at} {} > {}", hex(&file), told(&answer)), outcome(&answer))
+            let raw = hooks::raw(leaf.file.clone(), 1, 0, 0);
+            let answer = caught(|| if kind == "varint" { hooks::forward(&raw, x as u32) } else { hooks::backward(&raw, x as u32) });
+            (format!("{kind} {x} {} > {}", hex(&leaf.file), answered(&answer)), outcome(&answer))
         }
-        "signed" => {
-            let x = r.wild();
-            (format!("signed {x} - > {}", hooks::signed(x)), if x & 1 == 1 { "odd" } else { "even" })
-        }
+        "signed" => (format!("{kind} {x} - > {}", hooks::signed(x)), if x & 1 == 1 { "odd" } else { "even" }),
         "point" => {
-            let x = r.wild();
             let (lat, lon) = hooks::point(x);
-            (format!("point {x} - > {lat} {lon}"), "point")
+            (format!("{kind} {x} - > {lat} {lon}"), "point")
         }
         "i32_to_f32" => {
-            let x = if r.one_in(2) { r.next() as i32 } else { r.wild() as i32 };
-            (format!("{kind} {x} - > {:08X}", (x as f32).to_bits()), if x as f32 as i64 == x as i64 { "exact" } else { "rounded" })
+            let near = integer as f32;
+            (format!("{kind} {integer} - > {:08X}", near.to_bits()), if near as i64 == integer as i64 { "exact" } else { "rounded" })
         }
-        "u64_to_f32" => {
-            let x = if r.one_in(2) { r.next() } else { r.wild() };
-            (format!("{kind} {x} - > {:08X}", (x as f32).to_bits()), if x as f32 as u128 == x as u128 { "exact" } else { "rounded" })
-        }
-        "f32_to_i32" => {
-            let x = float(r);
-            (format!("{kind} {:08X} - > {}", x.to_bits(), x as i32), sort_of(x))
-        }
-        "f32_to_i64" => {
-            let x = float(r);
-            (format!("{kind} {:08X} - > {}", x.to_bits(), x as i64), sort_of(x))
-        }
-        "sqrt" => {
-            let x = if r.one_in(8) { float(r) } else { f32::from_bits(float(r).to_bits() & 0x7FFF_FFFF) };
-            (format!("sqrt {:08X} - > {:08X}", x.to_bits(), root_bits(x)), if x < 0.0 { "below 0" } else { sort_of(x) })
-        }
+        "u64_to_f32" => (format!("{kind} {x} - > {:08X}", (x as f32).to_bits()), if x as f32 as u128 == x as u128 { "exact" } else { "rounded" }),
+        "f32_to_i32" => (format!("{kind} {x:08X} - > {}", float as i32), sort_of(float)),
+        "f32_to_i64" => (format!("{kind} {x:08X} - > {}", float as i64), sort_of(float)),
+        "sqrt" => (format!("{kind} {x:08X} - > {:08X}", root_bits(float)), if float < 0.0 { "below 0" } else { sort_of(float) }),
         "fixed" => {
-            let (x, scale, precision) = (float(r), r.pick(&[90f32, 180.0]), r.between(1, 32) as u32);
-            let x = if r.one_in(2) { (r.below(1 << 24) as f32 / (1 << 23) as f32 - 1.0) * scale } else { x };
-            let fixed = hooks::fixed(x, scale, precision);
-            (format!("fixed {:08X} {:08X} {precision} > {fixed}", x.to_bits(), scale.to_bits()), sort_of(x))
+            let fixed = hooks::fixed(float, leaf.scale, leaf.precision);
+            (format!("{kind} {x:08X} {:08X} {} > {fixed}", leaf.scale.to_bits(), leaf.precision), sort_of(float))
         }
         _ => {
-            let (squared, precision) = (r.wild(), r.between(1, 32) as u32);
-            let degrees = (squared as f32).sqrt() * 90f32 / (1i32 << (precision - 1)) as f32;
-            (format!("safezone {squared} {precision} - > {:08X}", degrees.to_bits()), "safezone")
+            let degrees = (x as f32).sqrt() * 90f32 / (1i32 << (leaf.precision - 1)) as f32;
+            (format!("{kind} {x} {} - > {:08X}", leaf.precision, degrees.to_bits()), "safezone")
         }
     }
+}
+
+/// Fewer bytes, or fewer bits set.
+pub fn smaller(leaf: &Leaf) -> Vec<Leaf> {
+    let mut out = Vec::new();
+    for (from, to) in crate::shrink::parts(leaf.file.len()) {
+        let mut file = leaf.file.clone();
+        file.drain(from..to);
+        let x = if leaf.x >= to as u64 { leaf.x - (to - from) as u64 } else { leaf.x };
+        out.push(Leaf { file, x, ..leaf.clone() });
+    }
+    if leaf.file.is_empty() {
+        let set = (0..64).filter(|i| leaf.x >> i & 1 == 1);
+        out.extend(set.map(|i| Leaf { x: leaf.x & !(1 << i), ..leaf.clone() }));
+    }
+    out
 }
 
 // ---- strings and UTF-8, by replay

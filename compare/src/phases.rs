@@ -1,7 +1,7 @@
 //! The comparisons, each over as many cases as asked.
 use crate::border_lines::{self, Border};
 use crate::files::{self, Case};
-use crate::leaves::{self, hex};
+use crate::leaves::{self, hex, Leaf};
 use crate::ours::{replay, vectors, Program};
 use crate::random::Random;
 use crate::record::*;
@@ -269,6 +269,12 @@ impl Run {
         self.flush(&mut batch)
     }
 
+    fn first_wrong_writing(&self, writings: &[Writing]) -> Option<usize> {
+        let records: Vec<Vec<u8>> = writings.iter().enumerate()
+            .map(|(i, w)| write_record(w, i as u32, &reply_written(w.room, written(w)))).collect();
+        replay(&self.replay, &records).ok()?.wrong.iter().map(|w| w.0).min()
+    }
+
     fn flush_writes(&mut self, batch: &mut Vec<(Writing, Reply)>) -> Result<(), String> {
         let records: Vec<Vec<u8>> = batch.iter().enumerate().map(|(i, (w, reply))| write_record(w, i as u32, reply)).collect();
         let replayed = replay(&self.replay, &records)?;
@@ -277,8 +283,13 @@ impl Run {
         }
         self.compared += records.len() as u64;
         self.wrong += replayed.wrong.len() as u64;
-        for (id, said) in replayed.wrong.iter().take(SHOWN) {
-            println!("DISAGREES write border: {said}\n  {}\n  expected {:?} {}", written_line(&batch[*id].0), batch[*id].1.refusal, hex(&batch[*id].1.text));
+        for (id, said) in replayed.wrong {
+            self.shown[WRITE as usize] += 1;
+            if self.shown[WRITE as usize] <= SHOWN {
+                let least = smallest(batch[id].0.clone(), writings::smaller, |writings| self.first_wrong_writing(writings));
+                let reply = reply_written(least.room, written(&least));
+                println!("DISAGREES write border: {said}\n  smallest: {}\n  expected: {:?} {}", written_line(&least), reply.refusal, hex(&reply.text));
+            }
         }
         batch.clear();
         Ok(())
@@ -359,21 +370,34 @@ impl Run {
         self.flush_borders(&mut batch)
     }
 
+    fn first_wrong_leaf(&self, kind: &str, leaves: &[Leaf]) -> Option<usize> {
+        let lines: Vec<String> = leaves.iter().map(|l| leaves::told(l).0).collect();
+        vectors(&self.vectors, kind, &lines).ok()?.first().copied()
+    }
+
+    fn leaf_batch(&mut self, kind: &'static str, batch: &[Leaf]) -> Result<(), String> {
+        let mut lines = Vec::new();
+        for leaf in batch {
+            let (line, sort) = leaves::told(leaf);
+            self.tally.add(kind, sort);
+            lines.push(line);
+        }
+        let wrong = vectors(&self.vectors, kind, &lines)?;
+        self.compared += lines.len() as u64;
+        self.wrong += wrong.len() as u64;
+        for id in wrong.iter().take(SHOWN) {
+            let least = smallest(batch[*id].clone(), leaves::smaller, |leaves| self.first_wrong_leaf(kind, leaves));
+            println!("DISAGREES {}\n  smallest: {}", lines[*id], leaves::told(&least).0);
+        }
+        Ok(())
+    }
+
     pub fn leaves(&mut self, many: u64) -> Result<(), String> {
         for (k, kind) in leaves::KINDS.iter().enumerate() {
             for from in (0..many).step_by(50_000) {
-                let mut lines = Vec::new();
-                for index in from..many.min(from + 50_000) {
-                    let (line, sort) = leaves::line(kind, &mut Random::new(self.seed, 100 + k as u64, index));
-                    self.tally.add(kind, sort);
-                    lines.push(line);
-                }
-                let wrong = vectors(&self.vectors, kind, &lines)?;
-                self.compared += lines.len() as u64;
-                self.wrong += wrong.len() as u64;
-                for id in wrong.iter().take(SHOWN) {
-                    println!("DISAGREES {}", lines[*id]);
-                }
+                let cases = from..many.min(from + 50_000);
+                let batch: Vec<Leaf> = cases.map(|index| leaves::case(kind, &mut Random::new(self.seed, 100 + k as u64, index))).collect();
+                self.leaf_batch(kind, &batch)?;
             }
         }
         Ok(())

@@ -99,3 +99,33 @@ pub fn case(seed: u64, index: u64) -> Writing {
     }
     Writing { version, lats, lons, pieces, earlier, room: 0 }
 }
+
+/// A piece, a point or some earlier bytes left out.
+pub fn smaller(w: &Writing) -> Vec<Writing> {
+    let mut out = Vec::new();
+    for i in 0..w.pieces.len() {
+        let mut next = w.clone();
+        next.pieces.remove(i);
+        out.push(next);
+    }
+    for i in 0..w.lats.len().min(w.lons.len()) {
+        let mut next = w.clone();
+        next.lats.remove(i);
+        next.lons.remove(i);
+        out.push(next);
+    }
+    for (from, to) in crate::shrink::parts(w.earlier.len()) {
+        let mut next = w.clone();
+        next.earlier.drain(from..to);
+        for piece in &mut next.pieces {
+            if piece.start as usize >= to {
+                piece.start -= (to - from) as u32;
+            }
+        }
+        out.push(next);
+    }
+    if w.room > 0 {
+        out.push(Writing { room: w.room / 2, ..w.clone() });
+    }
+    out
+}
