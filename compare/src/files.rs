@@ -236,7 +236,8 @@ fn put_sections(r: &mut Random, fields: usize, entries: usize, fix: (i32, i32), 
         let string = remote(r, parts.style, parts.bad);
         parts.metadata.extend(string);
     }
-    let records: Vec<usize> = (0..1 + r.below(3)).map(|_| put_fields(r, fields, parts)).collect();
+    let many = if r.one_in(8) { 4 + r.below(6) } else { 1 + r.below(3) };
+    let records: Vec<usize> = (0..many).map(|_| put_fields(r, fields, parts)).collect();
     let before = r.below(3);
     let before = r.bytes(before);
     parts.data.bytes.extend(before);

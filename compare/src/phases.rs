@@ -231,6 +231,9 @@ impl Run {
     pub fn files(&mut self, many: u64) -> Result<(), String> {
         let (mut batch, mut size) = (Vec::new(), 0);
         for index in 0..many {
+            if index % 100_000 == 0 && index > 0 {
+                eprintln!("{index} files, {} wrong so far", self.wrong);
+            }
             let case = files::case(self.seed, index);
             if case.file.len() > 65536 {
                 self.tally.add("files", "too large for replay, not run");
