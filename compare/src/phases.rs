@@ -312,7 +312,8 @@ impl Run {
             }
             self.tally.add(op_name(WRITE, false), outcome(WRITE, &reply));
             if reply.outcome == 0 {
-                self.tally.add(op_name(WRITE, false), format!("version {}, pieces {}", writing.version, writing.pieces.len().min(4)));
+                let pieces = match writing.pieces.len() { 0 => "0", 1 => "1", 2..=7 => "2 to 7", 8..=15 => "8 to 15", _ => "16" };
+                self.tally.add(op_name(WRITE, false), format!("version {}, pieces {pieces}", writing.version));
             }
             batch.push((writing, reply));
             if batch.len() == 20_000 {

@@ -78,7 +78,8 @@ pub fn case(seed: u64, index: u64) -> Writing {
     if !r.one_in(6) {
         steps.push((coordinate(r), coordinate(r)));
     }
-    for _ in 0..r.below(10) {
+    let many = if r.one_in(20) { 40 } else { r.below(10) };
+    for _ in 0..many {
         if !known.is_empty() && r.one_in(3) && (version != 0 || r.one_in(20)) {
             pieces.push(propose(r, &known, &mut steps));
         } else {
@@ -87,6 +88,9 @@ pub fn case(seed: u64, index: u64) -> Writing {
     }
     if r.one_in(60) && !pieces.is_empty() {
         pieces = pieces.iter().cycle().take(r.pick(&[15, 16, 17, 20])).copied().collect();
+    }
+    if r.one_in(60) && !steps.is_empty() {
+        steps[0] = (0, 0);
     }
     let (mut lats, mut lons, mut at) = (Vec::new(), Vec::new(), (0i64, 0i64));
     for by in steps {
