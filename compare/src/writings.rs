@@ -80,7 +80,7 @@ pub fn case(seed: u64, index: u64) -> Writing {
     }
     let many = if r.one_in(20) { 40 } else { r.below(10) };
     for _ in 0..many {
-        if !known.is_empty() && r.one_in(3) && (version != 0 || r.one_in(20)) {
+        if !known.is_empty() && pieces.len() < 32 && r.one_in(3) && (version != 0 || r.one_in(20)) {
             pieces.push(propose(r, &known, &mut steps));
         } else {
             steps.push(if r.one_in(60) { (0, 0) } else { step(r) });
