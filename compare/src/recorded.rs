@@ -1,0 +1,60 @@
+//! Recorded cases (`*.bin`): what this harness expects of them must be what was recorded.
+use crate::record::{reply, reply_written, Call, Piece, Reply, Writing, WRITE};
+use crate::rust::facts;
+use crate::writer::written;
+
+struct Input<'a>(&'a [u8]);
+
+impl Input<'_> {
+    fn take(&mut self, n: usize) -> &[u8] {
+        let (head, rest) = self.0.split_at(n);
+        self.0 = rest;
+        head
+    }
+    fn byte(&mut self) -> u8 {
+        self.take(1)[0]
+    }
+    fn word(&mut self) -> u32 {
+        u32::from_le_bytes(self.take(4).try_into().unwrap())
+    }
+    fn size(&mut self) -> usize {
+        self.word() as usize
+    }
+    fn words(&mut self, n: usize) -> Vec<i32> {
+        (0..n).map(|_| self.word() as i32).collect()
+    }
+}
+
+fn expected(op: u8, input: &mut Input) -> Reply {
+    if op == WRITE {
+        let version = input.byte();
+        let [lats, lons, pieces, earlier, room] = [0; 5].map(|_: u8| input.size());
+        let (lats, lons) = (input.words(lats), input.words(lons));
+        let pieces = (0..pieces).map(|_| Piece {
+            start: input.word(), bytes: input.word(), direction: input.word(), first: input.word(), count: input.word(),
+        }).collect();
+        let earlier = input.take(earlier).to_vec();
+        let writing = Writing { version, lats, lons, pieces, earlier, room };
+        return reply_written(room, written(&writing));
+    }
+    let (lat, lon, ask) = (input.word(), input.word(), input.byte() != 0);
+    let (slots, room, size) = (input.size(), input.size(), input.size());
+    let file = input.take(size).to_vec();
+    let facts = facts(&file, lat, lon);
+    reply(&Call { op, lat, lon, ask, slots, room, file }, &facts)
+}
+
+/// How many records there are, and the ids of those that are expected otherwise.
+pub fn compare(records: &[u8]) -> (usize, Vec<u32>) {
+    let (mut input, mut count, mut wrong) = (Input(records), 0, Vec::new());
+    while !input.0.is_empty() {
+        let size = input.size();
+        let mut record = Input(input.take(size));
+        let (op, id) = (record.byte(), record.word());
+        if expected(op, &mut record).bytes() != record.0 {
+            wrong.push(id);
+        }
+        count += 1;
+    }
+    (count, wrong)
+}
