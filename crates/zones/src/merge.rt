@@ -5,7 +5,7 @@ ghost use mathlib.Core.List.{_++_};
 ghost use lib.ListN.{length, take, drop};
 ghost use Rattle.zones.specs.Lists.{padded};
 ghost use Rattle.zones.specs.Hits.{width, words, slots, Real};
-ghost use Rattle.zones.specs.Merge.{_⊕_, single, summary, groupKind, merged, tallied, cleared};
+ghost use Rattle.zones.specs.Merge.{later, _⊕_, single, summary, groupKind, merged, tallied, cleared};
 use crate::hits::Hit;
 use crate::hits::WIDTH;
 use crate::hits::hit_at;
@@ -20,15 +20,19 @@ pub struct Tally {
     pub border: u32,
 }
 
+// The later of two border verdicts, if there is one.
+fn later(first: u32, second: u32) -> u32
+    ensures { λ r. ⌜ r ≡ later first second ⌝ }
+{
+    if second == 0 { first } else { second }
+}
+
 // One more hit in a group.
 fn joined(t: Tally, kind: u32) -> Tally
     requires { ⌜ (t .inside + 1 < 2 ^ 64) × (t .excluded + 1 < 2 ^ 64) ⌝ }
     ensures sum { λ r. ⌜ tallied r ≡ tallied t ⊕ single kind ⌝ }
     ensures small { λ r. ⌜ (r .inside ≤ t .inside + 1) × (r .excluded ≤ t .excluded + 1) ⌝ }
 {
-    if kind == 0 {
-        return t;
-    }
     let inside = t.inside;
     let excluded = t.excluded;
     let border = t.border;
@@ -49,7 +53,7 @@ fn joined(t: Tally, kind: u32) -> Tally
     Tally {
         inside,
         excluded,
-        border: kind,
+        border: later(border, kind),
     }
 }
 
