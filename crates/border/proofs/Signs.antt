@@ -7,12 +7,10 @@ use mathlib.Core.Bool.{Bool, true, false, cond, _&&_}
 use lib.Dec.{T, ltb, leb, eqb}
 use lib.IntN.{ℤ, pos, negsuc, negℤ, _+ℤ_, _-ℤ_}
 use lib.Signed.{mag, leZ, ltZ}
-use lib.Ieee.{Float}
 use mir.Syntax.{w32, w64}
 use mir.Val.{SFits, toZ, ofZ}
 use mir.Facts.{toZ-ofZ, sfits-widen}
 use borrow.Author.Tests.{ltb-true, leb-true, lt-ltb, le-leb, eq-eqb, ne-eqb, eqb-true}
-use Rattle.numbers.specs.Float.{toF32}
 use Rattle.border.specs.Edge.{sameZ, between}
 use Rattle.border.proofs.place.Whole.{widened, sum-fits, difference-fits}
 
@@ -56,9 +54,6 @@ same-eq (negsuc a) (pos b) e = differ e
 same-eq (negsuc a) (negsuc b) e = let p = both (leb b a) (leb a b) e in ap negsuc (omega (arith, leb-true b a (p .0), leb-true a b (p .1)))
 
 -- ---- an i32 that is passed to a call or tested is read back from its bits
-
-pub float-of : {x : Float} {n : ℤ} → SFits w32 n → x ≡ toF32 (toZ w32 (ofZ w32 n)) → x ≡ toF32 n
-float-of f e = e ∙ ap toF32 (toZ-ofZ f)
 
 module _ {a b : ℤ} (f : SFits w32 a) (g : SFits w32 b) where
   -- equality is tested on the bits

@@ -3,15 +3,15 @@ use Prim.Native.Nat.{ℕ, _+_, _-_, _*_, _/_, _%_, _^_, _≤_, _<_}
 use lib.Dec.{T, lit≤}
 use lib.Ieee.Exact.{HasValue}
 use lib.Ieee.Nearest.{div-same}
-use lib.Ieee.Positive.{num, den, den-pos, positive, le→cross, value→cross}
-use lib.Ieee.{Float, nan, inf, fin, isNan, binary32, fits, le, lt, toBits, toUnsigned}
+use lib.Ieee.Positive.{num, den, den-pos, le→cross, value→cross}
+use lib.Ieee.{Float, isNan, binary32, fits, le, lt, toBits, toUnsigned}
 use lib.Pow.{pow-add, pow-pos, pow-mono, shl-lt}
 use mathlib.Core.Bool.{false, not}
 use mathlib.Core.Path.{_≡_, sym, ap, _∙_, subst}
 use native.Mathlib.Nat.{le-trans, le-of-eq, lt-of-lt-of-le, lt-of-le-of-lt, lt-of-not-le, not-le-of-lt, mul-one, one-mul, mul-assoc, mul-le-mul-right, le-div-iff-mul-le, div-lt-iff-lt-mul, mod-eq-of-lt}
 use native.Mathlib.Omega.{arith}
 use Rattle.numbers.proofs.float.Cutting.{one, power, whole, Ranged, ranged, unsigned-within}
-use Rattle.numbers.proofs.float.Smallest.{shape, decoded}
+use Rattle.numbers.proofs.float.Smallest.{shape, decoded, positive-no-nan}
 use Rattle.numbers.specs.Float.Root.{unitsOf}
 
 -- powers of two are in the order of their exponents
@@ -35,13 +35,7 @@ module _ (x : Float) (held : T (fits binary32 x)) (from : T (le one x)) (below :
   in-range = ranged 63 x from below
 
   pub no-nan : T (not (isNan x))
-  unfolding isNan
-  no-nan = go x (in-range .plain)
-    where
-      go : (x : Float) → T (positive x) → T (not (isNan x))
-      go nan p = absurd p
-      go (inf s) p = tt
-      go (fin s m e) p = tt
+  no-nan = positive-no-nan x (in-range .plain)
 
   exact : num x * 2 ^ 149 ≡ unitsOf x * den x
   exact =

@@ -1,22 +1,21 @@
 -- An f32 counted in the smallest one, 2 ^ -149: it is a number of at most 24 digits times a power of two, which its bits give; and the same scaled to an even power, for its root. Assumes nothing.
-use mathlib.Core.Path.{_≡_, refl, sym, ap, _∙_, subst}
-use mathlib.Core.Logic.{_⊎_, inl, inr}
 use Prim.Native.Nat.{ℕ, zero, suc, _+_, _-_, _*_, _/_, _%_, _^_, _≤_, _<_}
-use native.Mathlib.Nat.{le-trans, le-of-eq, lt-of-lt-of-le, lt-of-le-of-lt, le-of-suc-le-suc, not-le-of-lt, mul-one, mul-assoc, mul-div-cancel, mul-le-mul-right, mul-lt-mul-of-pos-right, div-one, zero-mul}
-use native.Mathlib.Omega.{arith}
-use mathlib.Core.Bool.{Bool, true, false, not, cond}
-use lib.IntN.{ℤ, pos}
-use lib.Dec.{T, leb, eqb, eqb→eq, ltb→lt, lit<, lit≤, T-not}
-use lib.Pow.{pow-add, pow-pos, pow-mono, shl-lt}
-use lib.Ieee.{Float, nan, inf, fin, binary32, up, down, size, odd, units, fits, ofFields, ofBits, toBits}
-use lib.Ieee.Digits.{size-lt, size-le, size-reaches, back}
-use lib.Ieee.Fits.{down-pos, kept-lt, eq→eqb}
-use lib.Ieee.Exact.{HasValue, odd-sign}
+use lib.Dec.{T, leb, eqb, lit<}
 use lib.Ieee.Bits.{ofBits-toBits}
+use lib.Ieee.Digits.{size-lt, size-le, size-reaches, back}
+use lib.Ieee.Exact.{HasValue, odd-sign}
+use lib.Ieee.Fits.{down-pos, kept-lt, eq→eqb}
 use lib.Ieee.Positive.{positive, value-pos}
-use Rattle.numbers.specs.Float.Root.{unitsOf, nearestRoot, root}
-use Rattle.numbers.proofs.float.Squares.{le-or-lt}
+use lib.Ieee.{Float, nan, inf, fin, isNan, binary32, down, size, odd, units, fits, ofFields, ofBits, toBits}
+use lib.Pow.{pow-add, pow-pos, pow-mono, shl-lt}
+use mathlib.Core.Bool.{Bool, true, false, not, cond}
+use mathlib.Core.Logic.{inl, inr}
+use mathlib.Core.Path.{_≡_, refl, sym, ap, _∙_, subst}
+use native.Mathlib.Nat.{le-trans, le-of-eq, lt-of-lt-of-le, lt-of-le-of-lt, not-le-of-lt, mul-assoc, mul-div-cancel, mul-le-mul-right, div-one}
+use native.Mathlib.Omega.{arith}
 use Rattle.numbers.proofs.float.Rounding.{size-is, reaches-size, bits-of-value, kept-least}
+use Rattle.numbers.proofs.float.Squares.{le-or-lt}
+use Rattle.numbers.specs.Float.Root.{unitsOf, nearestRoot, root}
 
 -- ---- a value's units
 pub value-units : (y : Float) (s : Bool) (a : ℕ) → HasValue y s a (2 ^ 149) → unitsOf y ≡ a
@@ -29,6 +28,12 @@ unsigned nan s a c v p = absurd v
 unsigned (inf t) s a c v p = absurd v
 unsigned (fin true m e) s a c v p = absurd p
 unsigned (fin false m e) s a c v p = (refl, v .1)
+
+pub positive-no-nan : (x : Float) → T (positive x) → T (not (isNan x))
+unfolding isNan
+positive-no-nan nan p = absurd p
+positive-no-nan (inf s) p = tt
+positive-no-nan (fin s m e) p = tt
 
 -- ---- digits and a place
 pub record Shape (y : Float) : Type 0 where

@@ -1,6 +1,6 @@
 -- `border::edge::closest` meets its contract: in each arm the edge is that arm's constructor, at which the definition computes. Assumes nothing.
 use borrow.Author.Needs.{needs}
-use Rattle.border.proofs.Signs.{float-of}
+use Rattle.numbers.proofs.Laws.{float-of}
 use Rattle.border.proofs.edge.closest.Statement.{statement}
 use Rattle.border.specs.Edge.{closestOn}
 use Rattle.border.proofs.edge.closest.Tie as tie
@@ -30,12 +30,12 @@ returns c =
 returns-2 : tie.Need-returns-2
 unfolding closestOn
 returns-2 c =
-    rw (c .before .before .before .edge2 .given .1, float-of {n = c .before .before .before .edge2 .given .0 .0 .0} (search needs) (c .of-i32 .ensures))
+    rw (c .before .before .before .edge2 .given .1, float-of (c .before .before .before .edge2 .given .0 .0 .0) (search needs) (c .of-i32 .ensures))
 
 returns-3 : tie.Need-returns-3
 unfolding closestOn
 returns-3 c =
-    rw (c .before .before .before .edge3 .given .1, float-of {n = c .before .before .before .edge3 .given .0 .0 .0} (search needs) (c .of-i322 .ensures))
+    rw (c .before .before .before .edge3 .given .1, float-of (c .before .before .before .edge3 .given .0 .0 .0) (search needs) (c .of-i322 .ensures))
 
 pub closest-spec : {M : Type 1} → statement M
 closest-spec =

@@ -3,22 +3,14 @@ use Prim.Native.Nat.{ℕ, _+_, _%_, _<_}
 use borrow.Author.Needs.{needs}
 use lib.Dec.{T, lit<, lit≤}
 use lib.Ieee.Bits.{toBits-lt}
-use lib.Ieee.Positive.{positive}
-use lib.Ieee.{Float, nan, inf, fin, binary32, fits, isNan, toBits}
-use mathlib.Core.Bool.{not}
+use lib.Ieee.{binary32, fits, toBits}
 use mathlib.Core.Path.{sym, _∙_, subst}
 use native.Mathlib.Nat.{mul-one, lt-of-lt-of-le}
 use native.Mathlib.Omega.{arith}
-use Rattle.numbers.proofs.float.Smallest.{Decoded, decoded}
+use Rattle.numbers.proofs.float.Smallest.{Decoded, decoded, positive-no-nan}
 use Rattle.numbers.proofs.float.root.taken_apart.Statement.{statement}
 use Rattle.numbers.specs.Float.Root.{unitsOf}
 use Rattle.numbers.proofs.float.root.taken_apart.Tie as tie
-
-no-nan : (x : Float) → T (positive x) → T (not (isNan x))
-unfolding isNan
-no-nan nan p = absurd p
-no-nan (inf s) p = tt
-no-nan (fin s m e) p = tt
 
 -- what owning an f32 tells: the format holds it
 held : (c : tie.Start) → T (fits binary32 (c .args .x))
@@ -28,7 +20,7 @@ known : (c : tie.Start) → Decoded (unitsOf (c .args .x)) (toBits binary32 (c .
 known c = decoded (c .args .x) (held c) (c .pre)
 
 float-to-bits-bits : tie.Need-float-to-bits-bits
-float-to-bits-bits c = no-nan (c .args .x) (c .pre)
+float-to-bits-bits c = positive-no-nan (c .args .x) (c .pre)
 
 cast-bits : tie.Need-cast-bits
 cast-bits c = record { fits = lt-of-lt-of-le (toBits-lt binary32 (c .args .x) (held c)) (lit≤ tt) }
