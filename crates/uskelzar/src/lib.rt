@@ -1,5 +1,15 @@
 // The form in which firmware takes the library: functions of plain names over numbers and slices; include/uskelzar.h has them for C.
 // Each returns 0 where it answers, with the answer's values in `reply`, or a refusal's number, with its cause and detail there.
+ghost use mathlib.Core.Path.{_≡_};
+ghost use mathlib.Core.List.{[], _∷_};
+ghost use lib.ListN.{length};
+ghost use Rattle.border.specs.Pieces.{piecesOf};
+ghost use Rattle.border.specs.Writer.{borderOf, fitted, told};
+ghost use Rattle.zones.specs.Lookup.{lookedUp, toldLooked};
+ghost use Rattle.zones.specs.Opening.{openedOf, toldOpened};
+ghost use Rattle.zones.specs.Reply.{Reply, given, refused};
+ghost use Rattle.zones.specs.Simple.{simplyLooked, toldSimple};
+ghost use Rattle.uskelzar.specs.Spoken.{saidOf, openingValues, zonesValues, describedValues, lengthValue, refusedSaid, causeless, spoken, openingSpoken, foundSpoken, writtenSpoken};
 use border::writer::Written;
 use border::writer::write_border_words;
 use zones::location::Location;
@@ -13,30 +23,103 @@ use zones::simple::Description;
 use zones::simple::Simple;
 use zones::simple::simple_lookup;
 
-fn refused(why: Refusal, reply: &mut [u64; 5]) -> u8 {
-    *reply = [why.cause as u64, why.detail, 0, 0, 0];
-    why.number
+// What a call says beside its lent output: a number, and the words of `reply`.
+pub struct Said {
+    pub number: u8,
+    pub words: [u64; 5],
 }
 
-// Type, version, precision, field count, bytes used.
-#[no_mangle]
-pub extern "C" fn uskelzar_open(file: &[u8], text: &mut [u8], reply: &mut [u64; 5]) -> u8 {
-    match open(file, text) {
-        Opened::Opening(opening) => {
-            *reply = [
-                opening.kind as u64,
-                opening.version as u64,
-                opening.precision as u64,
-                opening.count as u64,
-                opening.used as u64,
-            ];
-            0
-        }
-        Opened::Refused(why) => refused(why, reply),
+fn say_refused(why: Refusal) -> Said
+    ensures { λ r. ⌜ r ≡ refusedSaid why ⌝ }
+{
+    Said {
+        number: why.number,
+        words: [why.cause as u64, why.detail, 0, 0, 0],
     }
 }
 
-// Matches, end mark, safezone bits (0 if not asked), bytes used.
+fn say_opened(opened: Opened) -> Said
+    ensures { λ r. ⌜ r ≡ saidOf openingValues (toldOpened opened) ⌝ }
+{
+    match opened {
+        Opened::Opening(o) => Said {
+            number: 0,
+            words: [
+                o.kind as u64,
+                o.version as u64,
+                o.precision as u64,
+                o.count as u64,
+                o.used as u64,
+            ],
+        },
+        Opened::Refused(why) => say_refused(why),
+    }
+}
+
+fn say_looked(looked: Looked) -> Said
+    ensures { λ r. ⌜ r ≡ saidOf zonesValues (toldLooked looked) ⌝ }
+{
+    match looked {
+        Looked::Zones(z) => Said {
+            number: 0,
+            words: [
+                z.matches as u64,
+                z.mark as u64,
+                z.safezone as u64,
+                z.used as u64,
+                0,
+            ],
+        },
+        Looked::Refused(why) => say_refused(why),
+    }
+}
+
+fn say_described(simple: Simple) -> Said
+    ensures { λ r. ⌜ r ≡ saidOf describedValues (toldSimple simple) ⌝ }
+{
+    let found = match simple {
+        Simple::Described(found) => found,
+        Simple::Refused(why) => return say_refused(why),
+    };
+    let matches = found.matches as u64;
+    let mark = found.mark as u64;
+    let description = found.description;
+    let words = match description {
+        Description::Length(length) => [matches, mark, 1, length as u64, 0],
+        Description::Missing => [matches, mark, 0, 0, 0],
+    };
+    Said { number: 0, words }
+}
+
+fn say_written(written: Written) -> Said
+    ensures { λ r. ⌜ r ≡ saidOf lengthValue (causeless (told written)) ⌝ }
+{
+    match written {
+        Written::Wrote(length) => Said {
+            number: 0,
+            words: [length as u64, 0, 0, 0, 0],
+        },
+        Written::Refused { number, detail } => say_refused(refuse(number, 0, detail)),
+    }
+}
+
+fn speak(said: Said, reply: &mut [u64; 5]) -> u8
+    ensures { λ r. ⌜ spoken r (now (reply .exit)) [] ≡ record { said = said; lent = [] } ⌝ }
+{
+    let words = said.words;
+    *reply = words;
+    said.number
+}
+
+// Opens a file. Values: type, version, precision, field count, bytes used.
+#[no_mangle]
+pub extern "C" fn uskelzar_open(file: &[u8], text: &mut [u8], reply: &mut [u64; 5]) -> u8
+    ensures { λ r. ⌜ spoken r (now (reply .exit)) (now (text .exit) ∷ []) ≡ openingSpoken (openedOf (now (file .entry)) (length (now (text .entry)))) ⌝ }
+{
+    speak(say_opened(open(file, text)), reply)
+}
+
+// Looks a location up. Values: matches, end mark, safezone bits (0 if not asked), bytes used.
 #[no_mangle]
 pub extern "C" fn uskelzar_lookup(
     file: &[u8],
@@ -46,23 +129,17 @@ pub extern "C" fn uskelzar_lookup(
     hits: &mut [u32],
     text: &mut [u8],
     reply: &mut [u64; 5],
-) -> u8 {
-    match lookup(file, Location { lat, lon }, asked, hits, text) {
-        Looked::Zones(zones) => {
-            *reply = [
-                zones.matches as u64,
-                zones.mark as u64,
-                zones.safezone as u64,
-                zones.used as u64,
-                0,
-            ];
-            0
-        }
-        Looked::Refused(why) => refused(why, reply),
-    }
+) -> u8
+    ensures { λ r. ⌜ spoken r (now (reply .exit)) (now (hits .exit) ∷ now (text .exit) ∷ [])
+        ≡ foundSpoken zonesValues (lookedUp (now (file .entry)) (record { lat = lat; lon = lon }) asked (length (now (hits .entry))) (length (now (text .entry)))) ⌝ }
+{
+    speak(
+        say_looked(lookup(file, Location { lat, lon }, asked, hits, text)),
+        reply,
+    )
 }
 
-// Matches, end mark, whether there is a description (1) or not (0), its length.
+// Looks a location's description up. Values: matches, end mark, 1 and its length where there is one, else 0.
 #[no_mangle]
 pub extern "C" fn uskelzar_simple_lookup(
     file: &[u8],
@@ -71,25 +148,17 @@ pub extern "C" fn uskelzar_simple_lookup(
     hits: &mut [u32],
     text: &mut [u8],
     reply: &mut [u64; 5],
-) -> u8 {
-    match simple_lookup(file, Location { lat, lon }, hits, text) {
-        Simple::Described(found) => {
-            let description = found.description;
-            match description {
-                Description::Length(length) => {
-                    *reply = [found.matches as u64, found.mark as u64, 1, length as u64, 0];
-                }
-                Description::Missing => {
-                    *reply = [found.matches as u64, found.mark as u64, 0, 0, 0];
-                }
-            }
-            0
-        }
-        Simple::Refused(why) => refused(why, reply),
-    }
+) -> u8
+    ensures { λ r. ⌜ spoken r (now (reply .exit)) (now (hits .exit) ∷ now (text .exit) ∷ [])
+        ≡ foundSpoken describedValues (simplyLooked (now (file .entry)) (record { lat = lat; lon = lon }) (length (now (hits .entry))) (length (now (text .entry)))) ⌝ }
+{
+    speak(
+        say_described(simple_lookup(file, Location { lat, lon }, hits, text)),
+        reply,
+    )
 }
 
-// The border's length.
+// Writes a border, with pieces of five words each. Values: its length.
 #[no_mangle]
 pub extern "C" fn uskelzar_write_border(
     version: u8,
@@ -99,12 +168,10 @@ pub extern "C" fn uskelzar_write_border(
     earlier: &[u8],
     out: &mut [u8],
     reply: &mut [u64; 5],
-) -> u8 {
-    match write_border_words(version, lats, lons, pieces, earlier, out) {
-        Written::Wrote(length) => {
-            *reply = [length as u64, 0, 0, 0, 0];
-            0
-        }
-        Written::Refused { number, detail } => refused(refuse(number, 0, detail), reply),
-    }
+) -> u8
+    ensures { λ r. ⌜ spoken r (now (reply .exit)) (now (out .exit) ∷ [])
+        ≡ writtenSpoken (fitted (length (now (out .entry))) (borderOf version (now (lats .entry)) (now (lons .entry)) (piecesOf (now (pieces .entry))) (now (earlier .entry)))) ⌝ }
+{
+    let written = write_border_words(version, lats, lons, pieces, earlier, out);
+    speak(say_written(written), reply)
 }

@@ -1,0 +1,43 @@
+use mathlib.Core.Path.{ap}
+use Rattle.zones.specs.Lookup.{toldLooked}
+use Rattle.uskelzar.proofs.Saying.{said-given, said-refused}
+use Rattle.uskelzar.specs.Spoken.{zonesValues}
+use borrow.Author.Needs.{needs}
+use Rattle.uskelzar.proofs.say_looked.Statement.{statement}
+use Rattle.uskelzar.proofs.say_looked.Tie as tie
+use Rattle.uskelzar.proofs.say_looked.Reads as reads
+use Rattle.uskelzar.proofs.say_looked.Lts as lts
+use Rattle.uskelzar.proofs.say_refused.Reads as say-refused-reads
+
+enum-known-looked : tie.Need-enum-known-looked
+enum-known-looked c = search needs
+
+cast-t6 : tie.Need-cast-t6
+cast-t6 c = search needs
+
+cast-t7 : tie.Need-cast-t7
+cast-t7 c = search needs
+
+enum-known-looked-2 : tie.Need-enum-known-looked-2
+enum-known-looked-2 c = search needs
+
+say-refused-requires : tie.Need-say-refused-requires
+say-refused-requires c κs = search needs
+
+returns : tie.Need-returns
+returns c = said-given zonesValues (ap toldLooked (c .before .before .before .looked .given .1))
+
+returns-2 : tie.Need-returns-2
+returns-2 c = said-refused zonesValues (c .say-refused .ensures) (ap toldLooked (c .before .before .looked2 .given .1))
+
+pub say-looked-spec : {M : Type 1} → statement M
+say-looked-spec =
+    tie.close
+    (tie.spec
+    enum-known-looked
+    cast-t6
+    cast-t7
+    enum-known-looked-2
+    say-refused-requires
+    returns
+    returns-2)

@@ -1,0 +1,65 @@
+-- How a reply goes over to C: a number, five words, and all lent output.
+use mathlib.Core.List.{List, [], _∷_}
+use Prim.Native.Nat.{ℕ}
+use Rattle.border.specs.Writer as W
+use Rattle.zones.specs.Lent.{Replied}
+use Rattle.zones.specs.Lists.{padded}
+use Rattle.zones.specs.Opening as O
+use Rattle.zones.specs.Reply.{Reply, given, refused, refusal}
+use Rattle.zones.specs.declared.lookup.Zones.{Zones}
+use Rattle.zones.specs.declared.refusal.Refusal.{Refusal}
+use Rattle.zones.specs.declared.opening.Opening.{Opening}
+use Rattle.zones.specs.declared.simple.Described.{Described}
+use Rattle.zones.specs.declared.simple.Description.{Description}
+use Rattle.zones.specs.declared.simple.Description.the-variants as D
+use Rattle.uskelzar.specs.declared.Said.{Said}
+
+-- a refusal's number, with its cause and detail
+abbrev pub refusedSaid : Refusal → Said
+refusedSaid why = record { number = why .number; words = padded 5 (why .cause ∷ why .detail ∷ []) }
+
+-- 0 and the answer's values, or the refusal; zeros behind either
+unfoldable pub saidOf : {A : Type 0} → (A → List ℕ) → Reply A → Said
+saidOf values (given a) = record { number = 0; words = padded 5 (values a) }
+saidOf values (refused why) = refusedSaid why
+
+-- ---- the values of each answer
+abbrev pub openingValues : Opening → List ℕ
+openingValues o = o .kind ∷ o .version ∷ o .precision ∷ o .count ∷ o .used ∷ []
+
+abbrev pub zonesValues : Zones → List ℕ
+zonesValues z = z .matches ∷ z .mark ∷ z .safezone ∷ z .used ∷ []
+
+-- 1 and its length where there is a description, else 0
+abbrev pub descriptionValues : Description → List ℕ
+descriptionValues (D.Length length) = 1 ∷ length ∷ []
+descriptionValues D.Missing = 0 ∷ []
+
+abbrev pub describedValues : Described → List ℕ
+describedValues d = d .matches ∷ d .mark ∷ descriptionValues (d .description)
+
+abbrev pub lengthValue : ℕ → List ℕ
+lengthValue length = length ∷ []
+
+-- the writer's refusals have no cause
+abbrev pub causeless : W.Reply ℕ → Reply ℕ
+causeless (W.given length) = given length
+causeless (W.refused number detail) = refused (refusal number 0 detail)
+
+-- ---- what a call leaves
+pub record Spoken : Type 0 where
+  pub said : Said
+  -- the lent outputs, in the order of the parameters
+  pub lent : List (List ℕ)
+
+abbrev pub spoken : ℕ → List ℕ → List (List ℕ) → Spoken
+spoken number words lent = record { said = record { number = number; words = words }; lent = lent }
+
+abbrev pub openingSpoken : O.Replied → Spoken
+openingSpoken left = record { said = saidOf openingValues (left .reply); lent = left .text ∷ [] }
+
+abbrev pub foundSpoken : {A : Type 0} → (A → List ℕ) → Replied A → Spoken
+foundSpoken values left = record { said = saidOf values (left .reply); lent = left .hits ∷ left .text ∷ [] }
+
+abbrev pub writtenSpoken : W.Replied → Spoken
+writtenSpoken left = record { said = saidOf lengthValue (causeless (left .reply)); lent = left .out ∷ [] }
