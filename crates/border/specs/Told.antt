@@ -10,9 +10,8 @@ use Rattle.numbers.specs.declared.point.{RawPoint.RawPoint}
 use Rattle.numbers.specs.declared.varint.{Varint.Varint}
 use Rattle.border.specs.Reader.{Turn, gives, again, ends}
 use Rattle.border.specs.Trace.{Given, reaches, ended, roundAgain}
-use Rattle.border.specs.declared.place.{Point.Point, Signed.Signed, Moved.Moved, Away.Away}
-use Rattle.border.specs.declared.place.{Signed.the-variants.Fits, Moved.the-variants.To, Away.the-variants.By}
-use Rattle.border.specs.declared.place.Signed.the-variants as S
+use Rattle.border.specs.declared.place.{Point.Point, Moved.Moved, Away.Away}
+use Rattle.border.specs.declared.place.{Moved.the-variants.To, Away.the-variants.By}
 use Rattle.border.specs.declared.place.Moved.the-variants as M
 use Rattle.border.specs.declared.place.Away.the-variants as W
 use Rattle.border.specs.declared.reader.{Reader.Reader, Run.Run, Opened.Opened, Next.Next, Stepped.Stepped}
@@ -21,10 +20,6 @@ use Rattle.border.specs.declared.reader.Turn as code
 use Rattle.border.specs.declared.reader.Turn.the-variants as T
 use Rattle.border.specs.declared.reader.Next.the-variants as N
 use Rattle.border.specs.declared.reader.Reply.the-variants as R
-
-abbrev pub toldSigned : Signed → Answer ℤ
-toldSigned (Fits z) = found z
-toldSigned S.Over = refused 13
 
 abbrev pub toldMoved : Moved → Answer Point
 toldMoved (To p) = found p

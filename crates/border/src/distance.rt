@@ -15,9 +15,9 @@ use crate::edge::closest;
 use crate::edge::edge_between;
 use crate::edge::holds_cut;
 use crate::place::Point;
+use crate::place::fits_i32;
 use crate::verdict::Passed;
 use crate::verdict::Tally;
-use crate::winding::fits_i32;
 use numbers::float::cut::to_i64;
 
 pub enum Distance {

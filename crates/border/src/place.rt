@@ -1,8 +1,10 @@
 // Fixed coordinates. Their scales differ by two, so each has a type of its own.
 ghost use mathlib.Core.Path.{_≡_};
-ghost use lib.IntN.{negℤ, _+ℤ_};
-ghost use Rattle.border.specs.Place.{isStill, checked, movedBy, negated};
-ghost use Rattle.border.specs.Told.{toldSigned, toldMoved, toldAway};
+ghost use Prim.Native.Nat.{_^_};
+ghost use lib.Dec.{ltb};
+ghost use lib.Signed.{mag};
+ghost use Rattle.border.specs.Place.{isStill, movedBy, negated};
+ghost use Rattle.border.specs.Told.{toldMoved, toldAway};
 use numbers::point::RawPoint;
 
 pub struct FixedLat(pub i32);
@@ -14,34 +16,11 @@ pub struct Point {
     pub lon: FixedLon,
 }
 
-// An exact result, or that it does not fit an i32.
-enum Signed {
-    Fits(i32),
-    Over,
-}
-
-fn narrow(wide: i64) -> Signed
-    ensures { λ r. ⌜ toldSigned r ≡ checked 31 wide ⌝ }
+// Whether an exact result fits an i32.
+pub(crate) fn fits_i32(wide: i64) -> bool
+    ensures { λ r. ⌜ r ≡ ltb (mag wide) (2 ^ 31) ⌝ }
 {
-    if wide < -2147483648 {
-        return Signed::Over;
-    }
-    if 2147483647 < wide {
-        return Signed::Over;
-    }
-    Signed::Fits(wide as i32)
-}
-
-fn sum(a: i32, b: i32) -> Signed
-    ensures { λ r. ⌜ toldSigned r ≡ checked 31 (a +ℤ b) ⌝ }
-{
-    narrow((a as i64) + (b as i64))
-}
-
-fn minus(a: i32) -> Signed
-    ensures { λ r. ⌜ toldSigned r ≡ checked 31 (negℤ a) ⌝ }
-{
-    narrow(0 - (a as i64))
+    -2147483648 <= wide && wide <= 2147483647
 }
 
 pub(crate) enum Moved {
@@ -53,15 +32,17 @@ pub(crate) enum Moved {
 pub(crate) fn move_by(p: Point, by: RawPoint) -> Moved
     ensures { λ r. ⌜ toldMoved r ≡ movedBy p by ⌝ }
 {
-    let Signed::Fits(lat) = sum(p.lat.0, by.lat) else {
+    let lat = (p.lat.0 as i64) + (by.lat as i64);
+    if !fits_i32(lat) {
         return Moved::Over;
-    };
-    let Signed::Fits(lon) = sum(p.lon.0, by.lon) else {
+    }
+    let lon = (p.lon.0 as i64) + (by.lon as i64);
+    if !fits_i32(lon) {
         return Moved::Over;
-    };
+    }
     Moved::To(Point {
-        lat: FixedLat(lat),
-        lon: FixedLon(lon),
+        lat: FixedLat(lat as i32),
+        lon: FixedLon(lon as i32),
     })
 }
 
@@ -74,13 +55,18 @@ pub(crate) enum Away {
 pub(crate) fn negate(by: RawPoint) -> Away
     ensures { λ r. ⌜ toldAway r ≡ negated by ⌝ }
 {
-    let Signed::Fits(lat) = minus(by.lat) else {
+    let lat = 0 - (by.lat as i64);
+    if !fits_i32(lat) {
         return Away::Over;
-    };
-    let Signed::Fits(lon) = minus(by.lon) else {
+    }
+    let lon = 0 - (by.lon as i64);
+    if !fits_i32(lon) {
         return Away::Over;
-    };
-    Away::By(RawPoint { lat, lon })
+    }
+    Away::By(RawPoint {
+        lat: lat as i32,
+        lon: lon as i32,
+    })
 }
 
 // Whether a move is two zeros.

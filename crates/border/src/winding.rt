@@ -1,8 +1,5 @@
 // How often a border winds about a location, in quarter turns.
 ghost use mathlib.Core.Path.{_≡_};
-ghost use Prim.Native.Nat.{_^_};
-ghost use lib.Dec.{ltb};
-ghost use lib.Signed.{mag};
 ghost use Rattle.border.specs.Step as step;
 ghost use Rattle.border.specs.Edge.{quadrantOf, locationOf};
 ghost use Rattle.border.specs.Winding.{told, turned, quarterBy, halfTurn, turnAt, crossingOf, acrossBy, clearOf, woundBy};
@@ -16,6 +13,7 @@ use crate::edge::is_straight;
 use crate::edge::location_of;
 use crate::place::FixedLon;
 use crate::place::Point;
+use crate::place::fits_i32;
 use crate::verdict::Passed;
 use crate::verdict::Tally;
 use crate::verdict::Verdict;
@@ -26,13 +24,6 @@ pub enum Crossing {
     Turns(i32),
     OnSegment,
     Over,
-}
-
-// Whether an exact result fits an i32.
-pub(crate) fn fits_i32(wide: i64) -> bool
-    ensures { λ r. ⌜ r ≡ ltb (mag wide) (2 ^ 31) ⌝ }
-{
-    -2147483648 <= wide && wide <= 2147483647
 }
 
 fn turn(tally: Tally, by: i32) -> Passed

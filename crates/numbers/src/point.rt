@@ -43,10 +43,17 @@ pub fn unshuffle(w: u64) -> u32
     whole as u32
 }
 
-// Even bits give the latitude, odd bits the longitude.
+// Even bits give the latitude, odd bits the longitude. Nearly every move has at most 32 bits: one pass over both halves of a word does for it.
 pub fn decode_point(point: u64) -> RawPoint
     ensures { λ r. ⌜ r ≡ pointOf point ⌝ }
 {
+    if point < 0x1_0000_0000 {
+        let both = unshuffle(point / 2 * 0x1_0000_0000 + point);
+        return RawPoint {
+            lat: signed((both % 0x1_0000) as u64),
+            lon: signed((both / 0x1_0000) as u64),
+        };
+    }
     RawPoint {
         lat: signed(unshuffle(point) as u64),
         lon: signed(unshuffle(point >> 1) as u64),

@@ -53,22 +53,6 @@ difference-fits {a} {b} h k =
       sfits = lt-of-le-of-lt (mag-sum a (negℤ b)) (let x : mag a < 2 ^ 31 = h .sfits in let y : mag b < 2 ^ 31 = k .sfits in omega (arith, mag-neg b));
     }
 
-differ : {A : Type 0} → false ≡ true → A
-differ e = absurd (subst T (sym e) tt)
-
--- the two tests of a range
-pub too-low : (z : ℤ) → ltZ z (negsuc 2147483647) ≡ true → ltb (mag z) (2 ^ 31) ≡ false
-too-low (pos n) e = differ e
-too-low (negsuc n) e = le-ltb n (2 ^ 31) (omega (arith, ltb-true 2147483647 n e))
-
-pub too-high : (z : ℤ) → ltZ (pos 2147483647) z ≡ true → ltb (mag z) (2 ^ 31) ≡ false
-too-high (pos n) e = le-ltb n (2 ^ 31) (omega (arith, ltb-true 2147483647 n e))
-too-high (negsuc n) e = differ e
-
-pub in-range : (z : ℤ) → ltZ z (negsuc 2147483647) ≡ false → ltZ (pos 2147483647) z ≡ false → mag z < 2 ^ 31
-in-range (pos n) e g = omega (arith, ltb-false 2147483647 n g)
-in-range (negsuc n) e g = omega (arith, ltb-false 2147483647 n e)
-
 -- a number of which only the bits are tested
 pub zero-bits : (z : ℤ) → SFits w32 z → eqb (ofZ w32 z) 0 ≡ isZero z
 zero-bits (pos n) h = refl

@@ -1,90 +1,117 @@
 -- `border::place::move_by` meets its contract. Assumes nothing.
 use borrow.Author.Needs.{needs}
-use lib.IntN.{ℤ}
-use mathlib.Core.Path.{_≡_, _∙_, ap₂}
+use borrow.Author.Tests.{not-true, not-false}
+use lib.IntN.{_+ℤ_}
+use mathlib.Core.Path.{_∙_}
+use mir.Facts.{toZ-ofZ}
 use mir.Syntax.{w32}
-use mir.Val.{toZ, ofZ}
-use Rattle.numbers.proofs.Answers.{goes, halts}
+use mir.Val.{SFits}
+use Rattle.border.proofs.Checks.{narrow}
+use Rattle.border.proofs.Signs.{exact-sum}
+use Rattle.border.proofs.place.Ranged.{within, beyond}
+use Rattle.border.proofs.place.Whole.{widened, widens, sum-fits}
 use Rattle.border.proofs.place.move_by.Statement.{statement}
-use Rattle.border.specs.Place.{movedBy, pointAt}
-use Rattle.numbers.specs.Answer.{found}
+use Rattle.border.specs.Place.{movedBy}
 use Rattle.border.proofs.place.move_by.Tie as tie
 
-sum-requires : tie.Need-sum-requires
-sum-requires c κs = search needs
+cast-lat : tie.Need-cast-lat
+cast-lat c =
+    let a = c .before .before .args in
+    let x : SFits w32 (a .p .lat .0) = search needs in
+    widens x
 
-enum-known-lat : tie.Need-enum-known-lat
-enum-known-lat c = search needs
+cast-lat-2 : tie.Need-cast-lat-2
+cast-lat-2 c =
+    let a = c .before .before .before .before .args in
+    let y : SFits w32 (a .by .lat) = search needs in
+    widens y
 
-enum-told : tie.Need-enum-told
-enum-told c = search needs
+add-lat : tie.Need-add-lat
+add-lat c =
+    let a = c .before .before .before .before .args in
+    let x : SFits w32 (a .p .lat .0) = search needs in
+    let y : SFits w32 (a .by .lat) = search needs in
+    rw (widened x, widened y) (sum-fits x y)
+
+fits-i32-requires : tie.Need-fits-i32-requires
+fits-i32-requires c κs = search needs
 
 returns : tie.Need-returns
 unfolding movedBy
 returns c =
-    let args = c .before .before .before .before .before .args in
-    let sum = c .before .before .sum in
-    let p = args .p in
-    let by = args .by in
-    let x : toZ w32 (ofZ w32 (p .lat .0)) ≡ p .lat .0 = search needs in
-    let y : toZ w32 (ofZ w32 (by .lat)) ≡ by .lat = search needs in
-    halts (rw (x, y, c .enum-told .given .1) at (sum .ensures)) _
+    let a = c .before .before .before .before .before .before .args in
+    let x : SFits w32 (a .p .lat .0) = search needs in
+    let y : SFits w32 (a .by .lat) = search needs in
+    let lat = rw (exact-sum x y) at (c .before .fits-i32 .ensures) in
+    beyond (a .p .lat .0 +ℤ a .by .lat) lat _ (not-true _ (c .if1 .taken))
 
-sum-requires-2 : tie.Need-sum-requires-2
-sum-requires-2 c κs = search needs
+cast-lon : tie.Need-cast-lon
+cast-lon c =
+    let a = c .before .before .before .before .before .before .before .before .args in
+    let u : SFits w32 (a .p .lon .0) = search needs in
+    widens u
 
-enum-known-lon : tie.Need-enum-known-lon
-enum-known-lon c = search needs
+cast-lon-2 : tie.Need-cast-lon-2
+cast-lon-2 c =
+    let a = c .before .before .before .before .before .before .before .before .before .before .args in
+    let v : SFits w32 (a .by .lon) = search needs in
+    widens v
 
-enum-told-2 : tie.Need-enum-told-2
-enum-told-2 c = search needs
+add-lon : tie.Need-add-lon
+add-lon c =
+    let a = c .before .before .before .before .before .before .before .before .before .before .args in
+    let u : SFits w32 (a .p .lon .0) = search needs in
+    let v : SFits w32 (a .by .lon) = search needs in
+    rw (widened u, widened v) (sum-fits u v)
+
+fits-i32-requires-2 : tie.Need-fits-i32-requires-2
+fits-i32-requires-2 c κs = search needs
 
 returns-2 : tie.Need-returns-2
 unfolding movedBy
 returns-2 c =
-    let args = c .before .before .before .before .before .before .before .before .before .before .before .args in
-    let sum2 = c .before .before .sum2 in
-    let lat = c .before .before .before .before .before .before .lat in
-    let sum = c .before .before .before .before .before .before .before .before .sum in
-    let p = args .p in
-    let by = args .by in
-    let x : toZ w32 (ofZ w32 (p .lat .0)) ≡ p .lat .0 = search needs in
-    let y : toZ w32 (ofZ w32 (by .lat)) ≡ by .lat = search needs in
-    let u : toZ w32 (ofZ w32 (p .lon .0)) ≡ p .lon .0 = search needs in
-    let v : toZ w32 (ofZ w32 (by .lon)) ≡ by .lon = search needs in
-    halts (rw (u, v, c .enum-told2 .given .1) at (sum2 .ensures)) _
-    ∙ goes (rw (x, y, lat .given .1) at (sum .ensures)) _
+    let a = c .before .before .before .before .before .before .before .before .before .before .before .before .args in
+    let x : SFits w32 (a .p .lat .0) = search needs in
+    let y : SFits w32 (a .by .lat) = search needs in
+    let lat = rw (exact-sum x y) at (c .before .before .before .before .before .before .before .fits-i32 .ensures) in
+    let lat-in = not-false _ (c .before .before .before .before .before .before .if1 .left) in
+    let u : SFits w32 (a .p .lon .0) = search needs in
+    let v : SFits w32 (a .by .lon) = search needs in
+    let lon = rw (exact-sum u v) at (c .before .fits-i322 .ensures) in
+    beyond (a .p .lon .0 +ℤ a .by .lon) lon _ (not-true _ (c .if2 .taken)) ∙ within (a .p .lat .0 +ℤ a .by .lat) lat _ lat-in
+
+cast-t9 : tie.Need-cast-t9
+cast-t9 c =
+    let a = c .before .before .before .before .before .before .before .before .before .before .before .before .args in
+    let x : SFits w32 (a .p .lat .0) = search needs in
+    let y : SFits w32 (a .by .lat) = search needs in
+    let lat = rw (exact-sum x y) at (c .before .before .before .before .before .before .before .fits-i32 .ensures) in
+    let lat-in = not-false _ (c .before .before .before .before .before .before .if1 .left) in
+    rw (exact-sum x y) (narrow (a .p .lat .0 +ℤ a .by .lat) lat lat-in)
+
+cast-t11 : tie.Need-cast-t11
+cast-t11 c =
+    let a = c .before .before .before .before .before .before .before .before .before .before .before .before .args in
+    let u : SFits w32 (a .p .lon .0) = search needs in
+    let v : SFits w32 (a .by .lon) = search needs in
+    let lon = rw (exact-sum u v) at (c .before .fits-i322 .ensures) in
+    rw (exact-sum u v) (narrow (a .p .lon .0 +ℤ a .by .lon) lon (not-false _ (c .if2 .left)))
 
 returns-3 : tie.Need-returns-3
 unfolding movedBy
 returns-3 c =
-    let args = c .before .before .before .before .before .before .before .before .before .before .before .before .args in
-    let lat = c .before .before .before .before .before .before .before .lat in
-    let lon = c .before .lon in
-    let sum2 = c .before .before .before .sum2 in
-    let sum = c .before .before .before .before .before .before .before .before .before .sum in
-    let p = args .p in
-    let by = args .by in
-    let x : toZ w32 (ofZ w32 (p .lat .0)) ≡ p .lat .0 = search needs in
-    let y : toZ w32 (ofZ w32 (by .lat)) ≡ by .lat = search needs in
-    let u : toZ w32 (ofZ w32 (p .lon .0)) ≡ p .lon .0 = search needs in
-    let v : toZ w32 (ofZ w32 (by .lon)) ≡ by .lon = search needs in
-    let l : toZ w32 (ofZ w32 (lat .given .0 .0)) ≡ lat .given .0 .0 = search needs in
-    let m : toZ w32 (ofZ w32 (lon .given .0 .0)) ≡ lon .given .0 .0 = search needs in
-    ap₂ (λ (a b : ℤ). found (pointAt a b)) l m
-    ∙ goes (rw (u, v, lon .given .1) at (sum2 .ensures)) _
-    ∙ goes (rw (x, y, lat .given .1) at (sum .ensures)) _
+    let a = c .before .before .before .before .before .before .before .before .before .before .before .before .args in
+    let x : SFits w32 (a .p .lat .0) = search needs in
+    let y : SFits w32 (a .by .lat) = search needs in
+    let lat = rw (exact-sum x y) at (c .before .before .before .before .before .before .before .fits-i32 .ensures) in
+    let lat-in = not-false _ (c .before .before .before .before .before .before .if1 .left) in
+    let u : SFits w32 (a .p .lon .0) = search needs in
+    let v : SFits w32 (a .by .lon) = search needs in
+    let lon = rw (exact-sum u v) at (c .before .fits-i322 .ensures) in
+    let lon-in = not-false _ (c .if2 .left) in
+    rw (exact-sum x y, exact-sum u v, toZ-ofZ {w = w32} (narrow (a .p .lat .0 +ℤ a .by .lat) lat lat-in), toZ-ofZ {w = w32} (narrow (a .p .lon .0 +ℤ a .by .lon) lon lon-in)) (within (a .p .lon .0 +ℤ a .by .lon) lon _ lon-in ∙ within (a .p .lat .0 +ℤ a .by .lat) lat _ lat-in)
 
 pub move-by-spec : {M : Type 1} → statement M
 move-by-spec =
     tie.close
-    (tie.spec
-    sum-requires
-    enum-known-lat
-    enum-told
-    returns
-    sum-requires-2
-    enum-known-lon
-    enum-told-2
-    returns-2
-    returns-3)
+    (tie.spec cast-lat cast-lat-2 add-lat fits-i32-requires returns cast-lon cast-lon-2 add-lon fits-i32-requires-2 returns-2 cast-t9 cast-t11 returns-3)

@@ -1,82 +1,95 @@
 -- `border::place::negate` meets its contract. Assumes nothing.
 use borrow.Author.Needs.{needs}
-use lib.IntN.{ℤ}
-use mathlib.Core.Path.{_≡_, _∙_, ap₂}
+use borrow.Author.Tests.{not-true, not-false}
+use lib.IntN.{negℤ}
+use mathlib.Core.Path.{_∙_}
+use mir.Facts.{toZ-ofZ}
 use mir.Syntax.{w32}
-use mir.Val.{toZ, ofZ}
-use Rattle.numbers.proofs.Answers.{goes, halts}
+use mir.Val.{SFits}
+use Rattle.border.proofs.Checks.{narrow}
+use Rattle.border.proofs.place.Ranged.{within, beyond, exact-negation}
+use Rattle.border.proofs.place.Whole.{widened, widens, negation-fits}
 use Rattle.border.proofs.place.negate.Statement.{statement}
-use Rattle.border.specs.Place.{negated, moveBy}
-use Rattle.numbers.specs.Answer.{found}
+use Rattle.border.specs.Place.{negated}
 use Rattle.border.proofs.place.negate.Tie as tie
 
-minus-requires : tie.Need-minus-requires
-minus-requires c κs = search needs
+cast-lat : tie.Need-cast-lat
+cast-lat c =
+    let a = c .before .before .args in
+    let x : SFits w32 (a .by .lat) = search needs in
+    widens x
 
-enum-known-lat : tie.Need-enum-known-lat
-enum-known-lat c = search needs
+sub-lat : tie.Need-sub-lat
+sub-lat c =
+    let a = c .before .before .args in
+    let x : SFits w32 (a .by .lat) = search needs in
+    rw (widened x) (negation-fits x)
 
-enum-told : tie.Need-enum-told
-enum-told c = search needs
+fits-i32-requires : tie.Need-fits-i32-requires
+fits-i32-requires c κs = search needs
 
 returns : tie.Need-returns
 unfolding negated
 returns c =
-    let args = c .before .before .before .before .args in
-    let minus = c .before .before .minus in
-    let by = args .by in
-    let y : toZ w32 (ofZ w32 (by .lat)) ≡ by .lat = search needs in
-    halts (rw (y, c .enum-told .given .1) at (minus .ensures)) _
+    let a = c .before .before .before .before .args in
+    let x : SFits w32 (a .by .lat) = search needs in
+    let lat = rw (exact-negation x) at (c .before .fits-i32 .ensures) in
+    beyond (negℤ (a .by .lat)) lat _ (not-true _ (c .if1 .taken))
 
-minus-requires-2 : tie.Need-minus-requires-2
-minus-requires-2 c κs = search needs
+cast-lon : tie.Need-cast-lon
+cast-lon c =
+    let a = c .before .before .before .before .before .before .args in
+    let y : SFits w32 (a .by .lon) = search needs in
+    widens y
 
-enum-known-lon : tie.Need-enum-known-lon
-enum-known-lon c = search needs
+sub-lon : tie.Need-sub-lon
+sub-lon c =
+    let a = c .before .before .before .before .before .before .args in
+    let y : SFits w32 (a .by .lon) = search needs in
+    rw (widened y) (negation-fits y)
 
-enum-told-2 : tie.Need-enum-told-2
-enum-told-2 c = search needs
+fits-i32-requires-2 : tie.Need-fits-i32-requires-2
+fits-i32-requires-2 c κs = search needs
 
 returns-2 : tie.Need-returns-2
 unfolding negated
 returns-2 c =
-    let args = c .before .before .before .before .before .before .before .before .before .args in
-    let minus2 = c .before .before .minus2 in
-    let lat = c .before .before .before .before .before .lat in
-    let minus = c .before .before .before .before .before .before .before .minus in
-    let by = args .by in
-    let y : toZ w32 (ofZ w32 (by .lat)) ≡ by .lat = search needs in
-    let v : toZ w32 (ofZ w32 (by .lon)) ≡ by .lon = search needs in
-    halts (rw (v, c .enum-told2 .given .1) at (minus2 .ensures)) _
-    ∙ goes (rw (y, lat .given .1) at (minus .ensures)) _
+    let a = c .before .before .before .before .before .before .before .before .args in
+    let x : SFits w32 (a .by .lat) = search needs in
+    let lat = rw (exact-negation x) at (c .before .before .before .before .before .fits-i32 .ensures) in
+    let lat-in = not-false _ (c .before .before .before .before .if1 .left) in
+    let y : SFits w32 (a .by .lon) = search needs in
+    let lon = rw (exact-negation y) at (c .before .fits-i322 .ensures) in
+    beyond (negℤ (a .by .lon)) lon _ (not-true _ (c .if2 .taken)) ∙ within (negℤ (a .by .lat)) lat _ lat-in
+
+cast-t7 : tie.Need-cast-t7
+cast-t7 c =
+    let a = c .before .before .before .before .before .before .before .before .args in
+    let x : SFits w32 (a .by .lat) = search needs in
+    let lat = rw (exact-negation x) at (c .before .before .before .before .before .fits-i32 .ensures) in
+    let lat-in = not-false _ (c .before .before .before .before .if1 .left) in
+    rw (exact-negation x) (narrow (negℤ (a .by .lat)) lat lat-in)
+
+cast-t8 : tie.Need-cast-t8
+cast-t8 c =
+    let a = c .before .before .before .before .before .before .before .before .args in
+    let y : SFits w32 (a .by .lon) = search needs in
+    let lon = rw (exact-negation y) at (c .before .fits-i322 .ensures) in
+    rw (exact-negation y) (narrow (negℤ (a .by .lon)) lon (not-false _ (c .if2 .left)))
 
 returns-3 : tie.Need-returns-3
 unfolding negated
 returns-3 c =
-    let args = c .before .before .before .before .before .before .before .before .before .before .args in
-    let lat = c .before .before .before .before .before .before .lat in
-    let lon = c .before .lon in
-    let minus2 = c .before .before .before .minus2 in
-    let minus = c .before .before .before .before .before .before .before .before .minus in
-    let by = args .by in
-    let y : toZ w32 (ofZ w32 (by .lat)) ≡ by .lat = search needs in
-    let v : toZ w32 (ofZ w32 (by .lon)) ≡ by .lon = search needs in
-    let l : toZ w32 (ofZ w32 (lat .given .0 .0)) ≡ lat .given .0 .0 = search needs in
-    let m : toZ w32 (ofZ w32 (lon .given .0 .0)) ≡ lon .given .0 .0 = search needs in
-    ap₂ (λ (a b : ℤ). found (moveBy a b)) l m
-    ∙ goes (rw (v, lon .given .1) at (minus2 .ensures)) _
-    ∙ goes (rw (y, lat .given .1) at (minus .ensures)) _
+    let a = c .before .before .before .before .before .before .before .before .args in
+    let x : SFits w32 (a .by .lat) = search needs in
+    let lat = rw (exact-negation x) at (c .before .before .before .before .before .fits-i32 .ensures) in
+    let lat-in = not-false _ (c .before .before .before .before .if1 .left) in
+    let y : SFits w32 (a .by .lon) = search needs in
+    let lon = rw (exact-negation y) at (c .before .fits-i322 .ensures) in
+    let lon-in = not-false _ (c .if2 .left) in
+    rw (exact-negation x, exact-negation y, toZ-ofZ {w = w32} (narrow (negℤ (a .by .lat)) lat lat-in), toZ-ofZ {w = w32} (narrow (negℤ (a .by .lon)) lon lon-in)) (within (negℤ (a .by .lon)) lon _ lon-in ∙ within (negℤ (a .by .lat)) lat _ lat-in)
 
 pub negate-spec : {M : Type 1} → statement M
 negate-spec =
     tie.close
-    (tie.spec
-    minus-requires
-    enum-known-lat
-    enum-told
-    returns
-    minus-requires-2
-    enum-known-lon
-    enum-told-2
-    returns-2
-    returns-3)
+    (tie.spec cast-lat sub-lat fits-i32-requires returns cast-lon sub-lon fits-i32-requires-2 returns-2 cast-t7 cast-t8 returns-3)
