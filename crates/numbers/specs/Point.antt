@@ -26,6 +26,10 @@ unfoldable pub evenBits : ℕ → ℕ → ℕ
 evenBits zero w = 0
 evenBits (suc n) w = w % 2 + 2 * evenBits n (w / 4)
 
+-- the bits at even places, and above them, from bit 32 on, those at odd places
+abbrev pub bothBits : ℕ → ℕ
+bothBits w = evenBits 32 w + evenBits 32 (w / 2) * 2 ^ 32
+
 -- even bits give the raw latitude, odd bits the raw longitude, each in its signed form
 unfoldable pub pointOf : ℕ → RawPoint
 pointOf value = record { lat = signedOf (evenBits 32 value); lon = signedOf (evenBits 32 (value / 2)) }

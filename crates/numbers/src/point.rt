@@ -1,6 +1,7 @@
 // Signed numbers, and points: a latitude and a longitude whose bits take turns.
 ghost use mathlib.Core.Path.{_≡_};
-ghost use Rattle.numbers.specs.Point.{readI32, signedOf, evenBits, pointOf};
+ghost use Prim.Native.Nat.{_^_, _<_};
+ghost use Rattle.numbers.specs.Point.{readI32, signedOf, evenBits, bothBits, pointOf};
 
 pub struct RawPoint {
     pub lat: i32,
@@ -43,19 +44,41 @@ pub fn unshuffle(w: u64) -> u32
     whole as u32
 }
 
-// Even bits give the latitude, odd bits the longitude. Nearly every move has at most 32 bits: one pass over both halves of a word does for it.
+// A number of at most 32 bits taken apart: its even bits in the low half of the answer, its odd bits in the high half.
+fn apart(w: u64) -> u64
+    requires { ⌜ w < 2 ^ 32 ⌝ }
+    ensures { λ r. ⌜ r ≡ bothBits w ⌝ }
+{
+    let both = unshuffle(w / 2 * 0x1_0000_0000 + w) as u64;
+    both % 0x1_0000 + both / 0x1_0000 * 0x1_0000_0000
+}
+
+// Any number taken apart, by halves. It calls itself, so that it stays out of line: hardly a move is so wide.
+fn apart_wide(w: u64) -> u64
+    ensures { λ r. ⌜ r ≡ bothBits w ⌝ }
+{
+    if w < 0x1_0000_0000 {
+        return apart(w);
+    }
+    apart(w % 0x1_0000_0000) + apart_wide(w / 0x1_0000_0000) * 0x1_0000
+}
+
+fn apart_any(w: u64) -> u64
+    ensures { λ r. ⌜ r ≡ bothBits w ⌝ }
+{
+    if w < 0x1_0000_0000 {
+        return apart(w);
+    }
+    apart_wide(w)
+}
+
+// Even bits give the latitude, odd bits the longitude.
 pub fn decode_point(point: u64) -> RawPoint
     ensures { λ r. ⌜ r ≡ pointOf point ⌝ }
 {
-    if point < 0x1_0000_0000 {
-        let both = unshuffle(point / 2 * 0x1_0000_0000 + point);
-        return RawPoint {
-            lat: signed((both % 0x1_0000) as u64),
-            lon: signed((both / 0x1_0000) as u64),
-        };
-    }
+    let both = apart_any(point);
     RawPoint {
-        lat: signed(unshuffle(point) as u64),
-        lon: signed(unshuffle(point >> 1) as u64),
+        lat: signed(both % 0x1_0000_0000),
+        lon: signed(both / 0x1_0000_0000),
     }
 }
