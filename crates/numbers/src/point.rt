@@ -53,23 +53,21 @@ fn apart(w: u64) -> u64
     both % 0x1_0000 + both / 0x1_0000 * 0x1_0000_0000
 }
 
-// Any number taken apart, by halves. It calls itself, so that it stays out of line: hardly a move is so wide.
-fn apart_wide(w: u64) -> u64
-    ensures { λ r. ⌜ r ≡ bothBits w ⌝ }
-{
-    if w < 0x1_0000_0000 {
-        return apart(w);
-    }
-    apart(w % 0x1_0000_0000) + apart_wide(w / 0x1_0000_0000) * 0x1_0000
-}
-
+// Any number taken apart, 32 bits at a time. Hardly a move has more; one loop for both keeps this short enough to be compiled in line.
 fn apart_any(w: u64) -> u64
     ensures { λ r. ⌜ r ≡ bothBits w ⌝ }
 {
-    if w < 0x1_0000_0000 {
-        return apart(w);
+    let mut both = 0;
+    let mut rest = w;
+    let mut place: u64 = 0;
+    loop {
+        both += apart(rest % 0x1_0000_0000) << place;
+        rest /= 0x1_0000_0000;
+        if rest == 0 {
+            return both;
+        }
+        place += 16;
     }
-    apart_wide(w)
 }
 
 // Even bits give the latitude, odd bits the longitude.

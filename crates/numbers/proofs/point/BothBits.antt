@@ -45,9 +45,6 @@ high-of-both w = omega (arith, even-lt 32 w)
 pub both-fits : (w : ℕ) → bothBits w < 2 ^ 64
 both-fits w = omega (arith, even-lt 32 w, even-lt 32 (w / 2))
 
-pub both-short : (w : ℕ) → w < 2 ^ 32 → bothBits w < 2 ^ 48
-both-short w short = omega (arith, short-bits w short, short-bits (w / 2) (omega arith))
-
 -- what one pass over both computes
 pub both-at-once : (w : ℕ) → w < 2 ^ 32 → (evenBits 32 (w / 2 * 2 ^ 32 + w) % 2 ^ 16) + (evenBits 32 (w / 2 * 2 ^ 32 + w) / 2 ^ 16) * 2 ^ 32 ≡ bothBits w
 both-at-once w short =
@@ -68,3 +65,44 @@ by-halves w fits =
     let word : w ≡ (w / 2 ^ 32) * 2 ^ 32 + w % 2 ^ 32 = omega arith in
     let even = ap (evenBits 32) word ∙ halves (w / 2 ^ 32) (w % 2 ^ 32) (omega arith) (omega arith) in
     omega (arith, even, odd-halves w fits)
+
+-- ---- 32 bits at a time
+-- where the loop stands: before the low half, or before the high half
+pub data Stands (w both rest place : ℕ) : Type 0 where
+  at-low : both ≡ 0 → rest ≡ w → place ≡ 0 → Stands w both rest place
+  at-high : both ≡ bothBits (w % 2 ^ 32) → rest ≡ w / 2 ^ 32 → place ≡ 16 → Stands w both rest place
+
+pub place-small : {w both rest place : ℕ} → Stands w both rest place → place < 17
+place-small (at-low b r p) = omega (arith, p)
+place-small (at-high b r p) = omega (arith, p)
+
+-- a half that is added at its place
+abbrev pub added : ℕ → ℕ → ℕ → ℕ
+added both got place = both + got * 2 ^ place % 2 ^ 64
+
+module _ (w both rest place got : ℕ) (fits : w < 2 ^ 64) (is : got ≡ bothBits (rest % 2 ^ 32)) where
+  low-added : both ≡ 0 → rest ≡ w → place ≡ 0 → added both got place ≡ bothBits (w % 2 ^ 32)
+  low-added b r p =
+      let e : got ≡ bothBits (w % 2 ^ 32) = is ∙ ap (λ (n : ℕ). bothBits (n % 2 ^ 32)) r in
+      rw (b, p) (omega (arith, e, both-fits (w % 2 ^ 32)))
+
+  high-added : both ≡ bothBits (w % 2 ^ 32) → rest ≡ w / 2 ^ 32 → place ≡ 16 → added both got place ≡ bothBits w
+  high-added b r p =
+      let half : rest % 2 ^ 32 ≡ w / 2 ^ 32 = omega (arith, r) in
+      let e : got ≡ bothBits (w / 2 ^ 32) = is ∙ ap bothBits half in
+      rw (b, p) (omega (arith, e, by-halves w fits, both-fits w))
+
+  pub added-fits : Stands w both rest place → added both got place < 2 ^ 64
+  added-fits (at-low b r p) = rw (low-added b r p) (both-fits (w % 2 ^ 32))
+  added-fits (at-high b r p) = rw (high-added b r p) (both-fits w)
+
+  pub added-last : Stands w both rest place → rest / 2 ^ 32 ≡ 0 → added both got place ≡ bothBits w
+  added-last (at-low b r p) none = low-added b r p ∙ ap bothBits (omega (arith, r, none))
+  added-last (at-high b r p) none = high-added b r p
+
+  pub goes-on : Stands w both rest place → (rest / 2 ^ 32 ≡ 0 → ⊥) → Stands w (added both got place) (rest / 2 ^ 32) (place + 16)
+  goes-on (at-low b r p) more = at-high (low-added b r p) (ap (λ (n : ℕ). n / 2 ^ 32) r) (omega (arith, p))
+  goes-on (at-high b r p) more = absurd (more (omega (arith, r)))
+
+pub smaller : (rest : ℕ) → (rest / 2 ^ 32 ≡ 0 → ⊥) → rest / 2 ^ 32 < rest
+smaller rest more = omega arith

@@ -1,0 +1,57 @@
+-- `numbers::point::apart_any` meets its contract. Assumes nothing.
+use mathlib.Core.Path.{refl}
+use Rattle.numbers.proofs.point.BothBits.{Stands, at-low, place-small, added-fits, added-last, goes-on, smaller}
+use native.Mathlib.Omega.{arith}
+use Rattle.numbers.proofs.point.apart_any.Statement.{statement}
+use Rattle.numbers.proofs.point.apart_any.Tie as tie
+
+abbrev Inv-loop : tie.InvT-loop
+Inv-loop w both₀ rest₀ place₀ both rest place = Stands w both rest place
+
+abbrev μ-loop : tie.MeasureT-loop
+μ-loop w both₀ rest₀ place₀ both rest place = rest
+
+loop-holds : tie.Need-loop-holds Inv-loop μ-loop
+loop-holds c = at-low refl refl refl
+
+apart-requires : tie.Need-apart-requires Inv-loop μ-loop
+apart-requires c κs = omega arith
+
+shl-both : tie.Need-shl-both Inv-loop μ-loop
+shl-both c = omega (arith, place-small (c .before .loop .inv))
+
+add-both : tie.Need-add-both Inv-loop μ-loop
+add-both c =
+    let l = c .before .loop in
+    record { fits = added-fits _ (l .both) (l .rest) (l .place) _ (c .before .before .fits .w .fits) (c .apart .ensures) (l .inv) }
+
+returns : tie.Need-returns Inv-loop μ-loop
+returns c =
+    let l = c .before .before .loop in
+    added-last _ (l .both) (l .rest) (l .place) _ (c .before .before .before .fits .w .fits) (c .before .apart .ensures) (l .inv) (c .if1 .taken)
+
+add-place : tie.Need-add-place Inv-loop μ-loop
+add-place c = record { fits = omega (arith, place-small (c .before .before .loop .inv)) }
+
+loop-less : tie.Need-loop-less Inv-loop μ-loop
+loop-less c = smaller (c .before .before .loop .rest) (c .if1 .left)
+
+loop-again : tie.Need-loop-again Inv-loop μ-loop
+loop-again c =
+    let l = c .before .before .loop in
+    goes-on _ (l .both) (l .rest) (l .place) _ (c .before .before .before .fits .w .fits) (c .before .apart .ensures) (l .inv) (c .if1 .left)
+
+pub apart-any-spec : {M : Type 1} → statement M
+apart-any-spec =
+    tie.close
+    (tie.spec
+    Inv-loop
+    μ-loop
+    loop-holds
+    apart-requires
+    shl-both
+    add-both
+    returns
+    add-place
+    loop-less
+    loop-again)
