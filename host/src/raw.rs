@@ -62,10 +62,16 @@ mod library {
 /// The reply of a call that gave 0, or the refusal. Every call begins with a reply that no answer has, to be written over.
 fn answered(call: impl FnOnce(&mut Reply) -> u8) -> Result<Reply, Refusal> {
     let mut reply = [u64::MAX; 5];
-    match call(&mut reply) {
-        0 => Ok(reply),
-        number => Err(Refusal::of(number, reply)),
+    let number = call(&mut reply);
+    if number == 0 {
+        return Ok(reply);
     }
+    debug_assert_eq!(
+        reply[2..],
+        [0; 3],
+        "a refusal has a cause and a detail alone"
+    );
+    Err(Refusal::of(number, reply))
 }
 
 /// Type, version, precision, field count, bytes used; names then notice in the text.

@@ -1,4 +1,5 @@
-//! That the guards of the other tests are there. Alone in its program, for it forks.
+//! That the guards of the other tests are there. Alone in its program, for it forks; under the emulator each child that dies of a
+//! guard leaves a line that says so.
 
 mod common;
 
