@@ -4,7 +4,7 @@
 //! row from west to east: `END KIND ZONE` of the first match, `END 0` where there is none, or `refused NUMBER`. A zone is its
 //! description, or `#` and its metadata id where it has none.
 
-use std::collections::HashMap;
+use std::collections::hash_map::{Entry, HashMap};
 use std::io::{self, BufWriter, Write};
 use std::process::ExitCode;
 use uskelzar::{raw, Error, Map, Refusal, Table};
@@ -41,10 +41,11 @@ fn line_of(
         return Ok(format!("{end} 0"));
     }
     let (metadata, kind) = (lent.hits[1], lent.hits[2]);
-    if !known.contains_key(&metadata) {
-        known.insert(metadata, describe(map, lat, lon, metadata)?);
-    }
-    Ok(format!("{end} {kind} {}", known[&metadata]))
+    let zone = match known.entry(metadata) {
+        Entry::Occupied(named) => named.into_mut(),
+        Entry::Vacant(unnamed) => unnamed.insert(describe(map, lat, lon, metadata)?),
+    };
+    Ok(format!("{end} {kind} {zone}"))
 }
 
 fn print_grid(map: &Map<Vec<u8>>, columns: u32, rows: u32) -> io::Result<()> {
