@@ -6,9 +6,14 @@ use common::files::{header, sections, Zone, LAT_STEP, LON_STEP};
 use std::fs::File;
 use std::os::unix::fs::FileExt;
 use std::path::PathBuf;
-use uskelzar::{End, Map, Mapping, Number, Refusal};
+use uskelzar::{write_border, End, Map, Mapping, Number, Refusal};
 
 const LARGEST: usize = 1_073_741_824;
+const TOO_LARGE: Refusal = Refusal {
+    number: Number::TooLarge,
+    cause: None,
+    detail: 0,
+};
 
 /// A whole file of a length, whose one border stands at its very end; between is nothing but a hole.
 fn make_file(name: &str, length: usize) -> File {
@@ -55,18 +60,18 @@ fn path(name: &str) -> PathBuf {
     PathBuf::from(env!("CARGO_TARGET_TMPDIR")).join(name)
 }
 
-fn mapped(name: &str, length: usize) -> Result<Map<Mapping>, Refusal> {
+fn mapped(name: &str, length: usize) -> Mapping {
     let file = make_file(name, length);
     // SAFETY: nobody else knows the file, and it is removed at once, not changed.
     let mapping = unsafe { Mapping::new(&file) }.unwrap();
     std::fs::remove_file(path(name)).unwrap();
     assert_eq!(mapping.as_ref().len(), length);
-    Map::open(mapping)
+    mapping
 }
 
 #[test]
 fn the_largest_file_is_read_to_its_end() {
-    let map = mapped("largest.plb", LARGEST).unwrap();
+    let map = Map::open(mapped("largest.plb", LARGEST)).unwrap();
     assert_eq!(map.header().names, ["Name"]);
     let inside = map.lookup(5.1 * LAT_STEP, 5.1 * LON_STEP).unwrap();
     assert_eq!(inside.matches[0].fields[0].value, "Far");
@@ -85,13 +90,14 @@ fn the_largest_file_is_read_to_its_end() {
 
 #[test]
 fn one_byte_more_is_refused() {
-    let refusal = mapped("too-large.plb", LARGEST + 1).err().unwrap();
-    assert_eq!(
-        refusal,
-        Refusal {
-            number: Number::TooLarge,
-            cause: None,
-            detail: 0
-        }
-    );
+    let refusal = Map::open(mapped("too-large.plb", LARGEST + 1)).err();
+    assert_eq!(refusal, Some(TOO_LARGE));
+}
+
+#[test]
+fn the_writers_earlier_data_has_the_same_limit() {
+    let mapping = mapped("earlier", LARGEST + 1);
+    let write = |earlier| write_border(1, &[(2, 2), (10, 2), (10, 10)], &[], earlier);
+    assert_eq!(write(mapping.as_ref()), Err(TOO_LARGE));
+    assert!(write(&mapping.as_ref()[..LARGEST]).is_ok());
 }

@@ -182,6 +182,21 @@ fn every_list_length_and_refusal() {
     }
 }
 
+#[test]
+fn the_two_lists_are_of_one_length_and_not_too_long() {
+    let lats: Vec<i32> = (1..=65_536).collect();
+    let number = |lats: &[i32], lons: &[i32]| {
+        let mut out = vec![0xAA; 10 * lats.len() + 64];
+        let reply = raw::write_border(1, lats, lons, &[], &[], &mut out);
+        assert!(reply.is_ok() || out.iter().all(|byte| *byte == 0));
+        reply.err().map(|refusal| refusal.number)
+    };
+    assert_eq!(number(&lats[..3], &lats[..2]), Some(Number::BorderPoints));
+    assert_eq!(number(&lats[..2], &lats[..3]), Some(Number::BorderPoints));
+    assert_eq!(number(&lats, &lats), Some(Number::BorderPoints));
+    assert_eq!(number(&lats[1..], &lats[1..]), None);
+}
+
 /// Where each fix of a grid about the borders is, by a file's own answer.
 fn seen(file: Vec<u8>) -> Vec<String> {
     let map = Map::open(file).unwrap();
