@@ -189,7 +189,7 @@ fn varint(file: &[u8], at: &mut usize) -> u64 {
 fn signed(file: &[u8], at: &mut usize) -> i32 {
     let value = varint(file, at);
     let half = (value / 2) as i32;
-    if value % 2 == 0 {
+    if value & 1 == 0 {
         half
     } else {
         -half
