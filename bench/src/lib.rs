@@ -1,0 +1,101 @@
+//! What both programs share: the words they are run with, the rounds, and the checksum.
+
+pub mod leaves;
+
+use std::{env, fs};
+
+/// What is asked of each city.
+#[derive(Clone, Copy)]
+pub enum Question {
+    WithSafezone,
+    WithoutSafezone,
+    Simple,
+}
+
+/// The words `MAP CITIES QUESTION ROUNDS`.
+pub struct Task {
+    pub map: String,
+    pub question: Question,
+    cities: Vec<(f32, f32)>,
+    rounds: u32,
+}
+
+impl Task {
+    pub fn from_args() -> Task {
+        let words: Vec<String> = env::args().skip(1).collect();
+        let [map, cities, question, rounds] = &words[..] else {
+            panic!("words: MAP CITIES with|without|simple ROUNDS");
+        };
+        let question = match &question[..] {
+            "with" => Question::WithSafezone,
+            "without" => Question::WithoutSafezone,
+            "simple" => Question::Simple,
+            other => panic!("no such question: {other}"),
+        };
+        Task {
+            map: map.clone(),
+            question,
+            cities: read_cities(cities),
+            rounds: rounds.parse().expect("rounds"),
+        }
+    }
+
+    /// Looks every city up in each round and prints the checksum. Only the first round has the answers folded into it: a count is
+    /// taken of the others, so that no program's way of handing out its answer is in it.
+    pub fn run(&self, mut ask: impl FnMut(f32, f32, Option<&mut Checksum>)) {
+        let mut sum = Checksum::new();
+        for &(lat, lon) in &self.cities {
+            ask(lat, lon, Some(&mut sum));
+        }
+        for _ in 1..self.rounds {
+            for &(lat, lon) in &self.cities {
+                ask(lat, lon, None);
+            }
+        }
+        println!("{:016x}", sum.0);
+    }
+}
+
+/// Latitude and longitude at the beginning of each line.
+fn read_cities(path: &str) -> Vec<(f32, f32)> {
+    let text = fs::read_to_string(path).expect("cities");
+    text.lines()
+        .map(|line| {
+            let mut words = line.split('\t').map(|word| word.parse().expect("degrees"));
+            let mut degrees = || words.next().expect("two numbers");
+            (degrees(), degrees())
+        })
+        .collect()
+}
+
+/// FNV-1a over all that an answer holds.
+pub struct Checksum(u64);
+
+impl Checksum {
+    fn new() -> Checksum {
+        Checksum(0xcbf2_9ce4_8422_2325)
+    }
+
+    /// The length goes first, so that no two answers run together.
+    pub fn bytes(&mut self, bytes: &[u8]) {
+        self.number(bytes.len() as u64);
+        for &byte in bytes {
+            self.byte(byte);
+        }
+    }
+
+    pub fn number(&mut self, number: u64) {
+        for byte in number.to_le_bytes() {
+            self.byte(byte);
+        }
+    }
+
+    fn byte(&mut self, byte: u8) {
+        self.word(u64::from(byte));
+    }
+
+    /// A whole word at once, where folding byte by byte would be counted.
+    fn word(&mut self, word: u64) {
+        self.0 = (self.0 ^ word).wrapping_mul(0x0100_0000_01b3);
+    }
+}
