@@ -1,6 +1,11 @@
-// Where `rt staticlib` writes the library's archive.
+// Where `rt staticlib` writes the archives: the library's, and that of the crate that counts its leaves.
 fn main() {
-    let archive = concat!(env!("CARGO_MANIFEST_DIR"), "/../target/staticlib");
-    println!("cargo:rustc-link-search=native={archive}");
-    println!("cargo:rerun-if-changed={archive}/libuskelzar.a");
+    let target = concat!(env!("CARGO_MANIFEST_DIR"), "/../target");
+    for (folder, name) in [
+        ("staticlib", "uskelzar"),
+        ("bench/counted/target/staticlib", "counted"),
+    ] {
+        println!("cargo:rustc-link-search=native={target}/{folder}");
+        println!("cargo:rerun-if-changed={target}/{folder}/lib{name}.a");
+    }
 }

@@ -1,5 +1,7 @@
 //! What both programs share: the words they are run with, the rounds, and the checksum.
 
+pub mod leaves;
+
 use std::{env, fs};
 
 /// What is asked of each city.
@@ -89,6 +91,11 @@ impl Checksum {
     }
 
     fn byte(&mut self, byte: u8) {
-        self.0 = (self.0 ^ u64::from(byte)).wrapping_mul(0x0100_0000_01b3);
+        self.word(u64::from(byte));
+    }
+
+    /// A whole word at once, where folding byte by byte would be counted.
+    fn word(&mut self, word: u64) {
+        self.0 = (self.0 ^ word).wrapping_mul(0x0100_0000_01b3);
     }
 }

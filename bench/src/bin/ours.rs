@@ -48,11 +48,32 @@ impl Ours {
         let refusal = match self.question {
             // SAFETY: each pointer is to as many values as said, and no two lent buffers overlap.
             Question::Simple => unsafe {
-                uskelzar_simple_lookup(file, len, lat, lon, hits, WORDS, text, BYTES, &mut self.reply)
+                uskelzar_simple_lookup(
+                    file,
+                    len,
+                    lat,
+                    lon,
+                    hits,
+                    WORDS,
+                    text,
+                    BYTES,
+                    &mut self.reply,
+                )
             },
             question => unsafe {
                 let asked = matches!(question, Question::WithSafezone);
-                uskelzar_lookup(file, len, lat, lon, asked, hits, WORDS, text, BYTES, &mut self.reply)
+                uskelzar_lookup(
+                    file,
+                    len,
+                    lat,
+                    lon,
+                    asked,
+                    hits,
+                    WORDS,
+                    text,
+                    BYTES,
+                    &mut self.reply,
+                )
             },
         };
         assert_eq!(refusal, 0, "refused at {lat} {lon}");

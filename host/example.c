@@ -1,0 +1,119 @@
+/* example FILE LAT LON: the zone that a slip would carry, how the search ended, and every field of the zones that hold the fix.
+ * Exit status: 0 answered, 1 refused, 2 not run. examples/slip.rs prints the same. */
+#define _POSIX_C_SOURCE 200809L
+#include "uskelzar.h"
+#include <fcntl.h>
+#include <stdio.h>
+#include <stdlib.h>
+#include <string.h>
+#include <sys/mman.h>
+#include <sys/stat.h>
+#include <unistd.h>
+
+enum { HITS = 3 * 64, TEXT = 4096 };
+
+struct map {
+    const uint8_t *file;
+    size_t length;
+};
+
+/* The lent buffers, as firmware would have them: of fixed size, used again for each call. */
+static uint32_t hits[HITS];
+static uint8_t names[TEXT];
+static uint8_t text[TEXT];
+static uint64_t reply[USKELZAR_REPLY_WORDS];
+
+static bool map_file(const char *path, struct map *map)
+{
+    struct stat about;
+    int file = open(path, O_RDONLY);
+    if (file < 0 || fstat(file, &about) != 0 || about.st_size == 0)
+        return false;
+    void *start = mmap(NULL, (size_t)about.st_size, PROT_READ, MAP_PRIVATE, file, 0);
+    close(file);
+    map->file = start;
+    map->length = (size_t)about.st_size;
+    return start != MAP_FAILED;
+}
+
+static int refused(const char *call, uint8_t number)
+{
+    printf("%s: refusal %u, cause %llu, detail %llu\n", call, number, (unsigned long long)reply[USKELZAR_REFUSED_CAUSE],
+           (unsigned long long)reply[USKELZAR_REFUSED_DETAIL]);
+    return 1;
+}
+
+/* A string of a lent text, its length in two bytes before it; gives the place after it. */
+static const uint8_t *print_string(const uint8_t *at)
+{
+    size_t size = (size_t)at[0] * 256 + at[1];
+    printf("%.*s", (int)size, (const char *)at + 2);
+    return at + 2 + size;
+}
+
+/* The name with an index, from the text of uskelzar_open. */
+static const uint8_t *name_of(unsigned index)
+{
+    const uint8_t *at = names;
+    while (index-- > 0)
+        at += 2 + (size_t)at[0] * 256 + at[1];
+    return at;
+}
+
+static int print_slip(const struct map *map, float lat, float lon)
+{
+    uint8_t number = uskelzar_simple_lookup(map->file, map->length, lat, lon, hits, HITS, text, TEXT, reply);
+    if (number != USKELZAR_ANSWERED)
+        return refused("simple lookup", number);
+    bool whole = reply[USKELZAR_LOOKUP_END] == USKELZAR_END_WHOLE;
+    if (whole && reply[USKELZAR_SIMPLE_DESCRIBED] == 1)
+        printf("slip: %.*s\n", (int)reply[USKELZAR_SIMPLE_LENGTH], (const char *)text);
+    else
+        printf("slip: no zone\n");
+    return 0;
+}
+
+static int print_zones(const struct map *map, uint64_t fields, float lat, float lon)
+{
+    static const char *const ends[] = {"", "whole", "stopped at a table entry", "stopped at a border"};
+    static const char *const kinds[] = {"", "in zone", "in excluded zone", "on border vertex", "on border segment"};
+    uint8_t number = uskelzar_lookup(map->file, map->length, lat, lon, true, hits, HITS, text, TEXT, reply);
+    if (number != USKELZAR_ANSWERED)
+        return refused("lookup", number);
+    uint32_t bits = (uint32_t)reply[USKELZAR_LOOKUP_SAFEZONE];
+    float safezone;
+    memcpy(&safezone, &bits, sizeof safezone);
+    printf("search: %s; safezone %.6f\n", ends[reply[USKELZAR_LOOKUP_END]], safezone);
+    const uint8_t *at = text;
+    for (uint64_t i = 0; i < reply[USKELZAR_LOOKUP_MATCHES]; i++) {
+        printf("zone: %s\n", kinds[hits[USKELZAR_HIT_WORDS * i + USKELZAR_HIT_KIND]]);
+        for (uint64_t j = 0; j < fields; j++) {
+            printf("  ");
+            print_string(name_of(at[0]));
+            printf(": ");
+            at = print_string(at + 1);
+            printf("\n");
+        }
+    }
+    return 0;
+}
+
+int main(int count, char **words)
+{
+    struct map map;
+    if (count != 4) {
+        fprintf(stderr, "usage: example FILE LAT LON\n");
+        return 2;
+    }
+    if (!map_file(words[1], &map)) {
+        fprintf(stderr, "example: cannot map %s\n", words[1]);
+        return 2;
+    }
+    float lat = strtof(words[2], NULL), lon = strtof(words[3], NULL);
+    uint8_t number = uskelzar_open(map.file, map.length, names, TEXT, reply);
+    if (number != USKELZAR_ANSWERED)
+        return refused("open", number);
+    uint64_t fields = reply[USKELZAR_OPEN_FIELDS];
+    int status = print_slip(&map, lat, lon);
+    return status != 0 ? status : print_zones(&map, fields, lat, lon);
+}

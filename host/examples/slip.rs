@@ -1,0 +1,63 @@
+//! slip FILE LAT LON: the zone that a slip would carry, how the search ended, and every field of the zones that hold the fix.
+//! Exit status: 0 answered, 1 refused, 2 not run. example.c prints the same.
+
+use std::process::ExitCode;
+use uskelzar::{End, Error, Kind, Map, Refusal};
+
+fn end_words(end: End) -> &'static str {
+    match end {
+        End::Whole => "whole",
+        End::TableUnreadable => "stopped at a table entry",
+        End::BorderFailed => "stopped at a border",
+    }
+}
+
+fn kind_words(kind: Kind) -> &'static str {
+    match kind {
+        Kind::InZone => "in zone",
+        Kind::OnBorderVertex => "on border vertex",
+        Kind::OnBorderSegment => "on border segment",
+    }
+}
+
+fn print(map: &Map<Vec<u8>>, lat: f32, lon: f32) -> Result<(), Refusal> {
+    let slip = map.zone_for_slip(lat, lon)?;
+    println!("slip: {}", slip.as_deref().unwrap_or("no zone"));
+    let zones = map.lookup(lat, lon)?;
+    println!(
+        "search: {}; safezone {:.6}",
+        end_words(zones.end),
+        zones.safezone
+    );
+    for zone in &zones.matches {
+        println!("zone: {}", kind_words(zone.kind));
+        for field in &zone.fields {
+            println!("  {}: {}", field.name, field.value);
+        }
+    }
+    Ok(())
+}
+
+fn main() -> ExitCode {
+    let words: Vec<String> = std::env::args().skip(1).collect();
+    let [path, lat, lon] = words.as_slice() else {
+        eprintln!("usage: slip FILE LAT LON");
+        return ExitCode::from(2);
+    };
+    let (Ok(lat), Ok(lon)) = (lat.parse(), lon.parse()) else {
+        eprintln!("slip: {lat} {lon} are not two numbers");
+        return ExitCode::from(2);
+    };
+    let done = Map::read(path).and_then(|map| Ok(print(&map, lat, lon)?));
+    match done {
+        Ok(()) => ExitCode::SUCCESS,
+        Err(Error::Refused(refusal)) => {
+            println!("{refusal}");
+            ExitCode::from(1)
+        }
+        Err(Error::File(error)) => {
+            eprintln!("slip: {path}: {error}");
+            ExitCode::from(2)
+        }
+    }
+}

@@ -1,0 +1,70 @@
+//! Which zone holds a fix, by a PLB border file: the proved library behind typed values.
+//!
+//! ```no_run
+//! # fn main() -> Result<(), uskelzar::Error> {
+//! let map = uskelzar::Map::read("examples/world-9.plb")?;
+//! if let Some(zone) = map.zone_for_slip(52.52, 13.40)? {
+//!     println!("{zone}"); // Europe/Berlin, from a search that was whole
+//! }
+//! # Ok(())
+//! # }
+//! ```
+//!
+//! [`raw`] has the four functions as they are, over lent buffers; [`Map`] lends the buffers itself.
+
+#![deny(unsafe_op_in_unsafe_fn, missing_docs)]
+
+mod entries;
+mod map;
+pub mod raw;
+mod refusal;
+
+pub use map::{End, Error, Field, Header, Kind, Map, Match, Room, Simple, Table, Zones};
+pub use raw::Mapping;
+pub use refusal::{Cause, Number, Refusal};
+
+/// A run of the earlier data that stands for some of a border's moves.
+#[derive(Clone, Copy, Debug, Eq, PartialEq)]
+pub struct Piece {
+    /// Where the run starts in the earlier data.
+    pub start: u32,
+    /// The run's length in bytes.
+    pub bytes: u32,
+    /// Whether it is read from its end to its start.
+    pub backward: bool,
+    /// The first move that it stands for.
+    pub first: u32,
+    /// How many moves it stands for.
+    pub count: u32,
+}
+
+/// The bytes of a border from its points on the file's grid, each a latitude and a longitude. `earlier` is the data section
+/// up to the border's first byte; each piece borrows some of the moves from it.
+pub fn write_border(
+    version: u8,
+    points: &[(i32, i32)],
+    pieces: &[Piece],
+    earlier: &[u8],
+) -> Result<Vec<u8>, Refusal> {
+    let (lats, lons): (Vec<i32>, Vec<i32>) = points.iter().copied().unzip();
+    let words: Vec<u32> = pieces.iter().flat_map(words_of).collect();
+    let mut out = vec![0; most_bytes(points.len())];
+    let reply = raw::write_border(version, &lats, &lons, &words, earlier, &mut out)?;
+    out.truncate(reply[0] as usize);
+    Ok(out)
+}
+
+fn words_of(piece: &Piece) -> [u32; 5] {
+    [
+        piece.start,
+        piece.bytes,
+        u32::from(piece.backward),
+        piece.first,
+        piece.count,
+    ]
+}
+
+/// Room for every border of so many points: ten bytes a move, a count or 16 pieces of at most 12 bytes, and two at the end.
+fn most_bytes(points: usize) -> usize {
+    points * 10 + 16 * 12 + 2
+}

@@ -1,0 +1,280 @@
+//! A map: the bytes of a PLB file, opened, and what it answers.
+
+use crate::entries::{text_of, Entries};
+use crate::raw;
+use crate::refusal::Refusal;
+use std::fmt;
+use std::io;
+use std::path::Path;
+
+/// A file could not be read, or the library refused it.
+#[derive(Debug)]
+pub enum Error {
+    /// Reading failed.
+    File(io::Error),
+    /// The library refused.
+    Refused(Refusal),
+}
+
+impl fmt::Display for Error {
+    fn fmt(&self, f: &mut fmt::Formatter) -> fmt::Result {
+        match self {
+            Error::File(error) => error.fmt(f),
+            Error::Refused(refusal) => refusal.fmt(f),
+        }
+    }
+}
+
+impl std::error::Error for Error {}
+
+impl From<io::Error> for Error {
+    fn from(error: io::Error) -> Error {
+        Error::File(error)
+    }
+}
+
+impl From<Refusal> for Error {
+    fn from(refusal: Refusal) -> Error {
+        Error::Refused(refusal)
+    }
+}
+
+/// What a file's zones are.
+#[derive(Clone, Copy, Debug, Eq, PartialEq)]
+pub enum Table {
+    /// Type T.
+    TimeZones,
+    /// Type C.
+    Countries,
+}
+
+/// What a file says of itself.
+#[derive(Clone, Debug, Eq, PartialEq)]
+pub struct Header {
+    /// What its zones are.
+    pub table: Table,
+    /// How its borders are written: 0 or 1.
+    pub version: u8,
+    /// The bits of its grid.
+    pub precision: u8,
+    /// The names of a zone's fields.
+    pub names: Vec<String>,
+    /// Whose data it is.
+    pub notice: String,
+}
+
+/// How a search ended.
+#[derive(Clone, Copy, Debug, Eq, PartialEq)]
+pub enum End {
+    /// It was whole.
+    Whole,
+    /// It stopped at a table entry that could not be read.
+    TableUnreadable,
+    /// It stopped at a border that failed.
+    BorderFailed,
+}
+
+impl End {
+    fn of(mark: u64) -> End {
+        match mark {
+            1 => End::Whole,
+            2 => End::TableUnreadable,
+            _ => End::BorderFailed,
+        }
+    }
+}
+
+/// Where in a zone a fix is.
+#[derive(Clone, Copy, Debug, Eq, PartialEq)]
+pub enum Kind {
+    /// Inside.
+    InZone,
+    /// On a vertex of its border.
+    OnBorderVertex,
+    /// On its border elsewhere.
+    OnBorderSegment,
+}
+
+impl Kind {
+    /// No answer has an excluded zone, kind 2.
+    fn of(kind: u32) -> Kind {
+        match kind {
+            3 => Kind::OnBorderVertex,
+            4 => Kind::OnBorderSegment,
+            _ => Kind::InZone,
+        }
+    }
+}
+
+/// A field of a zone.
+#[derive(Clone, Debug, Eq, PartialEq)]
+pub struct Field {
+    /// Its name.
+    pub name: String,
+    /// Its value.
+    pub value: String,
+}
+
+/// A zone that holds a fix.
+#[derive(Clone, Debug, Eq, PartialEq)]
+pub struct Match {
+    /// The first of its borders that was met.
+    pub polygon: u32,
+    /// Which zone it is in the file.
+    pub metadata: u32,
+    /// Where in it the fix is.
+    pub kind: Kind,
+    /// All its fields, in file order.
+    pub fields: Vec<Field>,
+}
+
+/// The zones that hold a fix.
+#[derive(Clone, Debug, PartialEq)]
+pub struct Zones {
+    /// In the order in which they were met.
+    pub matches: Vec<Match>,
+    /// How the search ended.
+    pub end: End,
+    /// The distance to the nearest border looked at, in degrees.
+    pub safezone: f32,
+}
+
+/// A description of the first zone that holds a fix.
+#[derive(Clone, Debug, Eq, PartialEq)]
+pub struct Simple {
+    /// None where no zone does, or the file has no field to describe it by.
+    pub description: Option<String>,
+    /// How many zones do.
+    pub matches: usize,
+    /// How the search ended.
+    pub end: End,
+}
+
+/// What a map lends the library for one call: hits, before those of one zone are merged, and bytes of text.
+#[derive(Clone, Copy, Debug)]
+pub struct Room {
+    /// Hits.
+    pub hits: usize,
+    /// Bytes.
+    pub text: usize,
+}
+
+impl Default for Room {
+    fn default() -> Room {
+        Room {
+            hits: 1024,
+            text: 16_384,
+        }
+    }
+}
+
+/// A file that the library has opened. `B` holds its bytes: a `Vec<u8>`, a slice, or a [`crate::Mapping`].
+pub struct Map<B> {
+    bytes: B,
+    header: Header,
+    room: Room,
+}
+
+/// Room for 255 names and a notice of up to 256 bytes each.
+const HEADER_TEXT: usize = 256 * 258;
+
+impl Map<Vec<u8>> {
+    /// Reads a file into memory and opens it.
+    pub fn read(path: impl AsRef<Path>) -> Result<Map<Vec<u8>>, Error> {
+        Ok(Map::open(std::fs::read(path)?)?)
+    }
+}
+
+impl<B: AsRef<[u8]>> Map<B> {
+    /// Opens a file's bytes.
+    pub fn open(bytes: B) -> Result<Map<B>, Refusal> {
+        let header = header_of(bytes.as_ref())?;
+        Ok(Map {
+            bytes,
+            header,
+            room: Room::default(),
+        })
+    }
+
+    /// Lends other room; refusals 17 and 18 say that it was too little.
+    pub fn with_room(self, room: Room) -> Map<B> {
+        Map { room, ..self }
+    }
+
+    /// What the file says of itself.
+    pub fn header(&self) -> &Header {
+        &self.header
+    }
+
+    /// The file's bytes.
+    pub fn bytes(&self) -> &[u8] {
+        self.bytes.as_ref()
+    }
+
+    /// The zones that hold a fix, in degrees.
+    pub fn lookup(&self, lat: f32, lon: f32) -> Result<Zones, Refusal> {
+        let (mut hits, mut text) = self.buffers();
+        let reply = raw::lookup(self.bytes(), lat, lon, true, &mut hits, &mut text)?;
+        let [matches, mark, safezone, used, _] = reply;
+        let mut fields = Entries(&text[..used as usize]);
+        let hits = hits.chunks_exact(3).take(matches as usize);
+        Ok(Zones {
+            matches: hits.map(|hit| self.match_of(hit, &mut fields)).collect(),
+            end: End::of(mark),
+            safezone: f32::from_bits(safezone as u32),
+        })
+    }
+
+    /// A description of the first zone that holds a fix, in degrees.
+    pub fn simple_lookup(&self, lat: f32, lon: f32) -> Result<Simple, Refusal> {
+        let (mut hits, mut text) = self.buffers();
+        let reply = raw::simple_lookup(self.bytes(), lat, lon, &mut hits, &mut text)?;
+        let [matches, mark, described, length, _] = reply;
+        Ok(Simple {
+            description: (described == 1).then(|| text_of(&text[..length as usize])),
+            matches: matches as usize,
+            end: End::of(mark),
+        })
+    }
+
+    /// The zone to print on a slip: the description, only where the search for it was whole.
+    pub fn zone_for_slip(&self, lat: f32, lon: f32) -> Result<Option<String>, Refusal> {
+        let found = self.simple_lookup(lat, lon)?;
+        Ok(found.description.filter(|_| found.end == End::Whole))
+    }
+
+    fn buffers(&self) -> (Vec<u32>, Vec<u8>) {
+        (vec![0; 3 * self.room.hits], vec![0; self.room.text])
+    }
+
+    fn match_of(&self, hit: &[u32], fields: &mut Entries) -> Match {
+        let names = &self.header.names;
+        let field = |_| Field {
+            name: names[usize::from(fields.tag())].clone(),
+            value: fields.string(),
+        };
+        Match {
+            polygon: hit[0],
+            metadata: hit[1],
+            kind: Kind::of(hit[2]),
+            fields: (0..names.len()).map(field).collect(),
+        }
+    }
+}
+
+fn header_of(file: &[u8]) -> Result<Header, Refusal> {
+    let mut text = vec![0; HEADER_TEXT];
+    let [kind, version, precision, count, used] = raw::open(file, &mut text)?;
+    let mut strings = Entries(&text[..used as usize]);
+    Ok(Header {
+        table: if kind == u64::from(b'T') {
+            Table::TimeZones
+        } else {
+            Table::Countries
+        },
+        version: version as u8,
+        precision: precision as u8,
+        names: (0..count).map(|_| strings.string()).collect(),
+        notice: strings.string(),
+    })
+}

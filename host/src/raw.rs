@@ -1,0 +1,235 @@
+//! The library's four functions over lent buffers (include/uskelzar.h has their contracts), and files mapped into memory.
+//! All that is unsafe in this crate is here.
+
+use crate::refusal::Refusal;
+use std::ffi::{c_int, c_void};
+use std::fs::File;
+use std::io;
+use std::os::fd::AsRawFd;
+
+/// The five words of a reply.
+pub type Reply = [u64; 5];
+
+mod library {
+    extern "C" {
+        pub fn uskelzar_open(
+            file: *const u8,
+            file_length: usize,
+            text: *mut u8,
+            text_length: usize,
+            reply: *mut [u64; 5],
+        ) -> u8;
+        pub fn uskelzar_lookup(
+            file: *const u8,
+            file_length: usize,
+            lat: f32,
+            lon: f32,
+            asked: bool,
+            hits: *mut u32,
+            hits_length: usize,
+            text: *mut u8,
+            text_length: usize,
+            reply: *mut [u64; 5],
+        ) -> u8;
+        pub fn uskelzar_simple_lookup(
+            file: *const u8,
+            file_length: usize,
+            lat: f32,
+            lon: f32,
+            hits: *mut u32,
+            hits_length: usize,
+            text: *mut u8,
+            text_length: usize,
+            reply: *mut [u64; 5],
+        ) -> u8;
+        pub fn uskelzar_write_border(
+            version: u8,
+            lats: *const i32,
+            lats_length: usize,
+            lons: *const i32,
+            lons_length: usize,
+            pieces: *const u32,
+            pieces_length: usize,
+            earlier: *const u8,
+            earlier_length: usize,
+            out: *mut u8,
+            out_length: usize,
+            reply: *mut [u64; 5],
+        ) -> u8;
+    }
+}
+
+/// The reply of a call that gave 0, or the refusal. Every call begins with a reply that no answer has, to be written over.
+fn answered(call: impl FnOnce(&mut Reply) -> u8) -> Result<Reply, Refusal> {
+    let mut reply = [u64::MAX; 5];
+    let number = call(&mut reply);
+    if number == 0 {
+        return Ok(reply);
+    }
+    debug_assert_eq!(
+        reply[2..],
+        [0; 3],
+        "a refusal has a cause and a detail alone"
+    );
+    Err(Refusal::of(number, reply))
+}
+
+/// Type, version, precision, field count, bytes used; names then notice in the text.
+pub fn open(file: &[u8], text: &mut [u8]) -> Result<Reply, Refusal> {
+    // SAFETY: each pointer comes from a slice with its length, and the borrows keep what is lent apart.
+    answered(|reply| unsafe {
+        library::uskelzar_open(
+            file.as_ptr(),
+            file.len(),
+            text.as_mut_ptr(),
+            text.len(),
+            reply,
+        )
+    })
+}
+
+/// Matches, end mark, safezone bits, bytes used; the matches in the hits, their fields in the text.
+pub fn lookup(
+    file: &[u8],
+    lat: f32,
+    lon: f32,
+    asked: bool,
+    hits: &mut [u32],
+    text: &mut [u8],
+) -> Result<Reply, Refusal> {
+    // SAFETY: as in `open`.
+    answered(|reply| unsafe {
+        library::uskelzar_lookup(
+            file.as_ptr(),
+            file.len(),
+            lat,
+            lon,
+            asked,
+            hits.as_mut_ptr(),
+            hits.len(),
+            text.as_mut_ptr(),
+            text.len(),
+            reply,
+        )
+    })
+}
+
+/// Matches, end mark, described (1) or not (0), the description's length; the description in the text.
+pub fn simple_lookup(
+    file: &[u8],
+    lat: f32,
+    lon: f32,
+    hits: &mut [u32],
+    text: &mut [u8],
+) -> Result<Reply, Refusal> {
+    // SAFETY: as in `open`.
+    answered(|reply| unsafe {
+        library::uskelzar_simple_lookup(
+            file.as_ptr(),
+            file.len(),
+            lat,
+            lon,
+            hits.as_mut_ptr(),
+            hits.len(),
+            text.as_mut_ptr(),
+            text.len(),
+            reply,
+        )
+    })
+}
+
+/// The border's length; the border in `out`. A piece is five words: start, bytes, direction, first move, move count.
+pub fn write_border(
+    version: u8,
+    lats: &[i32],
+    lons: &[i32],
+    pieces: &[u32],
+    earlier: &[u8],
+    out: &mut [u8],
+) -> Result<Reply, Refusal> {
+    // SAFETY: as in `open`.
+    answered(|reply| unsafe {
+        library::uskelzar_write_border(
+            version,
+            lats.as_ptr(),
+            lats.len(),
+            lons.as_ptr(),
+            lons.len(),
+            pieces.as_ptr(),
+            pieces.len(),
+            earlier.as_ptr(),
+            earlier.len(),
+            out.as_mut_ptr(),
+            out.len(),
+            reply,
+        )
+    })
+}
+
+extern "C" {
+    fn mmap(
+        at: *mut c_void,
+        length: usize,
+        access: c_int,
+        flags: c_int,
+        file: c_int,
+        from: i64,
+    ) -> *mut c_void;
+    fn munmap(at: *mut c_void, length: usize) -> c_int;
+}
+
+const PROT_READ: c_int = 1;
+const MAP_PRIVATE: c_int = 2;
+
+/// A file mapped into memory, to be read.
+pub struct Mapping {
+    start: *const u8,
+    length: usize,
+}
+
+impl Mapping {
+    /// Maps a file.
+    ///
+    /// # Safety
+    /// Nobody changes or cuts the file while it is mapped.
+    pub unsafe fn new(file: &File) -> io::Result<Mapping> {
+        let length = file.metadata()?.len() as usize;
+        // SAFETY: a new mapping, at a place that the system chooses, touches no memory in use. An empty file is an error.
+        let start = unsafe {
+            mmap(
+                std::ptr::null_mut(),
+                length,
+                PROT_READ,
+                MAP_PRIVATE,
+                file.as_raw_fd(),
+                0,
+            )
+        };
+        if start as isize == -1 {
+            return Err(io::Error::last_os_error());
+        }
+        Ok(Mapping {
+            start: start.cast(),
+            length,
+        })
+    }
+}
+
+impl AsRef<[u8]> for Mapping {
+    fn as_ref(&self) -> &[u8] {
+        // SAFETY: mapped for reading until `self` is dropped; `new`'s caller saw to it that the bytes stay as they are.
+        unsafe { std::slice::from_raw_parts(self.start, self.length) }
+    }
+}
+
+impl Drop for Mapping {
+    fn drop(&mut self) {
+        // SAFETY: `new` mapped just this, and no borrow outlives `self`.
+        unsafe { munmap(self.start.cast_mut().cast(), self.length) };
+    }
+}
+
+// SAFETY: the memory is only read, and belongs to no thread.
+unsafe impl Send for Mapping {}
+// SAFETY: as above.
+unsafe impl Sync for Mapping {}

@@ -1,0 +1,177 @@
+//! Refusals: why a call did not answer.
+
+use std::fmt;
+
+/// What the library refuses, by document 01's numbers.
+#[derive(Clone, Copy, Debug, Eq, PartialEq)]
+#[repr(u8)]
+#[allow(missing_docs)] // `words` says each
+pub enum Number {
+    TooLarge = 1,
+    TooShort = 2,
+    Magic = 3,
+    TableType = 4,
+    Version = 5,
+    FieldName = 6,
+    Notice = 7,
+    FirstSize = 8,
+    SecondSize = 9,
+    ThirdSize = 10,
+    LengthMismatch = 11,
+    LongNumber = 12,
+    OutOfRange = 13,
+    StringPastEnd = 14,
+    FieldValue = 15,
+    Precision = 16,
+    TooManyHits = 17,
+    TextRoom = 18,
+    BorderPoints = 19,
+    Coordinate = 20,
+    RepeatedPoint = 21,
+    FirstPointZero = 22,
+    Piece = 23,
+    OutputRoom = 24,
+}
+
+use Number::*;
+
+/// Each number with document 01's words for it, in order.
+const TABLE: [(Number, &str); 24] = [
+    (
+        TooLarge,
+        "file, or the writer's earlier data, over 1,073,741,824 bytes",
+    ),
+    (TooShort, "under 7 bytes"),
+    (Magic, "magic"),
+    (TableType, "table type"),
+    (Version, "version 2 or more"),
+    (FieldName, "field name"),
+    (Notice, "notice"),
+    (FirstSize, "first size can't be read"),
+    (SecondSize, "second size can't be read"),
+    (ThirdSize, "third size can't be read"),
+    (LengthMismatch, "length mismatch"),
+    (LongNumber, "eleventh varint byte"),
+    (
+        OutOfRange,
+        "an integer step on which the checked Rust panics",
+    ),
+    (StringPastEnd, "string byte past the end"),
+    (FieldValue, "field value"),
+    (Precision, "precision 0 or above 32"),
+    (TooManyHits, "more hits than slots"),
+    (TextRoom, "text doesn't fit"),
+    (
+        BorderPoints,
+        "border: no points, over 65,535, or the two lists differ in length",
+    ),
+    (Coordinate, "a coordinate beyond ±1,073,741,823"),
+    (
+        RepeatedPoint,
+        "a point equal to the one before it in the list",
+    ),
+    (FirstPointZero, "first point (0,0)"),
+    (Piece, "piece list"),
+    (OutputRoom, "border doesn't fit the output"),
+];
+
+impl Number {
+    fn of(number: u8) -> Number {
+        let known = TABLE.iter().find(|(known, _)| *known as u8 == number);
+        known.expect("the library's refusals are 1 to 24").0
+    }
+
+    /// Document 01's words.
+    pub fn words(self) -> &'static str {
+        TABLE[self as usize - 1].1
+    }
+
+    /// What the detail is, where a refusal has one.
+    fn detail(self) -> Option<&'static str> {
+        match self {
+            TooShort => Some("length"),
+            Magic => Some("bytes"),
+            TableType | Version => Some("byte"),
+            FieldName | Piece => Some("index"),
+            LengthMismatch => Some("computed length"),
+            _ => None,
+        }
+    }
+}
+
+/// Which of the two causes, for a bad field name, notice or field value.
+#[derive(Clone, Copy, Debug, Eq, PartialEq)]
+pub enum Cause {
+    /// The string can't be read.
+    Encoding,
+    /// It is not UTF-8.
+    Utf8,
+}
+
+/// A refusal: its number, which cause if it has one, and its detail, 0 if it has none.
+#[derive(Clone, Copy, Debug, Eq, PartialEq)]
+pub struct Refusal {
+    /// What was refused.
+    pub number: Number,
+    /// Which of two causes.
+    pub cause: Option<Cause>,
+    /// The detail.
+    pub detail: u64,
+}
+
+impl Refusal {
+    /// From what a call returned, and its reply.
+    pub(crate) fn of(number: u8, reply: [u64; 5]) -> Refusal {
+        let cause = match reply[0] {
+            1 => Some(Cause::Encoding),
+            2 => Some(Cause::Utf8),
+            _ => None,
+        };
+        Refusal {
+            number: Number::of(number),
+            cause,
+            detail: reply[1],
+        }
+    }
+}
+
+impl fmt::Display for Refusal {
+    fn fmt(&self, f: &mut fmt::Formatter) -> fmt::Result {
+        write!(f, "refusal {}: {}", self.number as u8, self.number.words())?;
+        match self.cause {
+            Some(Cause::Encoding) => write!(f, ": encoding")?,
+            Some(Cause::Utf8) => write!(f, ": UTF-8")?,
+            None => (),
+        }
+        match self.number.detail() {
+            Some(what) if self.number == Magic => write!(f, " ({what} {:06X})", self.detail),
+            Some(what) => write!(f, " ({what} {})", self.detail),
+            None => Ok(()),
+        }
+    }
+}
+
+impl std::error::Error for Refusal {}
+
+#[cfg(test)]
+mod tests {
+    use super::*;
+
+    #[test]
+    fn the_table_is_in_order() {
+        for (index, (number, _)) in TABLE.iter().enumerate() {
+            assert_eq!(*number as usize, index + 1);
+            assert_eq!(Number::of(index as u8 + 1), *number);
+        }
+    }
+
+    #[test]
+    fn a_refusal_says_its_cause_and_detail() {
+        let name = Refusal::of(6, [2, 3, 0, 0, 0]);
+        assert_eq!(name.to_string(), "refusal 6: field name: UTF-8 (index 3)");
+        let magic = Refusal::of(3, [0, 0x504C44, 0, 0, 0]);
+        assert_eq!(magic.to_string(), "refusal 3: magic (bytes 504C44)");
+        let room = Refusal::of(18, [0; 5]);
+        assert_eq!(room.to_string(), "refusal 18: text doesn't fit");
+    }
+}

@@ -1,0 +1,141 @@
+//! Small PLB files.
+
+use uskelzar::write_border;
+
+/// Document 01's example: one square zone `A`, type C, version 1, precision 16; and its fix.
+pub const SQUARE: [u8; 33] = [
+    0x50, 0x4C, 0x42, 0x43, 0x01, 0x10, 0x01, 0x04, 0xCE, 0xE1, 0xED, 0xE5, 0x00, 0x06, 0x02, 0x09,
+    0x04, 0x04, 0x14, 0x14, 0x00, 0x00, 0x01, 0xC1, 0x30, 0x80, 0x02, 0x80, 0x04, 0x81, 0x02, 0x00,
+    0x00,
+];
+pub const SQUARE_LAT: u32 = 0x3C61_0000;
+pub const SQUARE_LON: u32 = 0x3CE1_0000;
+
+/// Where its sections begin, and where the third size stands.
+pub const SQUARE_TABLE: usize = 16;
+pub const SQUARE_DATA: usize = 24;
+pub const SQUARE_THIRD_SIZE: usize = 15;
+
+/// Precision 16: so many degrees are one step of the grid.
+pub const LAT_STEP: f32 = 90.0 / 32768.0;
+pub const LON_STEP: f32 = 180.0 / 32768.0;
+
+pub struct Zone<'a> {
+    pub fields: &'a [&'a str],
+    pub borders: &'a [&'a [(i32, i32)]],
+}
+
+/// A number, seven bits a byte.
+pub fn varint(mut value: u64) -> Vec<u8> {
+    let mut bytes = vec![];
+    while value >= 128 {
+        bytes.push(value as u8 | 128);
+        value >>= 7;
+    }
+    bytes.push(value as u8);
+    bytes
+}
+
+fn signed(value: i64) -> Vec<u8> {
+    varint(value.unsigned_abs() * 2 + u64::from(value < 0))
+}
+
+fn string(text: &str) -> Vec<u8> {
+    let masked = text.bytes().map(|byte| byte ^ 0x80);
+    varint(text.len() as u64)
+        .into_iter()
+        .chain(masked)
+        .collect()
+}
+
+fn strings(texts: &[&str]) -> Vec<u8> {
+    texts.iter().flat_map(|text| string(text)).collect()
+}
+
+/// The box of a border, and the steps from the last entry.
+fn entry(points: &[(i32, i32)], metadata: i64, data: u64) -> Vec<u8> {
+    let lats = || points.iter().map(|point| i64::from(point.0));
+    let lons = || points.iter().map(|point| i64::from(point.1));
+    let bounds = [lats().min(), lons().min(), lats().max(), lons().max()];
+    let mut bytes: Vec<u8> = bounds
+        .iter()
+        .flat_map(|bound| signed(bound.unwrap()))
+        .collect();
+    bytes.extend(signed(metadata));
+    bytes.extend(varint(data));
+    bytes
+}
+
+pub struct Sections {
+    pub table: Vec<u8>,
+    pub metadata: Vec<u8>,
+    pub data: Vec<u8>,
+}
+
+/// The borders in the order given: lower latitudes must not fall.
+pub fn sections(version: u8, zones: &[Zone]) -> Sections {
+    let mut all = Sections {
+        table: vec![],
+        metadata: vec![],
+        data: vec![],
+    };
+    let (mut last_metadata, mut last_data) = (0, 0);
+    for zone in zones {
+        let metadata = all.metadata.len() as i64;
+        for points in zone.borders {
+            let data = all.data.len() as u64;
+            all.table
+                .extend(entry(points, metadata - last_metadata, data - last_data));
+            all.data
+                .extend(write_border(version, points, &[], &all.data).unwrap());
+            (last_metadata, last_data) = (metadata, data);
+        }
+        all.metadata.extend(strings(zone.fields));
+    }
+    all
+}
+
+/// A header for sections of these sizes: type T or C, precision 16.
+pub fn header(kind: u8, version: u8, names: &[&str], notice: &str, sizes: [usize; 3]) -> Vec<u8> {
+    let mut file = vec![b'P', b'L', b'B', kind, version, 16, names.len() as u8];
+    file.extend(strings(names));
+    file.extend(string(notice));
+    file.extend(sizes.iter().flat_map(|size| varint(*size as u64)));
+    file
+}
+
+pub fn file(kind: u8, version: u8, names: &[&str], notice: &str, zones: &[Zone]) -> Vec<u8> {
+    let Sections {
+        table,
+        metadata,
+        data,
+    } = sections(version, zones);
+    let mut file = header(
+        kind,
+        version,
+        names,
+        notice,
+        [table.len(), metadata.len(), data.len()],
+    );
+    file.extend([table, metadata, data].concat());
+    file
+}
+
+/// Two time zones about one place, the first with two borders: three hits and two matches at (5,5) of the grid.
+pub fn overlap(version: u8) -> Vec<u8> {
+    let names = ["TimezoneIdPrefix", "TimezoneId"];
+    let small = [(1, 1), (9, 1), (9, 9), (1, 9)];
+    let large = [(2, 2), (10, 2), (10, 10), (2, 10)];
+    let other = [(3, 3), (20, 3), (20, 20), (3, 20)];
+    let zones = [
+        Zone {
+            fields: &["Up/", "One"],
+            borders: &[&small, &large],
+        },
+        Zone {
+            fields: &["Up/", "Two"],
+            borders: &[&other],
+        },
+    ];
+    file(b'T', version, &names, "none", &zones)
+}

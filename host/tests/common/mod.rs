@@ -1,0 +1,117 @@
+//! What several tests use.
+#![allow(dead_code)] // each test uses some of it
+
+pub mod fence;
+pub mod files;
+
+use fence::{Edge, Fence};
+use uskelzar::raw::{self, Reply};
+use uskelzar::Refusal;
+
+pub const WORLD: &str = concat!(env!("CARGO_MANIFEST_DIR"), "/../examples/world-9.plb");
+
+/// A fix, and whether the safezone is asked for.
+#[derive(Clone, Copy)]
+pub struct Fix {
+    pub lat: f32,
+    pub lon: f32,
+    pub asked: bool,
+}
+
+/// The buffers of a lookup, between guards.
+pub struct Buffers {
+    hits: Fence,
+    text: Fence,
+}
+
+/// A reply, with all that was lent.
+#[derive(Clone, Debug, PartialEq)]
+pub struct Outcome {
+    pub reply: Result<Reply, Refusal>,
+    pub hits: Vec<u32>,
+    pub text: Vec<u8>,
+}
+
+impl Outcome {
+    pub fn number(&self) -> u8 {
+        self.reply
+            .map_or_else(|refusal| refusal.number as u8, |_| 0)
+    }
+
+    /// On a refusal all is zero; on an answer all behind the matches, and behind so much of the text.
+    pub fn assert_zero_behind(&self, used: impl Fn(Reply) -> u64) {
+        let (words, bytes) = match self.reply {
+            Ok(reply) => (3 * reply[0] as usize, used(reply) as usize),
+            Err(_) => (0, 0),
+        };
+        assert!(self.hits[words..].iter().all(|word| *word == 0), "{self:?}");
+        assert!(self.text[bytes..].iter().all(|byte| *byte == 0), "{self:?}");
+    }
+}
+
+impl Buffers {
+    pub fn new() -> Buffers {
+        Buffers {
+            hits: Fence::new(4096),
+            text: Fence::new(4096),
+        }
+    }
+
+    pub fn open(&mut self, file: &[u8], bytes: usize, edge: Edge) -> Outcome {
+        let text = self.text.lend::<u8>(bytes, edge);
+        let reply = raw::open(file, text);
+        let text = text.to_vec();
+        self.text.assert_kept(bytes, edge);
+        Outcome {
+            reply,
+            hits: vec![],
+            text,
+        }
+    }
+
+    pub fn lookup(
+        &mut self,
+        file: &[u8],
+        fix: Fix,
+        words: usize,
+        bytes: usize,
+        edge: Edge,
+    ) -> Outcome {
+        self.call(words, bytes, edge, |hits, text| {
+            raw::lookup(file, fix.lat, fix.lon, fix.asked, hits, text)
+        })
+    }
+
+    pub fn simple(
+        &mut self,
+        file: &[u8],
+        fix: Fix,
+        words: usize,
+        bytes: usize,
+        edge: Edge,
+    ) -> Outcome {
+        self.call(words, bytes, edge, |hits, text| {
+            raw::simple_lookup(file, fix.lat, fix.lon, hits, text)
+        })
+    }
+
+    fn call(
+        &mut self,
+        words: usize,
+        bytes: usize,
+        edge: Edge,
+        call: impl FnOnce(&mut [u32], &mut [u8]) -> Result<Reply, Refusal>,
+    ) -> Outcome {
+        let hits = self.hits.lend::<u32>(words, edge);
+        let text = self.text.lend::<u8>(bytes, edge);
+        let reply = call(hits, text);
+        let outcome = Outcome {
+            reply,
+            hits: hits.to_vec(),
+            text: text.to_vec(),
+        };
+        self.hits.assert_kept(4 * words, edge);
+        self.text.assert_kept(bytes, edge);
+        outcome
+    }
+}

@@ -1,0 +1,38 @@
+# Sourced by host/run and picture/run: how x86-64 programs are built and run on this machine.
+# Needs $root, the repository, and $kit, a folder that ../shared/bench/setup has prepared.
+# shellcheck shell=sh disable=SC2034,SC2154
+target=x86_64-unknown-linux-gnu
+built=$root/target/host/$target
+
+stop() { printf '%s: %s\n' "$0" "$*" >&2; exit 2; }
+need() { command -v "$1" >/dev/null || stop "$1 is missing: $2"; }
+
+need cargo "Debian's cargo, or Rust's own"
+if [ "$(uname -m)" = x86_64 ]; then
+    cc=${CC:-gcc} runner=
+    need "$cc" "Debian's gcc"
+else
+    cc=x86_64-linux-gnu-gcc runner='qemu-x86_64 -L /usr/x86_64-linux-gnu'
+    need "$cc" "Debian's gcc-x86-64-linux-gnu and libc6-dev-amd64-cross"
+    need qemu-x86_64 "Debian's qemu-user"
+    RUSTC=${RUSTC:-$kit/rustc-x86}
+    [ -x "$RUSTC" ] || stop "no Rust for x86-64 at $RUSTC: ../shared/bench/setup FOLDER fetches it, then give --kit FOLDER, or set RUSTC"
+    export RUSTC CARGO_TARGET_X86_64_UNKNOWN_LINUX_GNU_LINKER="$cc" CARGO_TARGET_X86_64_UNKNOWN_LINUX_GNU_RUNNER="$runner"
+fi
+
+# Proves and writes libuskelzar.a, unless USKELZAR_LIB names a folder that has it.
+build_archive() {
+    if [ -z "${USKELZAR_LIB-}" ]; then
+        need rt "the Rattle kit, or an archive's folder in USKELZAR_LIB"
+        (cd "$root" && rt staticlib uskelzar >target/staticlib.log 2>&1) || { cat "$root/target/staticlib.log" >&2; stop "the library is not proved"; }
+    fi
+    archive=${USKELZAR_LIB:-$root/target/staticlib}/libuskelzar.a
+    [ -f "$archive" ] || stop "no archive $archive"
+}
+
+# cargo_host COMMAND WORDS..: cargo on host/, for x86-64
+cargo_host() {
+    command=$1
+    shift
+    cargo "$command" --quiet --offline --manifest-path "$root/host/Cargo.toml" --target-dir "$root/target/host" --target "$target" "$@"
+}

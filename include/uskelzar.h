@@ -1,0 +1,155 @@
+/* uskelzar.h: which zone holds a fix, by a PLB border file; and a writer of borders.
+ *
+ * For libuskelzar.a. Its functions are proved to do what is said here, for every input. What holds for all four:
+ *
+ * You bring    pointers that are not null, aligned for their type and good for their length: to read from, or where the
+ *              buffer is lent (no const), to write to. Lent buffers and `reply` do not overlap each other or an input, and
+ *              nobody else writes to any of them during the call. A length counts elements, and may be 0. Nothing else is
+ *              asked: any bytes are a file, any float is a coordinate (NaN and infinities too), any room is a room.
+ * You get      0 and the answer's values in `reply`; or the number of a refusal (enum uskelzar_refusal), its cause in
+ *              reply[0], its detail in reply[1], and zeros in the other three words.
+ * Lent buffers are written whole on every call, whatever they held before: the answer at the front and zeros behind it; on
+ *              a refusal zeros alone. No call leaves half an answer, or anything of an earlier one.
+ * It never     allocates, keeps a pointer or a state between calls, touches anything but its arguments, reads or writes a
+ *              file, stops the program, or runs without end. It calls nothing but memset and memcpy; threads may call it
+ *              at the same time.
+ */
+#ifndef USKELZAR_H
+#define USKELZAR_H
+
+#include <stdbool.h>
+#include <stddef.h>
+#include <stdint.h>
+
+#ifdef __cplusplus
+extern "C" {
+#endif
+
+/* ---- what a call returns: 0, or the number of a refusal */
+enum uskelzar_refusal {
+    USKELZAR_ANSWERED = 0,
+    USKELZAR_TOO_LARGE = 1,           /* file, or the writer's earlier data, over 1,073,741,824 bytes */
+    USKELZAR_TOO_SHORT = 2,           /* under 7 bytes; detail: the length */
+    USKELZAR_MAGIC = 3,               /* not "PLB"; detail: the three bytes, the first highest */
+    USKELZAR_TABLE_TYPE = 4,          /* neither 'T' nor 'C'; detail: the byte */
+    USKELZAR_VERSION = 5,             /* version 2 or more; detail: the byte */
+    USKELZAR_FIELD_NAME = 6,          /* bad field name; detail: its index; with a cause */
+    USKELZAR_NOTICE = 7,              /* bad notice; with a cause */
+    USKELZAR_FIRST_SIZE = 8,          /* first size can't be read */
+    USKELZAR_SECOND_SIZE = 9,         /* second size can't be read */
+    USKELZAR_THIRD_SIZE = 10,         /* third size can't be read */
+    USKELZAR_LENGTH_MISMATCH = 11,    /* length mismatch; detail: the length that the header comes to */
+    USKELZAR_LONG_NUMBER = 12,        /* eleventh byte of a number */
+    USKELZAR_OUT_OF_RANGE = 13,       /* an integer step leaves its range */
+    USKELZAR_STRING_PAST_END = 14,    /* string byte past the end */
+    USKELZAR_FIELD_VALUE = 15,        /* bad field value; with a cause */
+    USKELZAR_PRECISION = 16,          /* precision 0 or above 32, at lookup only */
+    USKELZAR_TOO_MANY_HITS = 17,      /* more hits than slots */
+    USKELZAR_TEXT_ROOM = 18,          /* text doesn't fit */
+    USKELZAR_BORDER_POINTS = 19,      /* no points, over 65,535, or the two lists differ in length */
+    USKELZAR_COORDINATE = 20,         /* a coordinate beyond +-1,073,741,823 */
+    USKELZAR_REPEATED_POINT = 21,     /* a point equal to the one before it (the last may equal the first) */
+    USKELZAR_FIRST_POINT_ZERO = 22,   /* first point (0,0) */
+    USKELZAR_PIECE = 23,              /* piece list; detail: the piece's index */
+    USKELZAR_OUTPUT_ROOM = 24         /* border doesn't fit the output */
+};
+
+/* reply[0] of a refusal: which of the two causes, for 6, 7 and 15; otherwise none */
+enum uskelzar_cause { USKELZAR_CAUSE_NONE = 0, USKELZAR_CAUSE_ENCODING = 1, USKELZAR_CAUSE_UTF8 = 2 };
+
+/* ---- how a search ended. Print a zone only where it was whole. */
+enum uskelzar_end {
+    USKELZAR_END_WHOLE = 1,           /* every entry that can hold the fix was looked at */
+    USKELZAR_END_TABLE = 2,           /* stopped at a table entry that could not be read */
+    USKELZAR_END_BORDER = 3           /* stopped at a border that failed */
+};
+
+/* ---- what a match is; no answer has kind 2, an excluded zone: it takes a match away */
+enum uskelzar_kind {
+    USKELZAR_IN_ZONE = 1,
+    USKELZAR_IN_EXCLUDED_ZONE = 2,
+    USKELZAR_ON_BORDER_VERTEX = 3,
+    USKELZAR_ON_BORDER_SEGMENT = 4
+};
+
+/* ---- the words of a reply */
+enum { USKELZAR_REPLY_WORDS = 5 };
+enum { USKELZAR_REFUSED_CAUSE = 0, USKELZAR_REFUSED_DETAIL = 1 };
+enum {
+    USKELZAR_OPEN_TYPE = 0,           /* 'T' time zones, 'C' countries */
+    USKELZAR_OPEN_VERSION = 1,        /* 0 or 1 */
+    USKELZAR_OPEN_PRECISION = 2,      /* any byte; lookup takes 1 to 32 */
+    USKELZAR_OPEN_FIELDS = 3,         /* how many fields a zone has */
+    USKELZAR_OPEN_USED = 4            /* bytes of text used */
+};
+enum {
+    USKELZAR_LOOKUP_MATCHES = 0,      /* in both lookups */
+    USKELZAR_LOOKUP_END = 1,          /* in both lookups: enum uskelzar_end */
+    USKELZAR_LOOKUP_SAFEZONE = 2,     /* the bits of a float; 0 if not asked */
+    USKELZAR_LOOKUP_USED = 3,         /* bytes of text used */
+    USKELZAR_SIMPLE_DESCRIBED = 2,    /* 1: there is a description; 0: there is none */
+    USKELZAR_SIMPLE_LENGTH = 3        /* its bytes */
+};
+enum { USKELZAR_WRITE_LENGTH = 0 };
+
+/* ---- a match in `hits`: three words. A list of n words has room for n / 3 hits. */
+enum { USKELZAR_HIT_POLYGON = 0, USKELZAR_HIT_METADATA = 1, USKELZAR_HIT_KIND = 2, USKELZAR_HIT_WORDS = 3 };
+
+/* ---- a piece of the writer: five words; words left over are no piece */
+enum {
+    USKELZAR_PIECE_START = 0,         /* where its run starts in the earlier data */
+    USKELZAR_PIECE_BYTES = 1,         /* the run's length */
+    USKELZAR_PIECE_DIRECTION = 2,     /* 0 forward, others backward */
+    USKELZAR_PIECE_FIRST = 3,         /* the first move that the run stands for */
+    USKELZAR_PIECE_COUNT = 4,         /* how many moves */
+    USKELZAR_PIECE_WORDS = 5
+};
+
+/* What the file's header says.
+ * Answers: type, version, precision, number of fields, bytes of text used.
+ * text: the field names in order, then the notice; each is its length in two bytes, the high one first, and its bytes, which
+ *       are UTF-8.
+ * Refuses: 1 to 14; 18 last, where names and notice don't fit. */
+uint8_t uskelzar_open(const uint8_t *file, size_t file_length, uint8_t *text, size_t text_length,
+                      uint64_t reply[USKELZAR_REPLY_WORDS]);
+
+/* The zones that hold a fix, in degrees; `asked`: with the safezone.
+ * Answers: matches, end mark, safezone bits, bytes of text used. The safezone is the distance in degrees, those of longitude
+ *       counted like those of latitude, to the nearest border among those whose box holds the fix: 0 on a border, very large
+ *       where there is none; at precision 32 it is negative.
+ * hits: the matches, three words each. While it searches the list must hold every hit, and several hits with one metadata id
+ *       become one match: so room for the matches alone may be too little.
+ * text: the fields of the first match in file order, then those of the second, and so on; each is one byte with the field's
+ *       index, its length in two bytes, the high one first, and its bytes, which are UTF-8.
+ * Refuses: what open refuses but for its 18; then 16; then the first fault met, 12, 13 or 17 in the search, 12, 14, 15 or 18
+ *       in the fields. */
+uint8_t uskelzar_lookup(const uint8_t *file, size_t file_length, float lat, float lon, bool asked, uint32_t *hits,
+                        size_t hits_length, uint8_t *text, size_t text_length, uint64_t reply[USKELZAR_REPLY_WORDS]);
+
+/* The zone that holds a fix, as one text: of time zones TimezoneIdPrefix and TimezoneId joined ("Europe/" "Berlin"), of
+ * countries Name; of the first match, and of fields with one name the last.
+ * Answers: matches, end mark, 1 or 0 for described or not, the description's length. There is none where nothing matches or
+ *       the file has no field of a wanted name.
+ * hits: as for lookup.
+ * text: the description, without a zero byte at its end (one stands behind it if there is room).
+ * Refuses: as lookup; the fields of every match are checked, and 18, for the description alone, comes last. */
+uint8_t uskelzar_simple_lookup(const uint8_t *file, size_t file_length, float lat, float lon, uint32_t *hits,
+                               size_t hits_length, uint8_t *text, size_t text_length,
+                               uint64_t reply[USKELZAR_REPLY_WORDS]);
+
+/* The bytes of a border, version 0 or 1, from its points on the file's grid: lats[i] and lons[i]; it closes by itself.
+ * `earlier` is the data section up to the border's first byte. For version 1, `pieces` says which moves to borrow from it,
+ * at most 16 pieces; each is checked.
+ * Answers: the border's length.
+ * out:  the border.
+ * Refuses: 1, 5, 19, 20, 21, 22, 23, 24, checked in this order, each over the whole border. */
+uint8_t uskelzar_write_border(uint8_t version, const int32_t *lats, size_t lats_length, const int32_t *lons,
+                              size_t lons_length, const uint32_t *pieces, size_t pieces_length, const uint8_t *earlier,
+                              size_t earlier_length, uint8_t *out, size_t out_length,
+                              uint64_t reply[USKELZAR_REPLY_WORDS]);
+
+#ifdef __cplusplus
+}
+#endif
+
+#endif
