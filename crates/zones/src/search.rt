@@ -8,7 +8,7 @@ ghost use Rattle.zones.specs.Lists.{zeros};
 ghost use Rattle.zones.specs.Hits.{width};
 ghost use Rattle.zones.specs.Table.{entryAt};
 ghost use Rattle.zones.specs.Lent.{Agrees};
-ghost use Rattle.zones.specs.Search.{pastEntry, withLeast, kindOf, judgedTurn, entryTurn, judgeIn, turnAt, searched, toldSearched, Sought};
+ghost use Rattle.zones.specs.Search.{pastEntry, withLeast, kindOf, judgedTurn, entryTurn, versionOf, judgeIn, turnAt, searched, toldSearched, Sought};
 use crate::header::Head;
 use crate::hits::Hit;
 use crate::hits::put_hit;
@@ -106,6 +106,16 @@ fn kind_of(verdict: Verdict) -> u32
     }
 }
 
+fn version_of(byte: u8) -> Version
+    ensures { λ r. ⌜ r ≡ versionOf byte ⌝ }
+{
+    if byte == 0 {
+        Version::Plain
+    } else {
+        Version::Packed
+    }
+}
+
 // The turn of an entry whose border was judged.
 fn judged(at: Cursor, entry: Entry, judgement: Judged) -> Turn
     ensures { λ r. ⌜ r ≡ judgedTurn at entry (told judgement) ⌝ }
@@ -137,13 +147,8 @@ fn judge(file: &[u8], head: Head, fix: Point, asked: bool, polygon: u32, least: 
     let sections = head.sections;
     let start = sections.data;
     let place = wrapping_add_u32(start, polygon) as usize;
-    // Two calls, so that a border's loop is compiled by itself: inside the search's loop it would lack registers.
-    if preamble.version == 0 {
-        let plain = Version::Plain;
-        return point_in_polygon(file, plain, start, place, fix.lat, fix.lon, asked, least);
-    }
-    let packed = Version::Packed;
-    point_in_polygon(file, packed, start, place, fix.lat, fix.lon, asked, least)
+    let version = version_of(preamble.version);
+    point_in_polygon(file, version, start, place, fix.lat, fix.lon, asked, least)
 }
 
 fn on_entry(file: &[u8], head: Head, fix: Point, asked: bool, at: Cursor, entry: Entry) -> Turn

@@ -11,7 +11,6 @@ use Rattle.numbers.specs.Answer.{Answer, failed, refused, if_then_else_}
 use Rattle.numbers.specs.Point.{low32, halfOf}
 use Rattle.border.specs.Verdict.{Judgement, told, judgedAt}
 use Rattle.border.specs.declared.reader.Version.{Version}
-use Rattle.border.specs.declared.reader.Version.the-variants.{Plain, Packed}
 use Rattle.border.specs.declared.verdict.Verdict.{Verdict}
 use Rattle.border.specs.declared.verdict.Judged.{Judged}
 use Rattle.border.specs.declared.verdict.Judged.the-variants as J
@@ -42,12 +41,6 @@ module _ (id step : ℕ) where
   back e h = simp (ne-eqb _ _ e) (negated (step / 2) h)
 
 -- ---- a judged border
-pub plain-version : (byte : ℕ) → byte ≡ 0 → Plain ≡ versionOf byte
-plain-version byte is = simp (eq-eqb _ _ is)
-
-pub packed-version : (byte : ℕ) → (byte ≡ 0 → ⊥) → Packed ≡ versionOf byte
-packed-version byte other = simp (ne-eqb _ _ other)
-
 module _ (file : List ℕ) (head : Head) (fix : Point) (asked : Bool) (polygon least : ℕ) where
   pub judged-in : {version : Version} {place : ℕ} {judgement : Judgement} → version ≡ versionOf (head .preamble .version) → place ≡ (head .sections .«data» + polygon) % 2 ^ 32
       → judgement ≡ judgedAt file version (head .sections .«data») place (fix .lat) (fix .lon) asked least → judgement ≡ judgeIn file head fix asked polygon least
