@@ -53,10 +53,13 @@ fn apart(w: u64) -> u64
     both % 0x1_0000 + both / 0x1_0000 * 0x1_0000_0000
 }
 
-// Any number taken apart, 32 bits at a time. Hardly a move has more; one loop for both keeps this short enough to be compiled in line.
+// Any number taken apart, 32 bits at a time. Hardly a move has more; the loop keeps the rest short enough for this to be compiled in line.
 fn apart_any(w: u64) -> u64
     ensures { λ r. ⌜ r ≡ bothBits w ⌝ }
 {
+    if w < 0x1_0000_0000 {
+        return apart(w);
+    }
     let mut both = 0;
     let mut rest = w;
     let mut place: u64 = 0;
