@@ -1,0 +1,79 @@
+-- What a returned 0 means to firmware: the call was answered, whatever it was given. Each exported function's contract fixes what it returns,
+-- the number said in `openingSpoken`, `foundSpoken` or `writtenSpoken`; here, that this number is 0 exactly where the definition gives an answer. Assumes nothing.
+use Prim.Native.Nat.{ℕ}
+use mathlib.Core.Bool.{Bool, true, false}
+use mathlib.Core.List.{List}
+use mathlib.Core.Logic.{_↔_}
+use mathlib.Core.Path.{_≡_, refl, subst}
+use native.Mathlib.Omega.{arith}
+use lib.IntN.{ℤ}
+use Rattle.numbers.proofs.Refusals.{Listed}
+use Rattle.border.proofs.Numbered.{writerNumbers, writer-refusals}
+use Rattle.border.specs.Writer.{borderOf, fitted}
+use Rattle.border.specs.Writer as W
+use Rattle.border.specs.declared.writer.Piece.{Piece}
+use Rattle.zones.proofs.Numbered.{openingNumbers, opening-refusals}
+use Rattle.zones.proofs.NumberedLookup.{lookupNumbers, lookup-refusals, simple-lookup-refusals}
+use Rattle.zones.specs.Lookup.{lookedUp}
+use Rattle.zones.specs.Opening.{openedOf}
+use Rattle.zones.specs.Reply.{Reply, given, refused}
+use Rattle.zones.specs.Simple.{simplyLooked}
+use Rattle.zones.specs.declared.location.Location.{Location}
+use Rattle.zones.specs.declared.refusal.Refusal.{Refusal}
+use Rattle.uskelzar.specs.Spoken.{saidOf, openingValues, zonesValues, describedValues, lengthValue, causeless, openingSpoken, foundSpoken, writtenSpoken}
+
+-- the reply is an answer, and no refusal
+abbrev pub Answered : {A : Type 0} → Reply A → Type 0
+Answered {A} reply = (answer : A) × (reply ≡ given answer)
+
+abbrev pub Wrote : W.Reply ℕ → Type 0
+Wrote reply = (length : ℕ) × (reply ≡ W.given length)
+
+-- a number of a list without 0 is not 0
+never-zero : (numbers : List ℕ) → (Listed numbers 0 → false ≡ true) → (n : ℕ) → Listed numbers n → n ≡ 0 → ⊥
+never-zero numbers without n listed is = let no-zero = without (subst (Listed numbers) is listed) in let z : _≡_ {A = ℕ} 0 1 = cc in omega arith
+
+-- where no refusal has the number 0, that number is said for an answer alone
+module _ {A : Type 0} (values : A → List ℕ) where
+  zero-said : (reply : Reply A) → ((why : Refusal) → reply ≡ refused why → why .number ≡ 0 → ⊥) → (saidOf values reply .number ≡ 0) ↔ Answered reply
+  unfolding saidOf
+  zero-said (given a) never = ((λ zero. (a, refl)), (λ answered. refl))
+  zero-said (refused why) never = ((λ zero. absurd (never why refl zero)), (λ answered. not-both (answered .0) (answered .1)))
+    where
+      not-both : (a : A) → refused why ≡ given a → why .number ≡ 0
+      not-both a e = let z : _≡_ {A = ℕ} 0 1 = cc in absurd (omega arith)
+
+zero-written : (reply : W.Reply ℕ) → ((number detail : ℕ) → reply ≡ W.refused number detail → number ≡ 0 → ⊥) → (saidOf lengthValue (causeless reply) .number ≡ 0) ↔ Wrote reply
+unfolding saidOf
+zero-written (W.given length) never = ((λ zero. (length, refl)), (λ wrote. refl))
+zero-written (W.refused number detail) never = ((λ zero. absurd (never number detail refl zero)), (λ wrote. not-both (wrote .0) (wrote .1)))
+  where
+    not-both : (length : ℕ) → W.refused number detail ≡ W.given length → number ≡ 0
+    not-both length e = let z : _≡_ {A = ℕ} 0 1 = cc in absurd (omega arith)
+
+-- ---- for each exported function
+-- `uskelzar_open`
+pub open-zero : (file : List ℕ) (room : ℕ) → (openingSpoken (openedOf file room) .said .number ≡ 0) ↔ Answered (openedOf file room .reply)
+open-zero file room =
+    zero-said openingValues (openedOf file room .reply) (λ why is. never-zero openingNumbers (λ z. z) (why .number) (opening-refusals file room why is))
+
+-- `uskelzar_lookup`
+pub lookup-zero : (file : List ℕ) (location : Location) (asked : Bool) (n room : ℕ)
+    → (foundSpoken zonesValues (lookedUp file location asked n room) .said .number ≡ 0) ↔ Answered (lookedUp file location asked n room .reply)
+lookup-zero file location asked n room =
+    zero-said zonesValues (lookedUp file location asked n room .reply)
+    (λ why is. never-zero lookupNumbers (λ z. z) (why .number) (lookup-refusals file location asked n room why is))
+
+-- `uskelzar_simple_lookup`
+pub simple-lookup-zero : (file : List ℕ) (location : Location) (n room : ℕ)
+    → (foundSpoken describedValues (simplyLooked file location n room) .said .number ≡ 0) ↔ Answered (simplyLooked file location n room .reply)
+simple-lookup-zero file location n room =
+    zero-said describedValues (simplyLooked file location n room .reply)
+    (λ why is. never-zero lookupNumbers (λ z. z) (why .number) (simple-lookup-refusals file location n room why is))
+
+-- `uskelzar_write_border`
+pub write-border-zero : (room version : ℕ) (lats lons : List ℤ) (pieces : List Piece) (earlier : List ℕ)
+    → (writtenSpoken (fitted room (borderOf version lats lons pieces earlier)) .said .number ≡ 0) ↔ Wrote (fitted room (borderOf version lats lons pieces earlier) .reply)
+write-border-zero room version lats lons pieces earlier =
+    zero-written (fitted room (borderOf version lats lons pieces earlier) .reply)
+    (λ number detail is. never-zero writerNumbers (λ z. z) number (writer-refusals room version lats lons pieces earlier number detail is))

@@ -1,0 +1,155 @@
+-- Which numbers an opening can be refused with. Assumes nothing.
+use mathlib.Core.Path.{_≡_, refl, subst}
+use mathlib.Core.Bool.{Bool, true, false}
+use mathlib.Core.List.{List, [], _∷_, _++_}
+use Prim.Native.Nat.{ℕ, zero, suc, _+_, _%_, _^_}
+use lib.Dec.{ltb, leb, eqb}
+use lib.ListN.{length, getD}
+use Rattle.numbers.proofs.Refusals.{Listed, still-listed, Numbered, as-found, as-failed, as-refused, either, then-numbered, forward-numbered}
+use Rattle.numbers.specs.Answer.{Answer}
+use Rattle.numbers.specs.Varint.{Numeral}
+use Rattle.zones.specs.Header.{magicOf, isKind, preambleOf, blameOf, textsFrom, sizeAt, fits, sectionsFrom, sectionsAt, Contents, contentsOf, headOf}
+use Rattle.zones.specs.Opening.{fittingOf, repliedOf, openedOf}
+use Rattle.zones.specs.Reply.{Reply, given, refused, refusal, plain, demand, _orElse_, _>>=_, _>>_}
+use Rattle.zones.specs.Text.{within, remoteAt, stringAt, bytesOf, orBlamed, textAt}
+use Rattle.zones.specs.Utf8.{isUtf8}
+use Rattle.zones.specs.declared.refusal.Refusal.{Refusal}
+use Rattle.zones.specs.declared.text.Blame.{Blame}
+use Rattle.zones.specs.declared.text.Text.{Text}
+
+-- the numbers that document 01 gives to a header
+abbrev pub headerNumbers : List ℕ
+headerNumbers = 1 ∷ 2 ∷ 3 ∷ 4 ∷ 5 ∷ 6 ∷ 7 ∷ 8 ∷ 9 ∷ 10 ∷ 11 ∷ 12 ∷ 13 ∷ 14 ∷ []
+
+-- opening can also lack room for its text
+abbrev pub openingNumbers : List ℕ
+openingNumbers = headerNumbers ++ (18 ∷ [])
+
+-- ---- replies
+-- a number that it is refused with has the property
+pub data NumberedReply (P : ℕ → Type 0) {A : Type 0} : Reply A → Type 0 where
+  answers : {a : A} → NumberedReply P (given a)
+  refuses : {why : Refusal} → P (why .number) → NumberedReply P (refused why)
+
+module _ {P : ℕ → Type 0} where
+  pub then-reply : {A B : Type 0} {reply : Reply A} {next : A → Reply B} → NumberedReply P reply → ((a : A) → NumberedReply P (next a)) → NumberedReply P (reply >>= next)
+  then-reply answers k = k _
+  then-reply (refuses h) k = refuses h
+
+  pub and-then : {A : Type 0} {reply : Reply (Unit {0})} {next : Reply A} → NumberedReply P reply → NumberedReply P next → NumberedReply P (reply >> next)
+  and-then answers k = k
+  and-then (refuses h) k = refuses h
+
+  pub demands : (test : Bool) (why : Refusal) → P (why .number) → NumberedReply P (demand test why)
+  demands true why h = answers
+  demands false why h = refuses h
+
+  or-else : {A : Type 0} {answer : Answer A} (why : Refusal) → Numbered P answer → P (why .number) → NumberedReply P (answer orElse why)
+  or-else why as-found h = answers
+  or-else why as-failed h = refuses h
+  or-else why (as-refused n) h = refuses n
+
+  pub number-of : {A : Type 0} {why : Refusal} {reply : Reply A} → NumberedReply P reply → reply ≡ refused why → P (why .number)
+  number-of {A} {why} h e = last (subst (λ (r : Reply A). NumberedReply P r) e h)
+    where
+      last : NumberedReply P {A = A} (refused why) → P (why .number)
+      last (refuses h) = h
+
+-- ---- strings: 12, 14, and the number that a bad one is blamed with
+module _ {P : ℕ → Type 0} (twelve : P 12) (fourteen : P 14) (file : List ℕ) where
+  inside : (text : Text) → Numbered P (within file text)
+  unfolding within
+  inside text =
+      either (Numbered P) (eqb (text .size) 0) as-found (either (Numbered P) (leb (text .start + text .size) (length file)) as-found (as-refused fourteen))
+
+  remote : (place next : ℕ) → Numbered P (remoteAt file place next)
+  unfolding remoteAt
+  remote place next = then-numbered (forward-numbered twelve file place) (λ number. either (Numbered P) (leb (number .value) 256) (inside _) as-failed)
+
+  string : (metadata place : ℕ) → Numbered P (stringAt file metadata place)
+  unfolding stringAt
+  string metadata place =
+      then-numbered (forward-numbered twelve file place) (λ number. either (Numbered P) (ltb (number .value) 256) (inside _) (remote _ (number .place)))
+
+  blames : (blame : Blame) {answer : Answer Text} → Numbered P answer → P (blame .number) → NumberedReply P (orBlamed file blame answer)
+  blames blame (as-found {a = text}) h = either (NumberedReply P) (isUtf8 (bytesOf file text)) answers (refuses h)
+  blames blame as-failed h = refuses h
+  blames blame (as-refused n) h = refuses n
+
+  pub text-numbered : (metadata place : ℕ) (blame : Blame) → P (blame .number) → NumberedReply P (textAt file metadata place blame)
+  unfolding textAt
+  text-numbered metadata place blame h = blames blame (string metadata place) h
+
+-- ---- the header
+module _ {P : ℕ → Type 0} (has : (n : ℕ) → Listed headerNumbers n → P n) where
+  preamble : (file : List ℕ) → NumberedReply P (preambleOf file)
+  unfolding preambleOf
+  preamble file =
+      and-then (demands (leb (length file) (2 ^ 30)) (plain 1) (has 1 refl))
+      (and-then (demands (leb 7 (length file)) (refusal 2 0 (length file)) (has 2 refl))
+      (and-then (demands (eqb (magicOf file) 0x504C42) (refusal 3 0 (magicOf file)) (has 3 refl))
+      (and-then (demands (isKind (getD file 3 0)) (refusal 4 0 (getD file 3 0)) (has 4 refl))
+      (and-then (demands (ltb (getD file 4 0) 2) (refusal 5 0 (getD file 4 0)) (has 5 refl))
+      answers))))
+
+  pub blame-numbered : (names index : ℕ) → P (blameOf names index .number)
+  blame-numbered names index = either (λ (b : Blame). P (b .number)) (ltb index names) (has 6 refl) (has 7 refl)
+
+  texts : (file : List ℕ) (names more index place : ℕ) → NumberedReply P (textsFrom file names more index place)
+  unfolding textsFrom
+  texts file names zero index place = answers
+  texts file names (suc more) index place =
+      then-reply (text-numbered (has 12 refl) (has 14 refl) file 0 place (blameOf names index) (blame-numbered names index))
+      (λ text. then-reply (texts file names more (index + 1) (text .next)) (λ rest. answers))
+
+  size : (file : List ℕ) (place number : ℕ) → P number → NumberedReply P (sizeAt file place number)
+  size file place number h = or-else (plain number) (forward-numbered (has 12 refl) file place) h
+
+  sums : (bits sum : ℕ) → NumberedReply P (fits bits sum)
+  sums bits sum = demands (ltb sum (2 ^ bits)) (plain 13) (has 13 refl)
+
+  sections-from : (length end metadata start rest : ℕ) → NumberedReply P (sectionsFrom length end metadata start rest)
+  unfolding sectionsFrom
+  sections-from length end metadata start rest =
+      let whole = rest + (end + start) in
+      and-then (sums 32 (end + start))
+      (and-then (sums 64 whole)
+      (and-then (demands (eqb whole length) (refusal 11 0 whole) (has 11 refl))
+      answers))
+
+  sections : (file : List ℕ) (place : ℕ) → NumberedReply P (sectionsAt file place)
+  unfolding sectionsAt
+  sections file place =
+      then-reply (size file place 8 (has 8 refl))
+      (λ first. then-reply (size file (first .place) 9 (has 9 refl))
+      (λ second. and-then (sums 32 (first .value % 2 ^ 32 + second .value % 2 ^ 32))
+      (then-reply (size file (second .place) 10 (has 10 refl))
+      (λ third. sections-from (length file) (third .place) (first .value % 2 ^ 32) (first .value % 2 ^ 32 + second .value % 2 ^ 32) (third .value)))))
+
+  contents : (file : List ℕ) → NumberedReply P (contentsOf file)
+  unfolding contentsOf
+  contents file =
+      then-reply (preamble file)
+      (λ begun. then-reply (texts file (begun .count) (begun .count + 1) 0 7) (λ read. then-reply (sections file (read .place)) (λ found. answers)))
+
+  pub head-numbered : (file : List ℕ) → NumberedReply P (headOf file)
+  unfolding headOf
+  head-numbered file = then-reply (contents file) (λ found. answers)
+
+-- ---- opening
+openable : (n : ℕ) → Listed headerNumbers n → Listed openingNumbers n
+openable = still-listed headerNumbers (18 ∷ [])
+
+fitting : (file : List ℕ) (room : ℕ) → NumberedReply (Listed openingNumbers) (fittingOf file room)
+unfolding fittingOf
+fitting file room =
+    then-reply (contents openable file) (λ found. and-then (demands (leb (length (found .bytes)) room) (plain 18) refl) answers)
+
+opened : (room : ℕ) {reply : Reply Contents} → NumberedReply (Listed openingNumbers) reply → NumberedReply (Listed openingNumbers) (repliedOf room reply .reply)
+opened room answers = answers
+opened room (refuses h) = refuses h
+
+-- an opening that is not answered is refused with one of these
+pub opening-refusals : (file : List ℕ) (room : ℕ) (why : Refusal) → openedOf file room .reply ≡ refused why → Listed openingNumbers (why .number)
+unfolding openedOf
+opening-refusals file room why = number-of (opened room (fitting file room))

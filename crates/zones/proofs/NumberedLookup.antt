@@ -1,0 +1,198 @@
+-- Which numbers a lookup can be refused with. Assumes nothing.
+use mathlib.Core.Path.{_≡_, refl}
+use mathlib.Core.Bool.{Bool, false}
+use mathlib.Core.List.{List, [], _∷_, _++_}
+use Prim.Native.Nat.{ℕ, zero, suc, _+_, _-_, _/_}
+use lib.Dec.{ltb, leb, eqb}
+use lib.ListN.{length}
+use Rattle.numbers.proofs.Refusals.{Listed, still-listed, Numbered, as-found, as-failed, as-refused, either, then-numbered, forward-numbered}
+use Rattle.numbers.specs.Answer.{Answer}
+use Rattle.numbers.specs.Varint.{forwardAt}
+use Rattle.border.proofs.Numbered.{NumberedJudgement, judged, unjudged, not-judged, judged-numbered}
+use Rattle.border.specs.Verdict.{Judgement}
+use Rattle.border.specs.declared.place.Point.{Point}
+use Rattle.zones.proofs.Numbered.{headerNumbers, NumberedReply, answers, refuses, then-reply, and-then, demands, number-of, text-numbered, blame-numbered, head-numbered}
+use Rattle.zones.specs.Field.{field, fieldAt}
+use Rattle.zones.specs.Fields.{fieldsPlace, fieldsFrom, fieldsOf}
+use Rattle.zones.specs.Find.{fixOf, isPrecision, matchedIn}
+use Rattle.zones.specs.Header.{blameOf}
+use Rattle.zones.specs.Hits.{width}
+use Rattle.zones.specs.Lent.{Outcome, repliedOf}
+use Rattle.zones.specs.Lookup.{zonesIn, lookedUp}
+use Rattle.zones.specs.Reply.{Reply, refused, plain}
+use Rattle.zones.specs.Search.{kindOf, judgedTurn, entryTurn, readTurn, turnOf, Found, afterTurn, walk, judgeIn, pastEntry, turnAt, searched}
+use Rattle.zones.specs.Simple.{pickedFrom, pickedOf, checked, descriptionOf, bytesIn, wordedOf, describedIn, simplyLooked}
+use Rattle.zones.specs.Table.{stepsAt, entryAt, isAbove, holds}
+use Rattle.zones.specs.Text.{bytesOf, textAt}
+use Rattle.zones.specs.declared.header.Head.{Head}
+use Rattle.zones.specs.declared.hits.Hit.{Hit}
+use Rattle.zones.specs.declared.location.Location.{Location}
+use Rattle.zones.specs.declared.refusal.Refusal.{Refusal}
+use Rattle.zones.specs.declared.search.Cursor.{Cursor}
+use Rattle.zones.specs.declared.search.Turn.{Turn}
+use Rattle.zones.specs.declared.search.Turn.the-variants.{On, Met, Stopped, Refused}
+use Rattle.zones.specs.declared.simple.Picked.{Picked}
+use Rattle.zones.specs.declared.text.Blame.{Blame}
+use Rattle.zones.specs.declared.table.Bounds.{Bounds}
+use Rattle.zones.specs.declared.table.Entry.{Entry}
+
+-- the numbers that document 01 gives to reading a file: 1 to 18
+abbrev pub lookupNumbers : List ℕ
+lookupNumbers = headerNumbers ++ (15 ∷ 16 ∷ 17 ∷ 18 ∷ [])
+
+abbrev Known : ℕ → Type 0
+Known = Listed lookupNumbers
+
+known : (n : ℕ) → Listed headerNumbers n → Known n
+known = still-listed headerNumbers (15 ∷ 16 ∷ 17 ∷ 18 ∷ [])
+
+-- ---- the search
+data NumberedTurn : Turn → Type 0 where
+  on : {next : Cursor} → NumberedTurn (On next)
+  met : {hit : Hit} {next : Cursor} → NumberedTurn (Met hit next)
+  ends : {mark least : ℕ} → NumberedTurn (Stopped mark least)
+  stops : {n : ℕ} → Known n → NumberedTurn (Refused n)
+
+forward : (file : List ℕ) (place : ℕ) → Numbered Known (forwardAt file place)
+forward = forward-numbered {P = Known} refl
+
+steps : (file : List ℕ) (place : ℕ) (bounds : Bounds) → Numbered Known (stepsAt file place bounds)
+unfolding stepsAt
+steps file place bounds = then-numbered (forward file place) (λ metadata. then-numbered (forward file (metadata .place)) (λ polygon. as-found))
+
+entry-read : (file : List ℕ) (place : ℕ) → Numbered Known (entryAt file place)
+unfolding entryAt
+entry-read file place =
+    then-numbered (forward file place)
+    (λ a. then-numbered (forward file (a .place))
+    (λ b. then-numbered (forward file (b .place))
+    (λ c. then-numbered (forward file (c .place)) (λ d. steps file (d .place) _))))
+
+judged-turn : (at : Cursor) (entry : Entry) {judgement : Judgement} → NumberedJudgement Known judgement → NumberedTurn (judgedTurn at entry judgement)
+unfolding judgedTurn
+judged-turn at entry (judged {v = verdict}) = either NumberedTurn (eqb (kindOf verdict) 0) on met
+judged-turn at entry unjudged = ends
+judged-turn at entry (not-judged h) = stops h
+
+module _ (read : ℕ → Answer Entry) (judge : ℕ → ℕ → Judgement) (fix : Point) (reads : (place : ℕ) → Numbered Known (read place))
+    (judges : (place least : ℕ) → NumberedJudgement Known (judge place least)) where
+  entry-turn : (at : Cursor) (entry : Entry) → NumberedTurn (entryTurn read judge fix at entry)
+  unfolding entryTurn
+  entry-turn at entry =
+      either NumberedTurn (isAbove (entry .bounds) fix) ends
+      (either NumberedTurn (holds (entry .bounds) fix) (judged-turn at entry (judges (pastEntry at entry .polygon) (at .least))) on)
+
+  read-turn : (at : Cursor) {answer : Answer Entry} → Numbered Known answer → NumberedTurn (readTurn read judge fix at answer)
+  read-turn at (as-found {a = entry}) = entry-turn at entry
+  read-turn at as-failed = ends
+  read-turn at (as-refused h) = stops h
+
+  turn-numbered : (at : Cursor) → NumberedTurn (turnOf read judge fix at)
+  unfolding turnOf
+  turn-numbered at = read-turn at (reads (at .place))
+
+after-turn : {turn : Turn} (hits : List Hit) (room : ℕ) {go : Cursor → List Hit → Reply Found} → NumberedTurn turn
+    → ((next : Cursor) (hits : List Hit) → NumberedReply Known (go next hits)) → NumberedReply Known (afterTurn turn hits room go)
+after-turn hits room (on {next}) k = k next hits
+after-turn hits room (met {hit} {next}) k = either (NumberedReply Known) (ltb (length hits) room) (k next (hits ++ hit ∷ [])) (refuses refl)
+after-turn hits room ends k = answers
+after-turn hits room (stops h) k = refuses h
+
+walks : {turn : Cursor → Turn} → ((at : Cursor) → NumberedTurn (turn at)) → (end room left : ℕ) (at : Cursor) (hits : List Hit) → NumberedReply Known (walk turn end room left at hits)
+unfolding walk
+walks k end room zero at hits = answers
+walks k end room (suc left) at hits = either (NumberedReply Known) (ltb (at .place) end) (after-turn hits room (k at) (walks k end room left)) answers
+
+turn-at : (file : List ℕ) (head : Head) (fix : Point) (asked : Bool) (at : Cursor) → NumberedTurn (turnAt file head fix asked at)
+unfolding turnAt
+turn-at file head fix asked = turn-numbered (entryAt file) (judgeIn file head fix asked) fix (entry-read file) (λ place least. judged-numbered refl refl file _ _ _ _ _ asked least)
+
+searches : (file : List ℕ) (head : Head) (fix : Point) (asked : Bool) (room : ℕ) → NumberedReply Known (searched file head fix asked room)
+unfolding searched
+searches file head fix asked room = walks (turn-at file head fix asked) (head .sections .metadata) room _ _ []
+
+-- ---- what both lookups begin with
+matched-numbered : (file : List ℕ) (location : Location) (asked : Bool) (room : ℕ) → NumberedReply Known (matchedIn file location asked room)
+unfolding matchedIn
+matched-numbered file location asked room =
+    then-reply (head-numbered known file)
+    (λ head. and-then (demands (isPrecision (head .preamble .precision)) (plain 16) refl)
+    (then-reply (searches file head (fixOf location (head .preamble .precision)) asked room) (λ found. answers)))
+
+replied-numbered : {A : Type 0} (n room : ℕ) {reply : Reply (Outcome A)} → NumberedReply Known reply → NumberedReply Known (repliedOf n room reply .reply)
+unfolding repliedOf
+replied-numbered n room answers = answers
+replied-numbered n room (refuses h) = refuses h
+
+-- ---- lookup
+text-read : (file : List ℕ) (metadata place : ℕ) (blame : Blame) → Known (blame .number) → NumberedReply Known (textAt file metadata place blame)
+text-read file = text-numbered refl refl file
+
+field-numbered : (file : List ℕ) (metadata place tag room : ℕ) → NumberedReply Known (fieldAt file metadata place tag room)
+unfolding fieldAt
+field-numbered file metadata place tag room =
+    then-reply (text-read file metadata place _ refl)
+    (λ text. and-then (demands (leb (length (field tag (bytesOf file text))) room) (plain 18) refl) answers)
+
+module _ (file : List ℕ) (head : Head) (room : ℕ) where
+  fields-from : (more tag place : ℕ) (text : List ℕ) → NumberedReply Known (fieldsFrom file head room more tag place text)
+  unfolding fieldsFrom
+  fields-from zero tag place text = answers
+  fields-from (suc more) tag place text =
+      then-reply (field-numbered file (head .sections .metadata) place tag (room - length text)) (λ field. fields-from more (tag + 1) (field .next) (text ++ field .bytes))
+
+  fields : (matches : List Hit) (text : List ℕ) → NumberedReply Known (fieldsOf file head room matches text)
+  unfolding fieldsOf
+  fields [] text = answers
+  fields (match ∷ matches) text = then-reply (fields-from (head .preamble .count) 0 (fieldsPlace head (match .metadata)) text) (fields matches)
+
+zones-numbered : (file : List ℕ) (location : Location) (asked : Bool) (n room : ℕ) → NumberedReply Known (zonesIn file location asked n room)
+unfolding zonesIn
+zones-numbered file location asked n room =
+    then-reply (matched-numbered file location asked (n / width)) (λ found. then-reply (fields file (found .head) room (found .matches) []) (λ text. answers))
+
+-- a lookup that is not answered is refused with one of these
+pub lookup-refusals : (file : List ℕ) (location : Location) (asked : Bool) (n room : ℕ) (why : Refusal)
+    → lookedUp file location asked n room .reply ≡ refused why → Listed lookupNumbers (why .number)
+unfolding lookedUp
+lookup-refusals file location asked n room why = number-of (replied-numbered n room (zones-numbered file location asked n room))
+
+-- ---- simple lookup
+module _ (file : List ℕ) (head : Head) where
+  picks : (more index names values : ℕ) (last : Picked) → NumberedReply Known (pickedFrom file head more index names values last)
+  unfolding pickedFrom
+  picks zero index names values last = answers
+  picks (suc more) index names values last =
+      then-reply (text-read file 0 names (blameOf (head .preamble .count) index) (blame-numbered known (head .preamble .count) index))
+      (λ called. then-reply (text-read file (head .sections .metadata) values _ refl) (λ value. picks more (index + 1) (called .next) (value .next) _))
+
+  picked : (match : Hit) → NumberedReply Known (pickedOf file head match)
+  picked match = picks (head .preamble .count) 0 7 (fieldsPlace head (match .metadata)) _
+
+  checks : (matches : List Hit) → NumberedReply Known (checked file head matches)
+  unfolding checked
+  checks [] = answers
+  checks (match ∷ matches) = then-reply (picked match) (λ found. checks matches)
+
+  describes : (matches : List Hit) → NumberedReply Known (descriptionOf file head matches)
+  unfolding descriptionOf
+  describes [] = answers
+  describes (match ∷ matches) = then-reply (picked match) (λ found. answers)
+
+  words : (room : ℕ) (matches : List Hit) → NumberedReply Known (wordedOf file head room matches)
+  unfolding wordedOf
+  words room matches =
+      then-reply (describes matches)
+      (λ description. then-reply (and-then (demands (leb (length (bytesIn description)) room) (plain 18) refl) answers) (λ bytes. answers))
+
+described-numbered : (file : List ℕ) (location : Location) (n room : ℕ) → NumberedReply Known (describedIn file location n room)
+unfolding describedIn
+described-numbered file location n room =
+    then-reply (matched-numbered file location false (n / width))
+    (λ found. and-then (checks file (found .head) (found .matches)) (then-reply (words file (found .head) room (found .matches)) (λ description. answers)))
+
+-- a simple lookup that is not answered is refused with one of these
+pub simple-lookup-refusals : (file : List ℕ) (location : Location) (n room : ℕ) (why : Refusal)
+    → simplyLooked file location n room .reply ≡ refused why → Listed lookupNumbers (why .number)
+unfolding simplyLooked
+simple-lookup-refusals file location n room why = number-of (replied-numbered n room (described-numbered file location n room))
