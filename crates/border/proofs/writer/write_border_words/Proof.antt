@@ -18,9 +18,6 @@ check-words-requires c κs = tt
 write-checked-requires : tie.Need-write-checked-requires
 write-checked-requires c κs = tt
 
-same-length : tie.Need-same-length
-same-length c = search needs
-
 returns : tie.Need-returns
 returns c =
     let a = c .before .before .before .before .before .before .before .before .before .args in
@@ -29,4 +26,4 @@ returns c =
 pub write-border-words-spec : {M : Type 1} → statement M
 write-border-words-spec =
     tie.close
-    (tie.spec no-pieces-requires check-words-requires write-checked-requires same-length returns)
+    (tie.spec no-pieces-requires check-words-requires write-checked-requires (λ c. search needs) returns)

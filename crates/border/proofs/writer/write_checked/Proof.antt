@@ -16,21 +16,6 @@ use Rattle.border.proofs.writer.finish.Reads as finish-reads
 use Rattle.border.proofs.writer.write_packed.Reads as write-packed-reads
 use Rattle.border.proofs.writer.write_plain.Reads as write-plain-reads
 
-zero-bytes-requires : tie.Need-zero-bytes-requires
-zero-bytes-requires c κs = search needs
-
-border-fault-requires : tie.Need-border-fault-requires
-border-fault-requires c κs = search needs
-
-enum-told : tie.Need-enum-told
-enum-told c = search needs
-
-enum-told-2 : tie.Need-enum-told-2
-enum-told-2 c = search needs
-
-same-length : tie.Need-same-length
-same-length c = search needs
-
 returns : tie.Need-returns
 returns c =
     let a = c .before .before .before .before .before .before .before .before .before .args in
@@ -41,9 +26,6 @@ returns c =
     let told = c .enum-told2 .given in
     λ ps h. ap (λ (w : Written). replied w (c .before .before .before .before .before .zero-bytes .last .0)) (told .1)
     ∙ refusing room _ (told .0 .0) (told .0 .1 .0) (c .before .before .before .before .before .zero-bytes .last .0) (faulty (a .version) x y e ps _ _ (ap passed (sym (told .1)) ∙ c .before .before .border-fault .ensures)) (c .before .before .before .before .before .zero-bytes .ensures)
-
-same-length-2 : tie.Need-same-length-2
-same-length-2 c = search needs
 
 returns-2 : tie.Need-returns-2
 returns-2 c =
@@ -65,12 +47,6 @@ write-plain-requires c κs =
     let good = ap passed (sym (c .before .before .before .enum-told .given .1)) ∙ c .before .before .before .before .before .border-fault .ensures in
     let s = good-sizes (a .version) x y e [] good in (s .same, s .few)
 
-finish-requires : tie.Need-finish-requires
-finish-requires c κs = search needs
-
-same-length-3 : tie.Need-same-length-3
-same-length-3 c = search needs
-
 returns-3 : tie.Need-returns-3
 returns-3 c =
     let a = c .before .before .before .before .before .before .before .before .before .before .before .before .before .before .before .before .before .before .before .args in
@@ -81,9 +57,6 @@ returns-3 c =
     let good = ap passed (sym (c .before .before .before .before .before .before .before .before .before .before .enum-told .given .1)) ∙ c .before .before .before .before .before .before .before .before .before .before .before .before .border-fault .ensures in
     λ ps h. finished room _ _ _ _ _ _ (plain-given (a .version) x y e ps good (a .check) h (c .before .before .before .before .before .before .before .before .before .if1 .taken) (c .before .before .before .before .before .before .before .before .if2 .left)) (c .before .before .before .before .before .before .before .before .before .before .before .before .before .before .before .zero-bytes .ensures) (c .before .before .before .before .before .before .write-plain .ensures) (c .before .before .finish .ensures)
 
-same-length-4 : tie.Need-same-length-4
-same-length-4 c = search needs
-
 returns-4 : tie.Need-returns-4
 returns-4 c =
     let a = c .before .before .before .before .before .before .before .before .before .before .before .args in
@@ -93,9 +66,6 @@ returns-4 c =
     let e = a .earlier .now in
     let good = ap passed (sym (c .before .before .enum-told .given .1)) ∙ c .before .before .before .before .border-fault .ensures in
     λ ps h. refusing room _ 23 16 (c .before .before .before .before .before .before .before .zero-bytes .last .0) (packed-many (a .version) x y e ps good (a .check) h (c .before .if1 .left) (c .if3 .taken)) (c .before .before .before .before .before .before .before .zero-bytes .ensures)
-
-same-length-5 : tie.Need-same-length-5
-same-length-5 c = search needs
 
 returns-5 : tie.Need-returns-5
 returns-5 c =
@@ -117,12 +87,6 @@ write-packed-requires c κs =
     let good = ap passed (sym (c .before .before .before .before .before .before .enum-told .given .1)) ∙ c .before .before .before .before .before .before .before .before .border-fault .ensures in
     let s = good-sizes (a .version) x y e [] good in (s .same, s .few, c .before .before .before .before .if3 .left)
 
-finish-requires-2 : tie.Need-finish-requires-2
-finish-requires-2 c κs = search needs
-
-same-length-6 : tie.Need-same-length-6
-same-length-6 c = search needs
-
 returns-6 : tie.Need-returns-6
 returns-6 c =
     let a = c .before .before .before .before .before .before .before .before .before .before .before .before .before .before .before .before .before .before .before .before .before .before .args in
@@ -137,23 +101,23 @@ pub write-checked-spec : {M : Type 1} → statement M
 write-checked-spec =
     tie.close
     (tie.spec
-    zero-bytes-requires
-    border-fault-requires
-    enum-told
-    enum-told-2
-    same-length
+    (λ c κs. search needs)
+    (λ c κs. search needs)
+    (λ c. search needs)
+    (λ c. search needs)
+    (λ c. search needs)
     returns
-    same-length-2
+    (λ c. search needs)
     returns-2
     write-plain-requires
-    finish-requires
-    same-length-3
+    (λ c κs. search needs)
+    (λ c. search needs)
     returns-3
-    same-length-4
+    (λ c. search needs)
     returns-4
-    same-length-5
+    (λ c. search needs)
     returns-5
     write-packed-requires
-    finish-requires-2
-    same-length-6
+    (λ c κs. search needs)
+    (λ c. search needs)
     returns-6)

@@ -17,9 +17,6 @@ use Rattle.border.proofs.writer.bytes.put_two.Reads as put-two-reads
 use Rattle.border.proofs.writer.bytes.put_varint.Reads as put-varint-reads
 use Rattle.border.proofs.writer.moves.put_plain.Reads as put-plain-reads
 
-put-varint-requires : tie.Need-put-varint-requires
-put-varint-requires c κs = search needs
-
 put-plain-requires : tie.Need-put-plain-requires
 put-plain-requires c κs =
     let a = c .before .before .before .before .before .before .args in
@@ -33,9 +30,6 @@ put-two-requires c κs =
     let size = c .before .before .before .before .before .before .before .before .before .before .pre .1 in
     omega (arith, c .before .before .before .put-plain .ensures .place-after, c .before .before .before .before .before .before .before .put-varint .ensures .place-after, varint-few (length (a .lats .now)), plain-few (movesOf (a .lats .now) (a .lons .now)) 0 (length (a .lats .now)), border-length (a .lats .now) (a .lons .now))
 
-same-length : tie.Need-same-length
-same-length c = search needs
-
 returns : tie.Need-returns
 unfolding varintOf digitsOf
 returns c =
@@ -48,4 +42,4 @@ returns c =
 pub write-plain-spec : {M : Type 1} → statement M
 write-plain-spec =
     tie.close
-    (tie.spec put-varint-requires put-plain-requires put-two-requires same-length returns)
+    (tie.spec (λ c κs. search needs) put-plain-requires put-two-requires (λ c. search needs) returns)

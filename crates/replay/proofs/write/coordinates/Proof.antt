@@ -27,9 +27,6 @@ word-at-requires c κs = tt
 signed-word-requires : tie.Need-signed-word-requires Inv-loop μ-loop
 signed-word-requires c κs = tt
 
-mul-list : tie.Need-mul-list Inv-loop μ-loop
-mul-list c = search needs
-
 array-set-from-list : tie.Need-array-set-from-list Inv-loop μ-loop
 array-set-from-list c = omega (arith, c .before .before .before .loop .inv .1, c .before .before .before .before .before .pre)
 
@@ -57,7 +54,7 @@ coordinates-spec =
     loop-holds
     word-at-requires
     signed-word-requires
-    mul-list
+    (λ c. search needs)
     array-set-from-list
     add-i
     wrapping-add-usize-requires

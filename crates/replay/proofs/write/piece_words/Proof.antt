@@ -23,9 +23,6 @@ loop-holds c = (omega arith, refl)
 word-at-requires : tie.Need-word-at-requires Inv-loop μ-loop
 word-at-requires c κs = tt
 
-mul-list : tie.Need-mul-list Inv-loop μ-loop
-mul-list c = search needs
-
 array-write-list : tie.Need-array-write-list Inv-loop μ-loop
 array-write-list c = omega (arith, c .before .before .loop .inv .1, c .before .before .before .before .pre)
 
@@ -52,7 +49,7 @@ piece-words-spec =
     μ-loop
     loop-holds
     word-at-requires
-    mul-list
+    (λ c. search needs)
     array-write-list
     add-i
     wrapping-add-usize-requires

@@ -31,19 +31,10 @@ add-i c =
     let fits = c .before .before .before .before .before .before .fits in
     omega (arith, loop-test .taken, fits)
 
-fields-place-requires : tie.Need-fields-place-requires Inv-loop μ-loop
-fields-place-requires c κs = search needs
-
 write-match-requires : tie.Need-write-match-requires Inv-loop μ-loop
 write-match-requires c κs =
     let loop = c .before .before .before .before .loop in
     from-here _ _ _ _ (loop .inv .0)
-
-enum-known-next : tie.Need-enum-known-next Inv-loop μ-loop
-enum-known-next c = search needs
-
-enum-known-why : tie.Need-enum-known-why Inv-loop μ-loop
-enum-known-why c = search needs
 
 same-length : tie.Need-same-length Inv-loop μ-loop
 same-length c =
@@ -100,10 +91,10 @@ write-fields-spec =
     loop-holds
     hit-at-requires
     add-i
-    fields-place-requires
+    (λ c κs. search needs)
     write-match-requires
-    enum-known-next
-    enum-known-why
+    (λ c. search needs)
+    (λ c. search needs)
     same-length
     returns
     loop-less

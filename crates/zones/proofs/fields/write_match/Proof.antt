@@ -34,18 +34,6 @@ sub-write-field c = omega (arith, c .before .before .loop .inv .held .fits, fill
 part-write-field-start : tie.Need-part-write-field-start Inv-loop μ-loop
 part-write-field-start c = omega (arith, c .before .before .loop .inv .held .fits, filling-length _ _ _ _ (c .before .before .loop .inv))
 
-part-write-field-end : tie.Need-part-write-field-end Inv-loop μ-loop
-part-write-field-end c = search needs
-
-write-field-requires : tie.Need-write-field-requires Inv-loop μ-loop
-write-field-requires c κs = search needs
-
-enum-known-field : tie.Need-enum-known-field Inv-loop μ-loop
-enum-known-field c = search needs
-
-enum-known-why : tie.Need-enum-known-why Inv-loop μ-loop
-enum-known-why c = search needs
-
 same-length : tie.Need-same-length Inv-loop μ-loop
 same-length c =
     let loop = c .before .before .before .before .before .before .before .before .before .loop in
@@ -100,10 +88,10 @@ write-match-spec =
     loop-holds
     sub-write-field
     part-write-field-start
-    part-write-field-end
-    write-field-requires
-    enum-known-field
-    enum-known-why
+    (λ c. search needs)
+    (λ c κs. search needs)
+    (λ c. search needs)
+    (λ c. search needs)
     same-length
     returns
     add-at

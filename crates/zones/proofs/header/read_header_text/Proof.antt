@@ -5,12 +5,6 @@ use Rattle.zones.proofs.header.read_header_text.Statement.{statement}
 use Rattle.zones.specs.Text.{textAt}
 use Rattle.zones.proofs.header.read_header_text.Tie as tie
 
-blame-for-requires : tie.Need-blame-for-requires
-blame-for-requires c κs = search needs
-
-read-text-requires : tie.Need-read-text-requires
-read-text-requires c κs = search needs
-
 returns : tie.Need-returns
 returns c =
     let args = c .before .before .before .args in
@@ -18,4 +12,4 @@ returns c =
     c .read-text .ensures ∙ ap (textAt (args .file .now) 0 (args .place)) (blame-for .ensures)
 
 pub read-header-text-spec : {M : Type 1} → statement M
-read-header-text-spec = tie.close (tie.spec blame-for-requires read-text-requires returns)
+read-header-text-spec = tie.close (tie.spec (λ c κs. search needs) (λ c κs. search needs) returns)

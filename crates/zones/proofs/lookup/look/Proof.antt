@@ -18,15 +18,6 @@ find-requires c κs =
     let pre = c .before .before .before .before .pre in
     pre .0
 
-enum-known-found : tie.Need-enum-known-found
-enum-known-found c = search needs
-
-enum-known-why : tie.Need-enum-known-why
-enum-known-why c = search needs
-
-same-length : tie.Need-same-length
-same-length c = search needs
-
 returns : tie.Need-returns
 returns c =
     let args = c .before .before .before .before .before .before .before .before .before .before .args in
@@ -43,18 +34,6 @@ write-fields-requires c κs =
     let hits = c .before .before .before .before .before .before .before .before .hits in
     (pre .1, matches-room ((gave (Matching (length (args .hits .now)) (find .last .1 .1 .1 .0)) (matchedIn (args .file .now) (args .location) (args .asked) (length (args .hits .now) / width)) (find .ensures) (ap toldFound (found .given .1))) .fits) (omega (arith, hits .given)))
 
-enum-known-used : tie.Need-enum-known-used
-enum-known-used c = search needs
-
-enum-known-why-2 : tie.Need-enum-known-why-2
-enum-known-why-2 c = search needs
-
-same-length-2 : tie.Need-same-length-2
-same-length-2 c = search needs
-
-same-length-3 : tie.Need-same-length-3
-same-length-3 c = search needs
-
 returns-2 : tie.Need-returns-2
 returns-2 c =
     let args = c .before .before .before .before .before .before .before .before .before .before .before .before .before .before .before .before .before .before .before .before .args in
@@ -63,15 +42,6 @@ returns-2 c =
     let write-fields = c .before .before .before .before .before .write-fields in
     let why2 = c .before .why2 in
     no-fields (args .file .now) (args .location) (args .asked) (length (args .hits .now)) (length (args .text .now)) (gave (Matching (length (args .hits .now)) (find .last .1 .1 .1 .0)) (matchedIn (args .file .now) (args .location) (args .asked) (length (args .hits .now) / width)) (find .ensures) (ap toldFound (found .given .1))) (write-fields .last .0) (write-fields .ensures) _ _ (ap toldFields (why2 .given .1))
-
-safezone-requires : tie.Need-safezone-requires
-safezone-requires c κs = search needs
-
-same-length-4 : tie.Need-same-length-4
-same-length-4 c = search needs
-
-same-length-5 : tie.Need-same-length-5
-same-length-5 c = search needs
 
 returns-3 : tie.Need-returns-3
 returns-3 c =
@@ -87,17 +57,17 @@ look-spec =
     tie.close
     (tie.spec
     find-requires
-    enum-known-found
-    enum-known-why
-    same-length
+    (λ c. search needs)
+    (λ c. search needs)
+    (λ c. search needs)
     returns
     write-fields-requires
-    enum-known-used
-    enum-known-why-2
-    same-length-2
-    same-length-3
+    (λ c. search needs)
+    (λ c. search needs)
+    (λ c. search needs)
+    (λ c. search needs)
     returns-2
-    safezone-requires
-    same-length-4
-    same-length-5
+    (λ c κs. search needs)
+    (λ c. search needs)
+    (λ c. search needs)
     returns-3)

@@ -17,9 +17,6 @@ Inv-loop hits₀ from id room t₀ j₀ hits t j = Gathering (slots hits₀) fro
 abbrev μ-loop : tie.MeasureT-loop
 μ-loop hits₀ from id room t₀ j₀ hits t j = room - j
 
-room-requires : tie.Need-room-requires Inv-loop μ-loop
-room-requires c κs = search needs
-
 loop-holds : tie.Need-loop-holds Inv-loop μ-loop
 loop-holds c =
     let pre = c .before .before .before .pre in
@@ -46,9 +43,6 @@ joined-requires c κs =
     let room = c .before .before .before .before .before .before .room in
     let good = c .before .before .before .before .before .before .before .before .before .good in
     (omega (arith, loop .inv .0 .small, loop-test .taken, room .ensures, good), omega (arith, loop .inv .0 .small′, loop-test .taken, room .ensures, good))
-
-none-requires : tie.Need-none-requires Inv-loop μ-loop
-none-requires c κs = search needs
 
 put-hit-requires : tie.Need-put-hit-requires Inv-loop μ-loop
 put-hit-requires c κs =
@@ -99,12 +93,12 @@ gather-spec =
     (tie.spec
     Inv-loop
     μ-loop
-    room-requires
+    (λ c κs. search needs)
     loop-holds
     hit-at-requires
     add-j
     joined-requires
-    none-requires
+    (λ c κs. search needs)
     put-hit-requires
     loop-less
     loop-again

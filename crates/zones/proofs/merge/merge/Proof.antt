@@ -18,9 +18,6 @@ Inv-loop hits₀ room out₀ i₀ hits out i = Merging (slots hits₀) hits out 
 abbrev μ-loop : tie.MeasureT-loop
 μ-loop hits₀ room out₀ i₀ hits out i = room - i
 
-room-requires : tie.Need-room-requires Inv-loop μ-loop
-room-requires c κs = search needs
-
 loop-holds : tie.Need-loop-holds Inv-loop μ-loop
 loop-holds c =
     let pre = c .before .before .before .pre in
@@ -46,9 +43,6 @@ gather-requires c κs =
     let loop-test = c .before .before .before .before .before .loop-test in
     let room = c .before .before .before .before .before .before .before .room in
     (shaped (loop .inv .0), omega (arith, slots-length (loop .inv .0), loop .inv .1, loop-test .taken, room .ensures))
-
-kind-of-requires : tie.Need-kind-of-requires Inv-loop μ-loop
-kind-of-requires c κs = search needs
 
 put-hit-requires : tie.Need-put-hit-requires Inv-loop μ-loop
 put-hit-requires c κs =
@@ -119,12 +113,12 @@ merge-spec =
     (tie.spec
     Inv-loop
     μ-loop
-    room-requires
+    (λ c κs. search needs)
     loop-holds
     hit-at-requires
     add-i
     gather-requires
-    kind-of-requires
+    (λ c κs. search needs)
     put-hit-requires
     add-out
     loop-less

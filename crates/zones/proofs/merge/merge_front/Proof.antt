@@ -5,12 +5,6 @@ use Rattle.zones.proofs.merge.Fronts.{lent-length, lent-shaped, lent-re
 use Rattle.zones.proofs.merge.merge_front.Statement.{statement}
 use Rattle.zones.proofs.merge.merge_front.Tie as tie
 
-mul-words : tie.Need-mul-words
-mul-words c = search needs
-
-slice-relend-prefix-merge : tie.Need-slice-relend-prefix-merge
-slice-relend-prefix-merge c = search needs
-
 slice-aggregate-merge : tie.Need-slice-aggregate-merge
 slice-aggregate-merge c =
     let args = c .before .before .args in
@@ -22,9 +16,6 @@ merge-requires c κs =
     let args = c .before .before .args in
     let pre = c .before .before .pre in
     (lent-shaped (args .hits .now) (args .count) (pre .0) (pre .1), lent-real (args .hits .now) (args .count) (pre .0) (pre .1) (pre .2))
-
-same-length : tie.Need-same-length
-same-length c = search needs
 
 returns : tie.Need-returns
 returns c =
@@ -38,9 +29,9 @@ pub merge-front-spec : {M : Type 1} → statement M
 merge-front-spec =
     tie.close
     (tie.spec
-    mul-words
-    slice-relend-prefix-merge
+    (λ c. search needs)
+    (λ c. search needs)
     slice-aggregate-merge
     merge-requires
-    same-length
+    (λ c. search needs)
     returns)

@@ -18,26 +18,11 @@ Inv-loop file head fix asked hits₀ end room count₀ at₀ hits count at = Goi
 abbrev μ-loop : tie.MeasureT-loop
 μ-loop file head fix asked hits₀ end room count₀ at₀ hits count at = end - at .place
 
-cast-end : tie.Need-cast-end Inv-loop μ-loop
-cast-end c = search needs
-
-room-requires : tie.Need-room-requires Inv-loop μ-loop
-room-requires c κs = search needs
-
-cast-t20 : tie.Need-cast-t20 Inv-loop μ-loop
-cast-t20 c = search needs
-
 loop-holds : tie.Need-loop-holds Inv-loop μ-loop
 unfolding searched
 loop-holds c =
     let pre = c .before .before .before .before .before .before .before .pre in
     starts _ _ _ _ _ (pre)
-
-turn-at-requires : tie.Need-turn-at-requires Inv-loop μ-loop
-turn-at-requires c κs = search needs
-
-enum-known-met : tie.Need-enum-known-met Inv-loop μ-loop
-enum-known-met c = search needs
 
 loop-less : tie.Need-loop-less Inv-loop μ-loop
 loop-less c =
@@ -54,12 +39,6 @@ loop-again c =
     let if1 = c .before .before .before .before .if1 in
     let e = sym (turn-at .ensures) ∙ met .given .1 in
     on _ _ _ (loop .inv) (if1 .taken) e (on-further _ (leads-in _ _ _ _ _) e)
-
-enum-known-met-2 : tie.Need-enum-known-met-2 Inv-loop μ-loop
-enum-known-met-2 c = search needs
-
-plain-requires : tie.Need-plain-requires Inv-loop μ-loop
-plain-requires c κs = search needs
 
 same-length : tie.Need-same-length Inv-loop μ-loop
 same-length c =
@@ -110,9 +89,6 @@ loop-again-2 c =
     let further = met-further _ (leads-in _ _ _ _ _) e in
     rw (put-hit .ensures) (met _ _ _ (loop .inv) (if1 .taken) e (omega (arith, if2 .left, room .ensures)) (further .0) (further .1))
 
-enum-known-met-3 : tie.Need-enum-known-met-3 Inv-loop μ-loop
-enum-known-met-3 c = search needs
-
 same-length-2 : tie.Need-same-length-2 Inv-loop μ-loop
 same-length-2 c =
     let loop = c .before .before .before .before .before .before .loop in
@@ -125,12 +101,6 @@ returns-2 c =
     let turn-at = c .before .before .before .turn-at in
     let met3 = c .before .met3 in
     stops _ _ _ (loop .inv) (if1 .taken) (sym (turn-at .ensures) ∙ met3 .given .1)
-
-enum-known-met-4 : tie.Need-enum-known-met-4 Inv-loop μ-loop
-enum-known-met-4 c = search needs
-
-plain-requires-2 : tie.Need-plain-requires-2 Inv-loop μ-loop
-plain-requires-2 c κs = search needs
 
 same-length-3 : tie.Need-same-length-3 Inv-loop μ-loop
 same-length-3 c =
@@ -157,27 +127,27 @@ search-spec =
     (tie.spec
     Inv-loop
     μ-loop
-    cast-end
-    room-requires
-    cast-t20
+    (λ c. search needs)
+    (λ c κs. search needs)
+    (λ c. search needs)
     loop-holds
-    turn-at-requires
-    enum-known-met
+    (λ c κs. search needs)
+    (λ c. search needs)
     loop-less
     loop-again
-    enum-known-met-2
-    plain-requires
+    (λ c. search needs)
+    (λ c κs. search needs)
     same-length
     returns
     put-hit-requires
     add-count
     loop-less-2
     loop-again-2
-    enum-known-met-3
+    (λ c. search needs)
     same-length-2
     returns-2
-    enum-known-met-4
-    plain-requires-2
+    (λ c. search needs)
+    (λ c κs. search needs)
     same-length-3
     returns-3
     same-length-4

@@ -31,12 +31,6 @@ add-i c =
     let fits = c .before .before .before .before .before .fits in
     omega (arith, loop-test .taken, fits)
 
-fields-place-requires : tie.Need-fields-place-requires Inv-loop μ-loop
-fields-place-requires c κs = search needs
-
-pick-requires : tie.Need-pick-requires Inv-loop μ-loop
-pick-requires c κs = search needs
-
 enum-told : tie.Need-enum-told Inv-loop μ-loop
 enum-told c = search needs
 
@@ -55,9 +49,6 @@ loop-again c =
     let fields-place = c .before .before .before .fields-place in
     let pick = c .before .before .pick in
     (match-good (args .file .now) (args .head) (take (args .count) (slots (args .hits .now))) (loop .i) (loop .inv .0) (omega (arith, loop-test .taken, count-slots (args .hits .now) (args .count) (pre))) (slot-is (args .hits .now) (args .count) (pre) _ _ (loop-test .taken) (hit-at .ensures)) (fields-place .ensures) (pick .result) (pick .ensures) (enum-told (c .before)), omega (arith, loop-test .taken))
-
-enum-known-why : tie.Need-enum-known-why Inv-loop μ-loop
-enum-known-why c = search needs
 
 returns : tie.Need-returns Inv-loop μ-loop
 returns c =
@@ -87,11 +78,11 @@ check-spec =
     loop-holds
     hit-at-requires
     add-i
-    fields-place-requires
-    pick-requires
+    (λ c κs. search needs)
+    (λ c κs. search needs)
     enum-told
     loop-less
     loop-again
-    enum-known-why
+    (λ c. search needs)
     returns
     returns-2)

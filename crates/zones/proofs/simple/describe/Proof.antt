@@ -19,21 +19,6 @@ returns c =
     let pre = c .before .before .before .before .pre in
     no-matches (args .file .now) (args .head) (length (args .text .now)) (take (args .count) (slots (args .hits .now))) (pre .0) (ap (λ (k : ℕ). take k (slots (args .hits .now))) (c .if1 .taken))
 
-hit-at-requires : tie.Need-hit-at-requires
-hit-at-requires c κs = search needs
-
-fields-place-requires : tie.Need-fields-place-requires
-fields-place-requires c κs = search needs
-
-pick-requires : tie.Need-pick-requires
-pick-requires c κs = search needs
-
-enum-known-picked : tie.Need-enum-known-picked
-enum-known-picked c = search needs
-
-enum-known-why : tie.Need-enum-known-why
-enum-known-why c = search needs
-
 returns-2 : tie.Need-returns-2
 returns-2 c =
     let args = c .before .before .before .before .before .before .before .before .before .before .args in
@@ -44,9 +29,6 @@ returns-2 c =
     let why = c .before .why in
     let pick = c .before .before .before .pick in
     not-picked (args .file .now) (args .head) (length (args .text .now)) (take (args .count) (slots (args .hits .now))) (omega (arith, if1 .left, count-slots (args .hits .now) (args .count) (pre .1))) (slot-is (args .hits .now) (args .count) (pre .1) _ 0 (omega (arith, if1 .left)) (hit-at .ensures)) (fields-place .ensures) _ (sym (ap toldPicks (why .given .1)) ∙ pick .ensures)
-
-enum-known-one : tie.Need-enum-known-one
-enum-known-one c = search needs
 
 enum-told : tie.Need-enum-told
 enum-told c = search needs
@@ -61,9 +43,6 @@ returns-3 c =
     let picked = c .before .before .before .picked in
     let pick = c .before .before .before .before .before .pick in
     no-one (args .file .now) (args .head) (length (args .text .now)) (take (args .count) (slots (args .hits .now))) (omega (arith, if1 .left, count-slots (args .hits .now) (args .count) (pre .1))) (slot-is (args .hits .now) (args .count) (pre .1) _ 0 (omega (arith, if1 .left)) (hit-at .ensures)) (fields-place .ensures) (sym (ap toldPicks (picked .given .1)) ∙ pick .ensures) (pre .0) (is-missing _ (enum-told (c .before)))
-
-enum-known-two : tie.Need-enum-known-two
-enum-known-two c = search needs
 
 enum-told-2 : tie.Need-enum-told-2
 enum-told-2 c = search needs
@@ -90,15 +69,6 @@ join-requires c κs =
     let two = c .before .before .two in
     let lies = picked-lies (args .file .now) (args .head) _ (sym (ap toldPicks (picked .given .1)) ∙ pick .ensures) in (pre .0, lies-at _ _ (one .given .1) (lies .one), lies-at _ _ (two .given .1) (lies .two))
 
-enum-known-size : tie.Need-enum-known-size
-enum-known-size c = search needs
-
-enum-known-why-2 : tie.Need-enum-known-why-2
-enum-known-why-2 c = search needs
-
-same-length : tie.Need-same-length
-same-length c = search needs
-
 returns-5 : tie.Need-returns-5
 returns-5 c =
     let args = c .before .before .before .before .before .before .before .before .before .before .before .before .before .before .before .before .before .before .before .before .before .before .before .args in
@@ -113,9 +83,6 @@ returns-5 c =
     let join = c .before .before .before .before .before .join in
     let size = c .before .size in
     written (args .file .now) (args .head) (length (args .text .now)) (take (args .count) (slots (args .hits .now))) (omega (arith, if1 .left, count-slots (args .hits .now) (args .count) (pre .1))) (slot-is (args .hits .now) (args .count) (pre .1) _ 0 (omega (arith, if1 .left)) (hit-at .ensures)) (fields-place .ensures) (sym (ap toldPicks (picked .given .1)) ∙ pick .ensures) (one .given .1) (two .given .1) (join .last .0) (join .ensures) (ap toldFields (size .given .1))
-
-same-length-2 : tie.Need-same-length-2
-same-length-2 c = search needs
 
 returns-6 : tie.Need-returns-6
 returns-6 c =
@@ -137,22 +104,22 @@ describe-spec =
     tie.close
     (tie.spec
     returns
-    hit-at-requires
-    fields-place-requires
-    pick-requires
-    enum-known-picked
-    enum-known-why
+    (λ c κs. search needs)
+    (λ c κs. search needs)
+    (λ c κs. search needs)
+    (λ c. search needs)
+    (λ c. search needs)
     returns-2
-    enum-known-one
+    (λ c. search needs)
     enum-told
     returns-3
-    enum-known-two
+    (λ c. search needs)
     enum-told-2
     returns-4
     join-requires
-    enum-known-size
-    enum-known-why-2
-    same-length
+    (λ c. search needs)
+    (λ c. search needs)
+    (λ c. search needs)
     returns-5
-    same-length-2
+    (λ c. search needs)
     returns-6)

@@ -19,15 +19,6 @@ find-requires c κs =
     let pre = c .before .before .before .before .pre in
     pre .0
 
-enum-known-found : tie.Need-enum-known-found
-enum-known-found c = search needs
-
-enum-known-why : tie.Need-enum-known-why
-enum-known-why c = search needs
-
-same-length : tie.Need-same-length
-same-length c = search needs
-
 returns : tie.Need-returns
 returns c =
     let args = c .before .before .before .before .before .before .before .before .before .before .args in
@@ -42,12 +33,6 @@ check-requires c κs =
     let found = c .before .before .before .found in
     let hits = c .before .before .before .before .before .before .hits in
     matches-room ((gave (Matching (length (args .hits .now)) (find .last .1 .1 .1 .0)) (matchedIn (args .file .now) (args .location) false (length (args .hits .now) / width)) (find .ensures) (ap toldFound (found .given .1))) .fits) (omega (arith, hits .given))
-
-enum-known-checked : tie.Need-enum-known-checked
-enum-known-checked c = search needs
-
-same-length-2 : tie.Need-same-length-2
-same-length-2 c = search needs
 
 returns-2 : tie.Need-returns-2
 returns-2 c =
@@ -70,18 +55,6 @@ describe-requires c κs =
     let hits = c .before .before .before .before .before .before .before .before .before .before .before .hits in
     (pre .1, matches-room ((gave (Matching (length (args .hits .now)) (find .last .1 .1 .1 .0)) (matchedIn (args .file .now) (args .location) false (length (args .hits .now) / width)) (find .ensures) (ap toldFound (found .given .1))) .fits) (omega (arith, hits .given)))
 
-enum-known-description : tie.Need-enum-known-description
-enum-known-description c = search needs
-
-enum-known-why-2 : tie.Need-enum-known-why-2
-enum-known-why-2 c = search needs
-
-same-length-3 : tie.Need-same-length-3
-same-length-3 c = search needs
-
-same-length-4 : tie.Need-same-length-4
-same-length-4 c = search needs
-
 returns-3 : tie.Need-returns-3
 returns-3 c =
     let args = c .before .before .before .before .before .before .before .before .before .before .before .before .before .before .before .before .before .before .before .before .before .before .before .args in
@@ -91,12 +64,6 @@ returns-3 c =
     let describe = c .before .before .before .before .before .describe in
     let why2 = c .before .why2 in
     not-described (args .file .now) (args .location) (length (args .hits .now)) (length (args .text .now)) (gave (Matching (length (args .hits .now)) (find .last .1 .1 .1 .0)) (matchedIn (args .file .now) (args .location) false (length (args .hits .now) / width)) (find .ensures) (ap toldFound (found .given .1))) (is-good (check .result) (enum-told (c .before .before .before .before .before .before .before .before .before)) ∙ check .ensures) (describe .last .0) (describe .ensures) _ _ (ap toldWorded (why2 .given .1))
-
-same-length-5 : tie.Need-same-length-5
-same-length-5 c = search needs
-
-same-length-6 : tie.Need-same-length-6
-same-length-6 c = search needs
 
 returns-4 : tie.Need-returns-4
 returns-4 c =
@@ -113,21 +80,21 @@ look-spec =
     tie.close
     (tie.spec
     find-requires
-    enum-known-found
-    enum-known-why
-    same-length
+    (λ c. search needs)
+    (λ c. search needs)
+    (λ c. search needs)
     returns
     check-requires
-    enum-known-checked
-    same-length-2
+    (λ c. search needs)
+    (λ c. search needs)
     returns-2
     enum-told
     describe-requires
-    enum-known-description
-    enum-known-why-2
-    same-length-3
-    same-length-4
+    (λ c. search needs)
+    (λ c. search needs)
+    (λ c. search needs)
+    (λ c. search needs)
     returns-3
-    same-length-5
-    same-length-6
+    (λ c. search needs)
+    (λ c. search needs)
     returns-4)

@@ -17,9 +17,6 @@ abbrev μ-loop : tie.MeasureT-loop
 loop-holds : tie.Need-loop-holds Inv-loop μ-loop
 loop-holds c = (omega arith, refl)
 
-mul-hits : tie.Need-mul-hits Inv-loop μ-loop
-mul-hits c = search needs
-
 slice-write-hits : tie.Need-slice-write-hits Inv-loop μ-loop
 slice-write-hits c =
     let loop = c .before .loop in
@@ -59,4 +56,4 @@ returns c =
     loop .inv .1 ∙ zeroed-all (args .hits .now) (loop .i) (omega arith) (omega arith)
 
 pub zero-words-spec : {M : Type 1} → statement M
-zero-words-spec = tie.close (tie.spec Inv-loop μ-loop loop-holds mul-hits slice-write-hits add-i loop-less loop-again same-length returns)
+zero-words-spec = tie.close (tie.spec Inv-loop μ-loop loop-holds (λ c. search needs) slice-write-hits add-i loop-less loop-again same-length returns)

@@ -9,17 +9,11 @@ use Rattle.border.proofs.writer.bytes.put_two.Reads as reads
 use Rattle.border.proofs.writer.bytes.put_two.Lts as lts
 use Rattle.border.proofs.writer.bytes.put_varint.Reads as put-varint-reads
 
-put-varint-requires : tie.Need-put-varint-requires
-put-varint-requires c κs = search needs
-
 put-varint-requires-2 : tie.Need-put-varint-requires-2
 put-varint-requires-2 c κs = omega (arith, c .before .before .before .put-varint .ensures .place-after, varint-few (c .before .before .before .before .before .before .args .first))
-
-same-length : tie.Need-same-length
-same-length c = search needs
 
 returns : tie.Need-returns
 returns c = stored-then (varintOf (c .before .before .before .before .before .before .before .before .before .args .first)) (varintOf (c .before .before .before .before .before .before .before .before .before .args .second)) (c .before .before .before .before .before .before .put-varint .ensures) (c .before .before .put-varint2 .ensures)
 
 pub put-two-spec : {M : Type 1} → statement M
-put-two-spec = tie.close (tie.spec put-varint-requires put-varint-requires-2 same-length returns)
+put-two-spec = tie.close (tie.spec (λ c κs. search needs) put-varint-requires-2 (λ c. search needs) returns)

@@ -33,9 +33,6 @@ mul-is-near c = omega arith
 shared-slice-copy-out-is-near : tie.Need-shared-slice-copy-out-is-near Inv-loop μ-loop
 shared-slice-copy-out-is-near c = omega arith
 
-is-near-requires : tie.Need-is-near-requires Inv-loop μ-loop
-is-near-requires c κs = search needs
-
 returns : tie.Need-returns Inv-loop μ-loop
 returns c =
     let l = c .before .before .before .before .loop in
@@ -71,7 +68,7 @@ all-near-spec =
     loop-holds
     mul-is-near
     shared-slice-copy-out-is-near
-    is-near-requires
+    (λ c κs. search needs)
     returns
     add-i
     loop-less

@@ -15,9 +15,6 @@ use Rattle.border.proofs.writer.checks.none_repeated.Reads as none-repe
 use Rattle.border.proofs.writer.checks.refused.Reads as refused-reads
 use Rattle.border.proofs.writer.moves.moves_at.Reads as moves-at-reads
 
-refused-requires : tie.Need-refused-requires
-refused-requires c κs = search needs
-
 returns : tie.Need-returns
 returns c =
     let a = c .before .before .before .args in
@@ -36,12 +33,6 @@ returns-2 c =
     let e = a .earlier .now in
     odd-version v x y e (c .before .if1 .left) (c .if2 .taken)
 
-is-sized-requires : tie.Need-is-sized-requires
-is-sized-requires c κs = search needs
-
-refused-requires-2 : tie.Need-refused-requires-2
-refused-requires-2 c κs = search needs
-
 returns-3 : tie.Need-returns-3
 returns-3 c =
     let a = c .before .before .before .before .before .before .args in
@@ -51,12 +42,6 @@ returns-3 c =
     let e = a .earlier .now in
     ap passed (c .refused2 .ensures) ∙ not-sized v x y e (c .before .before .before .before .if1 .left) (c .before .before .before .if2 .left) (sym (c .before .before .is-sized .ensures) ∙ not-true _ (c .before .if3 .taken))
 
-all-near-requires : tie.Need-all-near-requires
-all-near-requires c κs = search needs
-
-refused-requires-3 : tie.Need-refused-requires-3
-refused-requires-3 c κs = search needs
-
 returns-4 : tie.Need-returns-4
 returns-4 c =
     let a = c .before .before .before .before .before .before .before .before .args in
@@ -65,12 +50,6 @@ returns-4 c =
     let v = a .version in
     let e = a .earlier .now in
     ap passed (c .refused3 .ensures) ∙ far-lat v x y e (c .before .before .before .before .before .before .if1 .left) (c .before .before .before .before .before .if2 .left) (sym (c .before .before .before .before .is-sized .ensures) ∙ not-false _ (c .before .before .before .if3 .left)) (sym (c .before .before .all-near .ensures) ∙ not-true _ (c .before .if4 .taken))
-
-all-near-requires-2 : tie.Need-all-near-requires-2
-all-near-requires-2 c κs = search needs
-
-refused-requires-4 : tie.Need-refused-requires-4
-refused-requires-4 c κs = search needs
 
 returns-5 : tie.Need-returns-5
 returns-5 c =
@@ -84,9 +63,6 @@ returns-5 c =
 none-repeated-requires : tie.Need-none-repeated-requires
 none-repeated-requires c κs = let s = sizes _ _ (sym (c .before .before .before .before .before .is-sized .ensures) ∙ not-false _ (c .before .before .before .before .if3 .left)) in (s .some, s .same)
 
-refused-requires-5 : tie.Need-refused-requires-5
-refused-requires-5 c κs = search needs
-
 returns-6 : tie.Need-returns-6
 returns-6 c =
     let a = c .before .before .before .before .before .before .before .before .before .before .before .before .args in
@@ -98,9 +74,6 @@ returns-6 c =
 
 moves-at-requires : tie.Need-moves-at-requires
 moves-at-requires c κs = let s = sizes _ _ (sym (c .before .before .before .before .before .before .before .is-sized .ensures) ∙ not-false _ (c .before .before .before .before .before .before .if3 .left)) in (s .some, omega (arith, s .some, s .same))
-
-refused-requires-6 : tie.Need-refused-requires-6
-refused-requires-6 c κs = search needs
 
 returns-7 : tie.Need-returns-7
 returns-7 c =
@@ -124,22 +97,22 @@ pub border-fault-spec : {M : Type 1} → statement M
 border-fault-spec =
     tie.close
     (tie.spec
-    refused-requires
+    (λ c κs. search needs)
     returns
     returns-2
-    is-sized-requires
-    refused-requires-2
+    (λ c κs. search needs)
+    (λ c κs. search needs)
     returns-3
-    all-near-requires
-    refused-requires-3
+    (λ c κs. search needs)
+    (λ c κs. search needs)
     returns-4
-    all-near-requires-2
-    refused-requires-4
+    (λ c κs. search needs)
+    (λ c κs. search needs)
     returns-5
     none-repeated-requires
-    refused-requires-5
+    (λ c κs. search needs)
     returns-6
     moves-at-requires
-    refused-requires-6
+    (λ c κs. search needs)
     returns-7
     returns-8)

@@ -13,18 +13,6 @@ use Rattle.border.proofs.writer.moves.gap_form.Lts as lts
 use Rattle.border.proofs.writer.moves.before.Reads as before-reads
 use Rattle.border.proofs.writer.moves.form_of.Reads as form-of-reads
 
-before-requires : tie.Need-before-requires
-before-requires c κs = search needs
-
-mul-form-of : tie.Need-mul-form-of
-mul-form-of c = search needs
-
-shared-slice-copy-out-form-of : tie.Need-shared-slice-copy-out-form-of
-shared-slice-copy-out-form-of c = search needs
-
-form-of-requires : tie.Need-form-of-requires
-form-of-requires c κs = search needs
-
 returns : tie.Need-returns
 unfolding gapAt
 returns c =
@@ -37,4 +25,4 @@ returns c =
 pub gap-form-spec : {M : Type 1} → statement M
 gap-form-spec =
     tie.close
-    (tie.spec before-requires mul-form-of shared-slice-copy-out-form-of form-of-requires returns)
+    (tie.spec (λ c κs. search needs) (λ c. search needs) (λ c. search needs) (λ c κs. search needs) returns)

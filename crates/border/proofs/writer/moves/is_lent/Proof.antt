@@ -9,26 +9,11 @@ use Rattle.border.proofs.writer.moves.form_of.Reads as form-of-reads
 use Rattle.border.proofs.writer.moves.turned_form.Reads as turned-form-reads
 use Rattle.numbers.proofs.point.decode_point.Reads as decode-point-reads
 
-decode-point-requires : tie.Need-decode-point-requires
-decode-point-requires c κs = search needs
-
-form-of-requires : tie.Need-form-of-requires
-form-of-requires c κs = search needs
-
-turned-form-requires : tie.Need-turned-form-requires
-turned-form-requires c κs = search needs
-
 returns : tie.Need-returns
 returns c =
     let a = c .before .before .before .before .before .args in
     let d = c .before .before .before .before .decode-point in
     lent-lat (a .lats .now) (a .lons .now) (a .i) (a .direction) (a .value) (d .result) (d .ensures) (search needs) (c .before .before .form-of .ensures) (c .before .turned-form .ensures) (c .if1 .taken)
-
-form-of-requires-2 : tie.Need-form-of-requires-2
-form-of-requires-2 c κs = search needs
-
-turned-form-requires-2 : tie.Need-turned-form-requires-2
-turned-form-requires-2 c κs = search needs
 
 returns-2 : tie.Need-returns-2
 returns-2 c =
@@ -42,10 +27,10 @@ pub is-lent-spec : {M : Type 1} → statement M
 is-lent-spec =
     tie.close
     (tie.spec
-    decode-point-requires
-    form-of-requires
-    turned-form-requires
+    (λ c κs. search needs)
+    (λ c κs. search needs)
+    (λ c κs. search needs)
     returns
-    form-of-requires-2
-    turned-form-requires-2
+    (λ c κs. search needs)
+    (λ c κs. search needs)
     returns-2)

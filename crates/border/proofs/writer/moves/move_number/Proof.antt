@@ -9,19 +9,10 @@ use Rattle.border.proofs.writer.moves.move_number.Lts as lts
 use Rattle.border.proofs.writer.moves.gap_form.Reads as gap-form-reads
 use Rattle.border.proofs.writer.moves.interleave.Reads as interleave-reads
 
-gap-form-requires : tie.Need-gap-form-requires
-gap-form-requires c κs = search needs
-
-gap-form-requires-2 : tie.Need-gap-form-requires-2
-gap-form-requires-2 c κs = search needs
-
-interleave-requires : tie.Need-interleave-requires
-interleave-requires c κs = search needs
-
 returns : tie.Need-returns
 unfolding packedNumber
 returns c = c .interleave .ensures ∙ rw (c .before .before .gap-form .ensures, c .before .gap-form2 .ensures)
 
 pub move-number-spec : {M : Type 1} → statement M
 move-number-spec =
-    tie.close (tie.spec gap-form-requires gap-form-requires-2 interleave-requires returns)
+    tie.close (tie.spec (λ c κs. search needs) (λ c κs. search needs) (λ c κs. search needs) returns)

@@ -16,23 +16,8 @@ use Rattle.border.proofs.writer.moves.before.Reads as before-reads
 use Rattle.border.proofs.writer.moves.form_of.Reads as form-of-reads
 use Rattle.border.proofs.writer.moves.gap_form.Reads as gap-form-reads
 
-gap-form-requires : tie.Need-gap-form-requires
-gap-form-requires c κs = search needs
-
 returns : tie.Need-returns
 returns c = rw (eq-eqb _ _ (c .before .if1 .taken)) (c .gap-form .ensures)
-
-mul-form-of : tie.Need-mul-form-of
-mul-form-of c = search needs
-
-shared-slice-copy-out-form-of : tie.Need-shared-slice-copy-out-form-of
-shared-slice-copy-out-form-of c = search needs
-
-before-requires : tie.Need-before-requires
-before-requires c κs = search needs
-
-form-of-requires : tie.Need-form-of-requires
-form-of-requires c κs = search needs
 
 returns-2 : tie.Need-returns-2
 unfolding gapAt
@@ -49,10 +34,10 @@ pub turned-form-spec : {M : Type 1} → statement M
 turned-form-spec =
     tie.close
     (tie.spec
-    gap-form-requires
+    (λ c κs. search needs)
     returns
-    mul-form-of
-    shared-slice-copy-out-form-of
-    before-requires
-    form-of-requires
+    (λ c. search needs)
+    (λ c. search needs)
+    (λ c κs. search needs)
+    (λ c κs. search needs)
     returns-2)

@@ -30,9 +30,6 @@ loop-holds c = (omega arith, λ h. h)
 piece-at-requires : tie.Need-piece-at-requires Inv-loop μ-loop
 piece-at-requires c κs = omega arith
 
-check-next-requires : tie.Need-check-next-requires Inv-loop μ-loop
-check-next-requires c κs = search needs
-
 add-i : tie.Need-add-i Inv-loop μ-loop
 add-i c = omega arith
 
@@ -63,7 +60,7 @@ check-words-spec =
     μ-loop
     loop-holds
     piece-at-requires
-    check-next-requires
+    (λ c κs. search needs)
     add-i
     loop-less
     loop-again

@@ -12,15 +12,9 @@ returns : tie.Need-returns
 unfolding clearBefore
 returns c = rw (le-ltb 0 (c .before .args .place) (omega (arith, c .if1 .taken)))
 
-sub-result : tie.Need-sub-result
-sub-result c = search needs
-
-shared-slice-read-result : tie.Need-shared-slice-read-result
-shared-slice-read-result c = search needs
-
 returns-2 : tie.Need-returns-2
 unfolding clearBefore
 returns-2 c = rw (lt-ltb 0 (c .before .before .args .place) (omega (arith, c .before .if1 .left)))
 
 pub clear-before-spec : {M : Type 1} → statement M
-clear-before-spec = tie.close (tie.spec returns sub-result shared-slice-read-result returns-2)
+clear-before-spec = tie.close (tie.spec returns (λ c. search needs) (λ c. search needs) returns-2)

@@ -16,24 +16,6 @@ use Rattle.border.proofs.writer.pieces.is_accepted.Lts as lts
 use Rattle.border.proofs.writer.pieces.clear_before.Reads as clear-before-reads
 use Rattle.border.proofs.writer.pieces.run_spells.Reads as run-spells-reads
 
-cast-first : tie.Need-cast-first
-cast-first c = search needs
-
-cast-last : tie.Need-cast-last
-cast-last c = search needs
-
-add-last : tie.Need-add-last
-add-last c = search needs
-
-cast-start : tie.Need-cast-start
-cast-start c = search needs
-
-cast-end : tie.Need-cast-end
-cast-end c = search needs
-
-add-end : tie.Need-add-end
-add-end c = search needs
-
 returns : tie.Need-returns
 returns c =
     let a = c .before .before .before .before .before .before .args in
@@ -74,18 +56,6 @@ returns-5 c =
     let size = border-length (a .lats .now) (a .lons .now) in
     outside e ms (a .free) (a .piece) (c .before .before .before .before .if1 .left) (c .before .before .before .if2 .left) (omega (arith, size, c .before .before .if3 .left, c .before .if4 .left)) (c .if5 .taken)
 
-sub-run-spells : tie.Need-sub-run-spells
-sub-run-spells c = search needs
-
-part-run-spells-start : tie.Need-part-run-spells-start
-part-run-spells-start c = search needs
-
-part-run-spells-end : tie.Need-part-run-spells-end
-part-run-spells-end c = search needs
-
-run-spells-requires : tie.Need-run-spells-requires
-run-spells-requires c κs = search needs
-
 returns-6 : tie.Need-returns-6
 returns-6 c =
     let a = c .before .before .before .before .before .before .before .before .before .before .before .before .before .before .args in
@@ -96,9 +66,6 @@ returns-6 c =
     ∙ ap (λ (r : List ℕ). spells r 0 (lentMoves ms (a .piece))) (run-is e (a .piece))
     ∙ forward e ms (a .free) (a .piece) (c .before .before .before .before .before .before .before .before .if1 .left) (c .before .before .before .before .before .before .before .if2 .left) (omega (arith, size, c .before .before .before .before .before .before .if3 .left, c .before .before .before .before .before .if4 .left)) (c .before .before .before .before .if5 .left) (c .before .before .if6 .taken)
 
-clear-before-requires : tie.Need-clear-before-requires
-clear-before-requires c κs = search needs
-
 returns-7 : tie.Need-returns-7
 returns-7 c =
     let a = c .before .before .before .before .before .before .before .before .before .before .before .before .before .before .args in
@@ -106,18 +73,6 @@ returns-7 c =
     let ms = movesOf (a .lats .now) (a .lons .now) in
     let size = border-length (a .lats .now) (a .lons .now) in
     behind e ms (a .free) (a .piece) (c .before .before .before .before .before .before .before .before .if1 .left) (c .before .before .before .before .before .before .before .if2 .left) (omega (arith, size, c .before .before .before .before .before .before .if3 .left, c .before .before .before .before .before .if4 .left)) (c .before .before .before .before .if5 .left) (c .before .before .if6 .left) (sym (c .before .clear-before .ensures) ∙ not-true _ (c .if7 .taken))
-
-sub-run-spells-2 : tie.Need-sub-run-spells-2
-sub-run-spells-2 c = search needs
-
-part-run-spells-start-2 : tie.Need-part-run-spells-start-2
-part-run-spells-start-2 c = search needs
-
-part-run-spells-end-2 : tie.Need-part-run-spells-end-2
-part-run-spells-end-2 c = search needs
-
-run-spells-requires-2 : tie.Need-run-spells-requires-2
-run-spells-requires-2 c κs = search needs
 
 returns-8 : tie.Need-returns-8
 returns-8 c =
@@ -133,26 +88,26 @@ pub is-accepted-spec : {M : Type 1} → statement M
 is-accepted-spec =
     tie.close
     (tie.spec
-    cast-first
-    cast-last
-    add-last
-    cast-start
-    cast-end
-    add-end
+    (λ c. search needs)
+    (λ c. search needs)
+    (λ c. search needs)
+    (λ c. search needs)
+    (λ c. search needs)
+    (λ c. search needs)
     returns
     returns-2
     returns-3
     returns-4
     returns-5
-    sub-run-spells
-    part-run-spells-start
-    part-run-spells-end
-    run-spells-requires
+    (λ c. search needs)
+    (λ c. search needs)
+    (λ c. search needs)
+    (λ c κs. search needs)
     returns-6
-    clear-before-requires
+    (λ c κs. search needs)
     returns-7
-    sub-run-spells-2
-    part-run-spells-start-2
-    part-run-spells-end-2
-    run-spells-requires-2
+    (λ c. search needs)
+    (λ c. search needs)
+    (λ c. search needs)
+    (λ c κs. search needs)
     returns-8)

@@ -13,23 +13,8 @@ use Rattle.border.proofs.writer.pieces.put_piece.Reads as reads
 use Rattle.border.proofs.writer.pieces.put_piece.Lts as lts
 use Rattle.border.proofs.writer.bytes.put_two.Reads as put-two-reads
 
-cast-start : tie.Need-cast-start
-cast-start c = search needs
-
-cast-size : tie.Need-cast-size
-cast-size c = search needs
-
-put-two-requires : tie.Need-put-two-requires
-put-two-requires c κs = search needs
-
-mul-put-two : tie.Need-mul-put-two
-mul-put-two c = search needs
-
 put-two-requires-2 : tie.Need-put-two-requires-2
 put-two-requires-2 c κs = omega (arith, marked (c .before .before .before .before .before .put-two .ensures) .place-after)
-
-same-length : tie.Need-same-length
-same-length c = search needs
 
 returns : tie.Need-returns
 unfolding pieceBytes
@@ -37,20 +22,8 @@ returns c =
     let p = c .before .before .before .before .before .before .before .before .before .before .before .before .before .args .piece in
     rw (eq-eqb _ _ (c .before .before .before .before .if1 .taken)) (stored-then (0 ∷ 1 ∷ []) (varintOf (p .start) ++ varintOf (2 * p .bytes)) (marked (c .before .before .before .before .before .before .before .before .put-two .ensures)) (c .before .before .put-two2 .ensures))
 
-add-put-two : tie.Need-add-put-two
-add-put-two c = search needs
-
-mul-put-two-2 : tie.Need-mul-put-two-2
-mul-put-two-2 c = search needs
-
-add-put-two-2 : tie.Need-add-put-two-2
-add-put-two-2 c = search needs
-
 put-two-requires-3 : tie.Need-put-two-requires-3
 put-two-requires-3 c κs = omega (arith, marked (c .before .before .before .before .before .put-two .ensures) .place-after)
-
-same-length-2 : tie.Need-same-length-2
-same-length-2 c = search needs
 
 returns-2 : tie.Need-returns-2
 unfolding pieceBytes
@@ -62,16 +35,16 @@ pub put-piece-spec : {M : Type 1} → statement M
 put-piece-spec =
     tie.close
     (tie.spec
-    cast-start
-    cast-size
-    put-two-requires
-    mul-put-two
+    (λ c. search needs)
+    (λ c. search needs)
+    (λ c κs. search needs)
+    (λ c. search needs)
     put-two-requires-2
-    same-length
+    (λ c. search needs)
     returns
-    add-put-two
-    mul-put-two-2
-    add-put-two-2
+    (λ c. search needs)
+    (λ c. search needs)
+    (λ c. search needs)
     put-two-requires-3
-    same-length-2
+    (λ c. search needs)
     returns-2)

@@ -29,12 +29,6 @@ abbrev μ-loop : tie.MeasureT-loop
 loop-holds : tie.Need-loop-holds Inv-loop μ-loop
 loop-holds c = (omega arith, refl)
 
-read-forward-requires : tie.Need-read-forward-requires Inv-loop μ-loop
-read-forward-requires c κs = search needs
-
-enum-known-value : tie.Need-enum-known-value Inv-loop μ-loop
-enum-known-value c = search needs
-
 returns : tie.Need-returns Inv-loop μ-loop
 returns c =
     let l = c .before .before .before .before .loop in
@@ -100,8 +94,8 @@ run-spells-spec =
     Inv-loop
     μ-loop
     loop-holds
-    read-forward-requires
-    enum-known-value
+    (λ c κs. search needs)
+    (λ c. search needs)
     returns
     returns-2
     returns-3
