@@ -1,6 +1,5 @@
 -- `zones::fields::write_fields` meets its contract. The loop's invariant is `Writing`: the matches that are left give the whole. Assumes nothing.
 use Prim.Native.Nat.{_-_, _≤_}
-use borrow.Author.Needs.{needs}
 use lib.ListN.{length, take}
 use mathlib.Core.List.{[]}
 use native.Mathlib.Omega.{arith}
@@ -91,10 +90,10 @@ write-fields-spec =
     loop-holds
     hit-at-requires
     add-i
-    (λ c κs. search needs)
+    (λ c κs. tt)
     write-match-requires
-    (λ c. search needs)
-    (λ c. search needs)
+    (λ c. omega arith)
+    (λ c. omega arith)
     same-length
     returns
     loop-less

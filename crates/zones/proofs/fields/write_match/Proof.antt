@@ -1,7 +1,6 @@
 -- `zones::fields::write_match` meets its contract. The loop's invariant is `Filling`: the text so far stands at the front of a buffer that is zero
 -- beyond it. Assumes nothing.
 use Prim.Native.Nat.{_-_}
-use borrow.Author.Needs.{needs}
 use lib.ListN.{length, take}
 use mathlib.Core.Path.{refl}
 use native.Mathlib.Omega.{arith}
@@ -88,10 +87,10 @@ write-match-spec =
     loop-holds
     sub-write-field
     part-write-field-start
-    (λ c. search needs)
-    (λ c κs. search needs)
-    (λ c. search needs)
-    (λ c. search needs)
+    (λ c. omega arith)
+    (λ c κs. tt)
+    (λ c. omega arith)
+    (λ c. omega arith)
     same-length
     returns
     add-at

@@ -1,5 +1,5 @@
 -- `zones::find::fix_of` meets its contract: each number read back from its bits. Assumes nothing.
-use borrow.Author.Needs.{sfits-of, needs}
+use borrow.Author.Needs.{sfits-of}
 use lib.Ieee.{ofBits}
 use mathlib.Core.Path.{_∙_}
 use mir.Syntax.{w32}
@@ -15,4 +15,4 @@ returns c = let lat = toZ-ofZ w32 (c .before .to-fixed .result) (sfits-of (c .be
     λ i. record { lat = record { 0 = lat i }; lon = record { 0 = lon i } }
 
 pub fix-of-spec : {M : Type 1} → statement M
-fix-of-spec = tie.close (tie.spec (λ c κs. search needs) (λ c κs. search needs) returns)
+fix-of-spec = tie.close (tie.spec (λ c κs. tt) (λ c κs. tt) returns)

@@ -1,5 +1,4 @@
 -- `zones::header::unread` meets its contract. Assumes nothing.
-use borrow.Author.Needs.{needs}
 use native.Mathlib.Omega.{arith}
 use Rattle.zones.proofs.header.Sizes.{unread-own, unread-12}
 use Rattle.zones.proofs.header.unread.Statement.{statement}
@@ -15,4 +14,4 @@ returns-3 : tie.Need-returns-3
 returns-3 c = unread-12 (c .before .before .args .answer) (c .before .before .args .number) (c .before .match .keys3)
 
 pub unread-spec : {M : Type 1} → statement M
-unread-spec = tie.close (tie.spec (λ c. search needs) (λ c. search needs) (λ c. search needs) returns returns-2 returns-3)
+unread-spec = tie.close (tie.spec (λ c. omega arith) (λ c. omega arith) (λ c. omega arith) returns returns-2 returns-3)

@@ -1,7 +1,6 @@
 -- `zones::merge::gather` meets its contract. The loop's invariant is `Gathering`: of the slots from `from` on, those passed are cleared and tallied.
 -- Assumes nothing.
 use Prim.Native.Nat.{_-_, _*_}
-use borrow.Author.Needs.{needs}
 use lib.ListN.{length}
 use mathlib.Core.Path.{_≡_, refl, ap, _∙_}
 use native.Mathlib.Omega.{arith}
@@ -93,12 +92,12 @@ gather-spec =
     (tie.spec
     Inv-loop
     μ-loop
-    (λ c κs. search needs)
+    (λ c κs. tt)
     loop-holds
     hit-at-requires
     add-j
     joined-requires
-    (λ c κs. search needs)
+    (λ c κs. tt)
     put-hit-requires
     loop-less
     loop-again

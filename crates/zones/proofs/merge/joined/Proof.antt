@@ -1,5 +1,4 @@
 -- `zones::merge::joined` meets its contract, by the hit's kind. Assumes nothing.
-use borrow.Author.Needs.{needs}
 use native.Mathlib.Omega.{arith}
 use Rattle.zones.proofs.merge.Summaries.{one-inside, one-excluded, on-border}
 use Rattle.zones.proofs.merge.joined.Statement.{statement}
@@ -19,4 +18,4 @@ returns-3 c =
     (on-border (args .t .inside) (args .t .excluded) (args .t .border) _ (if1 .left) (if2 .left) (c .later .ensures), (omega arith, omega arith))
 
 pub joined-spec : {M : Type 1} → statement M
-joined-spec = tie.close (tie.spec (λ c. search needs) returns (λ c. search needs) returns-2 (λ c κs. search needs) returns-3)
+joined-spec = tie.close (tie.spec (λ c. omega arith) returns (λ c. omega arith) returns-2 (λ c κs. tt) returns-3)

@@ -1,7 +1,6 @@
 -- `zones::merge::merge` meets its contract. The loop's invariant is `Merging`: matches, empty slots, and the hits whose group is still to come.
 -- Assumes nothing.
 use Prim.Native.Nat.{_-_, _*_}
-use borrow.Author.Needs.{needs}
 use lib.ListN.{length}
 use mathlib.Core.Path.{_≡_, ap, _∙_}
 use native.Mathlib.Omega.{arith}
@@ -113,12 +112,12 @@ merge-spec =
     (tie.spec
     Inv-loop
     μ-loop
-    (λ c κs. search needs)
+    (λ c κs. tt)
     loop-holds
     hit-at-requires
     add-i
     gather-requires
-    (λ c κs. search needs)
+    (λ c κs. tt)
     put-hit-requires
     add-out
     loop-less

@@ -1,5 +1,4 @@
 -- `zones::merge::merge_front` meets its contract: the front of the words is lent, and the rest is zero already. Assumes nothing.
-use borrow.Author.Needs.{needs}
 use native.Mathlib.Omega.{arith}
 use Rattle.zones.proofs.merge.Fronts.{lent-length, lent-shaped, lent-real, count-merged, words-now}
 use Rattle.zones.proofs.merge.merge_front.Statement.{statement}
@@ -29,9 +28,9 @@ pub merge-front-spec : {M : Type 1} → statement M
 merge-front-spec =
     tie.close
     (tie.spec
-    (λ c. search needs)
-    (λ c. search needs)
+    (λ c. omega arith)
+    (λ c. omega arith)
     slice-aggregate-merge
     merge-requires
-    (λ c. search needs)
+    (λ c. omega arith)
     returns)

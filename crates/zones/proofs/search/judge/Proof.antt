@@ -1,5 +1,5 @@
 -- `zones::search::judge` meets its contract. Assumes nothing.
-use borrow.Author.Needs.{needs}
+use native.Mathlib.Omega.{arith}
 use Rattle.zones.proofs.search.Turns.{judged-in}
 use Rattle.zones.proofs.search.judge.Statement.{statement}
 use Rattle.zones.proofs.search.judge.Tie as tie
@@ -15,8 +15,8 @@ pub judge-spec : {M : Type 1} → statement M
 judge-spec =
     tie.close
     (tie.spec
-    (λ c κs. search needs)
-    (λ c. search needs)
-    (λ c κs. search needs)
-    (λ c κs. search needs)
+    (λ c κs. tt)
+    (λ c. omega arith)
+    (λ c κs. tt)
+    (λ c κs. tt)
     returns)

@@ -1,5 +1,5 @@
 -- `zones::search::judged` meets its contract, by the judgement's cases. Assumes nothing.
-use borrow.Author.Needs.{needs}
+use native.Mathlib.Omega.{arith}
 use Rattle.zones.proofs.search.Turns.{outside, met}
 use Rattle.zones.proofs.search.judged.Statement.{statement}
 use Rattle.zones.specs.Search.{judgedTurn}
@@ -33,13 +33,13 @@ pub judged-spec : {M : Type 1} → statement M
 judged-spec =
     tie.close
     (tie.spec
-    (λ c. search needs)
-    (λ c κs. search needs)
-    (λ c κs. search needs)
-    (λ c κs. search needs)
+    (λ c. omega arith)
+    (λ c κs. tt)
+    (λ c κs. tt)
+    (λ c κs. tt)
     returns
-    (λ c. search needs)
-    (λ c. search needs)
+    (λ c. omega arith)
+    (λ c. omega arith)
     returns-2
     returns-3
     returns-4)

@@ -1,5 +1,4 @@
 -- `zones::search::moved_id` meets its contract. Assumes nothing.
-use borrow.Author.Needs.{needs}
 use mathlib.Core.Path.{_∙_}
 use native.Mathlib.Omega.{arith}
 use Rattle.zones.proofs.search.Turns.{forth, back}
@@ -21,4 +20,4 @@ returns-2 c =
 pub moved-id-spec : {M : Type 1} → statement M
 moved-id-spec =
     tie.close
-    (tie.spec (λ c. search needs) (λ c κs. search needs) (λ c κs. search needs) returns returns-2)
+    (tie.spec (λ c. omega arith) (λ c κs. tt) (λ c κs. tt) returns returns-2)

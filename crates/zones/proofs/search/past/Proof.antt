@@ -1,8 +1,8 @@
 -- `zones::search::past` meets its contract: each sum by its own promise. Assumes nothing.
 use Prim.Native.Nat.{_^_}
-use borrow.Author.Needs.{needs}
 use mathlib.Core.Path.{_∙_}
 use native.Mathlib.Nat.{add-mod-mod}
+use native.Mathlib.Omega.{arith}
 use Rattle.zones.proofs.search.past.Statement.{statement}
 use Rattle.zones.proofs.search.past.Tie as tie
 
@@ -23,8 +23,8 @@ pub past-spec : {M : Type 1} → statement M
 past-spec =
     tie.close
     (tie.spec
-    (λ c. search needs)
-    (λ c κs. search needs)
-    (λ c κs. search needs)
-    (λ c κs. search needs)
+    (λ c. omega arith)
+    (λ c κs. tt)
+    (λ c κs. tt)
+    (λ c κs. tt)
     returns)

@@ -1,7 +1,6 @@
 -- `zones::search::search` meets its contract. The loop's invariant is `Going`: the hits so far stand at the front of words that are zero beyond them.
 -- Assumes nothing.
 use Prim.Native.Nat.{_-_, _/_}
-use borrow.Author.Needs.{needs}
 use lib.ListN.{length}
 use mathlib.Core.Path.{sym, _∙_}
 use native.Mathlib.Omega.{arith}
@@ -127,27 +126,27 @@ search-spec =
     (tie.spec
     Inv-loop
     μ-loop
-    (λ c. search needs)
-    (λ c κs. search needs)
-    (λ c. search needs)
+    (λ c. omega arith)
+    (λ c κs. tt)
+    (λ c. omega arith)
     loop-holds
-    (λ c κs. search needs)
-    (λ c. search needs)
+    (λ c κs. tt)
+    (λ c. omega arith)
     loop-less
     loop-again
-    (λ c. search needs)
-    (λ c κs. search needs)
+    (λ c. omega arith)
+    (λ c κs. tt)
     same-length
     returns
     put-hit-requires
     add-count
     loop-less-2
     loop-again-2
-    (λ c. search needs)
+    (λ c. omega arith)
     same-length-2
     returns-2
-    (λ c. search needs)
-    (λ c κs. search needs)
+    (λ c. omega arith)
+    (λ c κs. tt)
     same-length-3
     returns-3
     same-length-4

