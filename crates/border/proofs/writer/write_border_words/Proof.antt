@@ -1,5 +1,5 @@
 -- `border::writer::write_border_words` meets its contract. Assumes nothing.
-use borrow.Author.Needs.{needs}
+use native.Mathlib.Omega.{arith}
 use Rattle.border.specs.Pieces.{piecesOf}
 use Rattle.border.proofs.writer.write_border_words.Statement.{statement}
 use Rattle.border.proofs.writer.write_border_words.Tie as tie
@@ -26,4 +26,4 @@ returns c =
 pub write-border-words-spec : {M : Type 1} → statement M
 write-border-words-spec =
     tie.close
-    (tie.spec no-pieces-requires check-words-requires write-checked-requires (λ c. search needs) returns)
+    (tie.spec no-pieces-requires check-words-requires write-checked-requires (λ c. omega arith) returns)

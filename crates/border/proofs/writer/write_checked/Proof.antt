@@ -1,7 +1,7 @@
 -- `border::writer::write_checked` meets its contract. Assumes nothing.
-use borrow.Author.Needs.{needs}
 use mathlib.Core.Path.{_≡_, sym, ap, _∙_}
 use mathlib.Core.List.{[]}
+use native.Mathlib.Omega.{arith}
 use Rattle.border.specs.Writer.{given, checks, passed, replied}
 use Rattle.border.specs.declared.writer.Written.{Written}
 use Rattle.border.proofs.writer.Replying.{refusing, finished, faulty, good-sizes, plain-none, plain-given, packed-many, packed-bad, packed-given}
@@ -51,23 +51,23 @@ pub write-checked-spec : {M : Type 1} → statement M
 write-checked-spec =
     tie.close
     (tie.spec
-    (λ c κs. search needs)
-    (λ c κs. search needs)
-    (λ c. search needs)
-    (λ c. search needs)
-    (λ c. search needs)
+    (λ c κs. tt)
+    (λ c κs. tt)
+    (λ c. omega arith)
+    (λ c. omega arith)
+    (λ c. omega arith)
     returns
-    (λ c. search needs)
+    (λ c. omega arith)
     returns-2
     write-plain-requires
-    (λ c κs. search needs)
-    (λ c. search needs)
+    (λ c κs. tt)
+    (λ c. omega arith)
     returns-3
-    (λ c. search needs)
+    (λ c. omega arith)
     returns-4
-    (λ c. search needs)
+    (λ c. omega arith)
     returns-5
     write-packed-requires
-    (λ c κs. search needs)
-    (λ c. search needs)
+    (λ c κs. tt)
+    (λ c. omega arith)
     returns-6)

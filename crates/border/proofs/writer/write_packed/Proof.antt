@@ -72,12 +72,12 @@ write-packed-spec =
     loop-holds
     mul-piece
     array-copy-out-piece
-    (λ c. search needs)
-    (λ c κs. search needs)
+    (λ c. omega arith)
+    (λ c κs. tt)
     put-packed-requires
     put-piece-requires
-    (λ c. search needs)
-    (λ c. search needs)
+    (λ c. omega arith)
+    (λ c. omega arith)
     add-j
     loop-less
     loop-again

@@ -8,7 +8,6 @@ use Rattle.border.specs.Moves.{varintOf, digitsOf, plainMoveBytes, moves
 use Rattle.border.proofs.writer.Indexed.{border-length, all-moves}
 use Rattle.border.proofs.writer.Stores.{stored-then, varint-few}
 use Rattle.border.proofs.writer.Lengths.{plain-few}
-use borrow.Author.Needs.{needs}
 use Rattle.border.proofs.writer.write_plain.Statement.{statement}
 use Rattle.border.proofs.writer.write_plain.Tie as tie
 use Rattle.border.proofs.writer.write_plain.Reads as reads
@@ -42,4 +41,4 @@ returns c =
 pub write-plain-spec : {M : Type 1} → statement M
 write-plain-spec =
     tie.close
-    (tie.spec (λ c κs. search needs) put-plain-requires put-two-requires (λ c. search needs) returns)
+    (tie.spec (λ c κs. omega arith) put-plain-requires put-two-requires (λ c. omega arith) returns)

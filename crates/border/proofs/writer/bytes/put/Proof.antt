@@ -1,4 +1,5 @@
 -- `border::writer::bytes::put` meets its contract. Assumes nothing.
+use native.Mathlib.Omega.{arith}
 use Rattle.border.proofs.writer.Stores.{stored-past}
 use borrow.Author.Needs.{needs}
 use Rattle.border.proofs.writer.bytes.put.Statement.{statement}
@@ -11,4 +12,4 @@ returns-2 c = stored-past _ _ _ (c .if1 .left)
 
 pub put-spec : {M : Type 1} → statement M
 put-spec =
-    tie.close (tie.spec (λ c. search needs) (λ c. search needs) (λ c. search needs) (λ c. search needs) (λ c. search needs) returns-2)
+    tie.close (tie.spec (λ c. omega arith) (λ c. omega arith) (λ c. search needs) (λ c. search needs) (λ c. omega arith) returns-2)

@@ -2,7 +2,6 @@
 use native.Mathlib.Omega.{arith}
 use Rattle.border.specs.Moves.{varintOf}
 use Rattle.border.proofs.writer.Stores.{stored-then, varint-few}
-use borrow.Author.Needs.{needs}
 use Rattle.border.proofs.writer.bytes.put_two.Statement.{statement}
 use Rattle.border.proofs.writer.bytes.put_two.Tie as tie
 use Rattle.border.proofs.writer.bytes.put_two.Reads as reads
@@ -16,4 +15,4 @@ returns : tie.Need-returns
 returns c = stored-then (varintOf (c .before .before .before .before .before .before .before .before .before .args .first)) (varintOf (c .before .before .before .before .before .before .before .before .before .args .second)) (c .before .before .before .before .before .before .put-varint .ensures) (c .before .before .put-varint2 .ensures)
 
 pub put-two-spec : {M : Type 1} → statement M
-put-two-spec = tie.close (tie.spec (λ c κs. search needs) put-varint-requires-2 (λ c. search needs) returns)
+put-two-spec = tie.close (tie.spec (λ c κs. omega arith) put-varint-requires-2 (λ c. omega arith) returns)

@@ -2,7 +2,6 @@
 use mathlib.Core.Path.{_≡_, refl, sym, ap, _∙_}
 use mathlib.Core.Bool.{true, false}
 use native.Mathlib.Omega.{arith}
-use borrow.Author.Needs.{needs}
 use borrow.Author.Tests.{not-true, not-false}
 use Prim.Native.Nat.{_-_, _≤_}
 use lib.IntN.{pos}
@@ -68,7 +67,7 @@ all-near-spec =
     loop-holds
     mul-is-near
     shared-slice-copy-out-is-near
-    (λ c κs. search needs)
+    (λ c κs. tt)
     returns
     add-i
     loop-less

@@ -4,7 +4,6 @@ use mathlib.Core.Path.{sym, ap, _∙_}
 use borrow.Author.Tests.{not-true, not-false}
 use Rattle.border.specs.Writer.{passed}
 use Rattle.border.proofs.writer.Faults.{sizes, long-data, odd-version, not-sized, far-lat, far-lon, repeated, at-origin, no-fault}
-use borrow.Author.Needs.{needs}
 use Rattle.border.proofs.writer.checks.border_fault.Statement.{statement}
 use Rattle.border.proofs.writer.checks.border_fault.Tie as tie
 use Rattle.border.proofs.writer.checks.border_fault.Reads as reads
@@ -97,22 +96,22 @@ pub border-fault-spec : {M : Type 1} → statement M
 border-fault-spec =
     tie.close
     (tie.spec
-    (λ c κs. search needs)
+    (λ c κs. tt)
     returns
     returns-2
-    (λ c κs. search needs)
-    (λ c κs. search needs)
+    (λ c κs. tt)
+    (λ c κs. tt)
     returns-3
-    (λ c κs. search needs)
-    (λ c κs. search needs)
+    (λ c κs. tt)
+    (λ c κs. tt)
     returns-4
-    (λ c κs. search needs)
-    (λ c κs. search needs)
+    (λ c κs. tt)
+    (λ c κs. tt)
     returns-5
     none-repeated-requires
-    (λ c κs. search needs)
+    (λ c κs. tt)
     returns-6
     moves-at-requires
-    (λ c κs. search needs)
+    (λ c κs. tt)
     returns-7
     returns-8)

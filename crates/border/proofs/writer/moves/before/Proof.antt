@@ -1,8 +1,8 @@
 -- `border::writer::moves::before` meets its contract. Assumes nothing.
 use mathlib.Core.Path.{_≡_, _∙_}
 use mir.Facts.{toZ-ofZ}
+use native.Mathlib.Omega.{arith}
 use Rattle.border.proofs.writer.Indexed.{before-first, before-next}
-use borrow.Author.Needs.{needs}
 use Rattle.border.proofs.writer.moves.before.Statement.{statement}
 use Rattle.border.proofs.writer.moves.before.Tie as tie
 
@@ -16,4 +16,4 @@ returns-2 c =
 
 pub before-spec : {M : Type 1} → statement M
 before-spec =
-    tie.close (tie.spec returns (λ c. search needs) (λ c. search needs) (λ c. search needs) returns-2)
+    tie.close (tie.spec returns (λ c. omega arith) (λ c. omega arith) (λ c. omega arith) returns-2)

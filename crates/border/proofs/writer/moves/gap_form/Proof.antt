@@ -2,10 +2,11 @@
 use mathlib.Core.Path.{_≡_, ap, _∙_}
 use lib.IntN.{ℤ, pos, _-ℤ_}
 use lib.ListN.{getD}
+use native.Mathlib.Omega.{arith}
 use Rattle.border.specs.Moves.{signedForm}
 use Rattle.border.specs.Stored.{gapAt}
 use Rattle.border.proofs.writer.Signs.{formed}
-use borrow.Author.Needs.{needs, sfits-of}
+use borrow.Author.Needs.{sfits-of}
 use Rattle.border.proofs.writer.moves.gap_form.Statement.{statement}
 use Rattle.border.proofs.writer.moves.gap_form.Tie as tie
 use Rattle.border.proofs.writer.moves.gap_form.Reads as reads
@@ -25,4 +26,4 @@ returns c =
 pub gap-form-spec : {M : Type 1} → statement M
 gap-form-spec =
     tie.close
-    (tie.spec (λ c κs. search needs) (λ c. search needs) (λ c. search needs) (λ c κs. search needs) returns)
+    (tie.spec (λ c κs. omega arith) (λ c. omega arith) (λ c. omega arith) (λ c κs. tt) returns)

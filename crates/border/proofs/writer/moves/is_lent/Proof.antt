@@ -1,4 +1,5 @@
 -- `border::writer::moves::is_lent` meets its contract. Assumes nothing.
+use native.Mathlib.Omega.{arith}
 use Rattle.border.proofs.writer.Elements.{lent-lat, lent-lon}
 use borrow.Author.Needs.{needs}
 use Rattle.border.proofs.writer.moves.is_lent.Statement.{statement}
@@ -27,10 +28,10 @@ pub is-lent-spec : {M : Type 1} → statement M
 is-lent-spec =
     tie.close
     (tie.spec
-    (λ c κs. search needs)
-    (λ c κs. search needs)
-    (λ c κs. search needs)
+    (λ c κs. tt)
+    (λ c κs. tt)
+    (λ c κs. omega arith)
     returns
-    (λ c κs. search needs)
-    (λ c κs. search needs)
+    (λ c κs. tt)
+    (λ c κs. omega arith)
     returns-2)

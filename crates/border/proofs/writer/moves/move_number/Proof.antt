@@ -1,7 +1,7 @@
 -- `border::writer::moves::move_number` meets its contract. Assumes nothing.
 use mathlib.Core.Path.{_≡_, ap, _∙_}
+use native.Mathlib.Omega.{arith}
 use Rattle.border.specs.Moves.{packedNumber}
-use borrow.Author.Needs.{needs}
 use Rattle.border.proofs.writer.moves.move_number.Statement.{statement}
 use Rattle.border.proofs.writer.moves.move_number.Tie as tie
 use Rattle.border.proofs.writer.moves.move_number.Reads as reads
@@ -15,4 +15,4 @@ returns c = c .interleave .ensures ∙ rw (c .before .before .gap-form .ensures,
 
 pub move-number-spec : {M : Type 1} → statement M
 move-number-spec =
-    tie.close (tie.spec (λ c κs. search needs) (λ c κs. search needs) (λ c κs. search needs) returns)
+    tie.close (tie.spec (λ c κs. omega arith) (λ c κs. omega arith) (λ c κs. tt) returns)

@@ -1,6 +1,6 @@
 -- `border::writer::moves::moves_at` meets its contract. Assumes nothing.
+use native.Mathlib.Omega.{arith}
 use Rattle.border.proofs.writer.Elements.{moves-lat, moves-lon}
-use borrow.Author.Needs.{needs}
 use Rattle.border.proofs.writer.moves.moves_at.Statement.{statement}
 use Rattle.border.proofs.writer.moves.moves_at.Tie as tie
 use Rattle.border.proofs.writer.moves.moves_at.Reads as reads
@@ -18,4 +18,4 @@ returns-2 c =
     moves-lon (a .lats .now) (a .lons .now) (a .i) (c .before .before .gap-form .ensures) (c .before .if1 .left) (c .gap-form2 .ensures)
 
 pub moves-at-spec : {M : Type 1} → statement M
-moves-at-spec = tie.close (tie.spec (λ c κs. search needs) returns (λ c κs. search needs) returns-2)
+moves-at-spec = tie.close (tie.spec (λ c κs. omega arith) returns (λ c κs. omega arith) returns-2)

@@ -3,10 +3,11 @@ use mathlib.Core.Path.{_≡_, sym, ap, _∙_}
 use lib.IntN.{ℤ, pos, _-ℤ_}
 use lib.ListN.{getD}
 use mathlib.Core.List.{_∷_}
+use native.Mathlib.Omega.{arith}
 use Rattle.border.specs.Moves.{signedForm}
 use Rattle.border.specs.Stored.{gapAt}
 use Rattle.border.proofs.writer.Signs.{formed, turned}
-use borrow.Author.Needs.{needs, sfits-of}
+use borrow.Author.Needs.{sfits-of}
 use borrow.Author.Tests.{eq-eqb, ne-eqb}
 use Rattle.border.proofs.writer.moves.turned_form.Statement.{statement}
 use Rattle.border.proofs.writer.moves.turned_form.Tie as tie
@@ -34,10 +35,10 @@ pub turned-form-spec : {M : Type 1} → statement M
 turned-form-spec =
     tie.close
     (tie.spec
-    (λ c κs. search needs)
+    (λ c κs. omega arith)
     returns
-    (λ c. search needs)
-    (λ c. search needs)
-    (λ c κs. search needs)
-    (λ c κs. search needs)
+    (λ c. omega arith)
+    (λ c. omega arith)
+    (λ c κs. omega arith)
+    (λ c κs. tt)
     returns-2)

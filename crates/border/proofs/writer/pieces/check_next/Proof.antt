@@ -1,8 +1,8 @@
 -- `border::writer::pieces::check_next` meets its contract. Assumes nothing.
 use mathlib.Core.Path.{sym, _∙_}
 use borrow.Author.Tests.{not-true, not-false}
+use native.Mathlib.Omega.{arith}
 use Rattle.border.proofs.writer.Gathering.{over, after-bad, first-bad, still-good}
-use borrow.Author.Needs.{needs}
 use Rattle.border.proofs.writer.pieces.check_next.Statement.{statement}
 use Rattle.border.proofs.writer.pieces.check_next.Tie as tie
 use Rattle.border.proofs.writer.pieces.check_next.Reads as reads
@@ -34,14 +34,14 @@ check-next-spec =
     tie.close
     (tie.spec
     returns
-    (λ c. search needs)
-    (λ c. search needs)
-    (λ c. search needs)
-    (λ c. search needs)
-    (λ c. search needs)
-    (λ c. search needs)
+    (λ c. omega arith)
+    (λ c. omega arith)
+    (λ c. omega arith)
+    (λ c. omega arith)
+    (λ c. omega arith)
+    (λ c. omega arith)
     returns-2
-    (λ c κs. search needs)
+    (λ c κs. tt)
     returns-3
-    (λ c. search needs)
+    (λ c. omega arith)
     returns-4)

@@ -4,7 +4,6 @@ use native.Mathlib.Omega.{arith}
 use mathlib.Core.Path.{_≡_, sym, ap, _∙_, subst}
 use mathlib.Core.List.{List, [], _∷_, _++_}
 use lib.ListN.{length}
-use borrow.Author.Needs.{needs}
 use Rattle.border.specs.Moves.{movesOf}
 use Rattle.border.specs.Pieces.{firstPieces, piecesOf}
 use Rattle.border.specs.Stored.{Checked}
@@ -60,7 +59,7 @@ check-words-spec =
     μ-loop
     loop-holds
     piece-at-requires
-    (λ c κs. search needs)
+    (λ c κs. tt)
     add-i
     loop-less
     loop-again

@@ -2,7 +2,6 @@
 use native.Mathlib.Omega.{arith}
 use borrow.Author.Tests.{lt-ltb, le-ltb}
 use Rattle.border.specs.Pieces.{clearBefore}
-use borrow.Author.Needs.{needs}
 use Rattle.border.proofs.writer.pieces.clear_before.Statement.{statement}
 use Rattle.border.proofs.writer.pieces.clear_before.Tie as tie
 use Rattle.border.proofs.writer.pieces.clear_before.Reads as reads
@@ -17,4 +16,4 @@ unfolding clearBefore
 returns-2 c = rw (lt-ltb 0 (c .before .before .args .place) (omega (arith, c .before .if1 .left)))
 
 pub clear-before-spec : {M : Type 1} → statement M
-clear-before-spec = tie.close (tie.spec returns (λ c. search needs) (λ c. search needs) returns-2)
+clear-before-spec = tie.close (tie.spec returns (λ c. omega arith) (λ c. omega arith) returns-2)

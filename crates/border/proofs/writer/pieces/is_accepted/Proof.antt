@@ -1,7 +1,7 @@
 -- `border::writer::pieces::is_accepted` meets its contract. Assumes nothing.
-use borrow.Author.Needs.{needs}
 use borrow.Author.Tests.{not-true, not-false}
 use mathlib.Core.Path.{sym, _∙_}
+use native.Mathlib.Omega.{arith}
 use Rattle.border.proofs.writer.Accepting.{Inside, low, empty, past-lats, past-lons, outside, forward, behind, backward}
 use Rattle.border.proofs.writer.pieces.is_accepted.Statement.{statement}
 use Rattle.border.proofs.writer.pieces.is_accepted.Tie as tie
@@ -51,26 +51,26 @@ pub is-accepted-spec : {M : Type 1} → statement M
 is-accepted-spec =
     tie.close
     (tie.spec
-    (λ c. search needs)
-    (λ c. search needs)
-    (λ c. search needs)
-    (λ c. search needs)
-    (λ c. search needs)
-    (λ c. search needs)
+    (λ c. omega arith)
+    (λ c. omega arith)
+    (λ c. omega arith)
+    (λ c. omega arith)
+    (λ c. omega arith)
+    (λ c. omega arith)
     returns
     returns-2
     returns-3
     returns-4
     returns-5
-    (λ c. search needs)
-    (λ c. search needs)
-    (λ c. search needs)
+    (λ c. omega arith)
+    (λ c. omega arith)
+    (λ c. omega arith)
     run-spells-requires
     returns-6
-    (λ c κs. search needs)
+    (λ c κs. omega arith)
     returns-7
-    (λ c. search needs)
-    (λ c. search needs)
-    (λ c. search needs)
+    (λ c. omega arith)
+    (λ c. omega arith)
+    (λ c. omega arith)
     run-spells-requires-2
     returns-8)

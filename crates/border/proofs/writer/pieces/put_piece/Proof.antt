@@ -6,7 +6,6 @@ use borrow.Author.Tests.{eq-eqb, ne-eqb}
 use Rattle.border.specs.Moves.{varintOf}
 use Rattle.border.specs.Pieces.{pieceBytes}
 use Rattle.border.proofs.writer.Stores.{stored-then, marked}
-use borrow.Author.Needs.{needs}
 use Rattle.border.proofs.writer.pieces.put_piece.Statement.{statement}
 use Rattle.border.proofs.writer.pieces.put_piece.Tie as tie
 use Rattle.border.proofs.writer.pieces.put_piece.Reads as reads
@@ -35,16 +34,16 @@ pub put-piece-spec : {M : Type 1} → statement M
 put-piece-spec =
     tie.close
     (tie.spec
-    (λ c. search needs)
-    (λ c. search needs)
-    (λ c κs. search needs)
-    (λ c. search needs)
+    (λ c. omega arith)
+    (λ c. omega arith)
+    (λ c κs. omega arith)
+    (λ c. omega arith)
     put-two-requires-2
-    (λ c. search needs)
+    (λ c. omega arith)
     returns
-    (λ c. search needs)
-    (λ c. search needs)
-    (λ c. search needs)
+    (λ c. omega arith)
+    (λ c. omega arith)
+    (λ c. omega arith)
     put-two-requires-3
-    (λ c. search needs)
+    (λ c. omega arith)
     returns-2)
