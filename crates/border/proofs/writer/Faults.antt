@@ -1,27 +1,19 @@
 -- The checks of a border in turn, each with those before it. Assumes nothing.
-use Prim.Native.Nat.{ℕ, _+_, _^_, _<_, _≤_}
+use Prim.Native.Nat.{ℕ, _^_, _<_, _≤_}
 use native.Mathlib.Omega.{arith}
-use mathlib.Core.Path.{_≡_, refl, sym, ap, _∙_}
+use mathlib.Core.Path.{_≡_, sym, ap, _∙_}
 use mathlib.Core.Bool.{Bool, true, false, _&&_}
-use mathlib.Core.List.{List, [], _∷_}
+use mathlib.Core.List.{List}
 use lib.Dec.{ltb, leb, eqb}
 use lib.IntN.{ℤ}
 use lib.ListN.{length, take, drop}
 use borrow.Author.Tests.{lt-ltb, le-ltb, le-leb, lt-leb, ltb-true, leb-true, eqb-true}
 use Rattle.numbers.specs.declared.point.{RawPoint.RawPoint}
 use Rattle.border.specs.Moves.{movesOf, isMove}
-use Rattle.border.specs.Writer.{Reply, given, refused, demand, _>>_, every, near, sized, checks}
+use Rattle.border.specs.Writer.{given, refused, demand, _>>_, every, near, sized, checks}
 use Rattle.border.specs.Stored.{moveAt}
-use Rattle.border.proofs.writer.Signs.{differ}
+use Rattle.border.proofs.Signs.{both, and-true}
 use Rattle.border.proofs.writer.Indexed.{moves-next}
-
-pub both-true : (a b : Bool) → (a && b) ≡ true → (a ≡ true) × (b ≡ true)
-both-true true b e = (refl, e)
-both-true false b e = differ e
-
-and-true : (t : Bool) → (t && true) ≡ t
-and-true true = refl
-and-true false = refl
 
 -- what a border of good size has
 pub record Sizes (lats lons : List ℤ) : Type 0 where
@@ -32,8 +24,8 @@ pub record Sizes (lats lons : List ℤ) : Type 0 where
 pub sizes : (lats lons : List ℤ) → sized lats lons ≡ true → Sizes lats lons
 unfolding sized
 sizes lats lons e =
-    let h = both-true (eqb (length lats) (length lons)) (ltb 0 (length lats) && leb (length lats) 65535) e in
-    let k = both-true (ltb 0 (length lats)) (leb (length lats) 65535) (h .1) in
+    let h = both (eqb (length lats) (length lons)) (ltb 0 (length lats) && leb (length lats) 65535) e in
+    let k = both (ltb 0 (length lats)) (leb (length lats) 65535) (h .1) in
     record { some = ltb-true 0 (length lats) (k .0); same = sym (eqb-true (length lats) (length lons) (h .0)); few = leb-true (length lats) 65535 (k .1) }
 
 first-move : (lats lons : List ℤ) → 0 < length lats → 0 < length lons → every isMove (take 1 (movesOf lats lons)) ≡ isMove (moveAt lats lons 0)

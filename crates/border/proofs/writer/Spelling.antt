@@ -1,12 +1,12 @@
 -- The moves that a piece stands for, and the numbers of its run, one at a time. Assumes nothing.
-use Prim.Native.Nat.{ℕ, zero, suc, _+_, _-_, _<_, _≤_}
+use Prim.Native.Nat.{ℕ, suc, _+_, _-_, _<_, _≤_}
 use native.Mathlib.Omega.{arith}
 use mathlib.Core.Path.{_≡_, refl, sym, ap, _∙_}
 use mathlib.Core.Bool.{Bool, true, false, not, _&&_}
 use mathlib.Core.List.{List, [], _∷_, _++_, map, reverse, reverse-cons}
 use mathlib.Core.Logic.{_⊎_, inl, inr}
 use lib.Dec.{ltb, leb, eqb}
-use lib.IntN.{ℤ, pos}
+use lib.IntN.{ℤ}
 use lib.ListN.{length, getD, drop, take, length-map, length-reverse, length-drop, List·getD-map, List·getD-append}
 use lib.Seq.{drop-cons, length-take-le, getD-drop, getD-take, drop-length, getD-at}
 use borrow.Author.Tests.{ltb-false, ltb-true, le-leb, lt-leb, ne-eqb, eq-eqb}

@@ -1,12 +1,11 @@
 -- Each entry leads on: the next place is further, and a hit's kind is not 0. Assumes nothing.
-use mathlib.Core.Path.{_≡_, refl, sym, ap, _∙_}
+use mathlib.Core.Path.{_≡_, refl, sym, ap}
 use mathlib.Core.Bool.{Bool, true, false}
 use mathlib.Core.List.{List}
-use Prim.Native.Nat.{ℕ, _+_, _%_, _^_, _<_}
+use Prim.Native.Nat.{ℕ, _<_}
 use native.Mathlib.Omega.{arith}
 use borrow.Author.Tests.{eqb-false}
-use lib.Dec.{eqb, ltb}
-use lib.Signed.{ltZ}
+use lib.Dec.{eqb}
 use Rattle.numbers.specs.Answer.{Answer, found, failed, refused, if_then_else_, _>>=_}
 use Rattle.numbers.specs.Varint.{Numeral, forwardAt}
 use Rattle.numbers.specs.declared.varint.Varint.the-variants.{Number}

@@ -3,7 +3,7 @@ use mathlib.Core.Path.{_≡_, refl, sym, ap, _∙_}
 use mathlib.Core.Bool.{Bool, true, false}
 use mathlib.Core.List.{List, [], _∷_, _++_}
 use mathlib.Core.Option.{Option, none, some}
-use Prim.Native.Nat.{ℕ, _/_, _<_}
+use Prim.Native.Nat.{ℕ, _<_}
 use native.Mathlib.Nat.{sub-zero}
 use native.Mathlib.Omega.{arith}
 use borrow.Author.Tests.{le-leb}
@@ -17,7 +17,7 @@ use Rattle.zones.specs.Text.{bytesOf}
 use Rattle.zones.specs.Hits.{noHit}
 use Rattle.zones.specs.Fields.{fieldsPlace, Wrote}
 use Rattle.zones.specs.Lent.{Agrees}
-use Rattle.zones.specs.Simple.{begun, pickedFrom, pickedOf, joined, descriptionOf, bytesIn, lengthIn, fitting, wordedOf, Worded}
+use Rattle.zones.specs.Simple.{begun, pickedFrom, joined, descriptionOf, bytesIn, fitting, wordedOf, Worded}
 use Rattle.zones.specs.declared.header.Head.{Head}
 use Rattle.zones.specs.declared.hits.Hit.{Hit}
 use Rattle.zones.specs.declared.refusal.Refusal.{Refusal}
@@ -25,7 +25,6 @@ use Rattle.zones.specs.declared.text.Text.{Text}
 use Rattle.zones.specs.declared.simple.Value.{Value}
 use Rattle.zones.specs.declared.simple.Value.the-variants as X
 use Rattle.zones.specs.declared.simple.Picked.{Picked}
-use Rattle.zones.specs.declared.simple.Description.{Description}
 use Rattle.zones.specs.declared.simple.Description.the-variants as D
 use Rattle.zones.proofs.simple.Value as K
 use Rattle.zones.proofs.Laws.{carried, onward, met}

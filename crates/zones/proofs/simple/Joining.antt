@@ -1,5 +1,5 @@
 -- Two strings, one after the other, in a text that was zero. Assumes nothing.
-use mathlib.Core.Path.{_≡_, refl, sym, ap, _∙_}
+use mathlib.Core.Path.{_≡_, ap, _∙_}
 use mathlib.Core.List.{List, _++_, map}
 use Prim.Native.Nat.{ℕ, _+_, _-_, _≤_, _<_}
 use native.Mathlib.Omega.{arith}
@@ -7,7 +7,7 @@ use borrow.Author.Tests.{le-leb, lt-leb}
 use lib.ListN.{length, take, drop, length-append, length-map, length-drop}
 use lib.Seq.{length-take-le}
 use Rattle.zones.specs.Lists.{zeros, over}
-use Rattle.zones.specs.Reply.{Reply, given, refused, plain}
+use Rattle.zones.specs.Reply.{given, refused, plain}
 use Rattle.zones.specs.Text.{bytesOf}
 use Rattle.zones.specs.Utf8.{unmasked}
 use Rattle.zones.specs.Fields.{Wrote}

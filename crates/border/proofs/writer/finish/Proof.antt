@@ -6,9 +6,6 @@ use Rattle.border.specs.Writer.{replied}
 use Rattle.border.specs.declared.writer.Written.the-variants.{Refused}
 use Rattle.border.proofs.writer.finish.Statement.{statement}
 use Rattle.border.proofs.writer.finish.Tie as tie
-use Rattle.border.proofs.writer.finish.Reads as reads
-use Rattle.border.proofs.writer.finish.Lts as lts
-use Rattle.border.proofs.writer.bytes.zero_bytes.Reads as zero-bytes-reads
 
 returns : tie.Need-returns
 returns c = rw (lt-leb _ _ (c .before .before .before .before .if1 .taken)) (ap (replied (Refused 24 0)) (c .before .before .zero-bytes .ensures))

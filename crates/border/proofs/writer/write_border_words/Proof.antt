@@ -3,11 +3,6 @@ use native.Mathlib.Omega.{arith}
 use Rattle.border.specs.Pieces.{piecesOf}
 use Rattle.border.proofs.writer.write_border_words.Statement.{statement}
 use Rattle.border.proofs.writer.write_border_words.Tie as tie
-use Rattle.border.proofs.writer.write_border_words.Reads as reads
-use Rattle.border.proofs.writer.write_border_words.Lts as lts
-use Rattle.border.proofs.writer.pieces.check_words.Reads as check-words-reads
-use Rattle.border.proofs.writer.pieces.no_pieces.Reads as no-pieces-reads
-use Rattle.border.proofs.writer.write_checked.Reads as write-checked-reads
 
 no-pieces-requires : tie.Need-no-pieces-requires
 no-pieces-requires c κs = tt

@@ -10,11 +10,6 @@ use Rattle.border.proofs.writer.Stores.{stored-then, varint-few}
 use Rattle.border.proofs.writer.Lengths.{plain-few}
 use Rattle.border.proofs.writer.write_plain.Statement.{statement}
 use Rattle.border.proofs.writer.write_plain.Tie as tie
-use Rattle.border.proofs.writer.write_plain.Reads as reads
-use Rattle.border.proofs.writer.write_plain.Lts as lts
-use Rattle.border.proofs.writer.bytes.put_two.Reads as put-two-reads
-use Rattle.border.proofs.writer.bytes.put_varint.Reads as put-varint-reads
-use Rattle.border.proofs.writer.moves.put_plain.Reads as put-plain-reads
 
 put-plain-requires : tie.Need-put-plain-requires
 put-plain-requires c κs =

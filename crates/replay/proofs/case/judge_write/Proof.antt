@@ -4,11 +4,6 @@ use Rattle.io.proofs.Counting.{front}
 use borrow.Author.Needs.{needs}
 use Rattle.replay.proofs.case.judge_write.Statement.{statement}
 use Rattle.replay.proofs.case.judge_write.Tie as tie
-use Rattle.replay.proofs.case.judge_write.Reads as reads
-use Rattle.replay.proofs.case.judge_write.Lts as lts
-use Rattle.replay.proofs.case.filled_text.Reads as filled-text-reads
-use Rattle.replay.proofs.case.run_written.Reads as run-written-reads
-use Rattle.replay.proofs.record.size_at.Reads as size-at-reads
 
 slice-aggregate-run-written : tie.Need-slice-aggregate-run-written
 slice-aggregate-run-written c = front (c .before .before .before .before .before .before .before .before .size-at5 .result) (c .before .filled-text .result) (omega (arith, c .before .filled-text .ensures, c .before .before .before .if5 .left))

@@ -6,12 +6,6 @@ use mathlib.Core.Path.{sym}
 use borrow.Author.Needs.{needs}
 use Rattle.replay.proofs.write.run_write.Statement.{statement}
 use Rattle.replay.proofs.write.run_write.Tie as tie
-use Rattle.replay.proofs.write.run_write.Reads as reads
-use Rattle.replay.proofs.write.run_write.Lts as lts
-use Rattle.border.proofs.writer.write_border_words.Reads as write-border-words-reads
-use Rattle.replay.proofs.write.coordinates.Reads as coordinates-reads
-use Rattle.replay.proofs.write.piece_words.Reads as piece-words-reads
-use Rattle.replay.proofs.write.reply_of.Reads as reply-of-reads
 
 slice-aggregate-write-border-words : tie.Need-slice-aggregate-write-border-words
 slice-aggregate-write-border-words c = sym (length-take-le (c .before .before .before .before .before .before .before .args .lats) (c .before .before .before .coordinates .result) (omega (arith, c .before .before .before .coordinates .ensures, c .before .before .before .before .before .before .before .pre .0)))

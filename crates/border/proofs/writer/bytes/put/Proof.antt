@@ -4,8 +4,6 @@ use Rattle.border.proofs.writer.Stores.{stored-past}
 use borrow.Author.Needs.{needs}
 use Rattle.border.proofs.writer.bytes.put.Statement.{statement}
 use Rattle.border.proofs.writer.bytes.put.Tie as tie
-use Rattle.border.proofs.writer.bytes.put.Reads as reads
-use Rattle.border.proofs.writer.bytes.put.Lts as lts
 
 returns-2 : tie.Need-returns-2
 returns-2 c = stored-past _ _ _ (c .if1 .left)

@@ -4,9 +4,6 @@ use Rattle.border.specs.Moves.{varintOf}
 use Rattle.border.proofs.writer.Stores.{stored-then, varint-few}
 use Rattle.border.proofs.writer.bytes.put_two.Statement.{statement}
 use Rattle.border.proofs.writer.bytes.put_two.Tie as tie
-use Rattle.border.proofs.writer.bytes.put_two.Reads as reads
-use Rattle.border.proofs.writer.bytes.put_two.Lts as lts
-use Rattle.border.proofs.writer.bytes.put_varint.Reads as put-varint-reads
 
 put-varint-requires-2 : tie.Need-put-varint-requires-2
 put-varint-requires-2 c κs = omega (arith, c .before .before .before .put-varint .ensures .place-after, varint-few (c .before .before .before .before .before .before .args .first))

@@ -1,16 +1,13 @@
 -- `border::writer::bytes::put_varint` meets its contract. Assumes nothing.
-use Prim.Native.Nat.{ℕ, _+_, _*_, _-_, _/_, _%_, _^_, _≤_, _<_}
+use Prim.Native.Nat.{_+_, _*_, _-_, _%_, _^_, _≤_, _<_}
 use native.Mathlib.Omega.{arith}
-use mathlib.Core.Path.{_≡_, refl, sym, ap, _∙_, subst}
-use mathlib.Core.List.{List, [], _∷_}
+use mathlib.Core.Path.{_≡_, _∙_, subst}
+use mathlib.Core.List.{[], _∷_}
 use Rattle.border.specs.Moves.{varintOf, digitsOf}
 use Rattle.border.proofs.writer.Digits.{tenth, weight-later}
 use Rattle.border.proofs.writer.Stores.{Left, left-all, left-step, left-last, stored-length, digits-last, digits-next}
 use Rattle.border.proofs.writer.bytes.put_varint.Statement.{statement}
 use Rattle.border.proofs.writer.bytes.put_varint.Tie as tie
-use Rattle.border.proofs.writer.bytes.put_varint.Reads as reads
-use Rattle.border.proofs.writer.bytes.put_varint.Lts as lts
-use Rattle.border.proofs.writer.bytes.put.Reads as put-reads
 
 abbrev Inv-loop : tie.InvT-loop
 Inv-loop out₀ place value next₀ rest₀ left₀ out next rest left =

@@ -13,9 +13,6 @@ use Rattle.border.specs.Writer.{every, near}
 use Rattle.border.proofs.writer.Indexed.{every-bad, every-good, every-done}
 use Rattle.border.proofs.writer.checks.all_near.Statement.{statement}
 use Rattle.border.proofs.writer.checks.all_near.Tie as tie
-use Rattle.border.proofs.writer.checks.all_near.Reads as reads
-use Rattle.border.proofs.writer.checks.all_near.Lts as lts
-use Rattle.border.proofs.writer.checks.is_near.Reads as is-near-reads
 
 abbrev Inv-loop : tie.InvT-loop
 Inv-loop list i₀ i = (i ≤ length list) × (every near (drop i list) ≡ every near list)

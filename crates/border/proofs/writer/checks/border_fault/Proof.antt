@@ -6,13 +6,6 @@ use Rattle.border.specs.Writer.{passed}
 use Rattle.border.proofs.writer.Faults.{sizes, long-data, odd-version, not-sized, far-lat, far-lon, repeated, at-origin, no-fault}
 use Rattle.border.proofs.writer.checks.border_fault.Statement.{statement}
 use Rattle.border.proofs.writer.checks.border_fault.Tie as tie
-use Rattle.border.proofs.writer.checks.border_fault.Reads as reads
-use Rattle.border.proofs.writer.checks.border_fault.Lts as lts
-use Rattle.border.proofs.writer.checks.all_near.Reads as all-near-reads
-use Rattle.border.proofs.writer.checks.is_sized.Reads as is-sized-reads
-use Rattle.border.proofs.writer.checks.none_repeated.Reads as none-repeated-reads
-use Rattle.border.proofs.writer.checks.refused.Reads as refused-reads
-use Rattle.border.proofs.writer.moves.moves_at.Reads as moves-at-reads
 
 returns : tie.Need-returns
 returns c =

@@ -10,9 +10,6 @@ use Rattle.border.specs.Writer.{every}
 use Rattle.border.proofs.writer.Indexed.{still, border-length, move-at, every-bad, every-good, every-done}
 use Rattle.border.proofs.writer.checks.none_repeated.Statement.{statement}
 use Rattle.border.proofs.writer.checks.none_repeated.Tie as tie
-use Rattle.border.proofs.writer.checks.none_repeated.Reads as reads
-use Rattle.border.proofs.writer.checks.none_repeated.Lts as lts
-use Rattle.border.proofs.writer.moves.moves_at.Reads as moves-at-reads
 
 abbrev Inv-loop : tie.InvT-loop
 Inv-loop lats lons i₀ i = (1 ≤ i) × (every isMove (drop i (movesOf lats lons)) ≡ every isMove (drop 1 (movesOf lats lons)))

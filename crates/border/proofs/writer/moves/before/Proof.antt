@@ -1,5 +1,5 @@
 -- `border::writer::moves::before` meets its contract. Assumes nothing.
-use mathlib.Core.Path.{_≡_, _∙_}
+use mathlib.Core.Path.{_∙_}
 use mir.Facts.{toZ-ofZ}
 use native.Mathlib.Omega.{arith}
 use Rattle.border.proofs.writer.Indexed.{before-first, before-next}

@@ -1,5 +1,5 @@
 -- `border::writer::moves::gap_form` meets its contract. Assumes nothing.
-use mathlib.Core.Path.{_≡_, ap, _∙_}
+use mathlib.Core.Path.{ap, _∙_}
 use lib.IntN.{ℤ, pos, _-ℤ_}
 use lib.ListN.{getD}
 use native.Mathlib.Omega.{arith}
@@ -9,10 +9,6 @@ use Rattle.border.proofs.writer.Signs.{formed}
 use borrow.Author.Needs.{sfits-of}
 use Rattle.border.proofs.writer.moves.gap_form.Statement.{statement}
 use Rattle.border.proofs.writer.moves.gap_form.Tie as tie
-use Rattle.border.proofs.writer.moves.gap_form.Reads as reads
-use Rattle.border.proofs.writer.moves.gap_form.Lts as lts
-use Rattle.border.proofs.writer.moves.before.Reads as before-reads
-use Rattle.border.proofs.writer.moves.form_of.Reads as form-of-reads
 
 returns : tie.Need-returns
 unfolding gapAt

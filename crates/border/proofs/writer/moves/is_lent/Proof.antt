@@ -4,11 +4,6 @@ use Rattle.border.proofs.writer.Elements.{lent-lat, lent-lon}
 use borrow.Author.Needs.{needs}
 use Rattle.border.proofs.writer.moves.is_lent.Statement.{statement}
 use Rattle.border.proofs.writer.moves.is_lent.Tie as tie
-use Rattle.border.proofs.writer.moves.is_lent.Reads as reads
-use Rattle.border.proofs.writer.moves.is_lent.Lts as lts
-use Rattle.border.proofs.writer.moves.form_of.Reads as form-of-reads
-use Rattle.border.proofs.writer.moves.turned_form.Reads as turned-form-reads
-use Rattle.numbers.proofs.point.decode_point.Reads as decode-point-reads
 
 returns : tie.Need-returns
 returns c =

@@ -1,13 +1,9 @@
 -- `border::writer::moves::move_number` meets its contract. Assumes nothing.
-use mathlib.Core.Path.{_≡_, ap, _∙_}
+use mathlib.Core.Path.{_∙_}
 use native.Mathlib.Omega.{arith}
 use Rattle.border.specs.Moves.{packedNumber}
 use Rattle.border.proofs.writer.moves.move_number.Statement.{statement}
 use Rattle.border.proofs.writer.moves.move_number.Tie as tie
-use Rattle.border.proofs.writer.moves.move_number.Reads as reads
-use Rattle.border.proofs.writer.moves.move_number.Lts as lts
-use Rattle.border.proofs.writer.moves.gap_form.Reads as gap-form-reads
-use Rattle.border.proofs.writer.moves.interleave.Reads as interleave-reads
 
 returns : tie.Need-returns
 unfolding packedNumber

@@ -3,9 +3,6 @@ use native.Mathlib.Omega.{arith}
 use Rattle.border.proofs.writer.Elements.{moves-lat, moves-lon}
 use Rattle.border.proofs.writer.moves.moves_at.Statement.{statement}
 use Rattle.border.proofs.writer.moves.moves_at.Tie as tie
-use Rattle.border.proofs.writer.moves.moves_at.Reads as reads
-use Rattle.border.proofs.writer.moves.moves_at.Lts as lts
-use Rattle.border.proofs.writer.moves.gap_form.Reads as gap-form-reads
 
 returns : tie.Need-returns
 returns c =

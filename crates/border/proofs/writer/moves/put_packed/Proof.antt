@@ -1,19 +1,15 @@
 -- `border::writer::moves::put_packed` meets its contract. Assumes nothing.
 use native.Mathlib.Omega.{arith}
-use Prim.Native.Nat.{ℕ, _-_, _+_}
-use mathlib.Core.Path.{_≡_, ap, _∙_, subst}
-use mathlib.Core.List.{List, _++_, flatMap}
+use Prim.Native.Nat.{ℕ, _-_}
+use mathlib.Core.Path.{subst}
+use mathlib.Core.List.{flatMap}
 use lib.Seq.{slice}
-use Rattle.border.specs.Moves.{varintOf, packedMoveBytes, packedNumber, movesOf}
+use Rattle.border.specs.Moves.{varintOf, packedMoveBytes, movesOf}
 use Rattle.border.specs.Stored.{Stored, moveAt}
 use Rattle.border.proofs.writer.Indexed.{each-next, each-done}
 use Rattle.border.proofs.writer.Stores.{Left, left-all, left-step, left-none}
 use Rattle.border.proofs.writer.moves.put_packed.Statement.{statement}
 use Rattle.border.proofs.writer.moves.put_packed.Tie as tie
-use Rattle.border.proofs.writer.moves.put_packed.Reads as reads
-use Rattle.border.proofs.writer.moves.put_packed.Lts as lts
-use Rattle.border.proofs.writer.moves.move_number.Reads as move-number-reads
-use Rattle.border.proofs.writer.bytes.put_varint.Reads as put-varint-reads
 
 abbrev Inv-loop : tie.InvT-loop
 Inv-loop out₀ place lats lons from to next₀ i₀ out next i =

@@ -1,8 +1,8 @@
 -- `border::writer::moves::put_plain` meets its contract. Assumes nothing.
 use native.Mathlib.Omega.{arith}
-use Prim.Native.Nat.{ℕ, _-_, _+_}
-use mathlib.Core.Path.{_≡_, ap, _∙_, subst}
-use mathlib.Core.List.{List, _++_, flatMap}
+use Prim.Native.Nat.{ℕ, _-_}
+use mathlib.Core.Path.{subst}
+use mathlib.Core.List.{_++_, flatMap}
 use lib.Seq.{slice}
 use Rattle.border.specs.Moves.{varintOf, signedForm, plainMoveBytes, movesOf}
 use Rattle.border.specs.Stored.{Stored, moveAt}
@@ -10,10 +10,6 @@ use Rattle.border.proofs.writer.Indexed.{each-next, each-done}
 use Rattle.border.proofs.writer.Stores.{Left, left-all, left-step, left-none}
 use Rattle.border.proofs.writer.moves.put_plain.Statement.{statement}
 use Rattle.border.proofs.writer.moves.put_plain.Tie as tie
-use Rattle.border.proofs.writer.moves.put_plain.Reads as reads
-use Rattle.border.proofs.writer.moves.put_plain.Lts as lts
-use Rattle.border.proofs.writer.moves.gap_form.Reads as gap-form-reads
-use Rattle.border.proofs.writer.bytes.put_two.Reads as put-two-reads
 
 abbrev Inv-loop : tie.InvT-loop
 Inv-loop out₀ place lats lons from to next₀ i₀ out next i =

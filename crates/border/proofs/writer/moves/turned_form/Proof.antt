@@ -1,5 +1,5 @@
 -- `border::writer::moves::turned_form` meets its contract. Assumes nothing.
-use mathlib.Core.Path.{_≡_, sym, ap, _∙_}
+use mathlib.Core.Path.{sym, ap, _∙_}
 use lib.IntN.{ℤ, pos, _-ℤ_}
 use lib.ListN.{getD}
 use mathlib.Core.List.{_∷_}
@@ -11,11 +11,6 @@ use borrow.Author.Needs.{sfits-of}
 use borrow.Author.Tests.{eq-eqb, ne-eqb}
 use Rattle.border.proofs.writer.moves.turned_form.Statement.{statement}
 use Rattle.border.proofs.writer.moves.turned_form.Tie as tie
-use Rattle.border.proofs.writer.moves.turned_form.Reads as reads
-use Rattle.border.proofs.writer.moves.turned_form.Lts as lts
-use Rattle.border.proofs.writer.moves.before.Reads as before-reads
-use Rattle.border.proofs.writer.moves.form_of.Reads as form-of-reads
-use Rattle.border.proofs.writer.moves.gap_form.Reads as gap-form-reads
 
 returns : tie.Need-returns
 returns c = rw (eq-eqb _ _ (c .before .if1 .taken)) (c .gap-form .ensures)

@@ -5,9 +5,6 @@ use native.Mathlib.Omega.{arith}
 use Rattle.border.proofs.writer.Gathering.{over, after-bad, first-bad, still-good}
 use Rattle.border.proofs.writer.pieces.check_next.Statement.{statement}
 use Rattle.border.proofs.writer.pieces.check_next.Tie as tie
-use Rattle.border.proofs.writer.pieces.check_next.Reads as reads
-use Rattle.border.proofs.writer.pieces.check_next.Lts as lts
-use Rattle.border.proofs.writer.pieces.is_accepted.Reads as is-accepted-reads
 
 returns : tie.Need-returns
 returns c = λ ps h.

@@ -1,9 +1,8 @@
 -- `border::writer::pieces::check_words` meets its contract. Assumes nothing.
-use Prim.Native.Nat.{ℕ, _+_, _-_, _/_, _≤_}
+use Prim.Native.Nat.{ℕ, _+_, _-_, _≤_}
 use native.Mathlib.Omega.{arith}
 use mathlib.Core.Path.{_≡_, sym, ap, _∙_, subst}
 use mathlib.Core.List.{List, [], _∷_, _++_}
-use lib.ListN.{length}
 use Rattle.border.specs.Moves.{movesOf}
 use Rattle.border.specs.Pieces.{firstPieces, piecesOf}
 use Rattle.border.specs.Stored.{Checked}
@@ -11,10 +10,6 @@ use Rattle.border.specs.declared.writer.{Piece.Piece}
 use Rattle.border.proofs.writer.Gathering.{words-more}
 use Rattle.border.proofs.writer.pieces.check_words.Statement.{statement}
 use Rattle.border.proofs.writer.pieces.check_words.Tie as tie
-use Rattle.border.proofs.writer.pieces.check_words.Reads as reads
-use Rattle.border.proofs.writer.pieces.check_words.Lts as lts
-use Rattle.border.proofs.writer.pieces.check_next.Reads as check-next-reads
-use Rattle.border.proofs.writer.pieces.piece_at.Reads as piece-at-reads
 
 abbrev Inv-loop : tie.InvT-loop
 Inv-loop earlier lats lons words count sofar₀ i₀ sofar i = (i ≤ count) × (Checked earlier (movesOf lats lons) [] sofar₀ → Checked earlier (movesOf lats lons) (firstPieces i words) sofar)

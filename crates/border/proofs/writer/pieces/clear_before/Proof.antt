@@ -4,8 +4,6 @@ use borrow.Author.Tests.{lt-ltb, le-ltb}
 use Rattle.border.specs.Pieces.{clearBefore}
 use Rattle.border.proofs.writer.pieces.clear_before.Statement.{statement}
 use Rattle.border.proofs.writer.pieces.clear_before.Tie as tie
-use Rattle.border.proofs.writer.pieces.clear_before.Reads as reads
-use Rattle.border.proofs.writer.pieces.clear_before.Lts as lts
 
 returns : tie.Need-returns
 unfolding clearBefore

@@ -3,8 +3,6 @@ use borrow.Author.Tests.{eq-eqb, ne-eqb}
 use native.Mathlib.Omega.{arith}
 use Rattle.border.proofs.writer.pieces.index_of.Statement.{statement}
 use Rattle.border.proofs.writer.pieces.index_of.Tie as tie
-use Rattle.border.proofs.writer.pieces.index_of.Reads as reads
-use Rattle.border.proofs.writer.pieces.index_of.Lts as lts
 
 returns : tie.Need-returns
 returns c = rw (eq-eqb _ _ (c .before .if1 .taken))

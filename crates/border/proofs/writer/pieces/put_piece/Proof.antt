@@ -1,16 +1,13 @@
 -- `border::writer::pieces::put_piece` meets its contract. Assumes nothing.
 use native.Mathlib.Omega.{arith}
-use Prim.Native.Nat.{ℕ, _+_, _*_}
-use mathlib.Core.List.{List, [], _∷_, _++_}
+use Prim.Native.Nat.{_+_, _*_}
+use mathlib.Core.List.{[], _∷_, _++_}
 use borrow.Author.Tests.{eq-eqb, ne-eqb}
 use Rattle.border.specs.Moves.{varintOf}
 use Rattle.border.specs.Pieces.{pieceBytes}
 use Rattle.border.proofs.writer.Stores.{stored-then, marked}
 use Rattle.border.proofs.writer.pieces.put_piece.Statement.{statement}
 use Rattle.border.proofs.writer.pieces.put_piece.Tie as tie
-use Rattle.border.proofs.writer.pieces.put_piece.Reads as reads
-use Rattle.border.proofs.writer.pieces.put_piece.Lts as lts
-use Rattle.border.proofs.writer.bytes.put_two.Reads as put-two-reads
 
 put-two-requires-2 : tie.Need-put-two-requires-2
 put-two-requires-2 c κs = omega (arith, marked (c .before .before .before .before .before .put-two .ensures) .place-after)
