@@ -32,46 +32,50 @@ first-move : (lats lons : List ℤ) → 0 < length lats → 0 < length lons → 
 unfolding every
 first-move lats lons h k = ap (λ (ms : List RawPoint). every isMove (take 1 ms)) (moves-next lats lons 0 h k) ∙ and-true (isMove (moveAt lats lons 0))
 
+-- the first three checks have passed
+pub record Early (version : ℕ) (lats lons : List ℤ) (earlier : List ℕ) : Type 0 where
+  pub short : length earlier ≤ 2 ^ 30
+  pub version-known : version < 2
+  pub right : sized lats lons ≡ true
+
 module _ (version : ℕ) (lats lons : List ℤ) (earlier : List ℕ) where
   pub long-data : 2 ^ 30 < length earlier → refused 1 0 ≡ checks version lats lons earlier
   unfolding checks
   long-data h = rw (lt-leb (length earlier) (2 ^ 30) h)
 
-  module _ (e₁ : length earlier ≤ 2 ^ 30) where
-    pub odd-version : 2 ≤ version → refused 5 version ≡ checks version lats lons earlier
-    unfolding checks
-    odd-version h = rw (le-leb (length earlier) (2 ^ 30) e₁, le-ltb version 2 h)
+  pub odd-version : length earlier ≤ 2 ^ 30 → 2 ≤ version → refused 5 version ≡ checks version lats lons earlier
+  unfolding checks
+  odd-version e₁ h = rw (le-leb (length earlier) (2 ^ 30) e₁, le-ltb version 2 h)
 
-    module _ (e₂ : version < 2) where
-      pub not-sized : sized lats lons ≡ false → refused 19 0 ≡ checks version lats lons earlier
-      unfolding checks
-      not-sized h = rw (le-leb (length earlier) (2 ^ 30) e₁, lt-ltb version 2 e₂, h)
+  pub not-sized : length earlier ≤ 2 ^ 30 → version < 2 → sized lats lons ≡ false → refused 19 0 ≡ checks version lats lons earlier
+  unfolding checks
+  not-sized e₁ e₂ h = rw (le-leb (length earlier) (2 ^ 30) e₁, lt-ltb version 2 e₂, h)
 
-      module _ (e₃ : sized lats lons ≡ true) where
-        pub far-lat : every near lats ≡ false → refused 20 0 ≡ checks version lats lons earlier
-        unfolding checks
-        far-lat h = rw (le-leb (length earlier) (2 ^ 30) e₁, lt-ltb version 2 e₂, e₃, h)
+module _ {version : ℕ} {lats lons : List ℤ} {earlier : List ℕ} (g : Early version lats lons earlier) where
+  left : (demand (every near lats && every near lons) 20 0 >> (demand (every isMove (drop 1 (movesOf lats lons))) 21 0 >> demand (every isMove (take 1 (movesOf lats lons))) 22 0)) ≡ checks version lats lons earlier
+  unfolding checks
+  left = rw (le-leb (length earlier) (2 ^ 30) (g .short), lt-ltb version 2 (g .version-known), g .right)
 
-        module _ (e₄ : every near lats ≡ true) where
-          pub far-lon : every near lons ≡ false → refused 20 0 ≡ checks version lats lons earlier
-          unfolding checks
-          far-lon h = rw (le-leb (length earlier) (2 ^ 30) e₁, lt-ltb version 2 e₂, e₃, e₄, h)
+  pub far-lat : every near lats ≡ false → refused 20 0 ≡ checks version lats lons earlier
+  far-lat h = rw h at left
 
-          module _ (e₅ : every near lons ≡ true) where
-            pub repeated : every isMove (drop 1 (movesOf lats lons)) ≡ false → refused 21 0 ≡ checks version lats lons earlier
-            unfolding checks
-            repeated h = rw (le-leb (length earlier) (2 ^ 30) e₁, lt-ltb version 2 e₂, e₃, e₄, e₅, h)
+  module _ (north : every near lats ≡ true) where
+    pub far-lon : every near lons ≡ false → refused 20 0 ≡ checks version lats lons earlier
+    far-lon h = rw (north, h) at left
 
-            module _ (e₆ : every isMove (drop 1 (movesOf lats lons)) ≡ true) where
-              rest : checks version lats lons earlier ≡ demand (isMove (moveAt lats lons 0)) 22 0
-              unfolding checks
-              rest =
-                  let s = sizes lats lons e₃ in
-                  rw (le-leb (length earlier) (2 ^ 30) e₁, lt-ltb version 2 e₂, e₃, e₄, e₅, e₆)
-                  (ap (λ (t : Bool). demand t 22 0) (first-move lats lons (s .some) (omega (arith, s .some, s .same))))
+    module _ (east : every near lons ≡ true) where
+      pub repeated : every isMove (drop 1 (movesOf lats lons)) ≡ false → refused 21 0 ≡ checks version lats lons earlier
+      repeated h = rw (north, east, h) at left
 
-              pub at-origin : isMove (moveAt lats lons 0) ≡ false → refused 22 0 ≡ checks version lats lons earlier
-              at-origin h = sym (rest ∙ ap (λ (t : Bool). demand t 22 0) h)
+      module _ (apart : every isMove (drop 1 (movesOf lats lons)) ≡ true) where
+        last : demand (isMove (moveAt lats lons 0)) 22 0 ≡ checks version lats lons earlier
+        last =
+            let s = sizes lats lons (g .right) in
+            let e = first-move lats lons (s .some) (omega (arith, s .some, s .same)) in
+            rw (north, east, apart, e) at left
 
-              pub no-fault : isMove (moveAt lats lons 0) ≡ true → given tt ≡ checks version lats lons earlier
-              no-fault h = sym (rest ∙ ap (λ (t : Bool). demand t 22 0) h)
+        pub at-origin : isMove (moveAt lats lons 0) ≡ false → refused 22 0 ≡ checks version lats lons earlier
+        at-origin h = rw h at last
+
+        pub no-fault : isMove (moveAt lats lons 0) ≡ true → given tt ≡ checks version lats lons earlier
+        no-fault h = rw h at last
