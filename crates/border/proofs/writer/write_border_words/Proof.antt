@@ -16,7 +16,10 @@ write-checked-requires c κs = tt
 returns : tie.Need-returns
 returns c =
     let a = c .before .before .before .before .before .before .before .before .before .args in
-    c .before .before .write-checked .ensures (piecesOf (a .words .now)) (c .before .before .before .before .check-words .ensures (c .before .before .before .before .before .no-pieces .ensures (a .earlier .now) (a .lats .now) (a .lons .now)))
+    let no-pieces = c .before .before .before .before .before .no-pieces in
+    let check-words = c .before .before .before .before .check-words in
+    let write-checked = c .before .before .write-checked in
+    write-checked .ensures (piecesOf (a .words .now)) (check-words .ensures (no-pieces .ensures (a .earlier .now) (a .lats .now) (a .lons .now)))
 
 pub write-border-words-spec : {M : Type 1} → statement M
 write-border-words-spec =

@@ -30,8 +30,11 @@ same-length : tie.Need-same-length Inv-loop μ-loop
 same-length c = stored-length (c .before .before .put .ensures) ∙ c .before .before .before .before .before .before .loop .inv .3 .size
 
 returns : tie.Need-returns Inv-loop μ-loop
-returns c = let l = c .before .before .before .before .before .before .loop in
-    left-last (l .rest ∷ []) (subst (Left _ _ _ (l .out) (l .next)) (digits-last (l .left) (l .rest) (c .before .before .before .before .if1 .taken)) (l .inv .3)) (c .before .before .put .ensures)
+returns c =
+    let l = c .before .before .before .before .before .before .loop in
+    let if1 = c .before .before .before .before .if1 in
+    let put = c .before .before .put in
+    left-last (l .rest ∷ []) (subst (Left _ _ _ (l .out) (l .next)) (digits-last (l .left) (l .rest) (if1 .taken)) (l .inv .3)) (put .ensures)
 
 add-put : tie.Need-add-put Inv-loop μ-loop
 add-put c = omega arith

@@ -31,11 +31,15 @@ shared-slice-copy-out-is-near c = omega arith
 
 returns : tie.Need-returns Inv-loop μ-loop
 returns c =
+    let args = c .before .before .before .before .before .args in
     let l = c .before .before .before .before .loop in
-    let zs = c .before .before .before .before .before .args .list .now in
-    let fit : SFits w32 (getD zs (l .i) (pos 0)) = record { sfits = c .before .before .is-near-arg .given } in
-    let bad : near (getD zs (l .i) (pos 0)) ≡ false = ap near (sym (toZ-ofZ fit)) ∙ sym (c .before .is-near .ensures) ∙ not-true _ (c .if1 .taken) in
-    sym (every-bad near zs (l .i) (pos 0) (c .before .before .before .loop-test .taken) bad) ∙ l .inv .1
+    let loop-test = c .before .before .before .loop-test in
+    let is-near-arg = c .before .before .is-near-arg in
+    let is-near = c .before .is-near in
+    let zs = args .list .now in
+    let fit : SFits w32 (getD zs (l .i) (pos 0)) = record { sfits = is-near-arg .given } in
+    let bad : near (getD zs (l .i) (pos 0)) ≡ false = ap near (sym (toZ-ofZ fit)) ∙ sym (is-near .ensures) ∙ not-true _ (c .if1 .taken) in
+    sym (every-bad near zs (l .i) (pos 0) (loop-test .taken) bad) ∙ l .inv .1
 
 add-i : tie.Need-add-i Inv-loop μ-loop
 add-i c = omega arith
@@ -45,11 +49,15 @@ loop-less c = omega arith
 
 loop-again : tie.Need-loop-again Inv-loop μ-loop
 loop-again c =
+    let args = c .before .before .before .before .before .args in
     let l = c .before .before .before .before .loop in
-    let zs = c .before .before .before .before .before .args .list .now in
-    let fit : SFits w32 (getD zs (l .i) (pos 0)) = record { sfits = c .before .before .is-near-arg .given } in
-    let good : near (getD zs (l .i) (pos 0)) ≡ true = ap near (sym (toZ-ofZ fit)) ∙ sym (c .before .is-near .ensures) ∙ not-false _ (c .if1 .left) in
-    (omega arith, every-good near zs (l .i) (pos 0) (c .before .before .before .loop-test .taken) good ∙ l .inv .1)
+    let loop-test = c .before .before .before .loop-test in
+    let is-near-arg = c .before .before .is-near-arg in
+    let is-near = c .before .is-near in
+    let zs = args .list .now in
+    let fit : SFits w32 (getD zs (l .i) (pos 0)) = record { sfits = is-near-arg .given } in
+    let good : near (getD zs (l .i) (pos 0)) ≡ true = ap near (sym (toZ-ofZ fit)) ∙ sym (is-near .ensures) ∙ not-false _ (c .if1 .left) in
+    (omega arith, every-good near zs (l .i) (pos 0) (loop-test .taken) good ∙ l .inv .1)
 
 returns-2 : tie.Need-returns-2 Inv-loop μ-loop
 unfolding every

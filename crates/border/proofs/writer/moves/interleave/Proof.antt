@@ -73,7 +73,9 @@ loop-again c = let l = c .before .loop in let a = c .before .before .args in
     (omega arith, half (l .weight) (l .i) (omega arith) (l .inv .1), again (l .out) (l .weight) (l .i) (a .a) (a .b) (omega arith) (l .inv .0) (l .inv .1) (l .inv .2))
 
 returns : tie.Need-returns Inv-loop μ-loop
-returns c = let l = c .before .loop in ended (l .out) (l .weight) (l .i) (c .before .before .args .a) (c .before .before .args .b) (omega arith) (l .inv .1) (l .inv .2)
+returns c =
+    let l = c .before .loop in
+    ended (l .out) (l .weight) (l .i) (c .before .before .args .a) (c .before .before .args .b) (omega arith) (l .inv .1) (l .inv .2)
 
 pub interleave-spec : {M : Type 1} → statement M
 interleave-spec =

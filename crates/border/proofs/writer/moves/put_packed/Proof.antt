@@ -36,15 +36,17 @@ loop-less c = omega arith
 loop-again : tie.Need-loop-again Inv-loop μ-loop
 unfolding packedMoveBytes
 loop-again c =
-    let l = c .before .before .before .before .before .before .loop in
     let start = c .before .before .before .before .before .before .before .before in
-    let a = start .args in
+    let l = c .before .before .before .before .before .before .loop in
+    let loop-test = c .before .before .before .before .before .loop-test in
+    let move-number = c .before .before .before .move-number in
     let put = c .before .before .put-varint in
-    let s = subst (λ (n : ℕ). Stored (l .out) (l .next) (varintOf n) (put .last .0) (put .result)) (c .before .before .before .move-number .ensures) (put .ensures) in
+    let a = start .args in
+    let s = subst (λ (n : ℕ). Stored (l .out) (l .next) (varintOf n) (put .last .0) (put .result)) (move-number .ensures) (put .ensures) in
     left-step (packedMoveBytes (moveAt (a .lats .now) (a .lons .now) (l .i)))
     (subst (Left (a .out .now) (a .place) _ (l .out) (l .next))
-    (each-next (a .lats .now) (a .lons .now) (l .i) (omega (arith, start .pre .0, c .before .before .before .before .before .loop-test .taken)) (omega (arith, start .pre .1, c .before .before .before .before .before .loop-test .taken))
-    packedMoveBytes (a .to) (c .before .before .before .before .before .loop-test .taken) (start .pre .0) (start .pre .1))
+    (each-next (a .lats .now) (a .lons .now) (l .i) (omega (arith, start .pre .0, loop-test .taken)) (omega (arith, start .pre .1, loop-test .taken))
+    packedMoveBytes (a .to) (loop-test .taken) (start .pre .0) (start .pre .1))
     (l .inv)) s
 
 same-length : tie.Need-same-length Inv-loop μ-loop

@@ -32,8 +32,8 @@ loop-less c = omega arith
 
 loop-again : tie.Need-loop-again Inv-loop μ-loop
 loop-again c =
-    let l = c .before .before .before .loop in
     let a = c .before .before .before .before .before .before .args in
+    let l = c .before .before .before .loop in
     let words = a .words .now in
     let one : firstPieces (l .i) words ++ (c .before .piece-at .result ∷ []) ≡ firstPieces (l .i + 1) words = ap (λ (p : Piece). firstPieces (l .i) words ++ (p ∷ [])) (c .before .piece-at .ensures) ∙ sym (words-more (l .i) words) in
     (omega arith, λ h. subst (λ (ps : List Piece). Checked (a .earlier .now) (movesOf (a .lats .now) (a .lons .now)) ps (c .check-next .result)) one (c .check-next .ensures (firstPieces (l .i) words) (l .inv .1 h)))
