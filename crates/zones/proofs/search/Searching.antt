@@ -128,3 +128,7 @@ module _ {place : ℕ} (turn : Turn) (l : Leads place turn) where
   pub met-further : {hit : Hit} {next : Cursor} → turn ≡ Met hit next → (place < next .place) × (hit .kind ≡ 0 → ⊥)
   unfolding Leads
   met-further e = rw e at l
+
+-- and leaves less to search
+pub nearer : {place next end : ℕ} → place < next → place < end → end - next < end - place
+nearer h k = omega arith
