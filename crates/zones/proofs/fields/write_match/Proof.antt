@@ -68,9 +68,7 @@ add-tag c =
     omega (arith, if1 .taken, struct-known .given)
 
 loop-less : tie.Need-loop-less Inv-loop μ-loop
-loop-less c =
-    let if1 = c .before .before .before .before .before .before .before .before .if1 in
-    omega (arith, if1 .taken)
+loop-less c = omega (arith, c .before .before .before .before .before .before .before .before .if1 .taken)
 
 same-length-2 : tie.Need-same-length-2 Inv-loop μ-loop
 same-length-2 c = filling-length _ _ _ _ (c .before .before .loop .inv)

@@ -30,10 +30,7 @@ hit-at-requires c κs =
     omega (arith, gathered-length (loop .inv .0), loop .inv .1, loop-test .taken, room .ensures)
 
 add-j : tie.Need-add-j Inv-loop μ-loop
-add-j c =
-    let loop-test = c .before .before .loop-test in
-    let room = c .before .before .before .before .room in
-    omega (arith, loop-test .taken, room .ok)
+add-j c = omega (arith, c .before .before .loop-test .taken, c .before .before .before .before .room .ok)
 
 joined-requires : tie.Need-joined-requires Inv-loop μ-loop
 joined-requires c κs =
@@ -51,9 +48,7 @@ put-hit-requires c κs =
     omega (arith, gathered-length (loop .inv .0), loop .inv .1, loop-test .taken, room .ensures)
 
 loop-less : tie.Need-loop-less Inv-loop μ-loop
-loop-less c =
-    let loop-test = c .before .before .before .before .before .before .before .before .before .before .loop-test in
-    omega (arith, loop-test .taken)
+loop-less c = omega (arith, c .before .before .before .before .before .before .before .before .before .before .loop-test .taken)
 
 loop-again : tie.Need-loop-again Inv-loop μ-loop
 loop-again c =
@@ -65,9 +60,7 @@ loop-again c =
     )
 
 loop-less-2 : tie.Need-loop-less-2 Inv-loop μ-loop
-loop-less-2 c =
-    let loop-test = c .before .before .before .before .loop-test in
-    omega (arith, loop-test .taken)
+loop-less-2 c = omega (arith, c .before .before .before .before .loop-test .taken)
 
 loop-again-2 : tie.Need-loop-again-2 Inv-loop μ-loop
 loop-again-2 c =

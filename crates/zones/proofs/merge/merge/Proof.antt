@@ -31,10 +31,7 @@ hit-at-requires c κs =
     omega (arith, merging-length (loop .inv .0), loop .inv .1, loop-test .taken, room .ensures)
 
 add-i : tie.Need-add-i Inv-loop μ-loop
-add-i c =
-    let loop-test = c .before .before .loop-test in
-    let room = c .before .before .before .before .room in
-    omega (arith, loop-test .taken, room .ok)
+add-i c = omega (arith, c .before .before .loop-test .taken, c .before .before .before .before .room .ok)
 
 gather-requires : tie.Need-gather-requires Inv-loop μ-loop
 gather-requires c κs =
@@ -85,9 +82,7 @@ loop-again-2 c = (
 )
 
 loop-less-3 : tie.Need-loop-less-3 Inv-loop μ-loop
-loop-less-3 c =
-    let loop-test = c .before .before .before .before .loop-test in
-    omega (arith, loop-test .taken)
+loop-less-3 c = omega (arith, c .before .before .before .before .loop-test .taken)
 
 loop-again-3 : tie.Need-loop-again-3 Inv-loop μ-loop
 loop-again-3 c =

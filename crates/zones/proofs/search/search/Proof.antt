@@ -20,9 +20,7 @@ abbrev μ-loop : tie.MeasureT-loop
 
 loop-holds : tie.Need-loop-holds Inv-loop μ-loop
 unfolding searched
-loop-holds c =
-    let pre = c .before .before .before .before .before .before .before .pre in
-    starts _ _ _ _ _ (pre)
+loop-holds c = starts _ _ _ _ _ (c .before .before .before .before .before .before .before .pre)
 
 -- ---- a turn that goes on
 on-so : (c : tie.After-met Inv-loop μ-loop) → let args = c .before .before .before .before .before .before .before .before .before .before .before .before .before .args in turnAt (args .file .now) (args .head) (args .fix) (args .asked) (c .before .before .before .before .before .loop .at) ≡ On (c .met .given .0 .0)

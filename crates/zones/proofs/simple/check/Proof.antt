@@ -21,23 +21,16 @@ loop-holds : tie.Need-loop-holds Inv-loop μ-loop
 loop-holds c = (refl, omega arith)
 
 hit-at-requires : tie.Need-hit-at-requires Inv-loop μ-loop
-hit-at-requires c κs =
-    let pre = c .before .before .before .before .pre in
-    omega (arith, pre)
+hit-at-requires c κs = omega (arith, c .before .before .before .before .pre)
 
 add-i : tie.Need-add-i Inv-loop μ-loop
-add-i c =
-    let loop-test = c .before .loop-test in
-    let fits = c .before .before .before .before .before .fits in
-    omega (arith, loop-test .taken, fits)
+add-i c = omega (arith, c .before .loop-test .taken, c .before .before .before .before .before .fits)
 
 enum-told : tie.Need-enum-told Inv-loop μ-loop
 enum-told c = search needs
 
 loop-less : tie.Need-loop-less Inv-loop μ-loop
-loop-less c =
-    let loop-test = c .before .before .before .before .before .loop-test in
-    omega (arith, loop-test .taken)
+loop-less c = omega (arith, c .before .before .before .before .before .loop-test .taken)
 
 loop-again : tie.Need-loop-again Inv-loop μ-loop
 loop-again c =
