@@ -61,9 +61,11 @@ loop-less c = omega arith
 loop-again : tie.Need-loop-again Inv-loop μ-loop
 loop-again c =
     let pre = c .before .before .before .before .before .before .before .before .before .before .before .before .before .pre in
-    let loop = c .before .before .before .before .before .before .before .before .before .before .before .loop in
-    (omega arith, of-same _ _ _ (pre .0) (pre .1) _ _ _ (c .before .before .before .before .before .before .before .before .before .if1 .taken) _ (c .before .before .before .before .before .before .before .before .read-forward .ensures) _ _ (c .before .before .before .before .before .before .value .given .1) (c .before .before .before .before .if2 .left) (c .before .before .before .if3 .left)
-    (c .before .before .index-of .ensures) (c .before .is-lent .ensures) (not-false _ (c .if4 .left)) ∙ loop .inv .1)
+    let loop = c .before .before .before .before .before .before .before .before .before .before .before .loop in (
+      omega arith,
+      of-same _ _ _ (pre .0) (pre .1) _ _ _ (c .before .before .before .before .before .before .before .before .before .if1 .taken) _ (c .before .before .before .before .before .before .before .before .read-forward .ensures) _ _ (c .before .before .before .before .before .before .value .given .1) (c .before .before .before .before .if2 .left) (c .before .before .before .if3 .left)
+          (c .before .before .index-of .ensures) (c .before .is-lent .ensures) (not-false _ (c .if4 .left)) ∙ loop .inv .1,
+    )
 
 returns-5 : tie.Need-returns-5 Inv-loop μ-loop
 returns-5 c =
