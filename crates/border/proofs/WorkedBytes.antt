@@ -8,7 +8,7 @@ use Rattle.numbers.specs.Point.{signedOf, evenBits, pointOf}
 use Rattle.border.specs.Place.{isStill}
 use Rattle.border.specs.Moves.{digitsOf, varintOf, signedForm, interleaved, plainMoveBytes, packedNumber, packedMoveBytes, moveTo, movesFrom, pointsOf, movesOf, sameMove}
 use Rattle.border.specs.Pieces.{lentMoves, readAnd, spells, clearBefore, accepted, goodPieces, pieceBytes, packedFrom}
-use Rattle.border.specs.Writer.{Reply, given, refused, every, sized, near, checks, plainBorder, packedBorder, borderOf}
+use Rattle.border.specs.Writer.{given, refused, every, sized, near, checks, plainBorder, packedBorder, borderOf}
 use Rattle.border.specs.declared.writer.Piece.{Piece}
 
 abbrev lats : List ℤ

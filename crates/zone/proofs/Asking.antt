@@ -8,13 +8,13 @@ use mathlib.Core.Path.{_≡_, subst, ap, _∙_}
 use Rattle.zones.proofs.Agreeing.{agree-refused}
 use Rattle.zones.proofs.Buffers.{tail-lent}
 use Rattle.zones.proofs.Laws.{met, unmet}
+use Rattle.zones.proofs.Replying.{looked-agrees}
 use Rattle.zones.specs.Lent.{Agrees, Outcome, replied, Filled}
 use Rattle.zones.specs.Lookup.{zonesIn, lookedUp}
 use Rattle.zones.specs.Reply.{Reply, refused, plain}
 use Rattle.zones.specs.declared.location.Location.{Location}
 use Rattle.zones.specs.declared.lookup.Zones.{Zones}
 use Rattle.zones.specs.declared.refusal.Refusal.{Refusal}
-use Rattle.zone.proofs.FromZones.{agrees-of}
 use Rattle.zone.specs.Answer.{locationOf, answerOf}
 
 module _ (input : List ℕ) (n room : ℕ) where
@@ -29,8 +29,8 @@ module _ (input : List ℕ) (n room : ℕ) where
   -- what the lookup in the rest of the input replied
   pub asked : (location : Location) (reply : Reply Zones) (hs ts : List ℕ) → replied reply hs ts ≡ lookedUp (take (length input - 8) (drop 8 input)) location true n room
       → location ≡ locationOf input → length input ≤ 65536 → 8 ≤ length input → Agrees (Filled n room hs ts) (answerOf input n room) reply
-  unfolding answerOf lookedUp
+  unfolding answerOf
   asked location reply hs ts e is fits whole =
       subst (λ (w : Reply (Outcome Zones)). Agrees (Filled n room hs ts) w reply)
       ((λ i. zonesIn (tail-lent 8 input i) (is i) true n room) ∙ met (le-leb 8 (length input) whole) _ _ ∙ met (le-leb (length input) 65536 fits) _ _)
-      (agrees-of n room (zonesIn (take (length input - 8) (drop 8 input)) location true n room) reply hs ts e)
+      (looked-agrees (take (length input - 8) (drop 8 input)) location true n room reply hs ts e)

@@ -1,2 +1,1 @@
-pub mod FromZones
 pub mod Asking

@@ -1,7 +1,5 @@
 -- Replies that agree: how to show it, and what it shows of the definition's reply. Assumes nothing.
-use mathlib.Core.Path.{_≡_, refl, sym, subst, ap, _∙_}
-use Prim.Native.Nat.{ℕ}
-use native.Mathlib.Omega.{arith}
+use mathlib.Core.Path.{_≡_, refl, sym, subst, ap}
 use Rattle.zones.specs.Reply.{Reply, given, refused}
 use Rattle.zones.specs.Lent.{Agrees}
 use Rattle.zones.specs.declared.refusal.Refusal.{Refusal}

@@ -1,10 +1,15 @@
--- An entry point's reply with the buffers: zero first, filled, and zero again where it is a refusal. Assumes nothing.
-use mathlib.Core.Path.{_≡_, refl, sym, subst, ap, _∙_}
+-- An entry point's reply with the buffers: zero first, filled, and zero again where it is a refusal; and what it says of the reply alone. Assumes nothing.
+use mathlib.Core.Path.{_≡_, subst, ap, _∙_}
+use mathlib.Core.Bool.{Bool}
 use mathlib.Core.List.{List}
 use Prim.Native.Nat.{ℕ}
+use native.Mathlib.Omega.{arith}
 use Rattle.zones.specs.Lists.{zeros}
 use Rattle.zones.specs.Reply.{Reply, given, refused}
 use Rattle.zones.specs.Lent.{Agrees, Outcome, Replied, replied, repliedOf, Filled}
+use Rattle.zones.specs.Lookup.{zonesIn, lookedUp}
+use Rattle.zones.specs.declared.location.Location.{Location}
+use Rattle.zones.specs.declared.lookup.Zones.{Zones}
 use Rattle.zones.specs.declared.refusal.Refusal.{Refusal}
 use Rattle.zones.proofs.Agreeing.{gave, refused-so}
 
@@ -22,3 +27,17 @@ module _ {A : Type 0} (whole : ℕ → ℕ → Reply (Outcome A)) (reply : Reply
   pub refused-reply : {why : Refusal} {hs′ ts′ : List ℕ} → reply ≡ refused why → hs′ ≡ zeros n → ts′ ≡ zeros room → replied (refused why) hs′ ts′ ≡ repliedOf n room (whole n room)
   unfolding repliedOf
   refused-reply {why} e zh zt = (λ i. replied (refused why) (zh i) (zt i)) ∙ ap (repliedOf n room) (refused-so (Filled n room hs ts) (whole n room) settled e)
+
+-- ---- read back: what a reply with its buffers says of the reply alone
+module _ {A : Type 0} (n room : ℕ) where
+  pub agrees-of : (whole : Reply (Outcome A)) (reply : Reply A) (hs ts : List ℕ) → replied reply hs ts ≡ repliedOf n room whole → Agrees (Filled n room hs ts) whole reply
+  unfolding Agrees repliedOf
+  agrees-of (given o) (given a) hs ts e = e
+  agrees-of (given o) (refused why) hs ts e = let said = ap (λ (x : Replied A). x .reply) e in let z : _≡_ {A = ℕ} 0 1 = cc in absurd (omega arith)
+  agrees-of (refused why) (given a) hs ts e = let said = ap (λ (x : Replied A). x .reply) e in let z : _≡_ {A = ℕ} 0 1 = cc in absurd (omega arith)
+  agrees-of (refused why) (refused why′) hs ts e = let said = ap (λ (x : Replied A). x .reply) e in cc
+
+pub looked-agrees : (file : List ℕ) (location : Location) (asked : Bool) (n room : ℕ) (reply : Reply Zones) (hs ts : List ℕ) → replied reply hs ts ≡ lookedUp file location asked n room
+    → Agrees (Filled n room hs ts) (zonesIn file location asked n room) reply
+unfolding lookedUp
+looked-agrees file location asked n room = agrees-of n room (zonesIn file location asked n room)

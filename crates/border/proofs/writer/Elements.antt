@@ -1,11 +1,11 @@
 -- The checks, one element at a time. Assumes nothing.
-use Prim.Native.Nat.{ℕ, zero, suc, _+_, _-_, _^_, _<_, _≤_}
+use Prim.Native.Nat.{ℕ, suc}
 use native.Mathlib.Omega.{arith}
 use mathlib.Core.Path.{_≡_, refl, sym, ap, _∙_}
 use mathlib.Core.Bool.{Bool, true, false, not, _&&_}
-use mathlib.Core.List.{List, [], _∷_}
-use lib.Dec.{ltb, leb, eqb}
-use lib.IntN.{ℤ, pos, negsuc, negℤ, natAbs, _-ℤ_}
+use mathlib.Core.List.{List}
+use lib.Dec.{eqb}
+use lib.IntN.{ℤ, pos, negsuc, negℤ, _-ℤ_}
 use lib.Signed.{ltZ, leZ}
 use mir.Syntax.{w32}
 use mir.Val.{SFits, toZ, ofZ}
@@ -17,7 +17,8 @@ use Rattle.border.specs.Place.{isStill, isZero}
 use Rattle.border.specs.Moves.{signedForm, isMove, turnedBack, sameMove}
 use Rattle.border.specs.Writer.{near}
 use Rattle.border.specs.Stored.{gapAt, moveAt}
-use Rattle.border.proofs.writer.Signs.{differ, form-zero, formed, from-zero}
+use Rattle.border.proofs.Signs.{differ}
+use Rattle.border.proofs.writer.Signs.{form-zero, formed, from-zero}
 
 -- ---- coordinates
 pub near-low : (z : ℤ) → ltZ z (negsuc 1073741822) ≡ true → false ≡ near z

@@ -1,27 +1,19 @@
 -- The checks of a border in turn, each with those before it. Assumes nothing.
-use Prim.Native.Nat.{ℕ, _+_, _^_, _<_, _≤_}
+use Prim.Native.Nat.{ℕ, _^_, _<_, _≤_}
 use native.Mathlib.Omega.{arith}
-use mathlib.Core.Path.{_≡_, refl, sym, ap, _∙_}
+use mathlib.Core.Path.{_≡_, sym, ap, _∙_}
 use mathlib.Core.Bool.{Bool, true, false, _&&_}
-use mathlib.Core.List.{List, [], _∷_}
+use mathlib.Core.List.{List}
 use lib.Dec.{ltb, leb, eqb}
 use lib.IntN.{ℤ}
 use lib.ListN.{length, take, drop}
 use borrow.Author.Tests.{lt-ltb, le-ltb, le-leb, lt-leb, ltb-true, leb-true, eqb-true}
 use Rattle.numbers.specs.declared.point.{RawPoint.RawPoint}
 use Rattle.border.specs.Moves.{movesOf, isMove}
-use Rattle.border.specs.Writer.{Reply, given, refused, demand, _>>_, every, near, sized, checks}
+use Rattle.border.specs.Writer.{given, refused, demand, _>>_, every, near, sized, checks}
 use Rattle.border.specs.Stored.{moveAt}
-use Rattle.border.proofs.writer.Signs.{differ}
+use Rattle.border.proofs.Signs.{both, and-true}
 use Rattle.border.proofs.writer.Indexed.{moves-next}
-
-pub both-true : (a b : Bool) → (a && b) ≡ true → (a ≡ true) × (b ≡ true)
-both-true true b e = (refl, e)
-both-true false b e = differ e
-
-and-true : (t : Bool) → (t && true) ≡ t
-and-true true = refl
-and-true false = refl
 
 -- what a border of good size has
 pub record Sizes (lats lons : List ℤ) : Type 0 where
@@ -32,54 +24,58 @@ pub record Sizes (lats lons : List ℤ) : Type 0 where
 pub sizes : (lats lons : List ℤ) → sized lats lons ≡ true → Sizes lats lons
 unfolding sized
 sizes lats lons e =
-    let h = both-true (eqb (length lats) (length lons)) (ltb 0 (length lats) && leb (length lats) 65535) e in
-    let k = both-true (ltb 0 (length lats)) (leb (length lats) 65535) (h .1) in
+    let h = both (eqb (length lats) (length lons)) (ltb 0 (length lats) && leb (length lats) 65535) e in
+    let k = both (ltb 0 (length lats)) (leb (length lats) 65535) (h .1) in
     record { some = ltb-true 0 (length lats) (k .0); same = sym (eqb-true (length lats) (length lons) (h .0)); few = leb-true (length lats) 65535 (k .1) }
 
 first-move : (lats lons : List ℤ) → 0 < length lats → 0 < length lons → every isMove (take 1 (movesOf lats lons)) ≡ isMove (moveAt lats lons 0)
 unfolding every
 first-move lats lons h k = ap (λ (ms : List RawPoint). every isMove (take 1 ms)) (moves-next lats lons 0 h k) ∙ and-true (isMove (moveAt lats lons 0))
 
+-- the first three checks have passed
+pub record Early (version : ℕ) (lats lons : List ℤ) (earlier : List ℕ) : Type 0 where
+  pub short : length earlier ≤ 2 ^ 30
+  pub version-known : version < 2
+  pub right : sized lats lons ≡ true
+
 module _ (version : ℕ) (lats lons : List ℤ) (earlier : List ℕ) where
   pub long-data : 2 ^ 30 < length earlier → refused 1 0 ≡ checks version lats lons earlier
   unfolding checks
   long-data h = rw (lt-leb (length earlier) (2 ^ 30) h)
 
-  module _ (e₁ : length earlier ≤ 2 ^ 30) where
-    pub odd-version : 2 ≤ version → refused 5 version ≡ checks version lats lons earlier
-    unfolding checks
-    odd-version h = rw (le-leb (length earlier) (2 ^ 30) e₁, le-ltb version 2 h)
+  pub odd-version : length earlier ≤ 2 ^ 30 → 2 ≤ version → refused 5 version ≡ checks version lats lons earlier
+  unfolding checks
+  odd-version e₁ h = rw (le-leb (length earlier) (2 ^ 30) e₁, le-ltb version 2 h)
 
-    module _ (e₂ : version < 2) where
-      pub not-sized : sized lats lons ≡ false → refused 19 0 ≡ checks version lats lons earlier
-      unfolding checks
-      not-sized h = rw (le-leb (length earlier) (2 ^ 30) e₁, lt-ltb version 2 e₂, h)
+  pub not-sized : length earlier ≤ 2 ^ 30 → version < 2 → sized lats lons ≡ false → refused 19 0 ≡ checks version lats lons earlier
+  unfolding checks
+  not-sized e₁ e₂ h = rw (le-leb (length earlier) (2 ^ 30) e₁, lt-ltb version 2 e₂, h)
 
-      module _ (e₃ : sized lats lons ≡ true) where
-        pub far-lat : every near lats ≡ false → refused 20 0 ≡ checks version lats lons earlier
-        unfolding checks
-        far-lat h = rw (le-leb (length earlier) (2 ^ 30) e₁, lt-ltb version 2 e₂, e₃, h)
+module _ {version : ℕ} {lats lons : List ℤ} {earlier : List ℕ} (g : Early version lats lons earlier) where
+  left : (demand (every near lats && every near lons) 20 0 >> (demand (every isMove (drop 1 (movesOf lats lons))) 21 0 >> demand (every isMove (take 1 (movesOf lats lons))) 22 0)) ≡ checks version lats lons earlier
+  unfolding checks
+  left = rw (le-leb (length earlier) (2 ^ 30) (g .short), lt-ltb version 2 (g .version-known), g .right)
 
-        module _ (e₄ : every near lats ≡ true) where
-          pub far-lon : every near lons ≡ false → refused 20 0 ≡ checks version lats lons earlier
-          unfolding checks
-          far-lon h = rw (le-leb (length earlier) (2 ^ 30) e₁, lt-ltb version 2 e₂, e₃, e₄, h)
+  pub far-lat : every near lats ≡ false → refused 20 0 ≡ checks version lats lons earlier
+  far-lat h = rw h at left
 
-          module _ (e₅ : every near lons ≡ true) where
-            pub repeated : every isMove (drop 1 (movesOf lats lons)) ≡ false → refused 21 0 ≡ checks version lats lons earlier
-            unfolding checks
-            repeated h = rw (le-leb (length earlier) (2 ^ 30) e₁, lt-ltb version 2 e₂, e₃, e₄, e₅, h)
+  module _ (north : every near lats ≡ true) where
+    pub far-lon : every near lons ≡ false → refused 20 0 ≡ checks version lats lons earlier
+    far-lon h = rw (north, h) at left
 
-            module _ (e₆ : every isMove (drop 1 (movesOf lats lons)) ≡ true) where
-              rest : checks version lats lons earlier ≡ demand (isMove (moveAt lats lons 0)) 22 0
-              unfolding checks
-              rest =
-                  let s = sizes lats lons e₃ in
-                  rw (le-leb (length earlier) (2 ^ 30) e₁, lt-ltb version 2 e₂, e₃, e₄, e₅, e₆)
-                  (ap (λ (t : Bool). demand t 22 0) (first-move lats lons (s .some) (omega (arith, s .some, s .same))))
+    module _ (east : every near lons ≡ true) where
+      pub repeated : every isMove (drop 1 (movesOf lats lons)) ≡ false → refused 21 0 ≡ checks version lats lons earlier
+      repeated h = rw (north, east, h) at left
 
-              pub at-origin : isMove (moveAt lats lons 0) ≡ false → refused 22 0 ≡ checks version lats lons earlier
-              at-origin h = sym (rest ∙ ap (λ (t : Bool). demand t 22 0) h)
+      module _ (apart : every isMove (drop 1 (movesOf lats lons)) ≡ true) where
+        last : demand (isMove (moveAt lats lons 0)) 22 0 ≡ checks version lats lons earlier
+        last =
+            let s = sizes lats lons (g .right) in
+            let e = first-move lats lons (s .some) (omega (arith, s .some, s .same)) in
+            rw (north, east, apart, e) at left
 
-              pub no-fault : isMove (moveAt lats lons 0) ≡ true → given tt ≡ checks version lats lons earlier
-              no-fault h = sym (rest ∙ ap (λ (t : Bool). demand t 22 0) h)
+        pub at-origin : isMove (moveAt lats lons 0) ≡ false → refused 22 0 ≡ checks version lats lons earlier
+        at-origin h = rw h at last
+
+        pub no-fault : isMove (moveAt lats lons 0) ≡ true → given tt ≡ checks version lats lons earlier
+        no-fault h = rw h at last

@@ -1,17 +1,15 @@
 -- What the check of a list of pieces knows, piece by piece. Assumes nothing.
-use Prim.Native.Nat.{ℕ, zero, suc, _+_, _-_, _<_, _≤_, min}
+use Prim.Native.Nat.{ℕ, suc, _+_, _<_, _≤_}
 use native.Mathlib.Numerals.{add-one}
 use native.Mathlib.Omega.{arith}
 use mathlib.Core.Path.{_≡_, refl, sym, ap, _∙_}
 use mathlib.Core.Bool.{Bool, true, false}
 use mathlib.Core.List.{List, [], _∷_, _++_}
-use lib.Dec.{eqb, leb}
 use lib.ListN.{length, take, set, length-set, length-append}
 use lib.Seq.{take-suc-set}
-use borrow.Author.Tests.{eq-eqb, ne-eqb}
 use Rattle.numbers.specs.Answer.{if_then_else_}
 use Rattle.numbers.specs.declared.point.{RawPoint.RawPoint}
-use Rattle.border.specs.Pieces.{accepted, goodPieces, pieceAt, firstPieces, piecesOf}
+use Rattle.border.specs.Pieces.{accepted, goodPieces, pieceAt, firstPieces}
 use Rattle.border.specs.Stored.{endOf, Checked}
 use Rattle.border.specs.declared.writer.{Piece.Piece}
 use Rattle.border.specs.declared.writer.pieces.{Check.Check}

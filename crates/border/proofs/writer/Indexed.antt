@@ -8,7 +8,7 @@ use mathlib.Core.Bool.{Bool, true, false, _&&_}
 use mathlib.Core.List.{List, [], _∷_, _++_, zipWith, flatMap}
 use lib.IntN.{ℤ, pos, _-ℤ_}
 use lib.Dec.{ltb}
-use lib.ListN.{length, getD, drop, take, length-take, length-drop, length-append}
+use lib.ListN.{length, getD, drop, length-take, length-drop, length-append}
 use lib.Seq.{slice, slice-cons, drop-cons, take-all, take-length}
 use Rattle.numbers.specs.declared.point.{RawPoint.RawPoint}
 use Rattle.border.specs.Place.{pointAt, moveBy}

@@ -1,23 +1,23 @@
 -- What is written is read back: varints, signed numbers, moves. Assumes nothing.
-use Prim.Native.Nat.{ℕ, zero, suc, _+_, _-_, _*_, _/_, _%_, _^_, _<_, _≤_}
+use Prim.Native.Nat.{ℕ, zero, suc, _+_, _-_, _*_, _/_, _%_, _^_, _<_}
 use native.Mathlib.Nat.{pow-suc}
 use native.Mathlib.Omega.{arith}
 use mathlib.Core.Path.{_≡_, refl, sym, ap, _∙_}
 use mathlib.Core.Bool.{Bool, true, false}
 use mathlib.Core.List.{List, [], _∷_}
-use lib.Dec.{ltb, eqb}
+use lib.Dec.{ltb}
 use lib.IntN.{ℤ, pos, negsuc, negℤ, natAbs, _-ℤ_}
 use lib.ListN.{length}
-use borrow.Author.Tests.{ltb-true, ltb-false, lt-ltb, le-ltb, eq-eqb, ne-eqb}
+use borrow.Author.Tests.{ltb-true, lt-ltb, le-ltb}
 use Rattle.numbers.specs.Answer.{if_then_else_}
 use Rattle.numbers.specs.Varint.{valueOf, sizeOf}
 use Rattle.numbers.specs.Point.{low32, readI32, halfOf, signedOf, evenBits, pointOf}
 use Rattle.numbers.specs.declared.point.{RawPoint.RawPoint}
-use Rattle.border.specs.Place.{moveBy, isZero, isStill}
+use Rattle.border.specs.Place.{moveBy, isStill}
 use Rattle.border.specs.Moves.{digitsOf, varintOf, signedForm, interleaved, packedNumber}
 use Rattle.border.specs.Written.{Whole}
 use Rattle.border.proofs.writer.Digits.{interleaved-small}
-use Rattle.border.proofs.writer.Signs.{differ}
+use Rattle.border.proofs.Signs.{differ}
 use Rattle.border.proofs.writer.Stores.{varint-few}
 
 -- ---- varints

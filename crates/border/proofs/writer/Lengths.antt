@@ -6,7 +6,7 @@ use mathlib.Core.List.{List, flatMap}
 use lib.ListN.{length, length-append}
 use lib.Seq.{slice}
 use Rattle.numbers.specs.declared.point.{RawPoint.RawPoint}
-use Rattle.border.specs.Moves.{varintOf, signedForm, plainMoveBytes, packedMoveBytes, packedNumber}
+use Rattle.border.specs.Moves.{signedForm, plainMoveBytes, packedMoveBytes, packedNumber}
 use Rattle.border.proofs.writer.Indexed.{each-few, slice-few}
 use Rattle.border.proofs.writer.Stores.{varint-few}
 

@@ -1,8 +1,8 @@
 -- The reply and the buffer, for each way out of the writer. Assumes nothing.
-use Prim.Native.Nat.{ℕ, zero, suc, _+_, _-_, _^_, _<_, _≤_, min}
+use Prim.Native.Nat.{ℕ, zero, suc, _-_, _^_, _<_, _≤_}
 use native.Mathlib.Omega.{arith}
 use mathlib.Core.Path.{_≡_, refl, sym, ap, _∙_}
-use mathlib.Core.Bool.{Bool, true, false, _&&_}
+use mathlib.Core.Bool.{Bool, true, false}
 use mathlib.Core.List.{List, [], _∷_, _++_, flatMap}
 use lib.Dec.{leb, eqb, ltb}
 use lib.IntN.{ℤ}
@@ -10,14 +10,14 @@ use lib.ListN.{length, drop, take, length-replicate}
 use borrow.Author.Tests.{leb-true, le-leb, lt-leb, eq-eqb, ne-eqb}
 use Rattle.numbers.specs.Answer.{if_then_else_}
 use Rattle.numbers.specs.declared.point.{RawPoint.RawPoint}
-use Rattle.border.specs.Moves.{varintOf, plainMoveBytes, movesOf, isMove}
-use Rattle.border.specs.Pieces.{goodPieces, packedFrom}
-use Rattle.border.specs.Writer.{Reply, given, refused, demand, _>>_, every, near, sized, checks, plainBorder, packedBorder, borderOf, told, passed, Replied, replied, zeros, fitted}
+use Rattle.border.specs.Moves.{varintOf, plainMoveBytes, movesOf}
+use Rattle.border.specs.Pieces.{packedFrom}
+use Rattle.border.specs.Writer.{Reply, given, refused, demand, _>>_, sized, checks, plainBorder, packedBorder, borderOf, Replied, replied, zeros, fitted}
 use Rattle.border.specs.Stored.{Stored, Checked}
-use Rattle.border.specs.declared.writer.{Piece.Piece, Written.Written}
+use Rattle.border.specs.declared.writer.{Piece.Piece}
 use Rattle.border.specs.declared.writer.Written.the-variants.{Wrote, Refused}
 use Rattle.border.specs.declared.writer.pieces.{Check.Check}
-use Rattle.border.proofs.writer.Faults.{Sizes, sizes, both-true}
+use Rattle.border.proofs.writer.Faults.{Sizes, sizes}
 use Rattle.border.proofs.writer.Indexed.{border-length}
 use Rattle.border.proofs.writer.Stores.{stored-front, stored-length}
 

@@ -1,7 +1,7 @@
 -- Signed numbers of the code: the difference of two coordinates and its signed form. Assumes nothing.
 use Prim.Native.Nat.{ℕ, zero, suc, _+_, _-_, _*_, _^_, _<_, _≤_}
 use native.Mathlib.Omega.{arith}
-use mathlib.Core.Path.{_≡_, refl, sym, ap, _∙_, subst}
+use mathlib.Core.Path.{_≡_, refl, sym, ap, _∙_}
 use mathlib.Core.Bool.{Bool, true, false, cond}
 use lib.Dec.{T, ltb, eqb}
 use lib.IntN.{ℤ, pos, negsuc, negℤ, natAbs, _+ℤ_, _-ℤ_, +ℤ-idl, +ℤ-idr, +ℤ-comm, negℤ-+ℤ, negℤ-negℤ}
@@ -9,13 +9,11 @@ use lib.Signed.{mag, ltZ, nonNeg}
 use mir.Syntax.{w32, w64}
 use mir.Val.{SFits, toZ, ofZ}
 use mir.Facts.{toZ-ofZ}
-use borrow.Author.Tests.{ltb-true, ne-eqb, eq-eqb, eqb-true}
+use borrow.Author.Tests.{ltb-true, ne-eqb}
 use Rattle.border.specs.Place.{isZero}
 use Rattle.border.specs.Moves.{signedForm}
+use Rattle.border.proofs.Signs.{differ}
 use Rattle.border.proofs.place.Whole.{widened}
-
-pub differ : {A : Type 0} → false ≡ true → A
-differ e = absurd (subst T (sym e) tt)
 
 -- ---- sizes
 size-cond : (t : Bool) (a b m : ℕ) → suc a ≤ m → b ≤ m → natAbs (cond t (negsuc a) (pos b)) ≤ m

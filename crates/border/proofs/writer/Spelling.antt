@@ -1,12 +1,12 @@
 -- The moves that a piece stands for, and the numbers of its run, one at a time. Assumes nothing.
-use Prim.Native.Nat.{ℕ, zero, suc, _+_, _-_, _<_, _≤_}
+use Prim.Native.Nat.{ℕ, suc, _+_, _-_, _<_, _≤_}
 use native.Mathlib.Omega.{arith}
 use mathlib.Core.Path.{_≡_, refl, sym, ap, _∙_}
 use mathlib.Core.Bool.{Bool, true, false, not, _&&_}
 use mathlib.Core.List.{List, [], _∷_, _++_, map, reverse, reverse-cons}
 use mathlib.Core.Logic.{_⊎_, inl, inr}
 use lib.Dec.{ltb, leb, eqb}
-use lib.IntN.{ℤ, pos}
+use lib.IntN.{ℤ}
 use lib.ListN.{length, getD, drop, take, length-map, length-reverse, length-drop, List·getD-map, List·getD-append}
 use lib.Seq.{drop-cons, length-take-le, getD-drop, getD-take, drop-length, getD-at}
 use borrow.Author.Tests.{ltb-false, ltb-true, le-leb, lt-leb, ne-eqb, eq-eqb}
@@ -77,6 +77,13 @@ module _ (full : List RawPoint) (p : Piece) (stays : p .first + p .count ≤ len
           ∙ List·getD-map turnedBack part (p .count - 1 - j) still
           ∙ ap turnedBack (part-at (p .count - 1 - j) (omega arith))
 
+pub index-inside : (p : Piece) (n : ℕ) → p .first + p .count ≤ n → (j : ℕ) → j < p .count → indexAt (eqb (p .direction) 0) p j < n
+index-inside p n long j h = by-direction (eqb (p .direction) 0)
+  where
+    by-direction : (t : Bool) → indexAt t p j < n
+    by-direction true = omega arith
+    by-direction false = omega arith
+
 -- the moves that are left, from the jth on
 module _ (lats lons : List ℤ) (p : Piece) (lats-long : p .first + p .count ≤ length lats) (lons-long : p .first + p .count ≤ length lons) where
   abbrev all : List RawPoint
@@ -84,14 +91,6 @@ module _ (lats lons : List ℤ) (p : Piece) (lats-long : p .first + p .count ≤
 
   inside : p .first + p .count ≤ length (movesOf lats lons)
   inside = omega (arith, border-length lats lons)
-
-  module _ (n : ℕ) (long : p .first + p .count ≤ n) where
-    pub index-inside : (j : ℕ) → j < p .count → indexAt (eqb (p .direction) 0) p j < n
-    index-inside j h = by-direction (eqb (p .direction) 0)
-      where
-        by-direction : (t : Bool) → indexAt t p j < n
-        by-direction true = omega arith
-        by-direction false = omega arith
 
   module _ (run : List ℕ) (place j : ℕ) where
     pub spells-end : p .count ≤ j → j ≤ p .count → eqb place (length run) ≡ spells run place (drop j all)
@@ -116,7 +115,7 @@ module _ (lats lons : List ℤ) (p : Piece) (lats-long : p .first + p .count ≤
           let n : suc j ≡ j + 1 = omega arith in
           let e : getD all j still ≡ here =
           lent-move (movesOf lats lons) p inside j h
-          ∙ ap (turnedAt (eqb (p .direction) 0)) (move-at lats lons i (index-inside (length lats) lats-long j h) (index-inside (length lons) lons-long j h)) in
+          ∙ ap (turnedAt (eqb (p .direction) 0)) (move-at lats lons i (index-inside p (length lats) lats-long j h) (index-inside p (length lons) lons-long j h)) in
           ap (spells run place) (drop-cons all j still (omega (arith, lent-length (movesOf lats lons) p inside)))
           ∙ ap (λ (m : RawPoint). spells run place (m ∷ drop (suc j) all)) e
           ∙ ap (λ (k : ℕ). spells run place (here ∷ drop k all)) n
@@ -143,8 +142,13 @@ module _ (lats lons : List ℤ) (p : Piece) (lats-long : p .first + p .count ≤
           pub of-zero : next ≤ length run → value ≡ 0 → false ≡ spells run place (drop j all)
           of-zero l z = sym (read ∙ rw (le-leb next (length run) l, eq-eqb value 0 z))
 
-          pub of-other : next ≤ length run → (value ≡ 0 → ⊥) → sameMove (pointOf value) here ≡ false → false ≡ spells run place (drop j all)
-          of-other l some e = sym (read ∙ rw (le-leb next (length run) l, ne-eqb value 0 some, e))
+          -- what was read, held against the move at an index
+          module _ (l : next ≤ length run) (some : value ≡ 0 → ⊥) {at : ℕ} (is : at ≡ i) {same : Bool} (held : same ≡ sameMove (pointOf value) (turnedAt (eqb (p .direction) 0) (moveAt lats lons at))) where
+            holds : same ≡ sameMove (pointOf value) here
+            holds = held ∙ ap (λ (k : ℕ). sameMove (pointOf value) (turnedAt (eqb (p .direction) 0) (moveAt lats lons k))) is
 
-          pub of-same : next ≤ length run → (value ≡ 0 → ⊥) → sameMove (pointOf value) here ≡ true → spells run next (drop (j + 1) all) ≡ spells run place (drop j all)
-          of-same l some e = sym (read ∙ rw (le-leb next (length run) l, ne-eqb value 0 some, e))
+            pub of-other : same ≡ false → false ≡ spells run place (drop j all)
+            of-other e = sym (read ∙ rw (le-leb next (length run) l, ne-eqb value 0 some, sym holds, e))
+
+            pub of-same : same ≡ true → spells run next (drop (j + 1) all) ≡ spells run place (drop j all)
+            of-same e = sym (read ∙ rw (le-leb next (length run) l, ne-eqb value 0 some, sym holds, e))

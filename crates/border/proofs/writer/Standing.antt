@@ -20,17 +20,18 @@ use Rattle.border.specs.Pieces.{lentBy, lentMoves, readAnd, spells, clea
 use Rattle.border.specs.Writer as R
 use Rattle.border.specs.Writer.{Reply, given, demand, _>>_, every, near, sized, checks, plainBorder, packedBorder, borderOf, encodingOf}
 use Rattle.border.specs.Written as W
-use Rattle.border.specs.Written.{Whole, Splits, Turned, Borrowed, Version1, Pairs, Version0, Leads, Border}
+use Rattle.border.specs.Written.{Splits, Turned, Borrowed, Version1, Pairs, Version0, Leads, Border}
 use Rattle.border.specs.declared.place.{Point.Point}
 use Rattle.border.specs.declared.reader.Version.the-variants.{Plain, Packed}
 use Rattle.border.specs.declared.writer.{Piece.Piece}
 use Rattle.numbers.proofs.Wholes.{read-whole}
 use Rattle.border.proofs.OnWay.{one-byte}
-use Rattle.border.proofs.writer.Faults.{both-true, sizes}
+use Rattle.border.proofs.writer.Faults.{sizes}
 use Rattle.border.proofs.writer.Indexed.{points-length, moves-length}
 use Rattle.border.proofs.writer.Inverse.{varint-whole, signed-small, even-back, odd-back, Moves, pair-back, packed-back, packed-some, packed-small}
 use Rattle.border.proofs.writer.Replying.{passing}
-use Rattle.border.proofs.writer.Signs.{differ, size-sum, size-neg, mag-size, form-one}
+use Rattle.border.proofs.Signs.{differ, both}
+use Rattle.border.proofs.writer.Signs.{size-sum, size-neg, mag-size, form-one}
 
 -- ---- from a point to the next
 not-true : (t : Bool) → not t ≡ true → t ≡ false
@@ -105,9 +106,9 @@ walks : (lats lons : List ℤ) (p : Point) → Near p → every near lats ≡ tr
 unfolding pointsOf movesFrom zipWith every
 walks (x ∷ xs) (y ∷ ys) p h a b m =
     let q = pointAt x y in
-    let a′ = both-true (near x) (every near xs) a in
-    let b′ = both-true (near y) (every near ys) b in
-    let m′ = both-true (isMove (moveTo p q)) (every isMove (movesFrom q (pointsOf xs ys))) m in
+    let a′ = both (near x) (every near xs) a in
+    let b′ = both (near y) (every near ys) b in
+    let m′ = both (isMove (moveTo p q)) (every isMove (movesFrom q (pointsOf xs ys))) m in
     let k : Near q = record { lat-near = near-size x (a′ .0); lon-near = near-size y (b′ .0) } in
     walk-on p q (pointsOf xs ys) h k (m′ .0) (walks xs ys q k (a′ .1) (b′ .1) (m′ .1))
 walks (x ∷ xs) [] p h a b m = record { going = none; leads = W.stays }
@@ -116,7 +117,7 @@ walks [] ys p h a b m = record { going = none; leads = W.stays }
 all-move : (ms : List RawPoint) → every isMove (drop 1 ms) ≡ true → every isMove (take 1 ms) ≡ true → every isMove ms ≡ true
 unfolding every
 all-move [] e g = refl
-all-move (m ∷ ms) e g = rw (both-true (isMove m) true g .0) e
+all-move (m ∷ ms) e g = rw (both (isMove m) true g .0) e
 
 -- ---- version 0
 pairs : {ms : List RawPoint} → Going ms → Pairs (flatMap plainMoveBytes ms) ms
@@ -138,7 +139,7 @@ guard = W.some (one-byte 2 (lit< tt)) (one-byte 2 (lit< tt)) refl W.none
 same-move : (a b : RawPoint) → sameMove a b ≡ true → a ≡ b
 unfolding sameMove
 same-move a b e =
-    let h = both-true (eqb (signedForm (a .lat)) (signedForm (b .lat))) (eqb (signedForm (a .lon)) (signedForm (b .lon))) e in
+    let h = both (eqb (signedForm (a .lat)) (signedForm (b .lat))) (eqb (signedForm (a .lon)) (signedForm (b .lon))) e in
     ap (λ (z : ℤ). moveBy z (a .lon)) (form-one (a .lat) (b .lat) (eqb-true _ _ (h .0))) ∙ ap (moveBy (b .lat)) (form-one (a .lon) (b .lon) (eqb-true _ _ (h .1)))
 
 -- what the test of one number says
@@ -156,9 +157,9 @@ unfolding readAnd
 tested run place m ms (found number) is e =
     let same = sameMove (pointOf (number .value)) m in
     let rest = spells run (number .place) ms in
-    let h₁ = both-true (leb (number .place) (length run)) (not (eqb (number .value) 0) && (same && rest)) e in
-    let h₂ = both-true (not (eqb (number .value) 0)) (same && rest) (h₁ .1) in
-    let h₃ = both-true same rest (h₂ .1) in
+    let h₁ = both (leb (number .place) (length run)) (not (eqb (number .value) 0) && (same && rest)) e in
+    let h₂ = both (not (eqb (number .value) 0)) (same && rest) (h₁ .1) in
+    let h₃ = both same rest (h₂ .1) in
     record {
       number = number;
       read = is;
@@ -210,11 +211,11 @@ accepted-says earlier ms free p e =
     let t₃ = leb (p .start + p .bytes) (length earlier) in
     let t₂ = leb (p .first + p .count) (length ms) in
     let t₁ = ltb 0 (p .count) in
-    let h₀ = both-true (leb free (p .first)) (t₁ && (t₂ && (t₃ && (t₄ && t₅)))) e in
-    let h₁ = both-true t₁ (t₂ && (t₃ && (t₄ && t₅))) (h₀ .1) in
-    let h₂ = both-true t₂ (t₃ && (t₄ && t₅)) (h₁ .1) in
-    let h₃ = both-true t₃ (t₄ && t₅) (h₂ .1) in
-    let h₄ = both-true t₄ t₅ (h₃ .1) in
+    let h₀ = both (leb free (p .first)) (t₁ && (t₂ && (t₃ && (t₄ && t₅)))) e in
+    let h₁ = both t₁ (t₂ && (t₃ && (t₄ && t₅))) (h₀ .1) in
+    let h₂ = both t₂ (t₃ && (t₄ && t₅)) (h₁ .1) in
+    let h₃ = both t₃ (t₄ && t₅) (h₂ .1) in
+    let h₄ = both t₄ t₅ (h₃ .1) in
     record {
       rises = leb-true free (p .first) (h₀ .0);
       stays = leb-true (p .first + p .count) (length ms) (h₂ .0);
@@ -259,7 +260,7 @@ module _ (earlier : List ℕ) (room : length earlier ≤ 2 ^ 30) where
     back {own} clear g s =
         let start = p .start in
         let byte = getD earlier (start - 1) 0 in
-        let h = both-true (ltb 0 start) (isLast byte) clear in
+        let h = both (ltb 0 start) (isLast byte) clear in
         let low = ltb-true 0 start (h .0) in
         let front = take (start - 1) earlier in
         let next : suc (start - 1) ≡ start = omega arith in
@@ -338,13 +339,13 @@ module _ (version : ℕ) (lats lons : List ℤ) (pieces : List Piece) (earlier b
       let h₄ = passing (every near lats && every near lons) 20 0 _ (h₃ .1) in
       let h₅ = passing (every isMove (drop 1 ms)) 21 0 _ (h₄ .1) in
       let h₆ = last (every isMove (take 1 ms)) (h₅ .1) in
-      let both = both-true (every near lats) (every near lons) (h₄ .0) in
+      let near-all = both (every near lats) (every near lons) (h₄ .0) in
       let size = sizes lats lons (h₃ .0) in
       record {
         room = leb-true (length earlier) (2 ^ 30) (h₁ .0);
         some = omega (arith, points-length lats lons, size .some, size .same);
         few = omega (arith, moves-length origin (pointsOf lats lons), points-length lats lons, size .few);
-        walked = walks lats lons origin (record { lat-near = lit< tt; lon-near = lit< tt }) (both .0) (both .1) (all-move ms (h₅ .0) h₆);
+        walked = walks lats lons origin (record { lat-near = lit< tt; lon-near = lit< tt }) (near-all .0) (near-all .1) (all-move ms (h₅ .0) h₆);
       }
     where
       last : (t : Bool) → given tt ≡ demand t 22 0 → t ≡ true

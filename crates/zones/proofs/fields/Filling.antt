@@ -2,7 +2,7 @@
 use mathlib.Core.Path.{_≡_, refl, sym, ap, _∙_}
 use mathlib.Core.Bool.{Bool, true, false}
 use mathlib.Core.List.{List, [], _∷_, _++_}
-use Prim.Native.Nat.{ℕ, zero, suc, _+_, _-_, _≤_, _<_}
+use Prim.Native.Nat.{ℕ, suc, _+_, _-_, _≤_, _<_}
 use native.Mathlib.Numerals.{add-one}
 use native.Mathlib.Nat.{sub-zero}
 use native.Mathlib.Omega.{arith}
@@ -10,7 +10,7 @@ use borrow.Author.Tests.{leb-true}
 use lib.Dec.{leb}
 use lib.ListN.{length, getD, take, drop, length-append, drop-of-length-le}
 use lib.Seq.{drop-cons, length-take-le}
-use Rattle.zones.specs.Lists.{zeros, padded, over}
+use Rattle.zones.specs.Lists.{zeros, padded}
 use Rattle.zones.specs.Reply.{Reply, given, refused, plain, demand, _>>=_, _>>_}
 use Rattle.zones.specs.Text.{bytesOf, textAt}
 use Rattle.zones.specs.Field.{Field, field, fieldAt, toldField, sentOf, textAfter}
@@ -26,7 +26,7 @@ use Rattle.zones.specs.declared.field.Written.the-variants as W
 use Rattle.zones.specs.declared.fields.Fields.{Fields}
 use Rattle.zones.specs.declared.fields.Fields.the-variants as F
 use Rattle.zones.proofs.Laws.{given-from, carried, onward}
-use Rattle.zones.proofs.Agreeing.{Gave, agree-given, agree-refused, gave, refused-so}
+use Rattle.zones.proofs.Agreeing.{agree-given, agree-refused, gave, refused-so}
 use Rattle.zones.proofs.Buffers.{over-length, tail-back}
 use Rattle.zones.proofs.Holding.{Held, held-length, held-front, remains-length, written, held-all}
 

@@ -1,11 +1,11 @@
 -- From the header to the merged matches, by how far the code came. Assumes nothing.
-use mathlib.Core.Path.{_≡_, refl, sym, ap, _∙_}
+use mathlib.Core.Path.{_≡_, sym, ap, _∙_}
 use mathlib.Core.Bool.{Bool, true, false}
 use mathlib.Core.List.{List}
 use Prim.Native.Nat.{ℕ, _/_, _≤_}
 use lib.ListN.{length, take}
 use Rattle.zones.specs.Lists.{padded}
-use Rattle.zones.specs.Reply.{Reply, given, refused, plain}
+use Rattle.zones.specs.Reply.{given, refused, plain}
 use Rattle.zones.specs.Header.{headOf}
 use Rattle.zones.specs.Hits.{width, words, slots, Real}
 use Rattle.zones.specs.Search.{Found, searched, Sought}

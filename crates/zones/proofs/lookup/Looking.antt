@@ -1,20 +1,18 @@
 -- From the matches to the outcome, by how far the code came. Assumes nothing.
-use mathlib.Core.Path.{_≡_, refl, sym, ap, _∙_}
+use mathlib.Core.Path.{_≡_, _∙_}
 use mathlib.Core.Bool.{Bool}
 use mathlib.Core.List.{List, []}
-use Prim.Native.Nat.{ℕ, _/_, _≤_}
-use lib.ListN.{length, take}
+use Prim.Native.Nat.{ℕ, _/_}
+use lib.ListN.{take}
 use Rattle.zones.specs.Reply.{Reply, given, refused}
-use Rattle.zones.specs.Hits.{width, words, slots}
+use Rattle.zones.specs.Hits.{width, slots}
 use Rattle.zones.specs.Find.{Matched, matchedIn, Matching}
 use Rattle.zones.specs.Fields.{fieldsOf, Wrote}
 use Rattle.zones.specs.Lent.{Agrees, replied, repliedOf, Filled}
 use Rattle.zones.specs.Lookup.{safezoneBits, zonesIn}
-use Rattle.zones.specs.declared.hits.Hit.{Hit}
 use Rattle.zones.specs.declared.refusal.Refusal.{Refusal}
 use Rattle.zones.specs.declared.location.Location.{Location}
 use Rattle.zones.specs.declared.find.Matches.{Matches}
-use Rattle.zones.specs.declared.lookup.Zones.{Zones}
 use Rattle.zones.proofs.Laws.{carried, onward}
 use Rattle.zones.proofs.Agreeing.{Gave, agree-given, agree-refused, gave, refused-so}
 use Rattle.zones.proofs.find.Finding.{count-is, matches-are}

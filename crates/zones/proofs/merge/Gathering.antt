@@ -1,15 +1,12 @@
 -- The loop that takes a group out of its slots: what holds before each turn, and what a turn makes of it. Assumes nothing.
 use mathlib.Core.Path.{_≡_, refl, sym, ap, _∙_}
-use mathlib.Core.Bool.{Bool, true, false}
 use mathlib.Core.List.{List, [], _∷_, _++_, append-assoc, append-nil, map}
-use Prim.Native.Nat.{ℕ, zero, suc, _+_, _-_, _*_, _/_, _≤_, _<_}
+use Prim.Native.Nat.{ℕ, _+_, _*_, _≤_, _<_}
 use native.Mathlib.Omega.{arith}
 use borrow.Author.Tests.{eq-eqb, ne-eqb}
-use lib.Dec.{eqb}
-use lib.ListN.{length, getD, set, take, drop, length-append, length-drop, length-map, take-append-drop}
-use lib.Seq.{getD-at, set-at, append-snoc, length-take-le}
-use Rattle.numbers.specs.Answer.{if_then_else_}
-use Rattle.zones.specs.Hits.{words, slots, hitAt, putHit, noHit}
+use lib.ListN.{length, set, take, drop, length-append, length-drop, length-map, take-append-drop}
+use lib.Seq.{getD-at, set-at, length-take-le}
+use Rattle.zones.specs.Hits.{words, hitAt, putHit, noHit}
 use Rattle.zones.specs.Merge.{Summary, _⊕_, single, summary, tallied, clear, cleared}
 use Rattle.zones.specs.declared.hits.Hit.{Hit}
 use Rattle.zones.specs.declared.merge.Tally.{Tally}

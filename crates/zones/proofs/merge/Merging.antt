@@ -2,8 +2,7 @@
 use mathlib.Core.Path.{_≡_, refl, sym, ap, _∙_}
 use mathlib.Core.Bool.{Bool, true, false}
 use mathlib.Core.List.{List, [], _∷_, _++_, append-assoc, append-nil, map}
-use Prim.Native.Nat.{ℕ, zero, suc, _+_, _-_, _*_, _/_, _≤_, _<_}
-use native.Mathlib.Numerals.{add-one}
+use Prim.Native.Nat.{ℕ, zero, suc, _+_, _-_, _*_, _≤_, _<_}
 use native.Mathlib.Omega.{arith}
 use borrow.Author.Tests.{eq-eqb, ne-eqb, eqb-true, eqb-false}
 use lib.Dec.{eqb}
@@ -12,7 +11,7 @@ use lib.Seq.{take-at, drop-at}
 use Rattle.numbers.specs.Answer.{if_then_else_}
 use Rattle.zones.specs.Lists.{zeros, padded}
 use Rattle.zones.specs.Hits.{hitOf, words, slots, Real, hitAt, putHit, noHit}
-use Rattle.zones.specs.Merge.{Summary, summed, _⊕_, single, summary, groupKind, seen, matchOf, mergedAfter, merged, clear, cleared}
+use Rattle.zones.specs.Merge.{Summary, _⊕_, single, summary, groupKind, seen, matchOf, mergedAfter, merged, clear, cleared}
 use Rattle.zones.specs.declared.hits.Hit.{Hit}
 use Rattle.zones.proofs.hits.Words.{words-length, words-append, slots-words}
 use Rattle.zones.proofs.merge.Summaries.{⊕-idl}

@@ -1,12 +1,12 @@
 -- Each entry leads on: the next place is further, and a hit's kind is not 0. Assumes nothing.
-use mathlib.Core.Path.{_≡_, refl, sym, ap, _∙_}
+use mathlib.Core.Path.{_≡_, refl, sym, ap}
 use mathlib.Core.Bool.{Bool, true, false}
 use mathlib.Core.List.{List}
-use Prim.Native.Nat.{ℕ, _+_, _%_, _^_, _<_}
+use Prim.Native.Nat.{ℕ, _≤_, _<_}
+use native.Mathlib.Nat.{le-of-lt}
 use native.Mathlib.Omega.{arith}
 use borrow.Author.Tests.{eqb-false}
-use lib.Dec.{eqb, ltb}
-use lib.Signed.{ltZ}
+use lib.Dec.{eqb}
 use Rattle.numbers.specs.Answer.{Answer, found, failed, refused, if_then_else_, _>>=_}
 use Rattle.numbers.specs.Varint.{Numeral, forwardAt}
 use Rattle.numbers.specs.declared.varint.Varint.the-variants.{Number}
@@ -39,25 +39,22 @@ bound (refused n) next e = let z : _≡_ {A = ℕ} 0 1 = cc in absurd (omega ari
 grew : (file : List ℕ) (place : ℕ) (number : Numeral) → forwardAt file place ≡ found number → place < number .place
 grew file place number e = number-read file place {a = Number (number .value) (number .place)} (sym e) refl .grows
 
+-- a number, and what follows it up to an end
+after : {B : Type 0} (file : List ℕ) (place end : ℕ) (next : Numeral → Answer B) {b : B} → ((number : Numeral) → next number ≡ found b → number .place ≤ end) → (forwardAt file place >>= next) ≡ found b → place < end
+after file place end next rest e =
+    let a = bound (forwardAt file place) next e in
+    let grows = grew file place (a .first) (a .is) in
+    let ends = rest (a .first) (a .rest) in
+    omega arith
+
 pub entry-grows : (file : List ℕ) (place : ℕ) (entry : Entry) → entryAt file place ≡ found entry → place < entry .next
 unfolding entryAt stepsAt
-entry-grows file place entry e =
-    let a = bound (forwardAt file place) _ e in
-    let b = bound (forwardAt file (a .first .place)) _ (a .rest) in
-    let c = bound (forwardAt file (b .first .place)) _ (b .rest) in
-    let d = bound (forwardAt file (c .first .place)) _ (c .rest) in
-    let m = bound (forwardAt file (d .first .place)) _ (d .rest) in
-    let p = bound (forwardAt file (m .first .place)) _ (m .rest) in
-    let last : p .first .place ≡ entry .next = ap (λ (x : Entry). x .next) (found-one (p .rest)) in
-    omega (
-      arith,
-      grew file _ _ (a .is),
-      grew file _ _ (b .is),
-      grew file _ _ (c .is),
-      grew file _ _ (d .is),
-      grew file _ _ (m .is),
-      grew file _ _ (p .is),
-    )
+entry-grows file place entry =
+    let end = entry .next in
+    after file place end _ λ a. upto (a .place) _ λ b. upto (b .place) _ λ c. upto (c .place) _ λ d. upto (d .place) _ λ m. upto (m .place) _ λ p e. let last : p .place ≡ entry .next = ap (λ (x : Entry). x .next) (found-one e) in omega arith
+  where
+    upto : {B : Type 0} (place : ℕ) (next : Numeral → Answer B) {b : B} → ((number : Numeral) → next number ≡ found b → number .place ≤ entry .next) → (forwardAt file place >>= next) ≡ found b → place ≤ entry .next
+    upto place next rest e = le-of-lt (after file place (entry .next) next rest e)
 
 -- ---- so the search goes on from a later place
 unfoldable pub Leads : ℕ → Turn → Type 0

@@ -1,14 +1,11 @@
 -- The search's loop: what holds before each turn, and what a turn makes of it. Assumes nothing.
-use mathlib.Core.Path.{_≡_, refl, sym, ap, _∙_}
-use mathlib.Core.Bool.{Bool, true, false}
+use mathlib.Core.Path.{_≡_, refl, ap, _∙_}
 use mathlib.Core.List.{List, [], _∷_, _++_}
-use Prim.Native.Nat.{ℕ, zero, suc, _+_, _-_, _*_, _/_, _≤_, _<_}
+use Prim.Native.Nat.{ℕ, zero, suc, _+_, _-_, _/_, _≤_, _<_}
 use native.Mathlib.Nat.{sub-zero}
 use native.Mathlib.Omega.{arith}
 use borrow.Author.Tests.{lt-ltb, le-ltb}
-use lib.Dec.{ltb}
 use lib.ListN.{length, length-append, length-replicate}
-use Rattle.numbers.specs.Answer.{if_then_else_}
 use Rattle.zones.specs.Lists.{zeros, padded}
 use Rattle.zones.specs.Reply.{Reply, given, plain}
 use Rattle.zones.specs.Reply as R
@@ -131,3 +128,7 @@ module _ {place : ℕ} (turn : Turn) (l : Leads place turn) where
   pub met-further : {hit : Hit} {next : Cursor} → turn ≡ Met hit next → (place < next .place) × (hit .kind ≡ 0 → ⊥)
   unfolding Leads
   met-further e = rw e at l
+
+-- and leaves less to search
+pub nearer : {place next end : ℕ} → place < next → place < end → end - next < end - place
+nearer h k = omega arith

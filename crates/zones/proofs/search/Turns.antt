@@ -2,12 +2,12 @@
 use mathlib.Core.Path.{_≡_, refl, sym, ap, _∙_}
 use mathlib.Core.Bool.{Bool, true, false}
 use mathlib.Core.List.{List}
-use Prim.Native.Nat.{ℕ, zero, suc, _+_, _-_, _*_, _/_, _%_, _^_, _<_}
+use Prim.Native.Nat.{ℕ, zero, suc, _+_, _-_, _/_, _%_, _^_, _<_}
 use native.Mathlib.Omega.{arith}
 use borrow.Author.Tests.{eq-eqb, ne-eqb}
 use denote.Enum.Declared.{tagOf, declared}
 use lib.IntN.{pos, negℤ}
-use Rattle.numbers.specs.Answer.{Answer, failed, refused, if_then_else_}
+use Rattle.numbers.specs.Answer.{Answer, failed, refused}
 use Rattle.numbers.specs.Point.{low32, halfOf}
 use Rattle.border.specs.Verdict.{Judgement, told, judgedAt}
 use Rattle.border.specs.declared.reader.Version.{Version}
@@ -23,7 +23,6 @@ use Rattle.border.specs.declared.place.Point.{Point}
 use Rattle.zones.specs.declared.table.Row.{Row}
 use Rattle.zones.specs.declared.table.Row.the-variants as W
 use Rattle.zones.specs.declared.search.Cursor.{Cursor}
-use Rattle.zones.specs.declared.search.Turn.{Turn}
 use Rattle.zones.specs.declared.search.Turn.the-variants.{On, Met, Stopped, Refused}
 use Rattle.zones.proofs.table.Row as R
 

@@ -3,7 +3,7 @@ use mathlib.Core.Path.{_≡_, refl, sym, ap, _∙_}
 use mathlib.Core.Bool.{Bool, true, false}
 use mathlib.Core.List.{List, [], _∷_, _++_}
 use mathlib.Core.Option.{Option, none, some}
-use Prim.Native.Nat.{ℕ, _/_, _<_}
+use Prim.Native.Nat.{ℕ, _<_}
 use native.Mathlib.Nat.{sub-zero}
 use native.Mathlib.Omega.{arith}
 use borrow.Author.Tests.{le-leb}
@@ -17,7 +17,7 @@ use Rattle.zones.specs.Text.{bytesOf}
 use Rattle.zones.specs.Hits.{noHit}
 use Rattle.zones.specs.Fields.{fieldsPlace, Wrote}
 use Rattle.zones.specs.Lent.{Agrees}
-use Rattle.zones.specs.Simple.{begun, pickedFrom, pickedOf, joined, descriptionOf, bytesIn, lengthIn, fitting, wordedOf, Worded}
+use Rattle.zones.specs.Simple.{begun, pickedFrom, joined, descriptionOf, bytesIn, fitting, wordedOf, Worded}
 use Rattle.zones.specs.declared.header.Head.{Head}
 use Rattle.zones.specs.declared.hits.Hit.{Hit}
 use Rattle.zones.specs.declared.refusal.Refusal.{Refusal}
@@ -25,7 +25,6 @@ use Rattle.zones.specs.declared.text.Text.{Text}
 use Rattle.zones.specs.declared.simple.Value.{Value}
 use Rattle.zones.specs.declared.simple.Value.the-variants as X
 use Rattle.zones.specs.declared.simple.Picked.{Picked}
-use Rattle.zones.specs.declared.simple.Description.{Description}
 use Rattle.zones.specs.declared.simple.Description.the-variants as D
 use Rattle.zones.proofs.simple.Value as K
 use Rattle.zones.proofs.Laws.{carried, onward, met}
@@ -46,6 +45,15 @@ fitted room all {bytes} e = go (leb (length all) room) e
     go true e = cc
     go false e = let z : _≡_ {A = ℕ} 0 1 = cc in absurd (omega arith)
 
+-- what is picked from the first match describes it
+pub described : (file : List ℕ) (head : Head) (all : List Hit) {got : Hit} {place : ℕ} {picks : Reply Picked} → 0 < length all → got ≡ getD all 0 noHit → place ≡ fieldsPlace head (got .metadata)
+    → picks ≡ pickedFrom file head (head .preamble .count) 0 7 place (begun (head .preamble .kind))
+    → (picks >>= λ picked. given (joined file (picked .one) (picked .two))) ≡ descriptionOf file head all
+unfolding descriptionOf
+described file head all {got} some-match is p e =
+    let cons : all ≡ got ∷ drop 1 all = drop-cons all 0 noHit some-match ∙ ap (λ (h : Hit). h ∷ drop 1 all) (sym is) in
+    rw (e, p) (sym (ap (descriptionOf file head) cons))
+
 module _ (file : List ℕ) (head : Head) (room : ℕ) (all : List Hit) where
   -- from a description to what goes out
   worded : (d : Option (List ℕ)) → given d ≡ descriptionOf file head all → (fitting room (bytesIn d) >>= λ bytes. given d) ≡ wordedOf file head room all
@@ -61,44 +69,32 @@ module _ (file : List ℕ) (head : Head) (room : ℕ) (all : List Hit) where
   unfolding descriptionOf
   no-matches z e = nothing z (ap (descriptionOf file head) (sym e))
 
-  module _ (some-match : 0 < length all) {got : Hit} (is : got ≡ getD all 0 noHit) {place : ℕ} (p : place ≡ fieldsPlace head (got .metadata)) where
-    abbrev picks : Reply Picked
-    picks = pickedFrom file head (head .preamble .count) 0 7 place (begun (head .preamble .kind))
+  pub not-picked : {picks : Reply Picked} {why : Refusal} (text : List ℕ) → picks ≡ refused why → (picks >>= λ picked. given (joined file (picked .one) (picked .two))) ≡ descriptionOf file head all
+      → Agrees (Worded room text) (wordedOf file head room all) (refused why)
+  unfolding wordedOf
+  not-picked text e d = agree-refused (Worded room text) (carried (carried (sym e) _ ∙ d) _)
 
-    described : (picks >>= λ picked. given (joined file (picked .one) (picked .two))) ≡ descriptionOf file head all
-    unfolding descriptionOf
-    described =
-        let cons : all ≡ got ∷ drop 1 all = drop-cons all 0 noHit some-match ∙ ap (λ (h : Hit). h ∷ drop 1 all) (sym is) in
-        rw (p) (sym (ap (descriptionOf file head) cons))
+  module _ (a b : Value) (so : given (joined file a b) ≡ descriptionOf file head all) where
+    pub no-one : {text : List ℕ} → text ≡ zeros room → a ≡ X.Missing → Agrees (Worded room text) (wordedOf file head room all) (given D.Missing)
+    no-one z m = nothing z (ap (λ (v : Value). given (joined file v b)) (sym m) ∙ so)
 
-    pub not-picked : {why : Refusal} (text : List ℕ) → refused why ≡ picks → Agrees (Worded room text) (wordedOf file head room all) (refused why)
-    unfolding wordedOf
-    not-picked text e = agree-refused (Worded room text) (carried (carried e _ ∙ described) _)
+    module _ {first : Text} (one : a ≡ X.At first) where
+      pub no-two : {text : List ℕ} → text ≡ zeros room → b ≡ X.Missing → Agrees (Worded room text) (wordedOf file head room all) (given D.Missing)
+      no-two z m = nothing z (sym (λ i. given (joined file (one i) (m i))) ∙ so)
 
-    module _ {picked : Picked} (e : given picked ≡ picks) where
-      so : given (joined file (picked .one) (picked .two)) ≡ descriptionOf file head all
-      so = onward e _ ∙ described
+      module _ {second : Text} (two : b ≡ X.At second) where
+        goes-out : (fitting room (both file first second) >>= λ bytes. given (some (both file first second))) ≡ wordedOf file head room all
+        goes-out = worded (some (both file first second)) (sym (λ i. given (joined file (one i) (two i))) ∙ so)
 
-      pub no-one : {text : List ℕ} → text ≡ zeros room → picked .one ≡ X.Missing → Agrees (Worded room text) (wordedOf file head room all) (given D.Missing)
-      no-one z m = nothing z (ap (λ (v : Value). given (joined file v (picked .two))) (sym m) ∙ so)
+        module _ (last : List ℕ) {reply : Reply ℕ} (agrees : Agrees (Wrote room last) (fitting room (both file first second)) reply) where
+          pub no-room : {why : Refusal} (text : List ℕ) → reply ≡ refused why → Agrees (Worded room text) (wordedOf file head room all) (refused why)
+          no-room text r =
+              agree-refused (Worded room text)
+              (carried (refused-so (Wrote room last) (fitting room (both file first second)) agrees r) (λ bytes. given (some (both file first second))) ∙ goes-out)
 
-      module _ {first : Text} (one : picked .one ≡ X.At first) where
-        pub no-two : {text : List ℕ} → text ≡ zeros room → picked .two ≡ X.Missing → Agrees (Worded room text) (wordedOf file head room all) (given D.Missing)
-        no-two z m = nothing z (sym (λ i. given (joined file (one i) (m i))) ∙ so)
-
-        module _ {second : Text} (two : picked .two ≡ X.At second) where
-          goes-out : (fitting room (both file first second) >>= λ bytes. given (some (both file first second))) ≡ wordedOf file head room all
-          goes-out = worded (some (both file first second)) (sym (λ i. given (joined file (one i) (two i))) ∙ so)
-
-          module _ (last : List ℕ) {reply : Reply ℕ} (a : Agrees (Wrote room last) (fitting room (both file first second)) reply) where
-            pub no-room : {why : Refusal} (text : List ℕ) → reply ≡ refused why → Agrees (Worded room text) (wordedOf file head room all) (refused why)
-            no-room text r =
-                agree-refused (Worded room text)
-                (carried (refused-so (Wrote room last) (fitting room (both file first second)) a r) (λ bytes. given (some (both file first second))) ∙ goes-out)
-
-            pub written : {size : ℕ} → reply ≡ given size → Agrees (Worded room last) (wordedOf file head room all) (given (D.Length size))
-            written r =
-                let o = gave (Wrote room last) (fitting room (both file first second)) a r in
-                let same = fitted room (both file first second) (o .is) in
-                agree-given (Worded room last) (onward (o .is) (λ bytes. given (some (both file first second))) ∙ goes-out)
-                (record { said = ap D.Length (o .fits .said ∙ ap length same); kept = o .fits .kept ∙ ap (padded room) same })
+          pub written : {size : ℕ} → reply ≡ given size → Agrees (Worded room last) (wordedOf file head room all) (given (D.Length size))
+          written r =
+              let o = gave (Wrote room last) (fitting room (both file first second)) agrees r in
+              let same = fitted room (both file first second) (o .is) in
+              agree-given (Worded room last) (onward (o .is) (λ bytes. given (some (both file first second))) ∙ goes-out)
+              (record { said = ap D.Length (o .fits .said ∙ ap length same); kept = o .fits .kept ∙ ap (padded room) same })

@@ -1,5 +1,5 @@
 -- Two strings, one after the other, in a text that was zero. Assumes nothing.
-use mathlib.Core.Path.{_≡_, refl, sym, ap, _∙_}
+use mathlib.Core.Path.{_≡_, sym, ap, _∙_}
 use mathlib.Core.List.{List, _++_, map}
 use Prim.Native.Nat.{ℕ, _+_, _-_, _≤_, _<_}
 use native.Mathlib.Omega.{arith}
@@ -7,7 +7,7 @@ use borrow.Author.Tests.{le-leb, lt-leb}
 use lib.ListN.{length, take, drop, length-append, length-map, length-drop}
 use lib.Seq.{length-take-le}
 use Rattle.zones.specs.Lists.{zeros, over}
-use Rattle.zones.specs.Reply.{Reply, given, refused, plain}
+use Rattle.zones.specs.Reply.{given, refused, plain}
 use Rattle.zones.specs.Text.{bytesOf}
 use Rattle.zones.specs.Utf8.{unmasked}
 use Rattle.zones.specs.Fields.{Wrote}
@@ -16,7 +16,7 @@ use Rattle.zones.specs.Simple.{fitting}
 use Rattle.zones.specs.declared.text.Text.{Text}
 use Rattle.zones.proofs.Laws.{met, unmet}
 use Rattle.zones.proofs.Agreeing.{agree-given, agree-refused}
-use Rattle.zones.proofs.Holding.{Held, held-length, held-first, held-wrote, written}
+use Rattle.zones.proofs.Holding.{Held, lent, remains-length, held-first, held-wrote, written}
 use Rattle.zones.proofs.text.Strings.{part, part-is}
 
 -- a string inside the file has as many bytes as it says
@@ -25,25 +25,27 @@ module _ (file : List ℕ) (text : Text) (inside : text .start + text .size ≤ 
   unfolding bytesOf
   bytes-length = length-map (take (text .size) (drop (text .start) file)) unmasked ∙ length-take-le (text .size) (drop (text .start) file) (rw length-drop (omega arith))
 
-module _ (room : ℕ) (file : List ℕ) (one two : Text) (here : one .start + one .size ≤ length file) (there : two .start + two .size ≤ length file) where
-  abbrev both : List ℕ
-  both = bytesOf file one ++ bytesOf file two
+pub no-room : (room : ℕ) (file : List ℕ) (one two : Text) (last : List ℕ) → one .start + one .size ≤ length file → two .start + two .size ≤ length file → room < one .size + two .size
+    → Agrees (Wrote room last) (fitting room (bytesOf file one ++ bytesOf file two)) (refused (plain 18))
+no-room room file one two last here there h =
+    let both = bytesOf file one ++ bytesOf file two in
+    let size : length both ≡ one .size + two .size = length-append (bytesOf file one) (bytesOf file two) ∙ omega (arith, bytes-length file one here, bytes-length file two there) in
+    agree-refused (Wrote room last) (unmet (lt-leb (length both) room (omega (arith, size))) (plain 18) (given both))
 
-  both-length : length both ≡ one .size + two .size
-  both-length = length-append (bytesOf file one) (bytesOf file two) ∙ omega (arith, bytes-length file one here, bytes-length file two there)
+-- the first string over zeros
+pub one-held : {room : ℕ} {text text′ : List ℕ} (file : List ℕ) (one : Text) → one .start + one .size ≤ length file → one .size ≤ room → text ≡ zeros room → text′ ≡ over (map unmasked (part file one)) text
+    → Held room (bytesOf file one) text′ (one .size)
+one-held {room} {text} file one here fits z e = held-first z (bytes-length file one here) fits (e ∙ ap (λ (s : List ℕ). over s text) (part-is file one))
 
-  pub no-room : (last : List ℕ) → room < one .size + two .size → Agrees (Wrote room last) (fitting room both) (refused (plain 18))
-  no-room last h = agree-refused (Wrote room last) (unmet (lt-leb (length both) room (omega (arith, both-length))) (plain 18) (given both))
+-- and one more after what is held
+module _ {room : ℕ} {out text : List ℕ} {at : ℕ} (g : Held room out text at) (file : List ℕ) (two : Text) (there : two .start + two .size ≤ length file) (fits : at + two .size ≤ room) where
+  pub rest-holds : length (part file two) ≤ length (lent g)
+  rest-holds =
+      let size = ap length (part-is file two) ∙ bytes-length file two there in
+      omega (arith, sym (length-map (part file two) unmasked) ∙ size, remains-length g, g .sized)
 
-  module _ (fits : one .size + two .size ≤ room) {text text′ : List ℕ} (z : text ≡ zeros room) (first : text′ ≡ over (map unmasked (part file one)) text) where
-    after-one : Held room (bytesOf file one) text′ (one .size)
-    after-one = held-first z (bytes-length file one here) (omega arith) (first ∙ ap (λ (s : List ℕ). over s text) (part-is file one))
+  pub two-held : {last : List ℕ} → last ≡ over (map unmasked (part file two)) (lent g) → Held room (out ++ bytesOf file two) (take at text ++ (last ++ drop (length text - at) (drop at text))) (at + two .size)
+  two-held {last} e = written g (bytesOf file two) last (bytes-length file two there) (omega (arith, g .sized)) (e ∙ ap (λ (s : List ℕ). over s (lent g)) (part-is file two))
 
-    pub one-length : length text′ ≡ room
-    one-length = held-length after-one
-
-    pub wrote : {last : List ℕ} → last ≡ over (map unmasked (part file two)) (take (length text′ - one .size) (drop (one .size) text′))
-        → Agrees (Wrote room (take (one .size) text′ ++ (last ++ drop (length text′ - one .size) (drop (one .size) text′)))) (fitting room both) (given (one .size + two .size))
-    wrote {last} second =
-        let whole = written after-one (bytesOf file two) last (bytes-length file two there) (omega (arith, bytes-length file one here)) (second ∙ ap (λ (s : List ℕ). over s (take (length text′ - one .size) (drop (one .size) text′))) (part-is file two)) in
-        agree-given (Wrote room _) (met (le-leb (length both) room (omega (arith, both-length))) (plain 18) (given both)) (held-wrote whole)
+pub all-fits : {room : ℕ} {out text : List ℕ} {at : ℕ} → Held room out text at → Agrees (Wrote room text) (fitting room out) (given at)
+all-fits {room} {out} {text} g = agree-given (Wrote room text) (met (le-leb (length out) room (omega (arith, g .sized, g .fits))) (plain 18) (given out)) (held-wrote g)

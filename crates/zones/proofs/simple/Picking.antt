@@ -1,5 +1,5 @@
 -- The wanted fields of a match, field by field, and the fields of every match. Assumes nothing.
-use mathlib.Core.Path.{_≡_, refl, sym, subst, ap, _∙_}
+use mathlib.Core.Path.{_≡_, sym, subst, ap, _∙_}
 use mathlib.Core.Bool.{Bool, true, false}
 use mathlib.Core.List.{List, _∷_}
 use Prim.Native.Nat.{ℕ, zero, suc, _+_, _-_, _≤_, _<_}
@@ -16,7 +16,7 @@ use Rattle.zones.specs.Text.{textAt, bytesOf}
 use Rattle.zones.specs.Header.{blameOf}
 use Rattle.zones.specs.Hits.{noHit}
 use Rattle.zones.specs.Fields.{fieldsPlace}
-use Rattle.zones.specs.Simple.{partOf, begun, newer, pickedFrom, pickedOf, checked, toldPicks}
+use Rattle.zones.specs.Simple.{partOf, begun, newer, pickedFrom, checked, toldPicks}
 use Rattle.zones.specs.declared.header.Head.{Head}
 use Rattle.zones.specs.declared.hits.Hit.{Hit}
 use Rattle.zones.specs.declared.refusal.Refusal.{Refusal}

@@ -1,8 +1,7 @@
 -- From the matches to the outcome, by how far the code came. Assumes nothing.
-use mathlib.Core.Path.{_≡_, refl, sym, ap, _∙_}
+use mathlib.Core.Path.{_≡_, refl, ap, _∙_}
 use mathlib.Core.Bool.{false}
 use mathlib.Core.List.{List}
-use mathlib.Core.Option.{Option}
 use Prim.Native.Nat.{ℕ, _/_}
 use native.Mathlib.Omega.{arith}
 use denote.Enum.Declared.{tagOf, declared}
@@ -18,7 +17,6 @@ use Rattle.zones.specs.declared.find.Matches.{Matches}
 use Rattle.zones.specs.declared.simple.Checked.{Checked}
 use Rattle.zones.specs.declared.simple.Checked.the-variants as C
 use Rattle.zones.specs.declared.simple.Description.{Description}
-use Rattle.zones.specs.declared.simple.Described.{Described}
 use Rattle.zones.proofs.simple.Checked as K
 use Rattle.zones.proofs.Laws.{carried, onward}
 use Rattle.zones.proofs.Agreeing.{Gave, agree-given, agree-refused, gave, refused-so}

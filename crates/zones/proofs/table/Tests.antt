@@ -1,5 +1,5 @@
 -- Three tests, by how far they hold. Assumes nothing.
-use mathlib.Core.Path.{_≡_, refl}
+use mathlib.Core.Path.{_≡_}
 use mathlib.Core.Bool.{Bool, true, false, _&&_}
 
 -- the first of three tests that fails, and the last of three

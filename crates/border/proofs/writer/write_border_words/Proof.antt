@@ -1,13 +1,8 @@
 -- `border::writer::write_border_words` meets its contract. Assumes nothing.
-use borrow.Author.Needs.{needs}
+use native.Mathlib.Omega.{arith}
 use Rattle.border.specs.Pieces.{piecesOf}
 use Rattle.border.proofs.writer.write_border_words.Statement.{statement}
 use Rattle.border.proofs.writer.write_border_words.Tie as tie
-use Rattle.border.proofs.writer.write_border_words.Reads as reads
-use Rattle.border.proofs.writer.write_border_words.Lts as lts
-use Rattle.border.proofs.writer.pieces.check_words.Reads as check-words-reads
-use Rattle.border.proofs.writer.pieces.no_pieces.Reads as no-pieces-reads
-use Rattle.border.proofs.writer.write_checked.Reads as write-checked-reads
 
 no-pieces-requires : tie.Need-no-pieces-requires
 no-pieces-requires c κs = tt
@@ -18,15 +13,15 @@ check-words-requires c κs = tt
 write-checked-requires : tie.Need-write-checked-requires
 write-checked-requires c κs = tt
 
-same-length : tie.Need-same-length
-same-length c = search needs
-
 returns : tie.Need-returns
 returns c =
     let a = c .before .before .before .before .before .before .before .before .before .args in
-    c .before .before .write-checked .ensures (piecesOf (a .words .now)) (c .before .before .before .before .check-words .ensures (c .before .before .before .before .before .no-pieces .ensures (a .earlier .now) (a .lats .now) (a .lons .now)))
+    let no-pieces = c .before .before .before .before .before .no-pieces in
+    let check-words = c .before .before .before .before .check-words in
+    let write-checked = c .before .before .write-checked in
+    write-checked .ensures (piecesOf (a .words .now)) (check-words .ensures (no-pieces .ensures (a .earlier .now) (a .lats .now) (a .lons .now)))
 
 pub write-border-words-spec : {M : Type 1} → statement M
 write-border-words-spec =
     tie.close
-    (tie.spec no-pieces-requires check-words-requires write-checked-requires same-length returns)
+    (tie.spec no-pieces-requires check-words-requires write-checked-requires (λ c. omega arith) returns)

@@ -1,159 +1,73 @@
 -- `border::writer::write_checked` meets its contract. Assumes nothing.
 use mathlib.Core.Path.{_≡_, sym, ap, _∙_}
 use mathlib.Core.List.{[]}
-use lib.ListN.{length}
-use Rattle.border.specs.Writer.{passed, replied}
-use Rattle.border.specs.declared.writer.{Written.Written}
+use native.Mathlib.Omega.{arith}
+use Rattle.border.specs.Writer.{given, checks, passed, replied}
+use Rattle.border.specs.declared.writer.Written.{Written}
 use Rattle.border.proofs.writer.Replying.{refusing, finished, faulty, good-sizes, plain-none, plain-given, packed-many, packed-bad, packed-given}
-use borrow.Author.Needs.{needs}
 use Rattle.border.proofs.writer.write_checked.Statement.{statement}
 use Rattle.border.proofs.writer.write_checked.Tie as tie
-use Rattle.border.proofs.writer.write_checked.Reads as reads
-use Rattle.border.proofs.writer.write_checked.Lts as lts
-use Rattle.border.proofs.writer.bytes.zero_bytes.Reads as zero-bytes-reads
-use Rattle.border.proofs.writer.checks.border_fault.Reads as border-fault-reads
-use Rattle.border.proofs.writer.finish.Reads as finish-reads
-use Rattle.border.proofs.writer.write_packed.Reads as write-packed-reads
-use Rattle.border.proofs.writer.write_plain.Reads as write-plain-reads
-
-zero-bytes-requires : tie.Need-zero-bytes-requires
-zero-bytes-requires c κs = search needs
-
-border-fault-requires : tie.Need-border-fault-requires
-border-fault-requires c κs = search needs
-
-enum-told : tie.Need-enum-told
-enum-told c = search needs
-
-enum-told-2 : tie.Need-enum-told-2
-enum-told-2 c = search needs
-
-same-length : tie.Need-same-length
-same-length c = search needs
 
 returns : tie.Need-returns
 returns c =
-    let a = c .before .before .before .before .before .before .before .before .before .args in
-    let room = length (a .out .now) in
-    let x = a .lats .now in
-    let y = a .lons .now in
-    let e = a .earlier .now in
     let told = c .enum-told2 .given in
-    λ ps h. ap (λ (w : Written). replied w (c .before .before .before .before .before .zero-bytes .last .0)) (told .1)
-    ∙ refusing room _ (told .0 .0) (told .0 .1 .0) (c .before .before .before .before .before .zero-bytes .last .0) (faulty (a .version) x y e ps _ _ (ap passed (sym (told .1)) ∙ c .before .before .border-fault .ensures)) (c .before .before .before .before .before .zero-bytes .ensures)
+    let zero-bytes = c .before .before .before .before .before .zero-bytes in
+    λ ps h. ap (λ (w : Written). replied w (zero-bytes .last .0)) (told .1)
+    ∙ refusing _ _ (told .0 .0) (told .0 .1 .0) _ (faulty _ _ _ _ ps _ _ (ap passed (sym (told .1)) ∙ c .before .before .border-fault .ensures)) (zero-bytes .ensures)
 
-same-length-2 : tie.Need-same-length-2
-same-length-2 c = search needs
+-- where every check of the border has passed
+good : (c : tie.After-enum-told) → let args = c .before .before .before .before .before .before .before .before .before .args in given tt ≡ checks (args .version) (args .lats .now) (args .lons .now) (args .earlier .now)
+good c = ap passed (sym (c .enum-told .given .1)) ∙ c .before .before .border-fault .ensures
 
 returns-2 : tie.Need-returns-2
-returns-2 c =
-    let a = c .before .before .before .before .before .before .before .before .before .before .before .args in
-    let room = length (a .out .now) in
-    let x = a .lats .now in
-    let y = a .lons .now in
-    let e = a .earlier .now in
-    let good = ap passed (sym (c .before .before .enum-told .given .1)) ∙ c .before .before .before .before .border-fault .ensures in
-    λ ps h. refusing room _ 23 0 (c .before .before .before .before .before .before .before .zero-bytes .last .0) (plain-none (a .version) x y e ps good (a .check) h (c .before .if1 .taken) (c .if2 .taken)) (c .before .before .before .before .before .before .before .zero-bytes .ensures)
+returns-2 c = λ ps h.
+    refusing _ _ 23 0 _ (plain-none _ _ _ _ ps (good (c .before .before)) _ h (c .before .if1 .taken) (c .if2 .taken)) (c .before .before .before .before .before .before .before .zero-bytes .ensures)
 
 write-plain-requires : tie.Need-write-plain-requires
-write-plain-requires c κs =
-    let a = c .before .before .before .before .before .before .before .before .before .before .before .before .args in
-    let room = length (a .out .now) in
-    let x = a .lats .now in
-    let y = a .lons .now in
-    let e = a .earlier .now in
-    let good = ap passed (sym (c .before .before .before .enum-told .given .1)) ∙ c .before .before .before .before .before .border-fault .ensures in
-    let s = good-sizes (a .version) x y e [] good in (s .same, s .few)
-
-finish-requires : tie.Need-finish-requires
-finish-requires c κs = search needs
-
-same-length-3 : tie.Need-same-length-3
-same-length-3 c = search needs
+write-plain-requires c κs = let s = good-sizes _ _ _ _ [] (good (c .before .before .before)) in (s .same, s .few)
 
 returns-3 : tie.Need-returns-3
-returns-3 c =
-    let a = c .before .before .before .before .before .before .before .before .before .before .before .before .before .before .before .before .before .before .before .args in
-    let room = length (a .out .now) in
-    let x = a .lats .now in
-    let y = a .lons .now in
-    let e = a .earlier .now in
-    let good = ap passed (sym (c .before .before .before .before .before .before .before .before .before .before .enum-told .given .1)) ∙ c .before .before .before .before .before .before .before .before .before .before .before .before .border-fault .ensures in
-    λ ps h. finished room _ _ _ _ _ _ (plain-given (a .version) x y e ps good (a .check) h (c .before .before .before .before .before .before .before .before .before .if1 .taken) (c .before .before .before .before .before .before .before .before .if2 .left)) (c .before .before .before .before .before .before .before .before .before .before .before .before .before .before .before .zero-bytes .ensures) (c .before .before .before .before .before .before .write-plain .ensures) (c .before .before .finish .ensures)
-
-same-length-4 : tie.Need-same-length-4
-same-length-4 c = search needs
+returns-3 c = λ ps h.
+    finished _ _ _ _ _ _ _ (plain-given _ _ _ _ ps (good (c .before .before .before .before .before .before .before .before .before .before)) _ h (c .before .before .before .before .before .before .before .before .before .if1 .taken) (c .before .before .before .before .before .before .before .before .if2 .left))
+    (c .before .before .before .before .before .before .before .before .before .before .before .before .before .before .before .zero-bytes .ensures) (c .before .before .before .before .before .before .write-plain .ensures) (c .before .before .finish .ensures)
 
 returns-4 : tie.Need-returns-4
-returns-4 c =
-    let a = c .before .before .before .before .before .before .before .before .before .before .before .args in
-    let room = length (a .out .now) in
-    let x = a .lats .now in
-    let y = a .lons .now in
-    let e = a .earlier .now in
-    let good = ap passed (sym (c .before .before .enum-told .given .1)) ∙ c .before .before .before .before .border-fault .ensures in
-    λ ps h. refusing room _ 23 16 (c .before .before .before .before .before .before .before .zero-bytes .last .0) (packed-many (a .version) x y e ps good (a .check) h (c .before .if1 .left) (c .if3 .taken)) (c .before .before .before .before .before .before .before .zero-bytes .ensures)
-
-same-length-5 : tie.Need-same-length-5
-same-length-5 c = search needs
+returns-4 c = λ ps h.
+    refusing _ _ 23 16 _ (packed-many _ _ _ _ ps (good (c .before .before)) _ h (c .before .if1 .left) (c .if3 .taken)) (c .before .before .before .before .before .before .before .zero-bytes .ensures)
 
 returns-5 : tie.Need-returns-5
-returns-5 c =
-    let a = c .before .before .before .before .before .before .before .before .before .before .before .before .before .args in
-    let room = length (a .out .now) in
-    let x = a .lats .now in
-    let y = a .lons .now in
-    let e = a .earlier .now in
-    let good = ap passed (sym (c .before .before .before .before .enum-told .given .1)) ∙ c .before .before .before .before .before .before .border-fault .ensures in
-    λ ps h. refusing room _ 23 (a .check .good) (c .before .before .before .before .before .before .before .before .before .zero-bytes .last .0) (packed-bad (a .version) x y e ps good (a .check) h (c .before .before .before .if1 .left) (c .before .before .if3 .left) (c .if4 .taken)) (c .before .before .before .before .before .before .before .before .before .zero-bytes .ensures)
+returns-5 c = λ ps h.
+    refusing _ _ 23 _ _ (packed-bad _ _ _ _ ps (good (c .before .before .before .before)) _ h (c .before .before .before .if1 .left) (c .before .before .if3 .left) (c .if4 .taken)) (c .before .before .before .before .before .before .before .before .before .zero-bytes .ensures)
 
 write-packed-requires : tie.Need-write-packed-requires
-write-packed-requires c κs =
-    let a = c .before .before .before .before .before .before .before .before .before .before .before .before .before .before .before .args in
-    let room = length (a .out .now) in
-    let x = a .lats .now in
-    let y = a .lons .now in
-    let e = a .earlier .now in
-    let good = ap passed (sym (c .before .before .before .before .before .before .enum-told .given .1)) ∙ c .before .before .before .before .before .before .before .before .border-fault .ensures in
-    let s = good-sizes (a .version) x y e [] good in (s .same, s .few, c .before .before .before .before .if3 .left)
-
-finish-requires-2 : tie.Need-finish-requires-2
-finish-requires-2 c κs = search needs
-
-same-length-6 : tie.Need-same-length-6
-same-length-6 c = search needs
+write-packed-requires c κs = let s = good-sizes _ _ _ _ [] (good (c .before .before .before .before .before .before)) in (s .same, s .few, c .before .before .before .before .if3 .left)
 
 returns-6 : tie.Need-returns-6
-returns-6 c =
-    let a = c .before .before .before .before .before .before .before .before .before .before .before .before .before .before .before .before .before .before .before .before .before .before .args in
-    let room = length (a .out .now) in
-    let x = a .lats .now in
-    let y = a .lons .now in
-    let e = a .earlier .now in
-    let good = ap passed (sym (c .before .before .before .before .before .before .before .before .before .before .before .before .before .enum-told .given .1)) ∙ c .before .before .before .before .before .before .before .before .before .before .before .before .before .before .before .border-fault .ensures in
-    λ ps h. finished room _ _ _ _ _ _ (packed-given (a .version) x y e ps good (a .check) h (c .before .before .before .before .before .before .before .before .before .before .before .before .if1 .left) (c .before .before .before .before .before .before .before .before .before .before .before .if3 .left) (c .before .before .before .before .before .before .before .before .before .if4 .left)) (c .before .before .before .before .before .before .before .before .before .before .before .before .before .before .before .before .before .before .zero-bytes .ensures) (c .before .before .before .before .before .before .write-packed .ensures) (c .before .before .finish2 .ensures)
+returns-6 c = λ ps h.
+    finished _ _ _ _ _ _ _ (packed-given _ _ _ _ ps (good (c .before .before .before .before .before .before .before .before .before .before .before .before .before)) _ h (c .before .before .before .before .before .before .before .before .before .before .before .before .if1 .left) (c .before .before .before .before .before .before .before .before .before .before .before .if3 .left) (c .before .before .before .before .before .before .before .before .before .if4 .left))
+    (c .before .before .before .before .before .before .before .before .before .before .before .before .before .before .before .before .before .before .zero-bytes .ensures) (c .before .before .before .before .before .before .write-packed .ensures) (c .before .before .finish2 .ensures)
 
 pub write-checked-spec : {M : Type 1} → statement M
 write-checked-spec =
     tie.close
     (tie.spec
-    zero-bytes-requires
-    border-fault-requires
-    enum-told
-    enum-told-2
-    same-length
+    (λ c κs. tt)
+    (λ c κs. tt)
+    (λ c. omega arith)
+    (λ c. omega arith)
+    (λ c. omega arith)
     returns
-    same-length-2
+    (λ c. omega arith)
     returns-2
     write-plain-requires
-    finish-requires
-    same-length-3
+    (λ c κs. tt)
+    (λ c. omega arith)
     returns-3
-    same-length-4
+    (λ c. omega arith)
     returns-4
-    same-length-5
+    (λ c. omega arith)
     returns-5
     write-packed-requires
-    finish-requires-2
-    same-length-6
+    (λ c κs. tt)
+    (λ c. omega arith)
     returns-6)

@@ -8,44 +8,41 @@ use Rattle.border.specs.Moves.{varintOf, digitsOf, plainMoveBytes, moves
 use Rattle.border.proofs.writer.Indexed.{border-length, all-moves}
 use Rattle.border.proofs.writer.Stores.{stored-then, varint-few}
 use Rattle.border.proofs.writer.Lengths.{plain-few}
-use borrow.Author.Needs.{needs}
 use Rattle.border.proofs.writer.write_plain.Statement.{statement}
 use Rattle.border.proofs.writer.write_plain.Tie as tie
-use Rattle.border.proofs.writer.write_plain.Reads as reads
-use Rattle.border.proofs.writer.write_plain.Lts as lts
-use Rattle.border.proofs.writer.bytes.put_two.Reads as put-two-reads
-use Rattle.border.proofs.writer.bytes.put_varint.Reads as put-varint-reads
-use Rattle.border.proofs.writer.moves.put_plain.Reads as put-plain-reads
-
-put-varint-requires : tie.Need-put-varint-requires
-put-varint-requires c κs = search needs
 
 put-plain-requires : tie.Need-put-plain-requires
 put-plain-requires c κs =
     let a = c .before .before .before .before .before .before .args in
-    let size = c .before .before .before .before .before .before .pre .1 in
-    let same = c .before .before .before .before .before .before .pre .0 in
-    (omega arith, omega arith, omega (arith, c .before .before .before .put-varint .ensures .place-after, varint-few (length (a .lats .now)), plain-few (movesOf (a .lats .now) (a .lons .now)) 0 (length (a .lats .now)), border-length (a .lats .now) (a .lons .now)))
+    let pre = c .before .before .before .before .before .before .pre in
+    let put-varint = c .before .before .before .put-varint in
+    let size = pre .1 in
+    let same = pre .0 in
+    (omega arith, omega arith, omega (arith, put-varint .ensures .place-after, varint-few (length (a .lats .now)), plain-few (movesOf (a .lats .now) (a .lons .now)) 0 (length (a .lats .now)), border-length (a .lats .now) (a .lons .now)))
 
 put-two-requires : tie.Need-put-two-requires
 put-two-requires c κs =
     let a = c .before .before .before .before .before .before .before .before .before .before .args in
-    let size = c .before .before .before .before .before .before .before .before .before .before .pre .1 in
-    omega (arith, c .before .before .before .put-plain .ensures .place-after, c .before .before .before .before .before .before .before .put-varint .ensures .place-after, varint-few (length (a .lats .now)), plain-few (movesOf (a .lats .now) (a .lons .now)) 0 (length (a .lats .now)), border-length (a .lats .now) (a .lons .now))
-
-same-length : tie.Need-same-length
-same-length c = search needs
+    let pre = c .before .before .before .before .before .before .before .before .before .before .pre in
+    let put-varint = c .before .before .before .before .before .before .before .put-varint in
+    let put-plain = c .before .before .before .put-plain in
+    let size = pre .1 in
+    omega (arith, put-plain .ensures .place-after, put-varint .ensures .place-after, varint-few (length (a .lats .now)), plain-few (movesOf (a .lats .now) (a .lons .now)) 0 (length (a .lats .now)), border-length (a .lats .now) (a .lons .now))
 
 returns : tie.Need-returns
 unfolding varintOf digitsOf
 returns c =
     let a = c .before .before .before .before .before .before .before .before .before .before .before .before .before .args in
+    let pre = c .before .before .before .before .before .before .before .before .before .before .before .before .before .pre in
+    let put-varint = c .before .before .before .before .before .before .before .before .before .before .put-varint in
+    let put-plain = c .before .before .before .before .before .before .put-plain in
+    let put-two = c .before .before .put-two in
     let ms = movesOf (a .lats .now) (a .lons .now) in
-    let all : slice 0 (length (a .lats .now)) ms ≡ ms = all-moves (a .lats .now) (a .lons .now) (c .before .before .before .before .before .before .before .before .before .before .before .before .before .pre .0) in
-    stored-then (varintOf (length (a .lats .now))) (flatMap plainMoveBytes ms ++ (2 ∷ 2 ∷ [])) (c .before .before .before .before .before .before .before .before .before .before .put-varint .ensures)
-    (stored-then (flatMap plainMoveBytes ms) (2 ∷ 2 ∷ []) (rw all at (c .before .before .before .before .before .before .put-plain .ensures)) (c .before .before .put-two .ensures))
+    let all : slice 0 (length (a .lats .now)) ms ≡ ms = all-moves (a .lats .now) (a .lons .now) (pre .0) in
+    stored-then (varintOf (length (a .lats .now))) (flatMap plainMoveBytes ms ++ (2 ∷ 2 ∷ [])) (put-varint .ensures)
+    (stored-then (flatMap plainMoveBytes ms) (2 ∷ 2 ∷ []) (rw all at (put-plain .ensures)) (put-two .ensures))
 
 pub write-plain-spec : {M : Type 1} → statement M
 write-plain-spec =
     tie.close
-    (tie.spec put-varint-requires put-plain-requires put-two-requires same-length returns)
+    (tie.spec (λ c κs. omega arith) put-plain-requires put-two-requires (λ c. omega arith) returns)

@@ -1,16 +1,11 @@
 -- `replay::write::coordinates` is safe and ends. Assumes nothing.
 use Prim.Native.Nat.{_-_, _≤_}
 use lib.ListN.{length, length-set}
-use mathlib.Core.Path.{_≡_, refl, _∙_}
+use mathlib.Core.Path.{_≡_, refl}
 use native.Mathlib.Omega.{arith}
 use borrow.Author.Needs.{needs}
 use Rattle.replay.proofs.write.coordinates.Statement.{statement}
 use Rattle.replay.proofs.write.coordinates.Tie as tie
-use Rattle.replay.proofs.write.coordinates.Reads as reads
-use Rattle.replay.proofs.write.coordinates.Lts as lts
-use Rattle.replay.proofs.record.word_at.Reads as word-at-reads
-use Rattle.replay.proofs.write.signed_word.Reads as signed-word-reads
-use Rattle.std.proofs.num.wrapping_add_usize.Reads as wrapping-add-usize-reads
 
 abbrev Inv-loop : tie.InvT-loop
 Inv-loop «record» at count list₀ i₀ place₀ list i place = (i ≤ count) × (length list ≡ 1024)
@@ -26,9 +21,6 @@ word-at-requires c κs = tt
 
 signed-word-requires : tie.Need-signed-word-requires Inv-loop μ-loop
 signed-word-requires c κs = tt
-
-mul-list : tie.Need-mul-list Inv-loop μ-loop
-mul-list c = search needs
 
 array-set-from-list : tie.Need-array-set-from-list Inv-loop μ-loop
 array-set-from-list c = omega (arith, c .before .before .before .loop .inv .1, c .before .before .before .before .before .pre)
@@ -57,7 +49,7 @@ coordinates-spec =
     loop-holds
     word-at-requires
     signed-word-requires
-    mul-list
+    (λ c. search needs)
     array-set-from-list
     add-i
     wrapping-add-usize-requires

@@ -1,15 +1,11 @@
 -- `replay::write::piece_words` is safe and ends. Assumes nothing.
 use Prim.Native.Nat.{_-_, _≤_}
 use lib.ListN.{length, length-set}
-use mathlib.Core.Path.{_≡_, refl, _∙_}
+use mathlib.Core.Path.{_≡_, refl}
 use native.Mathlib.Omega.{arith}
 use borrow.Author.Needs.{needs}
 use Rattle.replay.proofs.write.piece_words.Statement.{statement}
 use Rattle.replay.proofs.write.piece_words.Tie as tie
-use Rattle.replay.proofs.write.piece_words.Reads as reads
-use Rattle.replay.proofs.write.piece_words.Lts as lts
-use Rattle.replay.proofs.record.word_at.Reads as word-at-reads
-use Rattle.std.proofs.num.wrapping_add_usize.Reads as wrapping-add-usize-reads
 
 abbrev Inv-loop : tie.InvT-loop
 Inv-loop «record» at count list₀ i₀ place₀ list i place = (i ≤ count) × (length list ≡ 160)
@@ -22,9 +18,6 @@ loop-holds c = (omega arith, refl)
 
 word-at-requires : tie.Need-word-at-requires Inv-loop μ-loop
 word-at-requires c κs = tt
-
-mul-list : tie.Need-mul-list Inv-loop μ-loop
-mul-list c = search needs
 
 array-write-list : tie.Need-array-write-list Inv-loop μ-loop
 array-write-list c = omega (arith, c .before .before .loop .inv .1, c .before .before .before .before .pre)
@@ -52,7 +45,7 @@ piece-words-spec =
     μ-loop
     loop-holds
     word-at-requires
-    mul-list
+    (λ c. search needs)
     array-write-list
     add-i
     wrapping-add-usize-requires

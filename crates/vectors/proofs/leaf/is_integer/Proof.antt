@@ -17,14 +17,5 @@ cast-result c =
     let held = fits .value in
     rw (toZ-ofZ w32 value held) (widens w32 w64 (lit≤ tt) value held)
 
-word-requires : tie.Need-word-requires
-word-requires c κs = search needs
-
-integer-requires : tie.Need-integer-requires
-integer-requires c κs = search needs
-
-returns : tie.Need-returns
-returns c = search needs
-
 pub is-integer-spec : {M : Type 1} → statement M
-is-integer-spec = tie.close (tie.spec cast-result word-requires integer-requires returns)
+is-integer-spec = tie.close (tie.spec cast-result (λ c κs. search needs) (λ c κs. search needs) (λ c. search needs))

@@ -9,17 +9,11 @@ use Rattle.zone.proofs.Asking.{too-long, too-short, asked}
 use Rattle.zone.proofs.answer.answer.Statement.{statement}
 use Rattle.zone.proofs.answer.answer.Tie as tie
 
-plain-requires : tie.Need-plain-requires
-plain-requires c κs = search needs
-
 returns : tie.Need-returns
 returns c =
     let args = c .before .before .before .before .before .args in
     let if1 = c .before .if1 in
     too-long (args .input .now) _ _ _ (c .plain .ensures) (omega (arith, if1 .taken))
-
-plain-requires-2 : tie.Need-plain-requires-2
-plain-requires-2 c κs = search needs
 
 returns-2 : tie.Need-returns-2
 returns-2 c =
@@ -27,36 +21,6 @@ returns-2 c =
     let if1 = c .before .before .if1 in
     let if2 = c .before .if2 in
     too-short (args .input .now) _ _ _ (c .plain2 .ensures) (omega (arith, if1 .left)) (omega (arith, if2 .taken))
-
-word-at-requires : tie.Need-word-at-requires
-word-at-requires c κs = search needs
-
-of-bits-requires : tie.Need-of-bits-requires
-of-bits-requires c κs = search needs
-
-word-at-requires-2 : tie.Need-word-at-requires-2
-word-at-requires-2 c κs = search needs
-
-of-bits-requires-2 : tie.Need-of-bits-requires-2
-of-bits-requires-2 c κs = search needs
-
-sub-lookup : tie.Need-sub-lookup
-sub-lookup c = search needs
-
-part-lookup-start : tie.Need-part-lookup-start
-part-lookup-start c = search needs
-
-part-lookup-end : tie.Need-part-lookup-end
-part-lookup-end c = search needs
-
-lookup-requires : tie.Need-lookup-requires
-lookup-requires c κs = search needs
-
-same-length : tie.Need-same-length
-same-length c = search needs
-
-same-length-2 : tie.Need-same-length-2
-same-length-2 c = search needs
 
 returns-3 : tie.Need-returns-3
 returns-3 c =
@@ -76,18 +40,18 @@ pub answer-spec : {M : Type 1} → statement M
 answer-spec =
     tie.close
     (tie.spec
-    plain-requires
+    (λ c κs. search needs)
     returns
-    plain-requires-2
+    (λ c κs. search needs)
     returns-2
-    word-at-requires
-    of-bits-requires
-    word-at-requires-2
-    of-bits-requires-2
-    sub-lookup
-    part-lookup-start
-    part-lookup-end
-    lookup-requires
-    same-length
-    same-length-2
+    (λ c κs. search needs)
+    (λ c κs. search needs)
+    (λ c κs. search needs)
+    (λ c κs. search needs)
+    (λ c. search needs)
+    (λ c. search needs)
+    (λ c. search needs)
+    (λ c κs. search needs)
+    (λ c. search needs)
+    (λ c. search needs)
     returns-3)

@@ -1,6 +1,5 @@
 -- `zones::fields::write_fields` meets its contract. The loop's invariant is `Writing`: the matches that are left give the whole. Assumes nothing.
 use Prim.Native.Nat.{_-_, _≤_}
-use borrow.Author.Needs.{needs}
 use lib.ListN.{length, take}
 use mathlib.Core.List.{[]}
 use native.Mathlib.Omega.{arith}
@@ -21,29 +20,13 @@ loop-holds : tie.Need-loop-holds Inv-loop μ-loop
 loop-holds c = (begins _ _ _ _ _ (c .before .before .before .pre .0), omega arith)
 
 hit-at-requires : tie.Need-hit-at-requires Inv-loop μ-loop
-hit-at-requires c κs =
-    let pre = c .before .before .before .before .before .pre in
-    omega (arith, pre .1)
+hit-at-requires c κs = omega (arith, c .before .before .before .before .before .pre .1)
 
 add-i : tie.Need-add-i Inv-loop μ-loop
-add-i c =
-    let loop-test = c .before .loop-test in
-    let fits = c .before .before .before .before .before .before .fits in
-    omega (arith, loop-test .taken, fits)
-
-fields-place-requires : tie.Need-fields-place-requires Inv-loop μ-loop
-fields-place-requires c κs = search needs
+add-i c = omega (arith, c .before .loop-test .taken, c .before .before .before .before .before .before .fits)
 
 write-match-requires : tie.Need-write-match-requires Inv-loop μ-loop
-write-match-requires c κs =
-    let loop = c .before .before .before .before .loop in
-    from-here _ _ _ _ (loop .inv .0)
-
-enum-known-next : tie.Need-enum-known-next Inv-loop μ-loop
-enum-known-next c = search needs
-
-enum-known-why : tie.Need-enum-known-why Inv-loop μ-loop
-enum-known-why c = search needs
+write-match-requires c κs = from-here _ _ _ _ (c .before .before .before .before .loop .inv .0)
 
 same-length : tie.Need-same-length Inv-loop μ-loop
 same-length c =
@@ -64,9 +47,7 @@ returns c =
     match-refused _ _ _ _ (loop .inv .0) (omega (arith, loop-test .taken, count-slots (args .hits .now) (args .count) (pre .1))) _ (slot-is (args .hits .now) (args .count) (pre .1) _ _ (loop-test .taken) (hit-at .ensures)) _ (fields-place .ensures) (write-match .result) (write-match .last .0) (write-match .ensures) _ (why .given .1)
 
 loop-less : tie.Need-loop-less Inv-loop μ-loop
-loop-less c =
-    let loop-test = c .before .before .before .before .before .before .before .before .before .loop-test in
-    omega (arith, loop-test .taken)
+loop-less c = omega (arith, c .before .before .before .before .before .before .before .before .before .loop-test .taken)
 
 loop-again : tie.Need-loop-again Inv-loop μ-loop
 loop-again c =
@@ -100,10 +81,10 @@ write-fields-spec =
     loop-holds
     hit-at-requires
     add-i
-    fields-place-requires
+    (λ c κs. tt)
     write-match-requires
-    enum-known-next
-    enum-known-why
+    (λ c. omega arith)
+    (λ c. omega arith)
     same-length
     returns
     loop-less

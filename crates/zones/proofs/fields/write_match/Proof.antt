@@ -1,7 +1,6 @@
 -- `zones::fields::write_match` meets its contract. The loop's invariant is `Filling`: the text so far stands at the front of a buffer that is zero
 -- beyond it. Assumes nothing.
 use Prim.Native.Nat.{_-_}
-use borrow.Author.Needs.{needs}
 use lib.ListN.{length, take}
 use mathlib.Core.Path.{refl}
 use native.Mathlib.Omega.{arith}
@@ -33,18 +32,6 @@ sub-write-field c = omega (arith, c .before .before .loop .inv .held .fits, fill
 
 part-write-field-start : tie.Need-part-write-field-start Inv-loop μ-loop
 part-write-field-start c = omega (arith, c .before .before .loop .inv .held .fits, filling-length _ _ _ _ (c .before .before .loop .inv))
-
-part-write-field-end : tie.Need-part-write-field-end Inv-loop μ-loop
-part-write-field-end c = search needs
-
-write-field-requires : tie.Need-write-field-requires Inv-loop μ-loop
-write-field-requires c κs = search needs
-
-enum-known-field : tie.Need-enum-known-field Inv-loop μ-loop
-enum-known-field c = search needs
-
-enum-known-why : tie.Need-enum-known-why Inv-loop μ-loop
-enum-known-why c = search needs
 
 same-length : tie.Need-same-length Inv-loop μ-loop
 same-length c =
@@ -81,9 +68,7 @@ add-tag c =
     omega (arith, if1 .taken, struct-known .given)
 
 loop-less : tie.Need-loop-less Inv-loop μ-loop
-loop-less c =
-    let if1 = c .before .before .before .before .before .before .before .before .if1 in
-    omega (arith, if1 .taken)
+loop-less c = omega (arith, c .before .before .before .before .before .before .before .before .if1 .taken)
 
 same-length-2 : tie.Need-same-length-2 Inv-loop μ-loop
 same-length-2 c = filling-length _ _ _ _ (c .before .before .loop .inv)
@@ -100,10 +85,10 @@ write-match-spec =
     loop-holds
     sub-write-field
     part-write-field-start
-    part-write-field-end
-    write-field-requires
-    enum-known-field
-    enum-known-why
+    (λ c. omega arith)
+    (λ c κs. tt)
+    (λ c. omega arith)
+    (λ c. omega arith)
     same-length
     returns
     add-at

@@ -14,27 +14,12 @@ use Rattle.zones.specs.Hits.{width}
 use Rattle.zones.specs.Search.{searched, toldSearched, Sought}
 use Rattle.zones.proofs.find.find.Tie as tie
 
-head-of-requires : tie.Need-head-of-requires
-head-of-requires c κs = search needs
-
-enum-known-head : tie.Need-enum-known-head
-enum-known-head c = search needs
-
-enum-known-why : tie.Need-enum-known-why
-enum-known-why c = search needs
-
 returns : tie.Need-returns
 returns c =
     let args = c .before .before .before .before .before .before .args in
     let why = c .before .why in
     let head-of = c .before .before .before .head-of in
     agree-refused (Matching _ _) (no-head (args .file .now) (args .location) (args .asked) (length (args .hits .now) / width) (sym (ap toldHead (why .given .1)) ∙ head-of .ensures))
-
-is-precision-requires : tie.Need-is-precision-requires
-is-precision-requires c κs = search needs
-
-plain-requires : tie.Need-plain-requires
-plain-requires c κs = search needs
 
 returns-2 : tie.Need-returns-2
 returns-2 c =
@@ -44,21 +29,6 @@ returns-2 c =
     let is-precision = c .before .before .is-precision in
     let if1 = c .before .if1 in
     rw (c .plain .ensures) (agree-refused (Matching _ _) (no-precision (args .file .now) (args .location) (args .asked) (length (args .hits .now) / width) (sym (ap toldHead (head .given .1)) ∙ head-of .ensures) (sym (is-precision .ensures) ∙ not-true _ (if1 .taken))))
-
-fix-of-requires : tie.Need-fix-of-requires
-fix-of-requires c κs = search needs
-
-search-requires : tie.Need-search-requires
-search-requires c κs = search needs
-
-enum-known-ended : tie.Need-enum-known-ended
-enum-known-ended c = search needs
-
-enum-known-why-2 : tie.Need-enum-known-why-2
-enum-known-why-2 c = search needs
-
-same-length : tie.Need-same-length
-same-length c = search needs
 
 returns-3 : tie.Need-returns-3
 returns-3 c =
@@ -82,9 +52,6 @@ merge-front-requires c κs =
     let hits = c .before .before .before .before .before .hits in
     asks (gave (Sought (length (args .hits .now)) (search .last .1 .1 .1 .1 .0)) (searched (args .file .now) (head .given .0 .0) (fix-of .result) (args .asked) (length (args .hits .now) / width)) (search .ensures) (ap toldSearched (ended .given .1)) .fits) (omega (arith, hits .given))
 
-same-length-2 : tie.Need-same-length-2
-same-length-2 c = search needs
-
 returns-4 : tie.Need-returns-4
 returns-4 c =
     let args = c .before .before .before .before .before .before .before .before .before .before .before .before .before .before .before .before .before .before .before .before .before .args in
@@ -104,19 +71,19 @@ pub find-spec : {M : Type 1} → statement M
 find-spec =
     tie.close
     (tie.spec
-    head-of-requires
-    enum-known-head
-    enum-known-why
+    (λ c κs. tt)
+    (λ c. omega arith)
+    (λ c. omega arith)
     returns
-    is-precision-requires
-    plain-requires
+    (λ c κs. tt)
+    (λ c κs. tt)
     returns-2
-    fix-of-requires
-    search-requires
-    enum-known-ended
-    enum-known-why-2
-    same-length
+    (λ c κs. tt)
+    (λ c κs. search needs)
+    (λ c. omega arith)
+    (λ c. omega arith)
+    (λ c. omega arith)
     returns-3
     merge-front-requires
-    same-length-2
+    (λ c. omega arith)
     returns-4)

@@ -1,5 +1,5 @@
 -- `zones::find::fix_of` meets its contract: each number read back from its bits. Assumes nothing.
-use borrow.Author.Needs.{sfits-of, needs}
+use borrow.Author.Needs.{sfits-of}
 use lib.Ieee.{ofBits}
 use mathlib.Core.Path.{_∙_}
 use mir.Syntax.{w32}
@@ -8,12 +8,6 @@ use Rattle.zones.proofs.find.fix_of.Statement.{statement}
 use Rattle.zones.specs.Find.{fixOf}
 use Rattle.zones.proofs.find.fix_of.Tie as tie
 
-to-fixed-requires : tie.Need-to-fixed-requires
-to-fixed-requires c κs = search needs
-
-to-fixed-requires-2 : tie.Need-to-fixed-requires-2
-to-fixed-requires-2 c κs = search needs
-
 returns : tie.Need-returns
 unfolding fixOf ofBits
 returns c = let lat = toZ-ofZ w32 (c .before .to-fixed .result) (sfits-of (c .before .to-fixed .ok)) ∙ c .before .to-fixed .ensures in
@@ -21,4 +15,4 @@ returns c = let lat = toZ-ofZ w32 (c .before .to-fixed .result) (sfits-of (c .be
     λ i. record { lat = record { 0 = lat i }; lon = record { 0 = lon i } }
 
 pub fix-of-spec : {M : Type 1} → statement M
-fix-of-spec = tie.close (tie.spec to-fixed-requires to-fixed-requires-2 returns)
+fix-of-spec = tie.close (tie.spec (λ c κs. tt) (λ c κs. tt) returns)

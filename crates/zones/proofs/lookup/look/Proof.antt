@@ -1,10 +1,9 @@
 -- `zones::lookup::look` meets its contract, by how far it came. Assumes nothing.
 use Prim.Native.Nat.{_/_}
-use borrow.Author.Needs.{needs}
 use lib.ListN.{length}
 use mathlib.Core.Path.{ap}
 use native.Mathlib.Omega.{arith}
-use Rattle.zones.proofs.Agreeing.{gave, refused-so}
+use Rattle.zones.proofs.Agreeing.{Gave, gave, refused-so}
 use Rattle.zones.proofs.find.Finding.{matches-room}
 use Rattle.zones.proofs.lookup.Looking.{no-match, no-fields, looked}
 use Rattle.zones.proofs.lookup.look.Statement.{statement}
@@ -14,90 +13,43 @@ use Rattle.zones.specs.Hits.{width}
 use Rattle.zones.proofs.lookup.look.Tie as tie
 
 find-requires : tie.Need-find-requires
-find-requires c κs =
-    let pre = c .before .before .before .before .pre in
-    pre .0
-
-enum-known-found : tie.Need-enum-known-found
-enum-known-found c = search needs
-
-enum-known-why : tie.Need-enum-known-why
-enum-known-why c = search needs
-
-same-length : tie.Need-same-length
-same-length c = search needs
+find-requires c κs = c .before .before .before .before .pre .0
 
 returns : tie.Need-returns
-returns c =
-    let args = c .before .before .before .before .before .before .before .before .before .before .args in
-    let find = c .before .before .before .before .before .find in
-    let why = c .before .why in
-    no-match (args .file .now) (args .location) (args .asked) (length (args .hits .now)) (length (args .text .now)) _ _ (refused-so (Matching (length (args .hits .now)) _) (matchedIn (args .file .now) (args .location) (args .asked) (length (args .hits .now) / width)) (find .ensures) (ap toldFound (why .given .1)))
+returns c = no-match _ _ _ _ _ _ _ (refused-so _ _ (c .before .before .before .before .before .find .ensures) (ap toldFound (c .before .why .given .1)))
+
+-- where matches were found
+matched : (c : tie.After-found) → let args = c .before .before .before .before .before .before .before .before .before .args in
+    Gave (Matching (length (args .hits .now)) (c .before .before .before .before .find .last .1 .1 .1 .0)) (matchedIn (args .file .now) (args .location) (args .asked) (length (args .hits .now) / width)) (c .found .given .0 .0)
+matched c = gave _ _ (c .before .before .before .before .find .ensures) (ap toldFound (c .found .given .1))
 
 write-fields-requires : tie.Need-write-fields-requires
 write-fields-requires c κs =
-    let pre = c .before .before .before .before .before .before .before .before .before .before .before .before .before .before .pre in
-    let args = c .before .before .before .before .before .before .before .before .before .before .before .before .before .before .args in
-    let find = c .before .before .before .before .before .before .before .before .before .find in
-    let found = c .before .before .before .before .before .found in
     let hits = c .before .before .before .before .before .before .before .before .hits in
-    (pre .1, matches-room ((gave (Matching (length (args .hits .now)) (find .last .1 .1 .1 .0)) (matchedIn (args .file .now) (args .location) (args .asked) (length (args .hits .now) / width)) (find .ensures) (ap toldFound (found .given .1))) .fits) (omega (arith, hits .given)))
-
-enum-known-used : tie.Need-enum-known-used
-enum-known-used c = search needs
-
-enum-known-why-2 : tie.Need-enum-known-why-2
-enum-known-why-2 c = search needs
-
-same-length-2 : tie.Need-same-length-2
-same-length-2 c = search needs
-
-same-length-3 : tie.Need-same-length-3
-same-length-3 c = search needs
+    (c .before .before .before .before .before .before .before .before .before .before .before .before .before .before .pre .1, matches-room (matched (c .before .before .before .before .before) .fits) (omega (arith, hits .given)))
 
 returns-2 : tie.Need-returns-2
-returns-2 c =
-    let args = c .before .before .before .before .before .before .before .before .before .before .before .before .before .before .before .before .before .before .before .before .args in
-    let find = c .before .before .before .before .before .before .before .before .before .before .before .before .before .before .before .find in
-    let found = c .before .before .before .before .before .before .before .before .before .before .before .found in
-    let write-fields = c .before .before .before .before .before .write-fields in
-    let why2 = c .before .why2 in
-    no-fields (args .file .now) (args .location) (args .asked) (length (args .hits .now)) (length (args .text .now)) (gave (Matching (length (args .hits .now)) (find .last .1 .1 .1 .0)) (matchedIn (args .file .now) (args .location) (args .asked) (length (args .hits .now) / width)) (find .ensures) (ap toldFound (found .given .1))) (write-fields .last .0) (write-fields .ensures) _ _ (ap toldFields (why2 .given .1))
-
-safezone-requires : tie.Need-safezone-requires
-safezone-requires c κs = search needs
-
-same-length-4 : tie.Need-same-length-4
-same-length-4 c = search needs
-
-same-length-5 : tie.Need-same-length-5
-same-length-5 c = search needs
+returns-2 c = no-fields _ _ _ _ _ (matched (c .before .before .before .before .before .before .before .before .before .before .before)) _ (c .before .before .before .before .before .write-fields .ensures) _ _ (ap toldFields (c .before .why2 .given .1))
 
 returns-3 : tie.Need-returns-3
-returns-3 c =
-    let args = c .before .before .before .before .before .before .before .before .before .before .before .before .before .before .before .before .before .before .before .before .before .args in
-    let find = c .before .before .before .before .before .before .before .before .before .before .before .before .before .before .before .before .find in
-    let found = c .before .before .before .before .before .before .before .before .before .before .before .before .found in
-    let write-fields = c .before .before .before .before .before .before .write-fields in
-    let used = c .before .before .used in
-    looked (args .file .now) (args .location) (args .asked) (length (args .hits .now)) (length (args .text .now)) (gave (Matching (length (args .hits .now)) (find .last .1 .1 .1 .0)) (matchedIn (args .file .now) (args .location) (args .asked) (length (args .hits .now) / width)) (find .ensures) (ap toldFound (found .given .1))) (write-fields .last .0) (write-fields .ensures) (ap toldFields (used .given .1)) (c .safezone .ensures)
+returns-3 c = looked _ _ _ _ _ (matched (c .before .before .before .before .before .before .before .before .before .before .before .before)) _ (c .before .before .before .before .before .before .write-fields .ensures) (ap toldFields (c .before .before .used .given .1)) (c .safezone .ensures)
 
 pub look-spec : {M : Type 1} → statement M
 look-spec =
     tie.close
     (tie.spec
     find-requires
-    enum-known-found
-    enum-known-why
-    same-length
+    (λ c. omega arith)
+    (λ c. omega arith)
+    (λ c. omega arith)
     returns
     write-fields-requires
-    enum-known-used
-    enum-known-why-2
-    same-length-2
-    same-length-3
+    (λ c. omega arith)
+    (λ c. omega arith)
+    (λ c. omega arith)
+    (λ c. omega arith)
     returns-2
-    safezone-requires
-    same-length-4
-    same-length-5
+    (λ c κs. tt)
+    (λ c. omega arith)
+    (λ c. omega arith)
     returns-3)

@@ -1,7 +1,6 @@
 -- `zones::merge::gather` meets its contract. The loop's invariant is `Gathering`: of the slots from `from` on, those passed are cleared and tallied.
 -- Assumes nothing.
 use Prim.Native.Nat.{_-_, _*_}
-use borrow.Author.Needs.{needs}
 use lib.ListN.{length}
 use mathlib.Core.Path.{_≡_, refl, ap, _∙_}
 use native.Mathlib.Omega.{arith}
@@ -17,9 +16,6 @@ Inv-loop hits₀ from id room t₀ j₀ hits t j = Gathering (slots hits₀) fro
 abbrev μ-loop : tie.MeasureT-loop
 μ-loop hits₀ from id room t₀ j₀ hits t j = room - j
 
-room-requires : tie.Need-room-requires Inv-loop μ-loop
-room-requires c κs = search needs
-
 loop-holds : tie.Need-loop-holds Inv-loop μ-loop
 loop-holds c =
     let pre = c .before .before .before .pre in
@@ -34,10 +30,7 @@ hit-at-requires c κs =
     omega (arith, gathered-length (loop .inv .0), loop .inv .1, loop-test .taken, room .ensures)
 
 add-j : tie.Need-add-j Inv-loop μ-loop
-add-j c =
-    let loop-test = c .before .before .loop-test in
-    let room = c .before .before .before .before .room in
-    omega (arith, loop-test .taken, room .ok)
+add-j c = omega (arith, c .before .before .loop-test .taken, c .before .before .before .before .room .ok)
 
 joined-requires : tie.Need-joined-requires Inv-loop μ-loop
 joined-requires c κs =
@@ -47,9 +40,6 @@ joined-requires c κs =
     let good = c .before .before .before .before .before .before .before .before .before .good in
     (omega (arith, loop .inv .0 .small, loop-test .taken, room .ensures, good), omega (arith, loop .inv .0 .small′, loop-test .taken, room .ensures, good))
 
-none-requires : tie.Need-none-requires Inv-loop μ-loop
-none-requires c κs = search needs
-
 put-hit-requires : tie.Need-put-hit-requires Inv-loop μ-loop
 put-hit-requires c κs =
     let loop = c .before .before .before .before .before .before .before .before .loop in
@@ -58,9 +48,7 @@ put-hit-requires c κs =
     omega (arith, gathered-length (loop .inv .0), loop .inv .1, loop-test .taken, room .ensures)
 
 loop-less : tie.Need-loop-less Inv-loop μ-loop
-loop-less c =
-    let loop-test = c .before .before .before .before .before .before .before .before .before .before .loop-test in
-    omega (arith, loop-test .taken)
+loop-less c = omega (arith, c .before .before .before .before .before .before .before .before .before .before .loop-test .taken)
 
 loop-again : tie.Need-loop-again Inv-loop μ-loop
 loop-again c =
@@ -72,9 +60,7 @@ loop-again c =
     )
 
 loop-less-2 : tie.Need-loop-less-2 Inv-loop μ-loop
-loop-less-2 c =
-    let loop-test = c .before .before .before .before .loop-test in
-    omega (arith, loop-test .taken)
+loop-less-2 c = omega (arith, c .before .before .before .before .loop-test .taken)
 
 loop-again-2 : tie.Need-loop-again-2 Inv-loop μ-loop
 loop-again-2 c =
@@ -99,12 +85,12 @@ gather-spec =
     (tie.spec
     Inv-loop
     μ-loop
-    room-requires
+    (λ c κs. tt)
     loop-holds
     hit-at-requires
     add-j
     joined-requires
-    none-requires
+    (λ c κs. tt)
     put-hit-requires
     loop-less
     loop-again

@@ -1,24 +1,14 @@
 -- `zones::merge::joined` meets its contract, by the hit's kind. Assumes nothing.
-use borrow.Author.Needs.{needs}
 use native.Mathlib.Omega.{arith}
 use Rattle.zones.proofs.merge.Summaries.{one-inside, one-excluded, on-border}
 use Rattle.zones.proofs.merge.joined.Statement.{statement}
 use Rattle.zones.proofs.merge.joined.Tie as tie
 
-add-t7 : tie.Need-add-t7
-add-t7 c = search needs
-
 returns : tie.Need-returns
 returns c = (one-inside (c .before .args .t .inside) (c .before .args .t .excluded) (c .before .args .t .border) _ (c .if1 .taken), (omega arith, omega arith))
 
-add-t8 : tie.Need-add-t8
-add-t8 c = search needs
-
 returns-2 : tie.Need-returns-2
 returns-2 c = (one-excluded (c .before .before .args .t .inside) (c .before .before .args .t .excluded) (c .before .before .args .t .border) _ (c .if2 .taken), (omega arith, omega arith))
-
-later-requires : tie.Need-later-requires
-later-requires c κs = search needs
 
 returns-3 : tie.Need-returns-3
 returns-3 c =
@@ -28,4 +18,4 @@ returns-3 c =
     (on-border (args .t .inside) (args .t .excluded) (args .t .border) _ (if1 .left) (if2 .left) (c .later .ensures), (omega arith, omega arith))
 
 pub joined-spec : {M : Type 1} → statement M
-joined-spec = tie.close (tie.spec add-t7 returns add-t8 returns-2 later-requires returns-3)
+joined-spec = tie.close (tie.spec (λ c. omega arith) returns (λ c. omega arith) returns-2 (λ c κs. tt) returns-3)

@@ -1,7 +1,6 @@
 -- `zones::merge::merge` meets its contract. The loop's invariant is `Merging`: matches, empty slots, and the hits whose group is still to come.
 -- Assumes nothing.
 use Prim.Native.Nat.{_-_, _*_}
-use borrow.Author.Needs.{needs}
 use lib.ListN.{length}
 use mathlib.Core.Path.{_≡_, ap, _∙_}
 use native.Mathlib.Omega.{arith}
@@ -18,9 +17,6 @@ Inv-loop hits₀ room out₀ i₀ hits out i = Merging (slots hits₀) hits out 
 abbrev μ-loop : tie.MeasureT-loop
 μ-loop hits₀ room out₀ i₀ hits out i = room - i
 
-room-requires : tie.Need-room-requires Inv-loop μ-loop
-room-requires c κs = search needs
-
 loop-holds : tie.Need-loop-holds Inv-loop μ-loop
 loop-holds c =
     let pre = c .before .before .before .pre in
@@ -35,10 +31,7 @@ hit-at-requires c κs =
     omega (arith, merging-length (loop .inv .0), loop .inv .1, loop-test .taken, room .ensures)
 
 add-i : tie.Need-add-i Inv-loop μ-loop
-add-i c =
-    let loop-test = c .before .before .loop-test in
-    let room = c .before .before .before .before .room in
-    omega (arith, loop-test .taken, room .ok)
+add-i c = omega (arith, c .before .before .loop-test .taken, c .before .before .before .before .room .ok)
 
 gather-requires : tie.Need-gather-requires Inv-loop μ-loop
 gather-requires c κs =
@@ -46,9 +39,6 @@ gather-requires c κs =
     let loop-test = c .before .before .before .before .before .loop-test in
     let room = c .before .before .before .before .before .before .before .room in
     (shaped (loop .inv .0), omega (arith, slots-length (loop .inv .0), loop .inv .1, loop-test .taken, room .ensures))
-
-kind-of-requires : tie.Need-kind-of-requires Inv-loop μ-loop
-kind-of-requires c κs = search needs
 
 put-hit-requires : tie.Need-put-hit-requires Inv-loop μ-loop
 put-hit-requires c κs =
@@ -92,9 +82,7 @@ loop-again-2 c = (
 )
 
 loop-less-3 : tie.Need-loop-less-3 Inv-loop μ-loop
-loop-less-3 c =
-    let loop-test = c .before .before .before .before .loop-test in
-    omega (arith, loop-test .taken)
+loop-less-3 c = omega (arith, c .before .before .before .before .loop-test .taken)
 
 loop-again-3 : tie.Need-loop-again-3 Inv-loop μ-loop
 loop-again-3 c =
@@ -119,12 +107,12 @@ merge-spec =
     (tie.spec
     Inv-loop
     μ-loop
-    room-requires
+    (λ c κs. tt)
     loop-holds
     hit-at-requires
     add-i
     gather-requires
-    kind-of-requires
+    (λ c κs. tt)
     put-hit-requires
     add-out
     loop-less

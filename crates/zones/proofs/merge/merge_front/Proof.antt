@@ -1,15 +1,8 @@
 -- `zones::merge::merge_front` meets its contract: the front of the words is lent, and the rest is zero already. Assumes nothing.
-use borrow.Author.Needs.{needs}
 use native.Mathlib.Omega.{arith}
 use Rattle.zones.proofs.merge.Fronts.{lent-length, lent-shaped, lent-real, count-merged, words-now}
 use Rattle.zones.proofs.merge.merge_front.Statement.{statement}
 use Rattle.zones.proofs.merge.merge_front.Tie as tie
-
-mul-words : tie.Need-mul-words
-mul-words c = search needs
-
-slice-relend-prefix-merge : tie.Need-slice-relend-prefix-merge
-slice-relend-prefix-merge c = search needs
 
 slice-aggregate-merge : tie.Need-slice-aggregate-merge
 slice-aggregate-merge c =
@@ -23,9 +16,6 @@ merge-requires c κs =
     let pre = c .before .before .pre in
     (lent-shaped (args .hits .now) (args .count) (pre .0) (pre .1), lent-real (args .hits .now) (args .count) (pre .0) (pre .1) (pre .2))
 
-same-length : tie.Need-same-length
-same-length c = search needs
-
 returns : tie.Need-returns
 returns c =
     let args = c .before .before .before .before .before .args in
@@ -38,9 +28,9 @@ pub merge-front-spec : {M : Type 1} → statement M
 merge-front-spec =
     tie.close
     (tie.spec
-    mul-words
-    slice-relend-prefix-merge
+    (λ c. omega arith)
+    (λ c. omega arith)
     slice-aggregate-merge
     merge-requires
-    same-length
+    (λ c. omega arith)
     returns)

@@ -1,21 +1,9 @@
 -- `zones::search::judged` meets its contract, by the judgement's cases. Assumes nothing.
-use borrow.Author.Needs.{needs}
+use native.Mathlib.Omega.{arith}
 use Rattle.zones.proofs.search.Turns.{outside, met}
 use Rattle.zones.proofs.search.judged.Statement.{statement}
 use Rattle.zones.specs.Search.{judgedTurn}
 use Rattle.zones.proofs.search.judged.Tie as tie
-
-enum-known-judgement : tie.Need-enum-known-judgement
-enum-known-judgement c = search needs
-
-past-requires : tie.Need-past-requires
-past-requires c κs = search needs
-
-with-least-requires : tie.Need-with-least-requires
-with-least-requires c κs = search needs
-
-kind-of-requires : tie.Need-kind-of-requires
-kind-of-requires c κs = search needs
 
 returns : tie.Need-returns
 returns c =
@@ -24,12 +12,6 @@ returns c =
     let past = c .before .before .before .past in
     let with-least = c .before .before .with-least in
     outside _ _ (judgement .given .1) (kind-of .ensures) (past .ensures) (with-least .ensures) (c .if1 .taken)
-
-enum-known-judgement-2 : tie.Need-enum-known-judgement-2
-enum-known-judgement-2 c = search needs
-
-enum-known-judgement-3 : tie.Need-enum-known-judgement-3
-enum-known-judgement-3 c = search needs
 
 returns-2 : tie.Need-returns-2
 returns-2 c =
@@ -51,13 +33,13 @@ pub judged-spec : {M : Type 1} → statement M
 judged-spec =
     tie.close
     (tie.spec
-    enum-known-judgement
-    past-requires
-    with-least-requires
-    kind-of-requires
+    (λ c. omega arith)
+    (λ c κs. tt)
+    (λ c κs. tt)
+    (λ c κs. tt)
     returns
-    enum-known-judgement-2
-    enum-known-judgement-3
+    (λ c. omega arith)
+    (λ c. omega arith)
     returns-2
     returns-3
     returns-4)

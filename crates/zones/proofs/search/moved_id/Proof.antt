@@ -1,19 +1,9 @@
 -- `zones::search::moved_id` meets its contract. Assumes nothing.
-use borrow.Author.Needs.{needs}
 use mathlib.Core.Path.{_∙_}
 use native.Mathlib.Omega.{arith}
 use Rattle.zones.proofs.search.Turns.{forth, back}
 use Rattle.zones.proofs.search.moved_id.Statement.{statement}
 use Rattle.zones.proofs.search.moved_id.Tie as tie
-
-cast-half : tie.Need-cast-half
-cast-half c = search needs
-
-wrapping-add-u32-requires : tie.Need-wrapping-add-u32-requires
-wrapping-add-u32-requires c κs = search needs
-
-wrapping-sub-u32-requires : tie.Need-wrapping-sub-u32-requires
-wrapping-sub-u32-requires c κs = search needs
 
 returns : tie.Need-returns
 returns c =
@@ -30,4 +20,4 @@ returns-2 c =
 pub moved-id-spec : {M : Type 1} → statement M
 moved-id-spec =
     tie.close
-    (tie.spec cast-half wrapping-add-u32-requires wrapping-sub-u32-requires returns returns-2)
+    (tie.spec (λ c. omega arith) (λ c κs. tt) (λ c κs. tt) returns returns-2)

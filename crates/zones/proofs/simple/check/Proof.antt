@@ -21,29 +21,16 @@ loop-holds : tie.Need-loop-holds Inv-loop μ-loop
 loop-holds c = (refl, omega arith)
 
 hit-at-requires : tie.Need-hit-at-requires Inv-loop μ-loop
-hit-at-requires c κs =
-    let pre = c .before .before .before .before .pre in
-    omega (arith, pre)
+hit-at-requires c κs = omega (arith, c .before .before .before .before .pre)
 
 add-i : tie.Need-add-i Inv-loop μ-loop
-add-i c =
-    let loop-test = c .before .loop-test in
-    let fits = c .before .before .before .before .before .fits in
-    omega (arith, loop-test .taken, fits)
-
-fields-place-requires : tie.Need-fields-place-requires Inv-loop μ-loop
-fields-place-requires c κs = search needs
-
-pick-requires : tie.Need-pick-requires Inv-loop μ-loop
-pick-requires c κs = search needs
+add-i c = omega (arith, c .before .loop-test .taken, c .before .before .before .before .before .fits)
 
 enum-told : tie.Need-enum-told Inv-loop μ-loop
 enum-told c = search needs
 
 loop-less : tie.Need-loop-less Inv-loop μ-loop
-loop-less c =
-    let loop-test = c .before .before .before .before .before .loop-test in
-    omega (arith, loop-test .taken)
+loop-less c = omega (arith, c .before .before .before .before .before .loop-test .taken)
 
 loop-again : tie.Need-loop-again Inv-loop μ-loop
 loop-again c =
@@ -55,9 +42,6 @@ loop-again c =
     let fields-place = c .before .before .before .fields-place in
     let pick = c .before .before .pick in
     (match-good (args .file .now) (args .head) (take (args .count) (slots (args .hits .now))) (loop .i) (loop .inv .0) (omega (arith, loop-test .taken, count-slots (args .hits .now) (args .count) (pre))) (slot-is (args .hits .now) (args .count) (pre) _ _ (loop-test .taken) (hit-at .ensures)) (fields-place .ensures) (pick .result) (pick .ensures) (enum-told (c .before)), omega (arith, loop-test .taken))
-
-enum-known-why : tie.Need-enum-known-why Inv-loop μ-loop
-enum-known-why c = search needs
 
 returns : tie.Need-returns Inv-loop μ-loop
 returns c =
@@ -87,11 +71,11 @@ check-spec =
     loop-holds
     hit-at-requires
     add-i
-    fields-place-requires
-    pick-requires
+    (λ c κs. tt)
+    (λ c κs. tt)
     enum-told
     loop-less
     loop-again
-    enum-known-why
+    (λ c. omega arith)
     returns
     returns-2)

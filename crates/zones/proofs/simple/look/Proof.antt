@@ -5,7 +5,7 @@ use lib.ListN.{length}
 use mathlib.Core.Bool.{false}
 use mathlib.Core.Path.{sym, ap, _∙_}
 use native.Mathlib.Omega.{arith}
-use Rattle.zones.proofs.Agreeing.{gave, refused-so}
+use Rattle.zones.proofs.Agreeing.{Gave, gave, refused-so}
 use Rattle.zones.proofs.find.Finding.{matches-room}
 use Rattle.zones.proofs.simple.Replies.{is-good, no-match, not-checked, not-described, described}
 use Rattle.zones.proofs.simple.look.Statement.{statement}
@@ -15,119 +15,62 @@ use Rattle.zones.specs.Simple.{toldChecked, toldWorded}
 use Rattle.zones.proofs.simple.look.Tie as tie
 
 find-requires : tie.Need-find-requires
-find-requires c κs =
-    let pre = c .before .before .before .before .pre in
-    pre .0
-
-enum-known-found : tie.Need-enum-known-found
-enum-known-found c = search needs
-
-enum-known-why : tie.Need-enum-known-why
-enum-known-why c = search needs
-
-same-length : tie.Need-same-length
-same-length c = search needs
+find-requires c κs = c .before .before .before .before .pre .0
 
 returns : tie.Need-returns
-returns c =
-    let args = c .before .before .before .before .before .before .before .before .before .before .args in
-    let find = c .before .before .before .before .before .find in
-    let why = c .before .why in
-    no-match (args .file .now) (args .location) (length (args .hits .now)) (length (args .text .now)) _ _ (refused-so (Matching (length (args .hits .now)) _) (matchedIn (args .file .now) (args .location) false (length (args .hits .now) / width)) (find .ensures) (ap toldFound (why .given .1)))
+returns c = no-match _ _ _ _ _ _ (refused-so _ _ (c .before .before .before .before .before .find .ensures) (ap toldFound (c .before .why .given .1)))
+
+-- where matches were found
+matched : (c : tie.After-found) → let args = c .before .before .before .before .before .before .before .before .before .args in
+    Gave (Matching (length (args .hits .now)) (c .before .before .before .before .find .last .1 .1 .1 .0)) (matchedIn (args .file .now) (args .location) false (length (args .hits .now) / width)) (c .found .given .0 .0)
+matched c = gave _ _ (c .before .before .before .before .find .ensures) (ap toldFound (c .found .given .1))
 
 check-requires : tie.Need-check-requires
 check-requires c κs =
-    let args = c .before .before .before .before .before .before .before .before .before .before .before .before .args in
-    let find = c .before .before .before .before .before .before .before .find in
-    let found = c .before .before .before .found in
     let hits = c .before .before .before .before .before .before .hits in
-    matches-room ((gave (Matching (length (args .hits .now)) (find .last .1 .1 .1 .0)) (matchedIn (args .file .now) (args .location) false (length (args .hits .now) / width)) (find .ensures) (ap toldFound (found .given .1))) .fits) (omega (arith, hits .given))
-
-enum-known-checked : tie.Need-enum-known-checked
-enum-known-checked c = search needs
-
-same-length-2 : tie.Need-same-length-2
-same-length-2 c = search needs
+    matches-room (matched (c .before .before .before) .fits) (omega (arith, hits .given))
 
 returns-2 : tie.Need-returns-2
-returns-2 c =
-    let args = c .before .before .before .before .before .before .before .before .before .before .before .before .before .before .before .before .args in
-    let find = c .before .before .before .before .before .before .before .before .before .before .before .find in
-    let found = c .before .before .before .before .before .before .before .found in
-    let checked = c .before .checked in
-    let check = c .before .before .before .check in
-    not-checked (args .file .now) (args .location) (length (args .hits .now)) (length (args .text .now)) (gave (Matching (length (args .hits .now)) (find .last .1 .1 .1 .0)) (matchedIn (args .file .now) (args .location) false (length (args .hits .now) / width)) (find .ensures) (ap toldFound (found .given .1))) _ _ (sym (ap toldChecked (checked .given .1)) ∙ check .ensures)
+returns-2 c = not-checked _ _ _ _ (matched (c .before .before .before .before .before .before .before)) _ _ (sym (ap toldChecked (c .before .checked .given .1)) ∙ c .before .before .before .check .ensures)
 
 enum-told : tie.Need-enum-told
 enum-told c = search needs
 
 describe-requires : tie.Need-describe-requires
 describe-requires c κs =
-    let pre = c .before .before .before .before .before .before .before .before .before .before .before .before .before .before .before .before .before .pre in
-    let args = c .before .before .before .before .before .before .before .before .before .before .before .before .before .before .before .before .before .args in
-    let find = c .before .before .before .before .before .before .before .before .before .before .before .before .find in
-    let found = c .before .before .before .before .before .before .before .before .found in
     let hits = c .before .before .before .before .before .before .before .before .before .before .before .hits in
-    (pre .1, matches-room ((gave (Matching (length (args .hits .now)) (find .last .1 .1 .1 .0)) (matchedIn (args .file .now) (args .location) false (length (args .hits .now) / width)) (find .ensures) (ap toldFound (found .given .1))) .fits) (omega (arith, hits .given)))
-
-enum-known-description : tie.Need-enum-known-description
-enum-known-description c = search needs
-
-enum-known-why-2 : tie.Need-enum-known-why-2
-enum-known-why-2 c = search needs
-
-same-length-3 : tie.Need-same-length-3
-same-length-3 c = search needs
-
-same-length-4 : tie.Need-same-length-4
-same-length-4 c = search needs
+    (c .before .before .before .before .before .before .before .before .before .before .before .before .before .before .before .before .before .pre .1, matches-room (matched (c .before .before .before .before .before .before .before .before) .fits) (omega (arith, hits .given)))
 
 returns-3 : tie.Need-returns-3
 returns-3 c =
-    let args = c .before .before .before .before .before .before .before .before .before .before .before .before .before .before .before .before .before .before .before .before .before .before .before .args in
-    let find = c .before .before .before .before .before .before .before .before .before .before .before .before .before .before .before .before .before .before .find in
-    let found = c .before .before .before .before .before .before .before .before .before .before .before .before .before .before .found in
     let check = c .before .before .before .before .before .before .before .before .before .before .check in
-    let describe = c .before .before .before .before .before .describe in
-    let why2 = c .before .why2 in
-    not-described (args .file .now) (args .location) (length (args .hits .now)) (length (args .text .now)) (gave (Matching (length (args .hits .now)) (find .last .1 .1 .1 .0)) (matchedIn (args .file .now) (args .location) false (length (args .hits .now) / width)) (find .ensures) (ap toldFound (found .given .1))) (is-good (check .result) (enum-told (c .before .before .before .before .before .before .before .before .before)) ∙ check .ensures) (describe .last .0) (describe .ensures) _ _ (ap toldWorded (why2 .given .1))
-
-same-length-5 : tie.Need-same-length-5
-same-length-5 c = search needs
-
-same-length-6 : tie.Need-same-length-6
-same-length-6 c = search needs
+    not-described _ _ _ _ (matched (c .before .before .before .before .before .before .before .before .before .before .before .before .before .before)) (is-good (check .result) (enum-told (c .before .before .before .before .before .before .before .before .before)) ∙ check .ensures) _ (c .before .before .before .before .before .describe .ensures) _ _ (ap toldWorded (c .before .why2 .given .1))
 
 returns-4 : tie.Need-returns-4
 returns-4 c =
-    let args = c .before .before .before .before .before .before .before .before .before .before .before .before .before .before .before .before .before .before .before .before .before .before .before .args in
-    let find = c .before .before .before .before .before .before .before .before .before .before .before .before .before .before .before .before .before .before .find in
-    let found = c .before .before .before .before .before .before .before .before .before .before .before .before .before .before .found in
     let check = c .before .before .before .before .before .before .before .before .before .before .check in
-    let describe = c .before .before .before .before .before .describe in
-    let description = c .before .description in
-    described (args .file .now) (args .location) (length (args .hits .now)) (length (args .text .now)) (gave (Matching (length (args .hits .now)) (find .last .1 .1 .1 .0)) (matchedIn (args .file .now) (args .location) false (length (args .hits .now) / width)) (find .ensures) (ap toldFound (found .given .1))) (is-good (check .result) (enum-told (c .before .before .before .before .before .before .before .before .before)) ∙ check .ensures) (describe .last .0) (describe .ensures) (ap toldWorded (description .given .1))
+    described _ _ _ _ (matched (c .before .before .before .before .before .before .before .before .before .before .before .before .before .before)) (is-good (check .result) (enum-told (c .before .before .before .before .before .before .before .before .before)) ∙ check .ensures) _ (c .before .before .before .before .before .describe .ensures) (ap toldWorded (c .before .description .given .1))
 
 pub look-spec : {M : Type 1} → statement M
 look-spec =
     tie.close
     (tie.spec
     find-requires
-    enum-known-found
-    enum-known-why
-    same-length
+    (λ c. omega arith)
+    (λ c. omega arith)
+    (λ c. omega arith)
     returns
     check-requires
-    enum-known-checked
-    same-length-2
+    (λ c. omega arith)
+    (λ c. omega arith)
     returns-2
     enum-told
     describe-requires
-    enum-known-description
-    enum-known-why-2
-    same-length-3
-    same-length-4
+    (λ c. omega arith)
+    (λ c. omega arith)
+    (λ c. omega arith)
+    (λ c. omega arith)
     returns-3
-    same-length-5
-    same-length-6
+    (λ c. omega arith)
+    (λ c. omega arith)
     returns-4)

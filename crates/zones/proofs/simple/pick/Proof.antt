@@ -1,6 +1,5 @@
 -- `zones::simple::pick` meets its contract. The loop's invariant: the fields that are left give the whole. Assumes nothing.
 use Prim.Native.Nat.{_-_, _≤_}
-use borrow.Author.Needs.{needs}
 use mathlib.Core.Path.{_≡_, sym, ap, _∙_}
 use native.Mathlib.Omega.{arith}
 use Rattle.zones.proofs.simple.Picking.{starts, all-picked, no-name, name-inside, no-value, goes}
@@ -21,23 +20,8 @@ Inv-loop file start preamble sections names blame index₀ name₀ place₀ last
 abbrev μ-loop : tie.MeasureT-loop
 μ-loop file start preamble sections names blame index₀ name₀ place₀ last₀ index name place last = names - index
 
-cast-names : tie.Need-cast-names Inv-loop μ-loop
-cast-names c = search needs
-
-begun-requires : tie.Need-begun-requires Inv-loop μ-loop
-begun-requires c κs = search needs
-
 loop-holds : tie.Need-loop-holds Inv-loop μ-loop
 loop-holds c = (starts _ _ _ _ (c .begun .ensures), omega arith)
-
-read-header-text-requires : tie.Need-read-header-text-requires Inv-loop μ-loop
-read-header-text-requires c κs = search needs
-
-enum-known-called : tie.Need-enum-known-called Inv-loop μ-loop
-enum-known-called c = search needs
-
-enum-known-why : tie.Need-enum-known-why Inv-loop μ-loop
-enum-known-why c = search needs
 
 returns : tie.Need-returns Inv-loop μ-loop
 returns c =
@@ -46,15 +30,6 @@ returns c =
     let why = c .before .why in
     let read-header-text = c .before .before .before .read-header-text in
     no-name _ _ _ _ _ _ _ (loop .inv .0) (loop-test .taken) (sym (ap toldRead (why .given .1)) ∙ read-header-text .ensures)
-
-read-text-requires : tie.Need-read-text-requires Inv-loop μ-loop
-read-text-requires c κs = search needs
-
-enum-known-value : tie.Need-enum-known-value Inv-loop μ-loop
-enum-known-value c = search needs
-
-enum-known-why-2 : tie.Need-enum-known-why-2 Inv-loop μ-loop
-enum-known-why-2 c = search needs
 
 returns-2 : tie.Need-returns-2 Inv-loop μ-loop
 returns-2 c =
@@ -74,9 +49,6 @@ part-of-requires c κs =
     let read-header-text = c .before .before .before .before .before .before .before .read-header-text in
     name-inside _ _ _ _ _ _ _ (loop .inv .0) (loop-test .taken) (sym (ap toldRead (called .given .1)) ∙ read-header-text .ensures)
 
-newer-requires : tie.Need-newer-requires Inv-loop μ-loop
-newer-requires c κs = search needs
-
 add-index : tie.Need-add-index Inv-loop μ-loop
 add-index c =
     let loop-test = c .before .before .before .before .before .before .before .before .before .before .loop-test in
@@ -84,9 +56,7 @@ add-index c =
     omega (arith, loop-test .taken, struct-known .given)
 
 loop-less : tie.Need-loop-less Inv-loop μ-loop
-loop-less c =
-    let loop-test = c .before .before .before .before .before .before .before .before .before .before .loop-test in
-    omega (arith, loop-test .taken)
+loop-less c = omega (arith, c .before .before .before .before .before .before .before .before .before .before .loop-test .taken)
 
 loop-again : tie.Need-loop-again Inv-loop μ-loop
 loop-again c =
@@ -108,19 +78,19 @@ pick-spec =
     (tie.spec
     Inv-loop
     μ-loop
-    cast-names
-    begun-requires
+    (λ c. omega arith)
+    (λ c κs. tt)
     loop-holds
-    read-header-text-requires
-    enum-known-called
-    enum-known-why
+    (λ c κs. tt)
+    (λ c. omega arith)
+    (λ c. omega arith)
     returns
-    read-text-requires
-    enum-known-value
-    enum-known-why-2
+    (λ c κs. tt)
+    (λ c. omega arith)
+    (λ c. omega arith)
     returns-2
     part-of-requires
-    newer-requires
+    (λ c κs. tt)
     add-index
     loop-less
     loop-again

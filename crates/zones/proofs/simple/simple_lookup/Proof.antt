@@ -2,6 +2,7 @@
 use borrow.Author.Needs.{needs}
 use lib.ListN.{length}
 use mathlib.Core.Path.{ap, _∙_}
+use native.Mathlib.Omega.{arith}
 use Rattle.zones.proofs.Buffers.{of-length, all-zero}
 use Rattle.zones.proofs.Replying.{given-reply, refused-reply}
 use Rattle.zones.proofs.simple.simple_lookup.Statement.{statement}
@@ -9,23 +10,11 @@ use Rattle.zones.specs.Lists.{zeros}
 use Rattle.zones.specs.Simple.{describedIn, simplyLooked, toldSimple}
 use Rattle.zones.proofs.simple.simple_lookup.Tie as tie
 
-zero-both-requires : tie.Need-zero-both-requires
-zero-both-requires c κs = search needs
-
 look-requires : tie.Need-look-requires
 look-requires c κs =
     let args = c .before .before .before .before .before .before .before .before .before .before .before .before .args in
     let zero-both = c .before .before .before .before .before .before .zero-both in
     (all-zero _ (length (args .hits .now)) (zero-both .ensures .0), all-zero _ (length (args .text .now)) (zero-both .ensures .1))
-
-enum-known-described : tie.Need-enum-known-described
-enum-known-described c = search needs
-
-enum-known-why : tie.Need-enum-known-why
-enum-known-why c = search needs
-
-zero-both-requires-2 : tie.Need-zero-both-requires-2
-zero-both-requires-2 c κs = search needs
 
 same-length : tie.Need-same-length
 same-length c = search needs
@@ -44,12 +33,6 @@ returns c =
     refused-reply (describedIn (args .file .now) (args .location)) (toldSimple (look .result)) _ _ (of-length _ (length (args .hits .now)) (zero-both .ensures .0)) (of-length _ (length (args .text .now)) (zero-both .ensures .1)) (look .ensures) (ap toldSimple (why .given .1))
     (all-zero _ (length (look .last .1 .1 .0)) (zero-both2 .ensures .0) ∙ ap zeros (same-length c)) (all-zero _ (length (look .last .1 .1 .1 .0)) (zero-both2 .ensures .1) ∙ ap zeros (same-length-2 c))
 
-same-length-3 : tie.Need-same-length-3
-same-length-3 c = search needs
-
-same-length-4 : tie.Need-same-length-4
-same-length-4 c = search needs
-
 returns-2 : tie.Need-returns-2
 unfolding simplyLooked
 returns-2 c =
@@ -63,14 +46,14 @@ pub simple-lookup-spec : {M : Type 1} → statement M
 simple-lookup-spec =
     tie.close
     (tie.spec
-    zero-both-requires
+    (λ c κs. tt)
     look-requires
-    enum-known-described
-    enum-known-why
-    zero-both-requires-2
+    (λ c. omega arith)
+    (λ c. omega arith)
+    (λ c κs. tt)
     same-length
     same-length-2
     returns
-    same-length-3
-    same-length-4
+    (λ c. omega arith)
+    (λ c. omega arith)
     returns-2)

@@ -1,6 +1,5 @@
 -- `zones::zero::zero_words` meets its contract. The loop's invariant: i zeros stand over the front. Assumes nothing.
 use Prim.Native.Nat.{_≤_, _-_}
-use borrow.Author.Needs.{needs}
 use lib.ListN.{length}
 use mathlib.Core.Path.{_≡_, refl, ap, _∙_}
 use native.Mathlib.Omega.{arith}
@@ -16,9 +15,6 @@ abbrev μ-loop : tie.MeasureT-loop
 
 loop-holds : tie.Need-loop-holds Inv-loop μ-loop
 loop-holds c = (omega arith, refl)
-
-mul-hits : tie.Need-mul-hits Inv-loop μ-loop
-mul-hits c = search needs
 
 slice-write-hits : tie.Need-slice-write-hits Inv-loop μ-loop
 slice-write-hits c =
@@ -59,4 +55,4 @@ returns c =
     loop .inv .1 ∙ zeroed-all (args .hits .now) (loop .i) (omega arith) (omega arith)
 
 pub zero-words-spec : {M : Type 1} → statement M
-zero-words-spec = tie.close (tie.spec Inv-loop μ-loop loop-holds mul-hits slice-write-hits add-i loop-less loop-again same-length returns)
+zero-words-spec = tie.close (tie.spec Inv-loop μ-loop loop-holds (λ c. omega arith) slice-write-hits add-i loop-less loop-again same-length returns)

@@ -2,24 +2,21 @@
 use native.Mathlib.Omega.{arith}
 use Rattle.border.specs.Moves.{varintOf}
 use Rattle.border.proofs.writer.Stores.{stored-then, varint-few}
-use borrow.Author.Needs.{needs}
 use Rattle.border.proofs.writer.bytes.put_two.Statement.{statement}
 use Rattle.border.proofs.writer.bytes.put_two.Tie as tie
-use Rattle.border.proofs.writer.bytes.put_two.Reads as reads
-use Rattle.border.proofs.writer.bytes.put_two.Lts as lts
-use Rattle.border.proofs.writer.bytes.put_varint.Reads as put-varint-reads
-
-put-varint-requires : tie.Need-put-varint-requires
-put-varint-requires c κs = search needs
 
 put-varint-requires-2 : tie.Need-put-varint-requires-2
-put-varint-requires-2 c κs = omega (arith, c .before .before .before .put-varint .ensures .place-after, varint-few (c .before .before .before .before .before .before .args .first))
-
-same-length : tie.Need-same-length
-same-length c = search needs
+put-varint-requires-2 c κs =
+    let args = c .before .before .before .before .before .before .args in
+    let put-varint = c .before .before .before .put-varint in
+    omega (arith, put-varint .ensures .place-after, varint-few (args .first))
 
 returns : tie.Need-returns
-returns c = stored-then (varintOf (c .before .before .before .before .before .before .before .before .before .args .first)) (varintOf (c .before .before .before .before .before .before .before .before .before .args .second)) (c .before .before .before .before .before .before .put-varint .ensures) (c .before .before .put-varint2 .ensures)
+returns c =
+    let args = c .before .before .before .before .before .before .before .before .before .args in
+    let put-varint = c .before .before .before .before .before .before .put-varint in
+    let put-varint2 = c .before .before .put-varint2 in
+    stored-then (varintOf (args .first)) (varintOf (args .second)) (put-varint .ensures) (put-varint2 .ensures)
 
 pub put-two-spec : {M : Type 1} → statement M
-put-two-spec = tie.close (tie.spec put-varint-requires put-varint-requires-2 same-length returns)
+put-two-spec = tie.close (tie.spec (λ c κs. omega arith) put-varint-requires-2 (λ c. omega arith) returns)

@@ -1,16 +1,13 @@
 -- `border::writer::bytes::put_varint` meets its contract. Assumes nothing.
-use Prim.Native.Nat.{ℕ, _+_, _*_, _-_, _/_, _%_, _^_, _≤_, _<_}
+use Prim.Native.Nat.{_+_, _*_, _-_, _%_, _^_, _≤_, _<_}
 use native.Mathlib.Omega.{arith}
-use mathlib.Core.Path.{_≡_, refl, sym, ap, _∙_, subst}
-use mathlib.Core.List.{List, [], _∷_}
+use mathlib.Core.Path.{_≡_, _∙_, subst}
+use mathlib.Core.List.{[], _∷_}
 use Rattle.border.specs.Moves.{varintOf, digitsOf}
 use Rattle.border.proofs.writer.Digits.{tenth, weight-later}
 use Rattle.border.proofs.writer.Stores.{Left, left-all, left-step, left-last, stored-length, digits-last, digits-next}
 use Rattle.border.proofs.writer.bytes.put_varint.Statement.{statement}
 use Rattle.border.proofs.writer.bytes.put_varint.Tie as tie
-use Rattle.border.proofs.writer.bytes.put_varint.Reads as reads
-use Rattle.border.proofs.writer.bytes.put_varint.Lts as lts
-use Rattle.border.proofs.writer.bytes.put.Reads as put-reads
 
 abbrev Inv-loop : tie.InvT-loop
 Inv-loop out₀ place value next₀ rest₀ left₀ out next rest left =
@@ -33,8 +30,11 @@ same-length : tie.Need-same-length Inv-loop μ-loop
 same-length c = stored-length (c .before .before .put .ensures) ∙ c .before .before .before .before .before .before .loop .inv .3 .size
 
 returns : tie.Need-returns Inv-loop μ-loop
-returns c = let l = c .before .before .before .before .before .before .loop in
-    left-last (l .rest ∷ []) (subst (Left _ _ _ (l .out) (l .next)) (digits-last (l .left) (l .rest) (c .before .before .before .before .if1 .taken)) (l .inv .3)) (c .before .before .put .ensures)
+returns c =
+    let l = c .before .before .before .before .before .before .loop in
+    let if1 = c .before .before .before .before .if1 in
+    let put = c .before .before .put in
+    left-last (l .rest ∷ []) (subst (Left _ _ _ (l .out) (l .next)) (digits-last (l .left) (l .rest) (if1 .taken)) (l .inv .3)) (put .ensures)
 
 add-put : tie.Need-add-put Inv-loop μ-loop
 add-put c = omega arith

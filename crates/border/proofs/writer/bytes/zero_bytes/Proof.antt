@@ -1,15 +1,13 @@
 -- `border::writer::bytes::zero_bytes` meets its contract. Assumes nothing.
-use mathlib.Core.Path.{_≡_, refl, sym, ap, _∙_, subst}
+use mathlib.Core.Path.{subst}
 use native.Mathlib.Omega.{arith}
-use Prim.Native.Nat.{ℕ, _-_, _≤_}
-use mathlib.Core.List.{List, [], _∷_}
+use Prim.Native.Nat.{_-_, _≤_}
+use mathlib.Core.List.{[], _∷_}
 use lib.ListN.{length}
 use Rattle.border.specs.Writer.{zeros}
 use Rattle.border.proofs.writer.Stores.{Left, left-all, left-step, left-none, stored-one, stored-zeros, zeros-all, zeros-next, zeros-done}
 use Rattle.border.proofs.writer.bytes.zero_bytes.Statement.{statement}
 use Rattle.border.proofs.writer.bytes.zero_bytes.Tie as tie
-use Rattle.border.proofs.writer.bytes.zero_bytes.Reads as reads
-use Rattle.border.proofs.writer.bytes.zero_bytes.Lts as lts
 
 abbrev Inv-loop : tie.InvT-loop
 Inv-loop out₀ i₀ out i = (i ≤ length out₀) × Left out₀ 0 (zeros (length out₀)) out i (zeros (length out₀ - i))

@@ -2,7 +2,6 @@
 use mathlib.Core.Path.{_≡_, refl, sym, ap, _∙_}
 use mathlib.Core.Bool.{true, false}
 use native.Mathlib.Omega.{arith}
-use borrow.Author.Needs.{needs}
 use borrow.Author.Tests.{not-true, not-false}
 use Prim.Native.Nat.{_-_, _≤_}
 use lib.IntN.{pos}
@@ -14,9 +13,6 @@ use Rattle.border.specs.Writer.{every, near}
 use Rattle.border.proofs.writer.Indexed.{every-bad, every-good, every-done}
 use Rattle.border.proofs.writer.checks.all_near.Statement.{statement}
 use Rattle.border.proofs.writer.checks.all_near.Tie as tie
-use Rattle.border.proofs.writer.checks.all_near.Reads as reads
-use Rattle.border.proofs.writer.checks.all_near.Lts as lts
-use Rattle.border.proofs.writer.checks.is_near.Reads as is-near-reads
 
 abbrev Inv-loop : tie.InvT-loop
 Inv-loop list i₀ i = (i ≤ length list) × (every near (drop i list) ≡ every near list)
@@ -33,16 +29,17 @@ mul-is-near c = omega arith
 shared-slice-copy-out-is-near : tie.Need-shared-slice-copy-out-is-near Inv-loop μ-loop
 shared-slice-copy-out-is-near c = omega arith
 
-is-near-requires : tie.Need-is-near-requires Inv-loop μ-loop
-is-near-requires c κs = search needs
-
 returns : tie.Need-returns Inv-loop μ-loop
 returns c =
+    let args = c .before .before .before .before .before .args in
     let l = c .before .before .before .before .loop in
-    let zs = c .before .before .before .before .before .args .list .now in
-    let fit : SFits w32 (getD zs (l .i) (pos 0)) = record { sfits = c .before .before .is-near-arg .given } in
-    let bad : near (getD zs (l .i) (pos 0)) ≡ false = ap near (sym (toZ-ofZ fit)) ∙ sym (c .before .is-near .ensures) ∙ not-true _ (c .if1 .taken) in
-    sym (every-bad near zs (l .i) (pos 0) (c .before .before .before .loop-test .taken) bad) ∙ l .inv .1
+    let loop-test = c .before .before .before .loop-test in
+    let is-near-arg = c .before .before .is-near-arg in
+    let is-near = c .before .is-near in
+    let zs = args .list .now in
+    let fit : SFits w32 (getD zs (l .i) (pos 0)) = record { sfits = is-near-arg .given } in
+    let bad : near (getD zs (l .i) (pos 0)) ≡ false = ap near (sym (toZ-ofZ fit)) ∙ sym (is-near .ensures) ∙ not-true _ (c .if1 .taken) in
+    sym (every-bad near zs (l .i) (pos 0) (loop-test .taken) bad) ∙ l .inv .1
 
 add-i : tie.Need-add-i Inv-loop μ-loop
 add-i c = omega arith
@@ -52,11 +49,15 @@ loop-less c = omega arith
 
 loop-again : tie.Need-loop-again Inv-loop μ-loop
 loop-again c =
+    let args = c .before .before .before .before .before .args in
     let l = c .before .before .before .before .loop in
-    let zs = c .before .before .before .before .before .args .list .now in
-    let fit : SFits w32 (getD zs (l .i) (pos 0)) = record { sfits = c .before .before .is-near-arg .given } in
-    let good : near (getD zs (l .i) (pos 0)) ≡ true = ap near (sym (toZ-ofZ fit)) ∙ sym (c .before .is-near .ensures) ∙ not-false _ (c .if1 .left) in
-    (omega arith, every-good near zs (l .i) (pos 0) (c .before .before .before .loop-test .taken) good ∙ l .inv .1)
+    let loop-test = c .before .before .before .loop-test in
+    let is-near-arg = c .before .before .is-near-arg in
+    let is-near = c .before .is-near in
+    let zs = args .list .now in
+    let fit : SFits w32 (getD zs (l .i) (pos 0)) = record { sfits = is-near-arg .given } in
+    let good : near (getD zs (l .i) (pos 0)) ≡ true = ap near (sym (toZ-ofZ fit)) ∙ sym (is-near .ensures) ∙ not-false _ (c .if1 .left) in
+    (omega arith, every-good near zs (l .i) (pos 0) (loop-test .taken) good ∙ l .inv .1)
 
 returns-2 : tie.Need-returns-2 Inv-loop μ-loop
 unfolding every
@@ -71,7 +72,7 @@ all-near-spec =
     loop-holds
     mul-is-near
     shared-slice-copy-out-is-near
-    is-near-requires
+    (λ c κs. tt)
     returns
     add-i
     loop-less

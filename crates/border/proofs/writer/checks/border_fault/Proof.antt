@@ -1,145 +1,81 @@
 -- `border::writer::checks::border_fault` meets its contract. Assumes nothing.
 use native.Mathlib.Omega.{arith}
-use mathlib.Core.Path.{sym, ap, _∙_}
+use mathlib.Core.Bool.{true}
+use mathlib.Core.Path.{_≡_, sym, ap, _∙_}
 use borrow.Author.Tests.{not-true, not-false}
-use Rattle.border.specs.Writer.{passed}
-use Rattle.border.proofs.writer.Faults.{sizes, long-data, odd-version, not-sized, far-lat, far-lon, repeated, at-origin, no-fault}
-use borrow.Author.Needs.{needs}
+use lib.ListN.{drop}
+use Rattle.border.specs.Moves.{movesOf, isMove}
+use Rattle.border.specs.Writer.{passed, every, near}
+use Rattle.border.proofs.writer.Faults.{Early, sizes, long-data, odd-version, not-sized, far-lat, far-lon, repeated, at-origin, no-fault}
 use Rattle.border.proofs.writer.checks.border_fault.Statement.{statement}
 use Rattle.border.proofs.writer.checks.border_fault.Tie as tie
-use Rattle.border.proofs.writer.checks.border_fault.Reads as reads
-use Rattle.border.proofs.writer.checks.border_fault.Lts as lts
-use Rattle.border.proofs.writer.checks.all_near.Reads as all-near-reads
-use Rattle.border.proofs.writer.checks.is_sized.Reads as is-sized-reads
-use Rattle.border.proofs.writer.checks.none_repeated.Reads as none-repeated-reads
-use Rattle.border.proofs.writer.checks.refused.Reads as refused-reads
-use Rattle.border.proofs.writer.moves.moves_at.Reads as moves-at-reads
 
-refused-requires : tie.Need-refused-requires
-refused-requires c κs = search needs
+-- ---- what each check that passed says
+early : (c : tie.Else3) → let args = c .before .before .before .before .before .args in Early (args .version) (args .lats .now) (args .lons .now) (args .earlier .now)
+early c = record { short = c .before .before .before .if1 .left; version-known = c .before .before .if2 .left; right = sym (c .before .is-sized .ensures) ∙ not-false _ (c .if3 .left) }
 
+north : (c : tie.Else4) → every near (c .before .before .before .before .before .before .before .args .lats .now) ≡ true
+north c = sym (c .before .all-near .ensures) ∙ not-false _ (c .if4 .left)
+
+east : (c : tie.Else5) → every near (c .before .before .before .before .before .before .before .before .before .args .lons .now) ≡ true
+east c = sym (c .before .all-near2 .ensures) ∙ not-false _ (c .if5 .left)
+
+apart : (c : tie.Else6) → let args = c .before .before .before .before .before .before .before .before .before .before .before .args in every isMove (drop 1 (movesOf (args .lats .now) (args .lons .now))) ≡ true
+apart c = sym (c .before .none-repeated .ensures) ∙ not-false _ (c .if6 .left)
+
+-- ---- the answers
 returns : tie.Need-returns
-returns c =
-    let a = c .before .before .before .args in
-    let x = a .lats .now in
-    let y = a .lons .now in
-    let v = a .version in
-    let e = a .earlier .now in
-    ap passed (c .refused .ensures) ∙ long-data v x y e (c .before .if1 .taken)
+returns c = ap passed (c .refused .ensures) ∙ long-data _ _ _ _ (c .before .if1 .taken)
 
 returns-2 : tie.Need-returns-2
-returns-2 c =
-    let a = c .before .before .before .args in
-    let x = a .lats .now in
-    let y = a .lons .now in
-    let v = a .version in
-    let e = a .earlier .now in
-    odd-version v x y e (c .before .if1 .left) (c .if2 .taken)
-
-is-sized-requires : tie.Need-is-sized-requires
-is-sized-requires c κs = search needs
-
-refused-requires-2 : tie.Need-refused-requires-2
-refused-requires-2 c κs = search needs
+returns-2 c = odd-version _ _ _ _ (c .before .if1 .left) (c .if2 .taken)
 
 returns-3 : tie.Need-returns-3
-returns-3 c =
-    let a = c .before .before .before .before .before .before .args in
-    let x = a .lats .now in
-    let y = a .lons .now in
-    let v = a .version in
-    let e = a .earlier .now in
-    ap passed (c .refused2 .ensures) ∙ not-sized v x y e (c .before .before .before .before .if1 .left) (c .before .before .before .if2 .left) (sym (c .before .before .is-sized .ensures) ∙ not-true _ (c .before .if3 .taken))
-
-all-near-requires : tie.Need-all-near-requires
-all-near-requires c κs = search needs
-
-refused-requires-3 : tie.Need-refused-requires-3
-refused-requires-3 c κs = search needs
+returns-3 c = ap passed (c .refused2 .ensures) ∙ not-sized _ _ _ _ (c .before .before .before .before .if1 .left) (c .before .before .before .if2 .left) (sym (c .before .before .is-sized .ensures) ∙ not-true _ (c .before .if3 .taken))
 
 returns-4 : tie.Need-returns-4
-returns-4 c =
-    let a = c .before .before .before .before .before .before .before .before .args in
-    let x = a .lats .now in
-    let y = a .lons .now in
-    let v = a .version in
-    let e = a .earlier .now in
-    ap passed (c .refused3 .ensures) ∙ far-lat v x y e (c .before .before .before .before .before .before .if1 .left) (c .before .before .before .before .before .if2 .left) (sym (c .before .before .before .before .is-sized .ensures) ∙ not-false _ (c .before .before .before .if3 .left)) (sym (c .before .before .all-near .ensures) ∙ not-true _ (c .before .if4 .taken))
-
-all-near-requires-2 : tie.Need-all-near-requires-2
-all-near-requires-2 c κs = search needs
-
-refused-requires-4 : tie.Need-refused-requires-4
-refused-requires-4 c κs = search needs
+returns-4 c = ap passed (c .refused3 .ensures) ∙ far-lat (early (c .before .before .before)) (sym (c .before .before .all-near .ensures) ∙ not-true _ (c .before .if4 .taken))
 
 returns-5 : tie.Need-returns-5
-returns-5 c =
-    let a = c .before .before .before .before .before .before .before .before .before .before .args in
-    let x = a .lats .now in
-    let y = a .lons .now in
-    let v = a .version in
-    let e = a .earlier .now in
-    ap passed (c .refused4 .ensures) ∙ far-lon v x y e (c .before .before .before .before .before .before .before .before .if1 .left) (c .before .before .before .before .before .before .before .if2 .left) (sym (c .before .before .before .before .before .before .is-sized .ensures) ∙ not-false _ (c .before .before .before .before .before .if3 .left)) (sym (c .before .before .before .before .all-near .ensures) ∙ not-false _ (c .before .before .before .if4 .left)) (sym (c .before .before .all-near2 .ensures) ∙ not-true _ (c .before .if5 .taken))
+returns-5 c = ap passed (c .refused4 .ensures) ∙ far-lon (early (c .before .before .before .before .before)) (north (c .before .before .before)) (sym (c .before .before .all-near2 .ensures) ∙ not-true _ (c .before .if5 .taken))
 
 none-repeated-requires : tie.Need-none-repeated-requires
-none-repeated-requires c κs = let s = sizes _ _ (sym (c .before .before .before .before .before .is-sized .ensures) ∙ not-false _ (c .before .before .before .before .if3 .left)) in (s .some, s .same)
-
-refused-requires-5 : tie.Need-refused-requires-5
-refused-requires-5 c κs = search needs
+none-repeated-requires c κs = let s = sizes _ _ (early (c .before .before .before .before) .right) in (s .some, s .same)
 
 returns-6 : tie.Need-returns-6
-returns-6 c =
-    let a = c .before .before .before .before .before .before .before .before .before .before .before .before .args in
-    let x = a .lats .now in
-    let y = a .lons .now in
-    let v = a .version in
-    let e = a .earlier .now in
-    ap passed (c .refused5 .ensures) ∙ repeated v x y e (c .before .before .before .before .before .before .before .before .before .before .if1 .left) (c .before .before .before .before .before .before .before .before .before .if2 .left) (sym (c .before .before .before .before .before .before .before .before .is-sized .ensures) ∙ not-false _ (c .before .before .before .before .before .before .before .if3 .left)) (sym (c .before .before .before .before .before .before .all-near .ensures) ∙ not-false _ (c .before .before .before .before .before .if4 .left)) (sym (c .before .before .before .before .all-near2 .ensures) ∙ not-false _ (c .before .before .before .if5 .left)) (sym (c .before .before .none-repeated .ensures) ∙ not-true _ (c .before .if6 .taken))
+returns-6 c = ap passed (c .refused5 .ensures) ∙ repeated (early (c .before .before .before .before .before .before .before)) (north (c .before .before .before .before .before)) (east (c .before .before .before)) (sym (c .before .before .none-repeated .ensures) ∙ not-true _ (c .before .if6 .taken))
 
 moves-at-requires : tie.Need-moves-at-requires
-moves-at-requires c κs = let s = sizes _ _ (sym (c .before .before .before .before .before .before .before .is-sized .ensures) ∙ not-false _ (c .before .before .before .before .before .before .if3 .left)) in (s .some, omega (arith, s .some, s .same))
-
-refused-requires-6 : tie.Need-refused-requires-6
-refused-requires-6 c κs = search needs
+moves-at-requires c κs = let s = sizes _ _ (early (c .before .before .before .before .before .before) .right) in (s .some, omega (arith, s .some, s .same))
 
 returns-7 : tie.Need-returns-7
 returns-7 c =
-    let a = c .before .before .before .before .before .before .before .before .before .before .before .before .before .before .args in
-    let x = a .lats .now in
-    let y = a .lons .now in
-    let v = a .version in
-    let e = a .earlier .now in
-    ap passed (c .refused6 .ensures) ∙ at-origin v x y e (c .before .before .before .before .before .before .before .before .before .before .before .before .if1 .left) (c .before .before .before .before .before .before .before .before .before .before .before .if2 .left) (sym (c .before .before .before .before .before .before .before .before .before .before .is-sized .ensures) ∙ not-false _ (c .before .before .before .before .before .before .before .before .before .if3 .left)) (sym (c .before .before .before .before .before .before .before .before .all-near .ensures) ∙ not-false _ (c .before .before .before .before .before .before .before .if4 .left)) (sym (c .before .before .before .before .before .before .all-near2 .ensures) ∙ not-false _ (c .before .before .before .before .before .if5 .left)) (sym (c .before .before .before .before .none-repeated .ensures) ∙ not-false _ (c .before .before .before .if6 .left)) (sym (c .before .before .moves-at .ensures) ∙ not-true _ (c .before .if7 .taken))
+    ap passed (c .refused6 .ensures)
+    ∙ at-origin (early (c .before .before .before .before .before .before .before .before .before)) (north (c .before .before .before .before .before .before .before)) (east (c .before .before .before .before .before)) (apart (c .before .before .before)) (sym (c .before .before .moves-at .ensures) ∙ not-true _ (c .before .if7 .taken))
 
 returns-8 : tie.Need-returns-8
-returns-8 c =
-    let a = c .before .before .before .before .before .before .before .before .before .before .before .before .before .args in
-    let x = a .lats .now in
-    let y = a .lons .now in
-    let v = a .version in
-    let e = a .earlier .now in
-    no-fault v x y e (c .before .before .before .before .before .before .before .before .before .before .before .if1 .left) (c .before .before .before .before .before .before .before .before .before .before .if2 .left) (sym (c .before .before .before .before .before .before .before .before .before .is-sized .ensures) ∙ not-false _ (c .before .before .before .before .before .before .before .before .if3 .left)) (sym (c .before .before .before .before .before .before .before .all-near .ensures) ∙ not-false _ (c .before .before .before .before .before .before .if4 .left)) (sym (c .before .before .before .before .before .all-near2 .ensures) ∙ not-false _ (c .before .before .before .before .if5 .left)) (sym (c .before .before .before .none-repeated .ensures) ∙ not-false _ (c .before .before .if6 .left)) (sym (c .before .moves-at .ensures) ∙ not-false _ (c .if7 .left))
+returns-8 c = no-fault (early (c .before .before .before .before .before .before .before .before)) (north (c .before .before .before .before .before .before)) (east (c .before .before .before .before)) (apart (c .before .before)) (sym (c .before .moves-at .ensures) ∙ not-false _ (c .if7 .left))
 
 pub border-fault-spec : {M : Type 1} → statement M
 border-fault-spec =
     tie.close
     (tie.spec
-    refused-requires
+    (λ c κs. tt)
     returns
     returns-2
-    is-sized-requires
-    refused-requires-2
+    (λ c κs. tt)
+    (λ c κs. tt)
     returns-3
-    all-near-requires
-    refused-requires-3
+    (λ c κs. tt)
+    (λ c κs. tt)
     returns-4
-    all-near-requires-2
-    refused-requires-4
+    (λ c κs. tt)
+    (λ c κs. tt)
     returns-5
     none-repeated-requires
-    refused-requires-5
+    (λ c κs. tt)
     returns-6
     moves-at-requires
-    refused-requires-6
+    (λ c κs. tt)
     returns-7
     returns-8)

@@ -3,8 +3,6 @@ use mir.Facts.{toZ-ofZ}
 use Rattle.border.proofs.writer.Elements.{near-low, near-rest}
 use Rattle.border.proofs.writer.checks.is_near.Statement.{statement}
 use Rattle.border.proofs.writer.checks.is_near.Tie as tie
-use Rattle.border.proofs.writer.checks.is_near.Reads as reads
-use Rattle.border.proofs.writer.checks.is_near.Lts as lts
 
 returns : tie.Need-returns
 returns c = near-low (c .before .args .z) (rw (toZ-ofZ (c .before .fits .z)) at (c .if1 .taken))

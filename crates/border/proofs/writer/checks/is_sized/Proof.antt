@@ -5,8 +5,6 @@ use lib.ListN.{length}
 use Rattle.border.specs.Writer.{sized}
 use Rattle.border.proofs.writer.checks.is_sized.Statement.{statement}
 use Rattle.border.proofs.writer.checks.is_sized.Tie as tie
-use Rattle.border.proofs.writer.checks.is_sized.Reads as reads
-use Rattle.border.proofs.writer.checks.is_sized.Lts as lts
 
 returns : tie.Need-returns
 unfolding sized

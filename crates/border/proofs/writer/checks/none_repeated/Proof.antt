@@ -10,9 +10,6 @@ use Rattle.border.specs.Writer.{every}
 use Rattle.border.proofs.writer.Indexed.{still, border-length, move-at, every-bad, every-good, every-done}
 use Rattle.border.proofs.writer.checks.none_repeated.Statement.{statement}
 use Rattle.border.proofs.writer.checks.none_repeated.Tie as tie
-use Rattle.border.proofs.writer.checks.none_repeated.Reads as reads
-use Rattle.border.proofs.writer.checks.none_repeated.Lts as lts
-use Rattle.border.proofs.writer.moves.moves_at.Reads as moves-at-reads
 
 abbrev Inv-loop : tie.InvT-loop
 Inv-loop lats lons i₀ i = (1 ≤ i) × (every isMove (drop i (movesOf lats lons)) ≡ every isMove (drop 1 (movesOf lats lons)))
@@ -28,12 +25,15 @@ moves-at-requires c κs = (omega arith, omega (arith, c .before .before .pre .1)
 
 returns : tie.Need-returns Inv-loop μ-loop
 returns c =
-    let l = c .before .before .before .loop in
     let a = c .before .before .before .before .args in
+    let pre = c .before .before .before .before .pre in
+    let l = c .before .before .before .loop in
+    let loop-test = c .before .before .loop-test in
+    let moves-at = c .before .moves-at in
     let ms = movesOf (a .lats .now) (a .lons .now) in
-    let test = c .before .before .loop-test .taken in
-    let same = c .before .before .before .before .pre .1 in
-    let bad : isMove (getD ms (l .i) still) ≡ false = ap isMove (move-at (a .lats .now) (a .lons .now) (l .i) test (omega arith)) ∙ sym (c .before .moves-at .ensures) ∙ not-true _ (c .if1 .taken) in
+    let test = loop-test .taken in
+    let same = pre .1 in
+    let bad : isMove (getD ms (l .i) still) ≡ false = ap isMove (move-at (a .lats .now) (a .lons .now) (l .i) test (omega arith)) ∙ sym (moves-at .ensures) ∙ not-true _ (c .if1 .taken) in
     sym (every-bad isMove ms (l .i) still (omega (arith, border-length (a .lats .now) (a .lons .now))) bad) ∙ l .inv .1
 
 add-i : tie.Need-add-i Inv-loop μ-loop
@@ -44,12 +44,15 @@ loop-less c = omega arith
 
 loop-again : tie.Need-loop-again Inv-loop μ-loop
 loop-again c =
-    let l = c .before .before .before .loop in
     let a = c .before .before .before .before .args in
+    let pre = c .before .before .before .before .pre in
+    let l = c .before .before .before .loop in
+    let loop-test = c .before .before .loop-test in
+    let moves-at = c .before .moves-at in
     let ms = movesOf (a .lats .now) (a .lons .now) in
-    let test = c .before .before .loop-test .taken in
-    let same = c .before .before .before .before .pre .1 in
-    let good : isMove (getD ms (l .i) still) ≡ true = ap isMove (move-at (a .lats .now) (a .lons .now) (l .i) test (omega arith)) ∙ sym (c .before .moves-at .ensures) ∙ not-false _ (c .if1 .left) in
+    let test = loop-test .taken in
+    let same = pre .1 in
+    let good : isMove (getD ms (l .i) still) ≡ true = ap isMove (move-at (a .lats .now) (a .lons .now) (l .i) test (omega arith)) ∙ sym (moves-at .ensures) ∙ not-false _ (c .if1 .left) in
     (omega arith, every-good isMove ms (l .i) still (omega (arith, border-length (a .lats .now) (a .lons .now))) good ∙ l .inv .1)
 
 returns-2 : tie.Need-returns-2 Inv-loop μ-loop

@@ -1,22 +1,13 @@
 -- `border::writer::moves::before` meets its contract. Assumes nothing.
-use mathlib.Core.Path.{_≡_, _∙_}
+use mathlib.Core.Path.{_∙_}
 use mir.Facts.{toZ-ofZ}
+use native.Mathlib.Omega.{arith}
 use Rattle.border.proofs.writer.Indexed.{before-first, before-next}
-use borrow.Author.Needs.{needs}
 use Rattle.border.proofs.writer.moves.before.Statement.{statement}
 use Rattle.border.proofs.writer.moves.before.Tie as tie
 
 returns : tie.Need-returns
 returns c = before-first (c .before .args .list .now) (c .before .args .i) (c .if1 .taken)
-
-sub-result : tie.Need-sub-result
-sub-result c = search needs
-
-mul-result : tie.Need-mul-result
-mul-result c = search needs
-
-shared-slice-copy-out-result : tie.Need-shared-slice-copy-out-result
-shared-slice-copy-out-result c = search needs
 
 returns-2 : tie.Need-returns-2
 returns-2 c =
@@ -25,4 +16,4 @@ returns-2 c =
 
 pub before-spec : {M : Type 1} → statement M
 before-spec =
-    tie.close (tie.spec returns sub-result mul-result shared-slice-copy-out-result returns-2)
+    tie.close (tie.spec returns (λ c. omega arith) (λ c. omega arith) (λ c. omega arith) returns-2)

@@ -1,12 +1,7 @@
 -- `border::writer::moves::form_of` meets its contract. Assumes nothing.
-use Prim.Native.Nat.{_^_, _<_}
 use native.Mathlib.Omega.{arith}
-use lib.IntN.{ℤ, natAbs}
-use mir.Syntax.{w32}
-use mir.Val.{SFits}
 use Rattle.border.proofs.place.Whole.{widens}
 use Rattle.border.proofs.writer.Signs.{gap-fits, away-fits, away-small, away-sign, away-form, read-small, read-sign, read-form}
-use borrow.Author.Needs.{needs}
 use Rattle.border.proofs.writer.moves.form_of.Statement.{statement}
 use Rattle.border.proofs.writer.moves.form_of.Tie as tie
 

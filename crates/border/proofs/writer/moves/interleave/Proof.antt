@@ -1,16 +1,13 @@
 -- `border::writer::moves::interleave` meets its contract. Assumes nothing.
-use native.Mathlib.Nat.{pow-suc, pow-le-pow-right, le-antisymm}
-use native.Mathlib.Numerals.{add-one}
+use native.Mathlib.Nat.{pow-suc, pow-le-pow-right}
 use lib.Dec.{lit<}
 use Rattle.border.proofs.writer.Digits.{interleaved-step, interleaved-small}
-use Prim.Native.Nat.{ℕ, zero, suc, _+_, _*_, _-_, _/_, _%_, _^_, _≤_, _<_}
+use Prim.Native.Nat.{ℕ, suc, _+_, _*_, _-_, _/_, _%_, _^_, _≤_, _<_}
 use native.Mathlib.Omega.{arith}
-use mathlib.Core.Path.{_≡_, refl, sym, ap, _∙_, subst}
+use mathlib.Core.Path.{_≡_, refl, sym, ap, _∙_}
 use Rattle.border.specs.Moves.{interleaved}
 use Rattle.border.proofs.writer.moves.interleave.Statement.{statement}
 use Rattle.border.proofs.writer.moves.interleave.Tie as tie
-use Rattle.border.proofs.writer.moves.interleave.Reads as reads
-use Rattle.border.proofs.writer.moves.interleave.Lts as lts
 
 abbrev Inv-loop : tie.InvT-loop
 Inv-loop a b out₀ weight₀ i₀ out weight i = (i ≤ 32) × (weight ≡ 2 ^ i) × (out ≡ interleaved (32 - i) (a / weight) (b / weight))
@@ -76,7 +73,9 @@ loop-again c = let l = c .before .loop in let a = c .before .before .args in
     (omega arith, half (l .weight) (l .i) (omega arith) (l .inv .1), again (l .out) (l .weight) (l .i) (a .a) (a .b) (omega arith) (l .inv .0) (l .inv .1) (l .inv .2))
 
 returns : tie.Need-returns Inv-loop μ-loop
-returns c = let l = c .before .loop in ended (l .out) (l .weight) (l .i) (c .before .before .args .a) (c .before .before .args .b) (omega arith) (l .inv .1) (l .inv .2)
+returns c =
+    let l = c .before .loop in
+    ended (l .out) (l .weight) (l .i) (c .before .before .args .a) (c .before .before .args .b) (omega arith) (l .inv .1) (l .inv .2)
 
 pub interleave-spec : {M : Type 1} → statement M
 interleave-spec =

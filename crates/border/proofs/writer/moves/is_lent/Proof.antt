@@ -1,51 +1,38 @@
 -- `border::writer::moves::is_lent` meets its contract. Assumes nothing.
+use native.Mathlib.Omega.{arith}
 use Rattle.border.proofs.writer.Elements.{lent-lat, lent-lon}
 use borrow.Author.Needs.{needs}
 use Rattle.border.proofs.writer.moves.is_lent.Statement.{statement}
 use Rattle.border.proofs.writer.moves.is_lent.Tie as tie
-use Rattle.border.proofs.writer.moves.is_lent.Reads as reads
-use Rattle.border.proofs.writer.moves.is_lent.Lts as lts
-use Rattle.border.proofs.writer.moves.form_of.Reads as form-of-reads
-use Rattle.border.proofs.writer.moves.turned_form.Reads as turned-form-reads
-use Rattle.numbers.proofs.point.decode_point.Reads as decode-point-reads
-
-decode-point-requires : tie.Need-decode-point-requires
-decode-point-requires c κs = search needs
-
-form-of-requires : tie.Need-form-of-requires
-form-of-requires c κs = search needs
-
-turned-form-requires : tie.Need-turned-form-requires
-turned-form-requires c κs = search needs
 
 returns : tie.Need-returns
 returns c =
     let a = c .before .before .before .before .before .args in
     let d = c .before .before .before .before .decode-point in
-    lent-lat (a .lats .now) (a .lons .now) (a .i) (a .direction) (a .value) (d .result) (d .ensures) (search needs) (c .before .before .form-of .ensures) (c .before .turned-form .ensures) (c .if1 .taken)
-
-form-of-requires-2 : tie.Need-form-of-requires-2
-form-of-requires-2 c κs = search needs
-
-turned-form-requires-2 : tie.Need-turned-form-requires-2
-turned-form-requires-2 c κs = search needs
+    let form-of = c .before .before .form-of in
+    let turned-form = c .before .turned-form in
+    lent-lat (a .lats .now) (a .lons .now) (a .i) (a .direction) (a .value) (d .result) (d .ensures) (search needs) (form-of .ensures) (turned-form .ensures) (c .if1 .taken)
 
 returns-2 : tie.Need-returns-2
 returns-2 c =
     let a = c .before .before .before .before .before .before .before .before .args in
     let d = c .before .before .before .before .before .before .before .decode-point in
+    let form-of = c .before .before .before .before .before .form-of in
+    let turned-form = c .before .before .before .before .turned-form in
+    let if1 = c .before .before .before .if1 in
+    let form-of2 = c .before .form-of2 in
     lent-lon (a .lats .now) (a .lons .now) (a .i) (a .direction) (a .value) (d .result) (d .ensures) (search needs)
-    (c .before .before .before .before .before .form-of .ensures) (c .before .before .before .before .turned-form .ensures) (c .before .before .before .if1 .left)
-    (search needs) (c .before .form-of2 .ensures) (c .turned-form2 .ensures)
+    (form-of .ensures) (turned-form .ensures) (if1 .left)
+    (search needs) (form-of2 .ensures) (c .turned-form2 .ensures)
 
 pub is-lent-spec : {M : Type 1} → statement M
 is-lent-spec =
     tie.close
     (tie.spec
-    decode-point-requires
-    form-of-requires
-    turned-form-requires
+    (λ c κs. tt)
+    (λ c κs. tt)
+    (λ c κs. omega arith)
     returns
-    form-of-requires-2
-    turned-form-requires-2
+    (λ c κs. tt)
+    (λ c κs. omega arith)
     returns-2)

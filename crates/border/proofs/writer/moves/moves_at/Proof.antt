@@ -1,22 +1,13 @@
 -- `border::writer::moves::moves_at` meets its contract. Assumes nothing.
+use native.Mathlib.Omega.{arith}
 use Rattle.border.proofs.writer.Elements.{moves-lat, moves-lon}
-use borrow.Author.Needs.{needs}
 use Rattle.border.proofs.writer.moves.moves_at.Statement.{statement}
 use Rattle.border.proofs.writer.moves.moves_at.Tie as tie
-use Rattle.border.proofs.writer.moves.moves_at.Reads as reads
-use Rattle.border.proofs.writer.moves.moves_at.Lts as lts
-use Rattle.border.proofs.writer.moves.gap_form.Reads as gap-form-reads
-
-gap-form-requires : tie.Need-gap-form-requires
-gap-form-requires c κs = search needs
 
 returns : tie.Need-returns
 returns c =
     let a = c .before .before .args in
     moves-lat (a .lats .now) (a .lons .now) (a .i) (c .before .gap-form .ensures) (c .if1 .taken)
-
-gap-form-requires-2 : tie.Need-gap-form-requires-2
-gap-form-requires-2 c κs = search needs
 
 returns-2 : tie.Need-returns-2
 returns-2 c =
@@ -24,4 +15,4 @@ returns-2 c =
     moves-lon (a .lats .now) (a .lons .now) (a .i) (c .before .before .gap-form .ensures) (c .before .if1 .left) (c .gap-form2 .ensures)
 
 pub moves-at-spec : {M : Type 1} → statement M
-moves-at-spec = tie.close (tie.spec gap-form-requires returns gap-form-requires-2 returns-2)
+moves-at-spec = tie.close (tie.spec (λ c κs. omega arith) returns (λ c κs. omega arith) returns-2)

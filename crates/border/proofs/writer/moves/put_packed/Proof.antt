@@ -1,19 +1,15 @@
 -- `border::writer::moves::put_packed` meets its contract. Assumes nothing.
 use native.Mathlib.Omega.{arith}
-use Prim.Native.Nat.{ℕ, _-_, _+_}
-use mathlib.Core.Path.{_≡_, ap, _∙_, subst}
-use mathlib.Core.List.{List, _++_, flatMap}
+use Prim.Native.Nat.{ℕ, _-_}
+use mathlib.Core.Path.{subst}
+use mathlib.Core.List.{flatMap}
 use lib.Seq.{slice}
-use Rattle.border.specs.Moves.{varintOf, packedMoveBytes, packedNumber, movesOf}
+use Rattle.border.specs.Moves.{varintOf, packedMoveBytes, movesOf}
 use Rattle.border.specs.Stored.{Stored, moveAt}
 use Rattle.border.proofs.writer.Indexed.{each-next, each-done}
 use Rattle.border.proofs.writer.Stores.{Left, left-all, left-step, left-none}
 use Rattle.border.proofs.writer.moves.put_packed.Statement.{statement}
 use Rattle.border.proofs.writer.moves.put_packed.Tie as tie
-use Rattle.border.proofs.writer.moves.put_packed.Reads as reads
-use Rattle.border.proofs.writer.moves.put_packed.Lts as lts
-use Rattle.border.proofs.writer.moves.move_number.Reads as move-number-reads
-use Rattle.border.proofs.writer.bytes.put_varint.Reads as put-varint-reads
 
 abbrev Inv-loop : tie.InvT-loop
 Inv-loop out₀ place lats lons from to next₀ i₀ out next i =
@@ -40,15 +36,17 @@ loop-less c = omega arith
 loop-again : tie.Need-loop-again Inv-loop μ-loop
 unfolding packedMoveBytes
 loop-again c =
-    let l = c .before .before .before .before .before .before .loop in
     let start = c .before .before .before .before .before .before .before .before in
-    let a = start .args in
+    let l = c .before .before .before .before .before .before .loop in
+    let loop-test = c .before .before .before .before .before .loop-test in
+    let move-number = c .before .before .before .move-number in
     let put = c .before .before .put-varint in
-    let s = subst (λ (n : ℕ). Stored (l .out) (l .next) (varintOf n) (put .last .0) (put .result)) (c .before .before .before .move-number .ensures) (put .ensures) in
+    let a = start .args in
+    let s = subst (λ (n : ℕ). Stored (l .out) (l .next) (varintOf n) (put .last .0) (put .result)) (move-number .ensures) (put .ensures) in
     left-step (packedMoveBytes (moveAt (a .lats .now) (a .lons .now) (l .i)))
     (subst (Left (a .out .now) (a .place) _ (l .out) (l .next))
-    (each-next (a .lats .now) (a .lons .now) (l .i) (omega (arith, start .pre .0, c .before .before .before .before .before .loop-test .taken)) (omega (arith, start .pre .1, c .before .before .before .before .before .loop-test .taken))
-    packedMoveBytes (a .to) (c .before .before .before .before .before .loop-test .taken) (start .pre .0) (start .pre .1))
+    (each-next (a .lats .now) (a .lons .now) (l .i) (omega (arith, start .pre .0, loop-test .taken)) (omega (arith, start .pre .1, loop-test .taken))
+    packedMoveBytes (a .to) (loop-test .taken) (start .pre .0) (start .pre .1))
     (l .inv)) s
 
 same-length : tie.Need-same-length Inv-loop μ-loop

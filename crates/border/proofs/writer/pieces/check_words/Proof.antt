@@ -1,10 +1,8 @@
 -- `border::writer::pieces::check_words` meets its contract. Assumes nothing.
-use Prim.Native.Nat.{ℕ, _+_, _-_, _/_, _≤_}
+use Prim.Native.Nat.{ℕ, _+_, _-_, _≤_}
 use native.Mathlib.Omega.{arith}
 use mathlib.Core.Path.{_≡_, sym, ap, _∙_, subst}
 use mathlib.Core.List.{List, [], _∷_, _++_}
-use lib.ListN.{length}
-use borrow.Author.Needs.{needs}
 use Rattle.border.specs.Moves.{movesOf}
 use Rattle.border.specs.Pieces.{firstPieces, piecesOf}
 use Rattle.border.specs.Stored.{Checked}
@@ -12,10 +10,6 @@ use Rattle.border.specs.declared.writer.{Piece.Piece}
 use Rattle.border.proofs.writer.Gathering.{words-more}
 use Rattle.border.proofs.writer.pieces.check_words.Statement.{statement}
 use Rattle.border.proofs.writer.pieces.check_words.Tie as tie
-use Rattle.border.proofs.writer.pieces.check_words.Reads as reads
-use Rattle.border.proofs.writer.pieces.check_words.Lts as lts
-use Rattle.border.proofs.writer.pieces.check_next.Reads as check-next-reads
-use Rattle.border.proofs.writer.pieces.piece_at.Reads as piece-at-reads
 
 abbrev Inv-loop : tie.InvT-loop
 Inv-loop earlier lats lons words count sofar₀ i₀ sofar i = (i ≤ count) × (Checked earlier (movesOf lats lons) [] sofar₀ → Checked earlier (movesOf lats lons) (firstPieces i words) sofar)
@@ -30,9 +24,6 @@ loop-holds c = (omega arith, λ h. h)
 piece-at-requires : tie.Need-piece-at-requires Inv-loop μ-loop
 piece-at-requires c κs = omega arith
 
-check-next-requires : tie.Need-check-next-requires Inv-loop μ-loop
-check-next-requires c κs = search needs
-
 add-i : tie.Need-add-i Inv-loop μ-loop
 add-i c = omega arith
 
@@ -41,8 +32,8 @@ loop-less c = omega arith
 
 loop-again : tie.Need-loop-again Inv-loop μ-loop
 loop-again c =
-    let l = c .before .before .before .loop in
     let a = c .before .before .before .before .before .before .args in
+    let l = c .before .before .before .loop in
     let words = a .words .now in
     let one : firstPieces (l .i) words ++ (c .before .piece-at .result ∷ []) ≡ firstPieces (l .i + 1) words = ap (λ (p : Piece). firstPieces (l .i) words ++ (p ∷ [])) (c .before .piece-at .ensures) ∙ sym (words-more (l .i) words) in
     (omega arith, λ h. subst (λ (ps : List Piece). Checked (a .earlier .now) (movesOf (a .lats .now) (a .lons .now)) ps (c .check-next .result)) one (c .check-next .ensures (firstPieces (l .i) words) (l .inv .1 h)))
@@ -63,7 +54,7 @@ check-words-spec =
     μ-loop
     loop-holds
     piece-at-requires
-    check-next-requires
+    (λ c κs. tt)
     add-i
     loop-less
     loop-again

@@ -2,25 +2,16 @@
 use native.Mathlib.Omega.{arith}
 use borrow.Author.Tests.{lt-ltb, le-ltb}
 use Rattle.border.specs.Pieces.{clearBefore}
-use borrow.Author.Needs.{needs}
 use Rattle.border.proofs.writer.pieces.clear_before.Statement.{statement}
 use Rattle.border.proofs.writer.pieces.clear_before.Tie as tie
-use Rattle.border.proofs.writer.pieces.clear_before.Reads as reads
-use Rattle.border.proofs.writer.pieces.clear_before.Lts as lts
 
 returns : tie.Need-returns
 unfolding clearBefore
 returns c = rw (le-ltb 0 (c .before .args .place) (omega (arith, c .if1 .taken)))
-
-sub-result : tie.Need-sub-result
-sub-result c = search needs
-
-shared-slice-read-result : tie.Need-shared-slice-read-result
-shared-slice-read-result c = search needs
 
 returns-2 : tie.Need-returns-2
 unfolding clearBefore
 returns-2 c = rw (lt-ltb 0 (c .before .before .args .place) (omega (arith, c .before .if1 .left)))
 
 pub clear-before-spec : {M : Type 1} → statement M
-clear-before-spec = tie.close (tie.spec returns sub-result shared-slice-read-result returns-2)
+clear-before-spec = tie.close (tie.spec returns (λ c. omega arith) (λ c. omega arith) returns-2)

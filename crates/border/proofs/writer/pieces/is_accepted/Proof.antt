@@ -1,158 +1,76 @@
 -- `border::writer::pieces::is_accepted` meets its contract. Assumes nothing.
-use Prim.Native.Nat.{ℕ}
-use native.Mathlib.Omega.{arith}
-use mathlib.Core.Path.{_≡_, sym, ap, _∙_}
-use mathlib.Core.List.{List}
 use borrow.Author.Tests.{not-true, not-false}
-use Rattle.border.specs.Moves.{movesOf}
-use Rattle.border.specs.Pieces.{lentMoves, spells}
-use Rattle.border.proofs.writer.Accepting.{low, empty, long, outside, forward, behind, backward, run-is}
-use Rattle.border.proofs.writer.Indexed.{border-length}
-use borrow.Author.Needs.{needs}
+use mathlib.Core.Path.{sym, _∙_}
+use native.Mathlib.Omega.{arith}
+use Rattle.border.proofs.writer.Accepting.{Inside, low, empty, past-lats, past-lons, outside, forward, behind, backward}
 use Rattle.border.proofs.writer.pieces.is_accepted.Statement.{statement}
 use Rattle.border.proofs.writer.pieces.is_accepted.Tie as tie
-use Rattle.border.proofs.writer.pieces.is_accepted.Reads as reads
-use Rattle.border.proofs.writer.pieces.is_accepted.Lts as lts
-use Rattle.border.proofs.writer.pieces.clear_before.Reads as clear-before-reads
-use Rattle.border.proofs.writer.pieces.run_spells.Reads as run-spells-reads
-
-cast-first : tie.Need-cast-first
-cast-first c = search needs
-
-cast-last : tie.Need-cast-last
-cast-last c = search needs
-
-add-last : tie.Need-add-last
-add-last c = search needs
-
-cast-start : tie.Need-cast-start
-cast-start c = search needs
-
-cast-end : tie.Need-cast-end
-cast-end c = search needs
-
-add-end : tie.Need-add-end
-add-end c = search needs
 
 returns : tie.Need-returns
-returns c =
-    let a = c .before .before .before .before .before .before .args in
-    let e = a .earlier .now in
-    let ms = movesOf (a .lats .now) (a .lons .now) in
-    let size = border-length (a .lats .now) (a .lons .now) in
-    low e ms (a .free) (a .piece) (c .if1 .taken)
+returns c = low _ _ _ _ _ (c .if1 .taken)
 
 returns-2 : tie.Need-returns-2
-returns-2 c =
-    let a = c .before .before .before .before .before .before .before .args in
-    let e = a .earlier .now in
-    let ms = movesOf (a .lats .now) (a .lons .now) in
-    let size = border-length (a .lats .now) (a .lons .now) in
-    empty e ms (a .free) (a .piece) (c .before .if1 .left) (c .if2 .taken)
+returns-2 c = empty _ _ _ _ _ (c .before .if1 .left) (c .if2 .taken)
 
 returns-3 : tie.Need-returns-3
-returns-3 c =
-    let a = c .before .before .before .before .before .before .before .before .args in
-    let e = a .earlier .now in
-    let ms = movesOf (a .lats .now) (a .lons .now) in
-    let size = border-length (a .lats .now) (a .lons .now) in
-    long e ms (a .free) (a .piece) (c .before .before .if1 .left) (c .before .if2 .left) (omega (arith, size, c .if3 .taken))
+returns-3 c = past-lats _ _ _ _ _ (c .before .before .if1 .left) (c .before .if2 .left) (c .if3 .taken)
 
 returns-4 : tie.Need-returns-4
-returns-4 c =
-    let a = c .before .before .before .before .before .before .before .before .before .args in
-    let e = a .earlier .now in
-    let ms = movesOf (a .lats .now) (a .lons .now) in
-    let size = border-length (a .lats .now) (a .lons .now) in
-    long e ms (a .free) (a .piece) (c .before .before .before .if1 .left) (c .before .before .if2 .left) (omega (arith, size, c .if4 .taken))
+returns-4 c = past-lons _ _ _ _ _ (c .before .before .before .if1 .left) (c .before .before .if2 .left) (c .if4 .taken)
 
 returns-5 : tie.Need-returns-5
-returns-5 c =
-    let a = c .before .before .before .before .before .before .before .before .before .before .args in
-    let e = a .earlier .now in
-    let ms = movesOf (a .lats .now) (a .lons .now) in
-    let size = border-length (a .lats .now) (a .lons .now) in
-    outside e ms (a .free) (a .piece) (c .before .before .before .before .if1 .left) (c .before .before .before .if2 .left) (omega (arith, size, c .before .before .if3 .left, c .before .if4 .left)) (c .if5 .taken)
+returns-5 c = outside _ _ _ _ _ (c .before .before .before .before .if1 .left) (c .before .before .before .if2 .left) (c .before .before .if3 .left) (c .before .if4 .left) (c .if5 .taken)
 
-sub-run-spells : tie.Need-sub-run-spells
-sub-run-spells c = search needs
-
-part-run-spells-start : tie.Need-part-run-spells-start
-part-run-spells-start c = search needs
-
-part-run-spells-end : tie.Need-part-run-spells-end
-part-run-spells-end c = search needs
+-- where every test before the run has passed
+inside : (c : tie.Else5) → let args = c .before .before .before .before .before .before .before .before .before .before .args in Inside (args .earlier .now) (args .lats .now) (args .lons .now) (args .free) (args .piece)
+inside c =
+    record {
+      rises = c .before .before .before .before .if1 .left;
+      full = c .before .before .before .if2 .left;
+      among-lats = c .before .before .if3 .left;
+      among-lons = c .before .if4 .left;
+      lies = c .if5 .left;
+    }
 
 run-spells-requires : tie.Need-run-spells-requires
-run-spells-requires c κs = search needs
+run-spells-requires c κs = let t = inside (c .before .before .before) in (t .among-lats, t .among-lons)
 
 returns-6 : tie.Need-returns-6
-returns-6 c =
-    let a = c .before .before .before .before .before .before .before .before .before .before .before .before .before .before .args in
-    let e = a .earlier .now in
-    let ms = movesOf (a .lats .now) (a .lons .now) in
-    let size = border-length (a .lats .now) (a .lons .now) in
-    c .run-spells .ensures
-    ∙ ap (λ (r : List ℕ). spells r 0 (lentMoves ms (a .piece))) (run-is e (a .piece))
-    ∙ forward e ms (a .free) (a .piece) (c .before .before .before .before .before .before .before .before .if1 .left) (c .before .before .before .before .before .before .before .if2 .left) (omega (arith, size, c .before .before .before .before .before .before .if3 .left, c .before .before .before .before .before .if4 .left)) (c .before .before .before .before .if5 .left) (c .before .before .if6 .taken)
-
-clear-before-requires : tie.Need-clear-before-requires
-clear-before-requires c κs = search needs
+returns-6 c = forward (inside (c .before .before .before .before)) (c .before .before .if6 .taken) (c .run-spells .ensures)
 
 returns-7 : tie.Need-returns-7
-returns-7 c =
-    let a = c .before .before .before .before .before .before .before .before .before .before .before .before .before .before .args in
-    let e = a .earlier .now in
-    let ms = movesOf (a .lats .now) (a .lons .now) in
-    let size = border-length (a .lats .now) (a .lons .now) in
-    behind e ms (a .free) (a .piece) (c .before .before .before .before .before .before .before .before .if1 .left) (c .before .before .before .before .before .before .before .if2 .left) (omega (arith, size, c .before .before .before .before .before .before .if3 .left, c .before .before .before .before .before .if4 .left)) (c .before .before .before .before .if5 .left) (c .before .before .if6 .left) (sym (c .before .clear-before .ensures) ∙ not-true _ (c .if7 .taken))
-
-sub-run-spells-2 : tie.Need-sub-run-spells-2
-sub-run-spells-2 c = search needs
-
-part-run-spells-start-2 : tie.Need-part-run-spells-start-2
-part-run-spells-start-2 c = search needs
-
-part-run-spells-end-2 : tie.Need-part-run-spells-end-2
-part-run-spells-end-2 c = search needs
+returns-7 c = behind (inside (c .before .before .before .before)) (c .before .before .if6 .left) (sym (c .before .clear-before .ensures) ∙ not-true _ (c .if7 .taken))
 
 run-spells-requires-2 : tie.Need-run-spells-requires-2
-run-spells-requires-2 c κs = search needs
+run-spells-requires-2 c κs = let t = inside (c .before .before .before .before .before) in (t .among-lats, t .among-lons)
 
 returns-8 : tie.Need-returns-8
-returns-8 c =
-    let a = c .before .before .before .before .before .before .before .before .before .before .before .before .before .before .before .before .args in
-    let e = a .earlier .now in
-    let ms = movesOf (a .lats .now) (a .lons .now) in
-    let size = border-length (a .lats .now) (a .lons .now) in
-    c .run-spells2 .ensures
-    ∙ ap (λ (r : List ℕ). spells r 0 (lentMoves ms (a .piece))) (run-is e (a .piece))
-    ∙ backward e ms (a .free) (a .piece) (c .before .before .before .before .before .before .before .before .before .before .if1 .left) (c .before .before .before .before .before .before .before .before .before .if2 .left) (omega (arith, size, c .before .before .before .before .before .before .before .before .if3 .left, c .before .before .before .before .before .before .before .if4 .left)) (c .before .before .before .before .before .before .if5 .left) (c .before .before .before .before .if6 .left) (sym (c .before .before .before .clear-before .ensures) ∙ not-false _ (c .before .before .if7 .left))
+returns-8 c = backward (inside (c .before .before .before .before .before .before)) (c .before .before .before .before .if6 .left) (sym (c .before .before .before .clear-before .ensures) ∙ not-false _ (c .before .before .if7 .left)) (c .run-spells2 .ensures)
 
 pub is-accepted-spec : {M : Type 1} → statement M
 is-accepted-spec =
     tie.close
     (tie.spec
-    cast-first
-    cast-last
-    add-last
-    cast-start
-    cast-end
-    add-end
+    (λ c. omega arith)
+    (λ c. omega arith)
+    (λ c. omega arith)
+    (λ c. omega arith)
+    (λ c. omega arith)
+    (λ c. omega arith)
     returns
     returns-2
     returns-3
     returns-4
     returns-5
-    sub-run-spells
-    part-run-spells-start
-    part-run-spells-end
+    (λ c. omega arith)
+    (λ c. omega arith)
+    (λ c. omega arith)
     run-spells-requires
     returns-6
-    clear-before-requires
+    (λ c κs. omega arith)
     returns-7
-    sub-run-spells-2
-    part-run-spells-start-2
-    part-run-spells-end-2
+    (λ c. omega arith)
+    (λ c. omega arith)
+    (λ c. omega arith)
     run-spells-requires-2
     returns-8)

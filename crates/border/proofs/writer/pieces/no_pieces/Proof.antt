@@ -4,8 +4,6 @@ use Rattle.border.specs.Moves.{movesOf}
 use Rattle.border.proofs.writer.Gathering.{empty}
 use Rattle.border.proofs.writer.pieces.no_pieces.Statement.{statement}
 use Rattle.border.proofs.writer.pieces.no_pieces.Tie as tie
-use Rattle.border.proofs.writer.pieces.no_pieces.Reads as reads
-use Rattle.border.proofs.writer.pieces.no_pieces.Lts as lts
 
 returns : tie.Need-returns
 returns c = λ earlier lats lons. empty earlier (movesOf lats lons) _ refl refl refl refl

@@ -1,77 +1,54 @@
 -- `border::writer::pieces::put_piece` meets its contract. Assumes nothing.
 use native.Mathlib.Omega.{arith}
-use Prim.Native.Nat.{ℕ, _+_, _*_}
-use mathlib.Core.List.{List, [], _∷_, _++_}
+use Prim.Native.Nat.{_+_, _*_}
+use mathlib.Core.List.{[], _∷_, _++_}
 use borrow.Author.Tests.{eq-eqb, ne-eqb}
 use Rattle.border.specs.Moves.{varintOf}
 use Rattle.border.specs.Pieces.{pieceBytes}
 use Rattle.border.proofs.writer.Stores.{stored-then, marked}
-use borrow.Author.Needs.{needs}
 use Rattle.border.proofs.writer.pieces.put_piece.Statement.{statement}
 use Rattle.border.proofs.writer.pieces.put_piece.Tie as tie
-use Rattle.border.proofs.writer.pieces.put_piece.Reads as reads
-use Rattle.border.proofs.writer.pieces.put_piece.Lts as lts
-use Rattle.border.proofs.writer.bytes.put_two.Reads as put-two-reads
-
-cast-start : tie.Need-cast-start
-cast-start c = search needs
-
-cast-size : tie.Need-cast-size
-cast-size c = search needs
-
-put-two-requires : tie.Need-put-two-requires
-put-two-requires c κs = search needs
-
-mul-put-two : tie.Need-mul-put-two
-mul-put-two c = search needs
 
 put-two-requires-2 : tie.Need-put-two-requires-2
 put-two-requires-2 c κs = omega (arith, marked (c .before .before .before .before .before .put-two .ensures) .place-after)
 
-same-length : tie.Need-same-length
-same-length c = search needs
-
 returns : tie.Need-returns
 unfolding pieceBytes
 returns c =
-    let p = c .before .before .before .before .before .before .before .before .before .before .before .before .before .args .piece in
-    rw (eq-eqb _ _ (c .before .before .before .before .if1 .taken)) (stored-then (0 ∷ 1 ∷ []) (varintOf (p .start) ++ varintOf (2 * p .bytes)) (marked (c .before .before .before .before .before .before .before .before .put-two .ensures)) (c .before .before .put-two2 .ensures))
-
-add-put-two : tie.Need-add-put-two
-add-put-two c = search needs
-
-mul-put-two-2 : tie.Need-mul-put-two-2
-mul-put-two-2 c = search needs
-
-add-put-two-2 : tie.Need-add-put-two-2
-add-put-two-2 c = search needs
+    let args = c .before .before .before .before .before .before .before .before .before .before .before .before .before .args in
+    let put-two = c .before .before .before .before .before .before .before .before .put-two in
+    let if1 = c .before .before .before .before .if1 in
+    let put-two2 = c .before .before .put-two2 in
+    let p = args .piece in
+    rw (eq-eqb _ _ (if1 .taken)) (stored-then (0 ∷ 1 ∷ []) (varintOf (p .start) ++ varintOf (2 * p .bytes)) (marked (put-two .ensures)) (put-two2 .ensures))
 
 put-two-requires-3 : tie.Need-put-two-requires-3
 put-two-requires-3 c κs = omega (arith, marked (c .before .before .before .before .before .put-two .ensures) .place-after)
 
-same-length-2 : tie.Need-same-length-2
-same-length-2 c = search needs
-
 returns-2 : tie.Need-returns-2
 unfolding pieceBytes
 returns-2 c =
-    let p = c .before .before .before .before .before .before .before .before .before .before .before .before .before .args .piece in
-    rw (ne-eqb _ _ (c .before .before .before .before .if1 .left)) (stored-then (0 ∷ 1 ∷ []) (varintOf (p .start + p .bytes) ++ varintOf (2 * p .bytes + 1)) (marked (c .before .before .before .before .before .before .before .before .put-two .ensures)) (c .before .before .put-two3 .ensures))
+    let args = c .before .before .before .before .before .before .before .before .before .before .before .before .before .args in
+    let put-two = c .before .before .before .before .before .before .before .before .put-two in
+    let if1 = c .before .before .before .before .if1 in
+    let put-two3 = c .before .before .put-two3 in
+    let p = args .piece in
+    rw (ne-eqb _ _ (if1 .left)) (stored-then (0 ∷ 1 ∷ []) (varintOf (p .start + p .bytes) ++ varintOf (2 * p .bytes + 1)) (marked (put-two .ensures)) (put-two3 .ensures))
 
 pub put-piece-spec : {M : Type 1} → statement M
 put-piece-spec =
     tie.close
     (tie.spec
-    cast-start
-    cast-size
-    put-two-requires
-    mul-put-two
+    (λ c. omega arith)
+    (λ c. omega arith)
+    (λ c κs. omega arith)
+    (λ c. omega arith)
     put-two-requires-2
-    same-length
+    (λ c. omega arith)
     returns
-    add-put-two
-    mul-put-two-2
-    add-put-two-2
+    (λ c. omega arith)
+    (λ c. omega arith)
+    (λ c. omega arith)
     put-two-requires-3
-    same-length-2
+    (λ c. omega arith)
     returns-2)
