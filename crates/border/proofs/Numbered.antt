@@ -1,21 +1,17 @@
--- Which numbers a border can be refused with: 12 and 13 where it is read and judged, 1, 5 and 19 to 24 where it is written. Assumes nothing.
-use mathlib.Core.Path.{_≡_, refl, subst}
-use mathlib.Core.Bool.{Bool, true, false, _&&_}
-use mathlib.Core.List.{List, [], _∷_}
+-- Which numbers a border can be refused with where it is read and judged: 12 and 13. Assumes nothing.
+use mathlib.Core.Bool.{Bool, _&&_}
+use mathlib.Core.List.{List}
 use Prim.Native.Nat.{ℕ, zero, suc, _+_, _-_, _%_, _^_}
-use lib.Dec.{ltb, leb, eqb}
-use lib.IntN.{ℤ, pos, negsuc, _+ℤ_}
-use lib.ListN.{length, take, drop}
+use lib.Dec.{ltb, eqb}
+use lib.IntN.{ℤ, pos, negsuc}
 use lib.Signed.{mag, ltZ}
-use Rattle.numbers.proofs.Refusals.{Listed, Numbered, as-found, as-failed, as-refused, either, then-numbered, forward-numbered, backward-numbered}
+use Rattle.numbers.proofs.Refusals.{Numbered, as-found, as-failed, as-refused, either, then-numbered, forward-numbered, backward-numbered}
 use Rattle.numbers.specs.Answer.{Answer, found}
 use Rattle.numbers.specs.Answer as A
 use Rattle.numbers.specs.Varint.{forwardAt}
 use Rattle.numbers.specs.declared.point.{RawPoint.RawPoint}
 use Rattle.border.specs.Distance.{squared, toSegment, toVertex, distanceOf, measured}
 use Rattle.border.specs.Edge.{samePoint, sameZ, inBox, straight, quadrantOf, locationOf, edgeOf, closestOn, cutOf}
-use Rattle.border.specs.Moves.{movesOf, isMove}
-use Rattle.border.specs.Pieces.{goodPieces}
 use Rattle.border.specs.Place.{movedBy, negated}
 use Rattle.border.specs.Place
 use Rattle.border.specs.Reader.{Turn, gives, again, ends, advanced, plainMove, plainPair, plainTurn, opened, reference, marker, lent, packedTurn, turnOf}
@@ -26,7 +22,6 @@ use Rattle.border.specs.Trace as T
 use Rattle.border.specs.Verdict.{Judgement, Last, none, after, along, passing, closedAt, thenOn, judge, judgedAt}
 use Rattle.border.specs.Verdict as J
 use Rattle.border.specs.Winding.{turned, quarterBy, turnAt, acrossBy, clearOf, woundBy}
-use Rattle.border.specs.Writer.{Reply, given, refused, demand, _>>_, every, sized, near, checks, plainBorder, packedBorder, borderOf, Replied, fitted}
 use Rattle.border.specs.declared.edge.Edge.{Edge}
 use Rattle.border.specs.declared.edge.Edge.the-variants.{Sloped, EqualLongitude, EqualLatitude}
 use Rattle.border.specs.declared.edge.Location.{Location}
@@ -38,7 +33,6 @@ use Rattle.border.specs.declared.reader.Version.{Version}
 use Rattle.border.specs.declared.reader.Version.the-variants.{Plain, Packed}
 use Rattle.border.specs.declared.verdict.Tally.{Tally}
 use Rattle.border.specs.declared.verdict.Verdict.{Verdict}
-use Rattle.border.specs.declared.writer.Piece.{Piece}
 
 -- a number that it is refused with has the property: a step along a border, a trace, a judgement
 pub data NumberedStep (P : ℕ → Type 0) {A : Type 0} : Step A → Type 0 where
@@ -262,62 +256,3 @@ module _ {P : ℕ → Type 0} (twelve : P 12) (thirteen : P 13) where
       → NumberedJudgement P (judgedAt file version data-offset place lat lon asked least)
   unfolding judgedAt
   judged-numbered file version data-offset place lat lon asked least = judges _ asked none _ (trace-numbered file version data-offset _)
-
--- ---- the writer
--- the numbers that document 01 gives to the writer
-abbrev pub writerNumbers : List ℕ
-writerNumbers = 1 ∷ 5 ∷ 19 ∷ 20 ∷ 21 ∷ 22 ∷ 23 ∷ 24 ∷ []
-
-data NumberedReply {A : Type 0} : Reply A → Type 0 where
-  answers : {a : A} → NumberedReply (given a)
-  refuses : {n detail : ℕ} → Listed writerNumbers n → NumberedReply (refused n detail)
-
-and-then : {A B : Type 0} {reply : Reply A} {next : Reply B} → NumberedReply reply → NumberedReply next → NumberedReply (reply >> next)
-and-then answers k = k
-and-then (refuses h) k = refuses h
-
-demands : (test : Bool) (n detail : ℕ) → Listed writerNumbers n → NumberedReply (demand test n detail)
-demands true n detail h = answers
-demands false n detail h = refuses h
-
-checks-numbered : (version : ℕ) (lats lons : List ℤ) (earlier : List ℕ) → NumberedReply (checks version lats lons earlier)
-unfolding checks
-checks-numbered version lats lons earlier =
-    and-then (demands (leb (length earlier) (2 ^ 30)) 1 0 refl)
-    (and-then (demands (ltb version 2) 5 version refl)
-    (and-then (demands (sized lats lons) 19 0 refl)
-    (and-then (demands (every near lats && every near lons) 20 0 refl)
-    (and-then (demands (every isMove (drop 1 (movesOf lats lons))) 21 0 refl)
-    (demands (every isMove (take 1 (movesOf lats lons))) 22 0 refl)))))
-
-plain-numbered : (moves : List RawPoint) (pieces : List Piece) → NumberedReply (plainBorder moves pieces)
-unfolding plainBorder
-plain-numbered moves pieces = and-then (demands (eqb (length pieces) 0) 23 0 refl) answers
-
-packed-numbered : (moves : List RawPoint) (pieces : List Piece) (earlier : List ℕ) → NumberedReply (packedBorder moves pieces earlier)
-unfolding packedBorder
-packed-numbered moves pieces earlier =
-    and-then (demands (leb (length pieces) 16) 23 16 refl)
-    (and-then (demands (eqb (goodPieces earlier moves 0 pieces) (length pieces)) 23 (goodPieces earlier moves 0 pieces) refl) answers)
-
-border-numbered : (version : ℕ) (lats lons : List ℤ) (pieces : List Piece) (earlier : List ℕ) → NumberedReply (borderOf version lats lons pieces earlier)
-unfolding borderOf
-border-numbered version lats lons pieces earlier =
-    and-then (checks-numbered version lats lons earlier)
-    (either NumberedReply (eqb version 0) (plain-numbered (movesOf lats lons) pieces) (packed-numbered (movesOf lats lons) pieces earlier))
-
-fitted-numbered : (room : ℕ) {reply : Reply (List ℕ)} → NumberedReply reply → NumberedReply (fitted room reply .reply)
-unfolding fitted
-fitted-numbered room (answers {a = bytes}) = either (λ (r : Replied). NumberedReply (r .reply)) (leb (length bytes) room) answers (refuses refl)
-fitted-numbered room (refuses h) = refuses h
-
-number-of : {A : Type 0} {n detail : ℕ} {reply : Reply A} → NumberedReply reply → reply ≡ refused n detail → Listed writerNumbers n
-number-of {A} {n} {detail} h e = last (subst (λ (r : Reply A). NumberedReply r) e h)
-  where
-    last : NumberedReply {A = A} (refused n detail) → Listed writerNumbers n
-    last (refuses h) = h
-
--- a border that is not written is refused with one of these
-pub writer-refusals : (room version : ℕ) (lats lons : List ℤ) (pieces : List Piece) (earlier : List ℕ) (number detail : ℕ)
-    → fitted room (borderOf version lats lons pieces earlier) .reply ≡ refused number detail → Listed writerNumbers number
-writer-refusals room version lats lons pieces earlier number detail = number-of (fitted-numbered room (border-numbered version lats lons pieces earlier))

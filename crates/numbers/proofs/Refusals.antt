@@ -3,7 +3,6 @@ use mathlib.Core.Path.{_≡_, refl}
 use mathlib.Core.Bool.{Bool, true, false, _&&_, _||_}
 use mathlib.Core.List.{List, [], _∷_, _++_}
 use Prim.Native.Nat.{ℕ}
-use native.Mathlib.Omega.{arith}
 use lib.Dec.{ltb, eqb}
 use lib.ListN.{length, getD, drop}
 use Rattle.numbers.specs.Answer.{Answer, found, failed, refused, if_then_else_, _>>=_}
@@ -20,7 +19,7 @@ Listed ms n = oneOf ms n ≡ true
 
 -- a list that goes on has the same numbers and more
 pub still-listed : (ms more : List ℕ) (n : ℕ) → Listed ms n → Listed (ms ++ more) n
-still-listed [] more n h = let z : _≡_ {A = ℕ} 0 1 = cc in absurd (omega arith)
+still-listed [] more n h = cc
 still-listed (m ∷ ms) more n h = go (eqb n m) (still-listed ms more n) h
   where
     go : (here : Bool) → (Listed ms n → Listed (ms ++ more) n) → (here || oneOf ms n) ≡ true → (here || oneOf (ms ++ more) n) ≡ true
@@ -34,7 +33,7 @@ pub data Numbered (P : ℕ → Type 0) {A : Type 0} : Answer A → Type 0 where
   as-failed : Numbered P failed
   as-refused : {n : ℕ} → P n → Numbered P (refused n)
 
--- what both ends of a choice have, the choice has
+-- what both sides of a choice have, the choice has
 pub either : {A : Type 0} (Q : A → Type 0) (test : Bool) {a b : A} → Q a → Q b → Q (if test then a else b)
 either Q true on off = on
 either Q false on off = off
@@ -46,16 +45,16 @@ module _ {P : ℕ → Type 0} where
   then-numbered (as-refused h) k = as-refused h
 
 -- varints are refused with 12 alone
-module _ {P : ℕ → Type 0} (twelve : P 12) (file : List ℕ) (place : ℕ) where
-  pub forward-numbered : Numbered P (forwardAt file place)
+module _ {P : ℕ → Type 0} (twelve : P 12) (file : List ℕ) where
+  pub forward-numbered : (place : ℕ) → Numbered P (forwardAt file place)
   unfolding forwardAt
-  forward-numbered = either (Numbered P) (ltb place (length file)) (either (Numbered P) (tooLong (drop place file)) (as-refused twelve) as-found) as-failed
+  forward-numbered place =
+      either (Numbered P) (ltb place (length file)) (either (Numbered P) (tooLong (drop place file)) (as-refused twelve) as-found) as-failed
 
-module _ {P : ℕ → Type 0} (twelve : P 12) (file : List ℕ) (place : ℕ) where
-  pub backward-numbered : Numbered P (backwardAt file place)
+  pub backward-numbered : (place : ℕ) → Numbered P (backwardAt file place)
   unfolding backwardAt
-  backward-numbered =
+  backward-numbered place =
       let start = startOf file place in
       either (Numbered P) (ltb place (length file) && isLast (getD file place 0) && ltb 0 start)
-      (then-numbered (forward-numbered twelve file start) (λ number. as-found))
+      (then-numbered (forward-numbered start) (λ number. as-found))
       as-failed

@@ -8,7 +8,7 @@ use mathlib.Core.Path.{_≡_, refl, subst}
 use native.Mathlib.Omega.{arith}
 use lib.IntN.{ℤ}
 use Rattle.numbers.proofs.Refusals.{Listed}
-use Rattle.border.proofs.Numbered.{writerNumbers, writer-refusals}
+use Rattle.border.proofs.NumberedWriter.{writerNumbers, writer-refusals}
 use Rattle.border.specs.Writer.{borderOf, fitted}
 use Rattle.border.specs.Writer as W
 use Rattle.border.specs.declared.writer.Piece.{Piece}
@@ -38,18 +38,12 @@ module _ {A : Type 0} (values : A → List ℕ) where
   zero-said : (reply : Reply A) → ((why : Refusal) → reply ≡ refused why → why .number ≡ 0 → ⊥) → (saidOf values reply .number ≡ 0) ↔ Answered reply
   unfolding saidOf
   zero-said (given a) never = ((λ zero. (a, refl)), (λ answered. refl))
-  zero-said (refused why) never = ((λ zero. absurd (never why refl zero)), (λ answered. not-both (answered .0) (answered .1)))
-    where
-      not-both : (a : A) → refused why ≡ given a → why .number ≡ 0
-      not-both a e = let z : _≡_ {A = ℕ} 0 1 = cc in absurd (omega arith)
+  zero-said (refused why) never = ((λ zero. absurd (never why refl zero)), (λ answered. cc))
 
 zero-written : (reply : W.Reply ℕ) → ((number detail : ℕ) → reply ≡ W.refused number detail → number ≡ 0 → ⊥) → (saidOf lengthValue (causeless reply) .number ≡ 0) ↔ Wrote reply
 unfolding saidOf
 zero-written (W.given length) never = ((λ zero. (length, refl)), (λ wrote. refl))
-zero-written (W.refused number detail) never = ((λ zero. absurd (never number detail refl zero)), (λ wrote. not-both (wrote .0) (wrote .1)))
-  where
-    not-both : (length : ℕ) → W.refused number detail ≡ W.given length → number ≡ 0
-    not-both length e = let z : _≡_ {A = ℕ} 0 1 = cc in absurd (omega arith)
+zero-written (W.refused number detail) never = ((λ zero. absurd (never number detail refl zero)), (λ wrote. cc))
 
 -- ---- for each exported function
 -- `uskelzar_open`

@@ -7,7 +7,6 @@ use lib.Dec.{ltb, leb, eqb}
 use lib.ListN.{length, getD}
 use Rattle.numbers.proofs.Refusals.{Listed, still-listed, Numbered, as-found, as-failed, as-refused, either, then-numbered, forward-numbered}
 use Rattle.numbers.specs.Answer.{Answer}
-use Rattle.numbers.specs.Varint.{Numeral}
 use Rattle.zones.specs.Header.{magicOf, isKind, preambleOf, blameOf, textsFrom, sizeAt, fits, sectionsFrom, sectionsAt, Contents, contentsOf, headOf}
 use Rattle.zones.specs.Opening.{fittingOf, repliedOf, openedOf}
 use Rattle.zones.specs.Reply.{Reply, given, refused, refusal, plain, demand, _orElse_, _>>=_, _>>_}
