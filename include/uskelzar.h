@@ -1,6 +1,7 @@
 /* uskelzar.h: which zone holds a fix, by a PLB border file; and a writer of borders.
  *
- * For libuskelzar.a. Its functions are proved to do what is said here, for every input. What holds for all four:
+ * For libuskelzar.a. What its functions answer, write and touch, and that they end, is proved for every input; what it calls
+ * is seen to by a test of the archive. What holds for all four:
  *
  * You bring    pointers that are not null, aligned for their type and good for their length: to read from, or where the
  *              buffer is lent (no const), to write to. Lent buffers and `reply` do not overlap each other or an input, and

@@ -214,21 +214,11 @@ fn seen(file: Vec<u8>) -> Vec<String> {
     .collect()
 }
 
-/// A version 1 file of SQUARE and a border that borrows from it.
-fn borrowing(second: &[(i32, i32)], piece: Piece) -> Vec<u8> {
-    let zones = [
-        Zone {
-            fields: &["A"],
-            borders: &[&SQUARE],
-        },
-        Zone {
-            fields: &["B"],
-            borders: &[second],
-        },
-    ];
+/// A version 1 file of two zones, SQUARE and a border that borrows from it.
+fn borrowing(zones: &[Zone; 2], second: &[(i32, i32)], piece: Piece) -> Vec<u8> {
     let Sections {
         table, metadata, ..
-    } = sections(1, &zones);
+    } = sections(1, zones);
     let border = write_border(1, second, &[piece], &PACKED).unwrap();
     let data = [PACKED.to_vec(), border].concat();
     let mut file = header(
@@ -265,6 +255,7 @@ fn a_border_means_the_same_however_it_is_written() {
         assert_eq!(
             plain,
             seen(borrowing(
+                &zones,
                 &second,
                 Piece {
                     backward,
