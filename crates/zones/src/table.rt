@@ -1,7 +1,8 @@
 // The box table: each entry's bounds, and the steps of its metadata id and of its border's place.
 ghost use mathlib.Core.Path.{_≡_};
 ghost use lib.Signed.{ltZ, leZ};
-ghost use Rattle.zones.specs.Table.{toldRow, stoppedBy, entryAt, stepsAt, boundsOf, isAbove, holds};
+ghost use Rattle.numbers.specs.Varint.{forwardAt};
+ghost use Rattle.zones.specs.Table.{toldEntered, stoppedBy, entryBy, stepsBy, boundsOf, isAbove, between, holds};
 use border::place::FixedLat;
 use border::place::FixedLon;
 use border::place::Point;
@@ -25,27 +26,27 @@ pub struct Entry {
     pub next: usize,
 }
 
-pub enum Row {
-    Read(Entry),
+pub enum Entered {
+    Entry(Entry),
     Failed,
     // Refusal 12.
     Refused,
 }
 
 // A number that could not be read ends its entry.
-fn stopped(answer: Varint) -> Row
-    ensures { λ r. ⌜ toldRow r ≡ stoppedBy answer ⌝ }
+fn stopped(answer: Varint) -> Entered
+    ensures { λ r. ⌜ toldEntered r ≡ stoppedBy answer ⌝ }
 {
     match answer {
-        Varint::Number { value: _, place: _ } => Row::Failed,
-        Varint::Failed => Row::Failed,
-        Varint::Refused => Row::Refused,
+        Varint::Number { value: _, place: _ } => Entered::Failed,
+        Varint::Failed => Entered::Failed,
+        Varint::Refused => Entered::Refused,
     }
 }
 
 // The entry's last two numbers, after its bounds.
-fn steps_at(file: &[u8], place: usize, bounds: Bounds) -> Row
-    ensures { λ r. ⌜ toldRow r ≡ stepsAt (now (file .entry)) place bounds ⌝ }
+fn steps_at(file: &[u8], place: usize, bounds: Bounds) -> Entered
+    ensures { λ r. ⌜ toldEntered r ≡ stepsBy (forwardAt (now (file .entry))) place bounds ⌝ }
 {
     let fifth = read_forward(file, place);
     let Varint::Number {
@@ -63,7 +64,7 @@ fn steps_at(file: &[u8], place: usize, bounds: Bounds) -> Row
     else {
         return stopped(sixth);
     };
-    Row::Read(Entry {
+    Entered::Entry(Entry {
         bounds,
         metadata,
         polygon,
@@ -72,8 +73,8 @@ fn steps_at(file: &[u8], place: usize, bounds: Bounds) -> Row
 }
 
 // All six numbers are read before any is tested.
-pub fn entry_at(file: &[u8], place: usize) -> Row
-    ensures { λ r. ⌜ toldRow r ≡ entryAt (now (file .entry)) place ⌝ }
+pub fn entry_at(file: &[u8], place: usize) -> Entered
+    ensures { λ r. ⌜ toldEntered r ≡ entryBy (forwardAt (now (file .entry))) place ⌝ }
 {
     let first = read_forward(file, place);
     let Varint::Number {
@@ -146,14 +147,30 @@ pub fn is_above(bounds: Bounds, fix: Point) -> bool
     lat_below(fix.lat, bounds.min_lat)
 }
 
-// Whether the box holds the location, which its lower latitude is not above.
+fn lat_between(low: FixedLat, lat: FixedLat, high: FixedLat) -> bool
+    ensures { λ r. ⌜ r ≡ between (low .0) (lat .0) (high .0) ⌝ }
+{
+    if lat_upto(low, lat) {
+        return lat_upto(lat, high);
+    }
+    false
+}
+
+fn lon_between(low: FixedLon, lon: FixedLon, high: FixedLon) -> bool
+    ensures { λ r. ⌜ r ≡ between (low .0) (lon .0) (high .0) ⌝ }
+{
+    if lon_upto(low, lon) {
+        return lon_upto(lon, high);
+    }
+    false
+}
+
+// Whether the box holds the location.
 pub fn holds(bounds: Bounds, fix: Point) -> bool
     ensures { λ r. ⌜ r ≡ holds bounds fix ⌝ }
 {
-    if lat_upto(fix.lat, bounds.max_lat) {
-        if lon_upto(bounds.min_lon, fix.lon) {
-            return lon_upto(fix.lon, bounds.max_lon);
-        }
+    if lat_between(bounds.min_lat, fix.lat, bounds.max_lat) {
+        return lon_between(bounds.min_lon, fix.lon, bounds.max_lon);
     }
     false
 }

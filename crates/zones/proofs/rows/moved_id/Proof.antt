@@ -1,9 +1,9 @@
--- `zones::search::moved_id` meets its contract. Assumes nothing.
+-- `zones::rows::moved_id` meets its contract. Assumes nothing.
 use mathlib.Core.Path.{_∙_}
 use native.Mathlib.Omega.{arith}
-use Rattle.zones.proofs.search.Turns.{forth, back}
-use Rattle.zones.proofs.search.moved_id.Statement.{statement}
-use Rattle.zones.proofs.search.moved_id.Tie as tie
+use Rattle.zones.proofs.rows.Signs.{forth, back}
+use Rattle.zones.proofs.rows.moved_id.Statement.{statement}
+use Rattle.zones.proofs.rows.moved_id.Tie as tie
 
 returns : tie.Need-returns
 returns c =
