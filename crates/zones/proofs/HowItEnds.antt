@@ -14,19 +14,19 @@ use Rattle.border.specs.declared.place.Point.{Point}
 use Rattle.border.specs.declared.verdict.Verdict.{Verdict}
 use Rattle.zones.specs.Ending.{hitsOf, Through, here, outside, judged, Ends, at-the-end, above, unread, broken, Ending, Behind, Answered}
 use Rattle.zones.specs.Fields.{fieldsOf}
-use Rattle.zones.specs.Find.{fixOf, isPrecision, Matched, matchedIn}
+use Rattle.zones.specs.Find.{fixOf, isPrecision, Matched, matchedWith}
 use Rattle.zones.specs.Header.{headOf}
 use Rattle.zones.specs.Hits.{width, words, hitOf}
 use Rattle.zones.specs.Lent.{Outcome, repliedOf}
 use Rattle.zones.specs.Lists.{padded}
-use Rattle.zones.specs.Lookup.{zonesIn, lookedUp}
+use Rattle.zones.specs.Lookup.{zonesWith, zonesIn, lookedUp}
 use Rattle.zones.specs.Merge.{merged}
 use Rattle.zones.specs.Reply.{Reply, given, plain, demand, _>>=_, _>>_}
 use Rattle.zones.specs.Reply as R
 use Rattle.zones.specs.Rows.{Rows, row, tableEnd, unreadable, rowsIn}
 use Rattle.zones.specs.Rows as T
 use Rattle.zones.specs.Search.{kindOf, judgedTurn, rowTurn, Found, ended, afterTurn, seek, judgeIn, farthest, searched}
-use Rattle.zones.specs.Simple.{checked, wordedOf, describedIn, simplyLooked}
+use Rattle.zones.specs.Simple.{checked, wordedOf, describedWith, describedIn, simplyLooked}
 use Rattle.zones.specs.Table.{isAbove, holds}
 use Rattle.zones.specs.declared.header.Head.{Head}
 use Rattle.zones.specs.declared.hits.Hit.{Hit}
@@ -135,18 +135,18 @@ met-check (R.refused why) next e = let z : _≡_ {A = ℕ} 0 1 = cc in absurd (o
 behind-marks : {file : List ℕ} {location : Location} {asked : Bool} {matches : List Hit} {mark : ℕ} → Behind file location asked matches mark → Listed endMarks mark
 behind-marks b = subst (Listed endMarks) (sym (b .marked)) (marks (b .ending .ends))
 
-matched-ends : (file : List ℕ) (location : Location) (asked : Bool) (room : ℕ) (m : Matched) → given m ≡ matchedIn file location asked room → Behind file location asked (m .matches) (m .mark)
-unfolding matchedIn searched
-matched-ends file location asked room m e =
-    let h = given-from (headOf file) _ e in
-    let fix = fixOf location (h .it .preamble .precision) in
-    let s = given-from (searched file (h .it) fix asked room) _ (met-check (demand (isPrecision (h .it .preamble .precision)) (plain 16)) _ (h .onto)) in
-    let is : m ≡ record { head = h .it; matches = merged (s .it .hits); mark = s .it .mark; least = s .it .least } = cc in
+matched-ends : (file : List ℕ) (head : Head) (location : Location) (asked : Bool) (room : ℕ) (m : Matched) → given head ≡ headOf file → given m ≡ matchedWith file head location asked room
+    → Behind file location asked (m .matches) (m .mark)
+unfolding matchedWith searched
+matched-ends file head location asked room m h e =
+    let fix = fixOf location (head .preamble .precision) in
+    let s = given-from (searched file head fix asked room) _ (met-check (demand (isPrecision (head .preamble .precision)) (plain 16)) _ e) in
+    let is : m ≡ record { matches = merged (s .it .hits); mark = s .it .mark; least = s .it .least } = cc in
     record {
-      head = h .it;
-      opened = sym (h .is);
+      head = head;
+      opened = sym h;
       found = s .it;
-      ending = how-it-ends (judgeIn file (h .it) fix asked) fix room (rowsIn file (h .it)) farthest (s .it) (sym (s .is));
+      ending = how-it-ends (judgeIn file head fix asked) fix room (rowsIn file head) farthest (s .it) (sym (s .is));
       marked = ap (λ (x : Matched). x .mark) is;
       merges = ap (λ (x : Matched). x .matches) is;
     }
@@ -172,17 +172,20 @@ record Tells {A : Type 0} (marked counted : A → ℕ) (m : Matched) (o : Outcom
   count : counted (o .answer) ≡ length (m .matches)
   matches : o .matches ≡ m .matches
 
-module _ {A : Type 0} (marked counted : A → ℕ) (file : List ℕ) (location : Location) (asked : Bool) (n room : ℕ) (next : Matched → Reply (Outcome A))
-    (tells : (m : Matched) (o : Outcome A) → given o ≡ next m → Tells marked counted m o) where
-  answer-ends : (answer : A) → repliedOf n room (matchedIn file location asked (n / width) >>= next) .reply ≡ given answer
-      → Answered file location asked n (counted answer) (marked answer) (repliedOf n room (matchedIn file location asked (n / width) >>= next) .hits)
+module _ {A : Type 0} (marked counted : A → ℕ) (file : List ℕ) (location : Location) (asked : Bool) (n room : ℕ) (next : Head → Matched → Reply (Outcome A))
+    (tells : (head : Head) (m : Matched) (o : Outcome A) → given o ≡ next head m → Tells marked counted m o) where
+  abbrev whole : Reply (Outcome A)
+  whole = headOf file >>= λ head. (matchedWith file head location asked (n / width) >>= next head)
+
+  answer-ends : (answer : A) → repliedOf n room whole .reply ≡ given answer → Answered file location asked n (counted answer) (marked answer) (repliedOf n room whole .hits)
   answer-ends answer e =
-      let o = outcame n room (matchedIn file location asked (n / width) >>= next) answer e in
-      let m = given-from (matchedIn file location asked (n / width)) next (o .is) in
-      let t = tells (m .it) (o .outcome) (m .onto) in
+      let o = outcame n room whole answer e in
+      let h = given-from (headOf file) _ (o .is) in
+      let m = given-from (matchedWith file (h .it) location asked (n / width)) (next (h .it)) (h .onto) in
+      let t = tells (h .it) (m .it) (o .outcome) (m .onto) in
       record {
         list = m .it .matches;
-        behind = subst (Behind file location asked (m .it .matches)) (sym (ap marked (o .said) ∙ t .mark)) (matched-ends file location asked (n / width) (m .it) (m .is));
+        behind = subst (Behind file location asked (m .it .matches)) (sym (ap marked (o .said) ∙ t .mark)) (matched-ends file (h .it) location asked (n / width) (m .it) (h .is) (m .is));
         counted = ap counted (o .said) ∙ t .count;
         kept = o .kept ∙ ap (λ (l : List Hit). padded n (words l)) (t .matches);
       }
@@ -190,21 +193,21 @@ module _ {A : Type 0} (marked counted : A → ℕ) (file : List ℕ) (location :
 -- An answered lookup comes from a search that went through every row up to where it ended, and its mark says why it ended there.
 pub lookup-ends : (file : List ℕ) (location : Location) (asked : Bool) (n room : ℕ) (zones : Zones) → lookedUp file location asked n room .reply ≡ given zones
     → Answered file location asked n (zones .matches) (zones .mark) (lookedUp file location asked n room .hits)
-unfolding lookedUp zonesIn
+unfolding lookedUp zonesIn zonesWith
 lookup-ends file location asked n room =
     answer-ends (λ (z : Zones). z .mark) (λ (z : Zones). z .matches) file location asked n room _
-    λ m o e.
-    let is = given-one (given-from (fieldsOf file (m .head) room (m .matches) []) _ e .onto) in
+    λ head m o e.
+    let is = given-one (given-from (fieldsOf file head room (m .matches) []) _ e .onto) in
     record { mark = ap (λ (x : Outcome Zones). x .answer .mark) is; count = ap (λ (x : Outcome Zones). x .answer .matches) is; matches = ap (λ (x : Outcome Zones). x .matches) is }
 
 -- The same of a simple lookup, which does not ask for the distance.
 pub simple-lookup-ends : (file : List ℕ) (location : Location) (n room : ℕ) (described : Described) → simplyLooked file location n room .reply ≡ given described
     → Answered file location false n (described .matches) (described .mark) (simplyLooked file location n room .hits)
-unfolding simplyLooked describedIn
+unfolding simplyLooked describedIn describedWith
 simple-lookup-ends file location n room =
     answer-ends (λ (d : Described). d .mark) (λ (d : Described). d .matches) file location false n room _
-    λ m o e.
-    let is = given-one (given-from (wordedOf file (m .head) room (m .matches)) _ (met-check (checked file (m .head) (m .matches)) _ e) .onto) in
+    λ head m o e.
+    let is = given-one (given-from (wordedOf file head room (m .matches)) _ (met-check (checked file head (m .matches)) _ e) .onto) in
     record {
       mark = ap (λ (x : Outcome Described). x .answer .mark) is;
       count = ap (λ (x : Outcome Described). x .answer .matches) is;

@@ -16,15 +16,15 @@ use Rattle.zones.proofs.Numbered.{headerNumbers, NumberedReply, answers
 use Rattle.zones.proofs.TableRows.{rows-so}
 use Rattle.zones.specs.Field.{field, fieldAt}
 use Rattle.zones.specs.Fields.{fieldsPlace, fieldsFrom, fieldsOf}
-use Rattle.zones.specs.Find.{fixOf, isPrecision, matchedIn}
+use Rattle.zones.specs.Find.{fixOf, isPrecision, matchedWith}
 use Rattle.zones.specs.Header.{blameOf}
 use Rattle.zones.specs.Hits.{width}
 use Rattle.zones.specs.Lent.{Outcome, repliedOf}
-use Rattle.zones.specs.Lookup.{zonesIn, lookedUp}
+use Rattle.zones.specs.Lookup.{zonesWith, zonesIn, lookedUp}
 use Rattle.zones.specs.Reply.{Reply, refused, plain}
 use Rattle.zones.specs.Rows.{Rows, row, tableEnd, unreadable, rowBy, rowsFrom, rowsIn}
 use Rattle.zones.specs.Search.{kindOf, judgedTurn, rowTurn, Found, afterTurn, seek, judgeIn, farthest, searched}
-use Rattle.zones.specs.Simple.{pickedFrom, pickedOf, checked, descriptionOf, bytesIn, wordedOf, describedIn, simplyLooked}
+use Rattle.zones.specs.Simple.{pickedFrom, pickedOf, checked, descriptionOf, bytesIn, wordedOf, describedWith, describedIn, simplyLooked}
 use Rattle.zones.specs.Table.{stepsBy, entryBy, isAbove, holds}
 use Rattle.zones.specs.Text.{bytesOf, textAt}
 use Rattle.zones.specs.declared.header.Head.{Head}
@@ -121,12 +121,11 @@ searches file head fix asked room =
     seeks (judgeIn file head fix asked) fix (λ place least. judged-numbered refl refl file _ _ _ _ _ asked least) room _ (rows-read file (head .sections .metadata) _) farthest []
 
 -- ---- what both lookups begin with
-matched-numbered : (file : List ℕ) (location : Location) (asked : Bool) (room : ℕ) → NumberedReply Known (matchedIn file location asked room)
-unfolding matchedIn
-matched-numbered file location asked room =
-    then-reply (head-numbered known file)
-    (λ head. and-then (demands (isPrecision (head .preamble .precision)) (plain 16) refl)
-    (then-reply (searches file head (fixOf location (head .preamble .precision)) asked room) (λ found. answers)))
+matched-numbered : (file : List ℕ) (head : Head) (location : Location) (asked : Bool) (room : ℕ) → NumberedReply Known (matchedWith file head location asked room)
+unfolding matchedWith
+matched-numbered file head location asked room =
+    and-then (demands (isPrecision (head .preamble .precision)) (plain 16) refl)
+    (then-reply (searches file head (fixOf location (head .preamble .precision)) asked room) (λ found. answers))
 
 replied-numbered : {A : Type 0} (n room : ℕ) {reply : Reply (Outcome A)} → NumberedReply Known reply → NumberedReply Known (repliedOf n room reply .reply)
 unfolding repliedOf
@@ -156,9 +155,10 @@ module _ (file : List ℕ) (head : Head) (room : ℕ) where
   fields (match ∷ matches) text = then-reply (fields-from (head .preamble .count) 0 (fieldsPlace head (match .metadata)) text) (fields matches)
 
 zones-numbered : (file : List ℕ) (location : Location) (asked : Bool) (n room : ℕ) → NumberedReply Known (zonesIn file location asked n room)
-unfolding zonesIn
+unfolding zonesIn zonesWith
 zones-numbered file location asked n room =
-    then-reply (matched-numbered file location asked (n / width)) (λ found. then-reply (fields file (found .head) room (found .matches) []) (λ text. answers))
+    then-reply (head-numbered known file)
+    (λ head. then-reply (matched-numbered file head location asked (n / width)) (λ found. then-reply (fields file head room (found .matches) []) (λ text. answers)))
 
 -- a lookup that is not answered is refused with one of these
 pub lookup-refusals : (file : List ℕ) (location : Location) (asked : Bool) (n room : ℕ) (why : Refusal)
@@ -195,10 +195,11 @@ module _ (file : List ℕ) (head : Head) where
       (λ description. then-reply (and-then (demands (leb (length (bytesIn description)) room) (plain 18) refl) answers) (λ bytes. answers))
 
 described-numbered : (file : List ℕ) (location : Location) (n room : ℕ) → NumberedReply Known (describedIn file location n room)
-unfolding describedIn
+unfolding describedIn describedWith
 described-numbered file location n room =
-    then-reply (matched-numbered file location false (n / width))
-    (λ found. and-then (checks file (found .head) (found .matches)) (then-reply (words file (found .head) room (found .matches)) (λ description. answers)))
+    then-reply (head-numbered known file)
+    (λ head. then-reply (matched-numbered file head location false (n / width))
+    (λ found. and-then (checks file head (found .matches)) (then-reply (words file head room (found .matches)) (λ description. answers))))
 
 -- a simple lookup that is not answered is refused with one of these
 pub simple-lookup-refusals : (file : List ℕ) (location : Location) (n room : ℕ) (why : Refusal)

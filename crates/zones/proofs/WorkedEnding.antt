@@ -18,12 +18,12 @@ use Rattle.border.specs.Step as S
 use Rattle.border.specs.Verdict.{along, passing, closedAt, thenOn, judge, judgedAt}
 use Rattle.zones.specs.Field.{fieldAt}
 use Rattle.zones.specs.Fields.{fieldsFrom, fieldsOf}
-use Rattle.zones.specs.Find.{fixOf, matchedIn}
+use Rattle.zones.specs.Find.{fixOf, matchedWith}
 use Rattle.zones.specs.Header.{preambleOf, textsFrom, sectionsFrom, sectionsAt, contentsOf, headOf}
 use Rattle.zones.specs.Hits.{words}
 use Rattle.zones.specs.Ending.{Answered}
 use Rattle.zones.specs.Lent.{Replied, replied, repliedOf}
-use Rattle.zones.specs.Lookup.{safezoneBits, zonesIn, lookedUp}
+use Rattle.zones.specs.Lookup.{safezoneBits, zonesWith, zonesIn, lookedUp}
 use Rattle.zones.specs.Merge.{summary, seen, mergedAfter, merged}
 use Rattle.zones.specs.Reply.{given}
 use Rattle.zones.specs.Rows.{rowsThen, rowBy, rowsWithin, rowsFrom, rowsIn}
@@ -45,7 +45,7 @@ inTheZone = record { lat = fin false 225 (negsuc 13); lon = fin false 225 (negsu
 
 pub answered : lookedUp printed inTheZone false 3 4
     ≡ replied (given (record { matches = 1; mark = 1; safezone = 0; used = 4 })) (0 ∷ 0 ∷ 1 ∷ []) (0 ∷ 0 ∷ 1 ∷ 0x41 ∷ [])
-unfolding forwardAt valueOf sizeOf tooLong signedOf evenBits pointOf fixedPoint oneShifted checked movedBy advanced marker packedTurn turnOf roundAgain nextWithin nextPoint traceThen traceWithin traceOf along passing closedAt thenOn judge judgedAt fieldAt fieldsFrom fieldsOf fixOf matchedIn preambleOf textsFrom sectionsFrom sectionsAt contentsOf headOf words repliedOf safezoneBits zonesIn lookedUp summary seen mergedAfter merged rowsThen rowBy rowsWithin rowsFrom rowsIn judgedTurn rowTurn seek searched stepsBy entryBy within remoteAt stringAt bytesOf textAt characters startedBy begunBy followed goesOn isUtf8 samePoint between inBox quadrantOf slopeOf edgeOf straight closestOn turned quarterBy halfTurn turnAt crossingOf acrossBy clearOf woundBy measured S.checked ofInt add sub mul div toSigned
+unfolding forwardAt valueOf sizeOf tooLong signedOf evenBits pointOf fixedPoint oneShifted checked movedBy advanced marker packedTurn turnOf roundAgain nextWithin nextPoint traceThen traceWithin traceOf along passing closedAt thenOn judge judgedAt fieldAt fieldsFrom fieldsOf fixOf matchedWith preambleOf textsFrom sectionsFrom sectionsAt contentsOf headOf words repliedOf safezoneBits zonesWith zonesIn lookedUp summary seen mergedAfter merged rowsThen rowBy rowsWithin rowsFrom rowsIn judgedTurn rowTurn seek searched stepsBy entryBy within remoteAt stringAt bytesOf textAt characters startedBy begunBy followed goesOn isUtf8 samePoint between inBox quadrantOf slopeOf edgeOf straight closestOn turned quarterBy halfTurn turnAt crossingOf acrossBy clearOf woundBy measured S.checked ofInt add sub mul div toSigned
 answered = refl
 
 -- so the search behind it went through the file's one row, and ended at the table's end

@@ -124,7 +124,7 @@ fn end_with(count: usize, mark: u8, least: u64) -> Searched
 }
 
 // The hits go into the lent words, in the order in which they are met.
-pub fn search(file: &[u8], head: Head, fix: Point, asked: bool, hits: &mut [u32]) -> Searched
+pub(crate) fn search(file: &[u8], head: Head, fix: Point, asked: bool, hits: &mut [u32]) -> Searched
     requires { ⌜ now hits ≡ zeros (length (now hits)) ⌝ }
     ensures { λ r. ⌜ Agrees (Sought (length (now (hits .entry))) (now (hits .exit)))
         (searched (now (file .entry)) head fix asked (length (now (hits .entry)) / width)) (toldSearched r) ⌝ }

@@ -9,13 +9,15 @@ ghost use Rattle.zones.specs.Text.{bytesOf};
 ghost use Rattle.zones.specs.Hits.{width, slots};
 ghost use Rattle.zones.specs.Fields.{toldFields, Wrote};
 ghost use Rattle.zones.specs.Lent.{Agrees, Filled, replied};
-ghost use Rattle.zones.specs.Simple.{same, partOf, begun, newer, pickedFrom, checked, fitting, wordedOf, toldPicks, toldChecked, toldWorded, Worded, describedIn, simplyLooked, toldSimple};
+ghost use Rattle.zones.specs.Simple.{same, partOf, begun, newer, pickedFrom, checked, fitting, wordedOf, toldPicks, toldChecked, toldWorded, Worded, describedWith, simplyLookedWith, simplyLooked, toldSimple};
 use crate::field::unmask;
 use crate::fields::Fields;
 use crate::fields::fields_place;
 use crate::find::Found;
-use crate::find::find;
+use crate::find::matches_in;
 use crate::header::Head;
+use crate::header::Headed;
+use crate::header::head_of;
 use crate::header::read_header_text;
 use crate::hits::hit_at;
 use crate::location::Location;
@@ -251,16 +253,15 @@ fn describe(text: &mut [u8], file: &[u8], head: Head, hits: &[u32], count: usize
 }
 
 // In buffers that are zero.
-fn look(file: &[u8], location: Location, hits: &mut [u32], text: &mut [u8]) -> Simple
+fn look(file: &[u8], head: Head, location: Location, hits: &mut [u32], text: &mut [u8]) -> Simple
     requires { ⌜ (now hits ≡ zeros (length (now hits))) × (now text ≡ zeros (length (now text))) ⌝ }
     ensures { λ r. ⌜ Agrees (Filled (length (now (hits .entry))) (length (now (text .entry))) (now (hits .exit)) (now (text .exit)))
-        (describedIn (now (file .entry)) location (length (now (hits .entry))) (length (now (text .entry)))) (toldSimple r) ⌝ }
+        (describedWith (now (file .entry)) head location (length (now (hits .entry))) (length (now (text .entry)))) (toldSimple r) ⌝ }
 {
-    let found = match find(file, location, false, hits) {
+    let found = match matches_in(file, head, location, false, hits) {
         Found::Matches(found) => found,
         Found::Refused(why) => return Simple::Refused(why),
     };
-    let head = found.head;
     let matches = found.count;
     let checked = check(file, head, hits, matches);
     if let Checked::Refused(why) = checked {
@@ -277,12 +278,19 @@ fn look(file: &[u8], location: Location, hits: &mut [u32], text: &mut [u8]) -> S
     })
 }
 
-pub fn simple_lookup(file: &[u8], location: Location, hits: &mut [u32], text: &mut [u8]) -> Simple
+// In a file whose header was read; any header is taken.
+pub fn simple_lookup_in(
+    file: &[u8],
+    head: Head,
+    location: Location,
+    hits: &mut [u32],
+    text: &mut [u8],
+) -> Simple
     ensures { λ r. ⌜ replied (toldSimple r) (now (hits .exit)) (now (text .exit))
-        ≡ simplyLooked (now (file .entry)) location (length (now (hits .entry))) (length (now (text .entry))) ⌝ }
+        ≡ simplyLookedWith (now (file .entry)) head location (length (now (hits .entry))) (length (now (text .entry))) ⌝ }
 {
     zero_both(hits, text);
-    let described = match look(file, location, hits, text) {
+    let described = match look(file, head, location, hits, text) {
         Simple::Described(described) => described,
         Simple::Refused(why) => {
             zero_both(hits, text);
@@ -290,4 +298,18 @@ pub fn simple_lookup(file: &[u8], location: Location, hits: &mut [u32], text: &m
         }
     };
     Simple::Described(described)
+}
+
+pub fn simple_lookup(file: &[u8], location: Location, hits: &mut [u32], text: &mut [u8]) -> Simple
+    ensures { λ r. ⌜ replied (toldSimple r) (now (hits .exit)) (now (text .exit))
+        ≡ simplyLooked (now (file .entry)) location (length (now (hits .entry))) (length (now (text .entry))) ⌝ }
+{
+    let head = match head_of(file) {
+        Headed::Head(head) => head,
+        Headed::Refused(why) => {
+            zero_both(hits, text);
+            return Simple::Refused(why);
+        }
+    };
+    simple_lookup_in(file, head, location, hits, text)
 }

@@ -4,7 +4,7 @@ ghost use lib.ListN.{length};
 ghost use Rattle.zones.specs.Lists.{zeros};
 use crate::field::zero;
 
-fn zero_words(hits: &mut [u32])
+pub fn zero_words(hits: &mut [u32])
     ensures { λ _. ⌜ now (hits .exit) ≡ zeros (length (now (hits .entry))) ⌝ }
 {
     let mut i = 0;
