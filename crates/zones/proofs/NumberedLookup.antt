@@ -105,7 +105,7 @@ walks k end room (suc left) at hits = either (NumberedReply Known) (ltb (at .pla
 
 turn-at : (file : List ℕ) (head : Head) (fix : Point) (asked : Bool) (at : Cursor) → NumberedTurn (turnAt file head fix asked at)
 unfolding turnAt
-turn-at file head fix asked = turn-numbered (entryAt file) (judgeIn file head fix asked) fix (entry-read file) (λ place least. judged-numbered refl refl file _ _ _ _ _ asked least)
+turn-at file head fix asked = turn-numbered (entryAt file) (judgeIn file head fix asked) fix (entry-read file) (λ place least. judged-numbered refl refl file _ _ _ _ asked least)
 
 searches : (file : List ℕ) (head : Head) (fix : Point) (asked : Bool) (room : ℕ) → NumberedReply Known (searched file head fix asked room)
 unfolding searched

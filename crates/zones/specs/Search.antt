@@ -7,10 +7,9 @@ use lib.Dec.{ltb, eqb}
 use lib.ListN.{length}
 use Rattle.numbers.specs.Answer.{Answer, found, failed, refused, if_then_else_}
 use Rattle.numbers.specs.Point.{low32, halfOf}
+use Rattle.border.specs.Encoding.{encodingOf}
 use Rattle.border.specs.Verdict.{Judgement, reached, judgedAt}
 use Rattle.border.specs.Verdict as J
-use Rattle.border.specs.declared.reader.Version.{Version}
-use Rattle.border.specs.declared.reader.Version.the-variants.{Plain, Packed}
 use Rattle.border.specs.declared.verdict.Verdict.{Verdict}
 use Rattle.border.specs.declared.verdict.Verdict.the-variants.{NotInZone, InZone, InExcludedZone, OnBorderVertex, OnBorderSegment}
 use Rattle.zones.specs.Reply.{Reply, given, plain}
@@ -105,14 +104,11 @@ abbrev pub searchedBy : (Cursor → Turn) → ℕ → ℕ → ℕ → Reply Foun
 searchedBy turn start end room = walk turn end room (end - start) (startAt start) []
 
 -- ---- in a file
-abbrev pub versionOf : ℕ → Version
-versionOf byte = if eqb byte 0 then Plain else Packed
-
 -- the border at a place of the data, counted modulo 2 ^ 32
 abbrev pub judgeIn : List ℕ → Head → Point → Bool → ℕ → ℕ → Judgement
 judgeIn file head fix asked polygon least =
     let start = head .sections .«data» in
-    judgedAt file (versionOf (head .preamble .version)) start ((start + polygon) % 2 ^ 32) (fix .lat) (fix .lon) asked least
+    judgedAt file (encodingOf (head .preamble .version) start) ((start + polygon) % 2 ^ 32) (fix .lat) (fix .lon) asked least
 
 unfoldable pub turnAt : List ℕ → Head → Point → Bool → Cursor → Turn
 turnAt file head fix asked = turnOf (entryAt file) (judgeIn file head fix asked) fix

@@ -18,7 +18,7 @@ use Rattle.zones.specs.declared.table.Row.the-variants.{Read, Failed, Re
 abbrev pub toldRow : Row → Answer Entry
 toldRow (Read entry) = found entry
 toldRow Failed = failed
-toldRow Refused = refused 12
+toldRow (Refused n) = refused n
 
 -- a number with nothing to follow it
 abbrev pub stoppedBy : Varint → Answer Entry

@@ -3,12 +3,13 @@ ghost use mathlib.Core.Path.{_≡_};
 ghost use Prim.Native.Nat.{_+_, _%_, _^_, _/_};
 ghost use lib.ListN.{length};
 ghost use Rattle.numbers.specs.Point.{low32, halfOf};
+ghost use Rattle.border.specs.Encoding.{versionOf};
 ghost use Rattle.border.specs.Verdict.{told};
 ghost use Rattle.zones.specs.Lists.{zeros};
 ghost use Rattle.zones.specs.Hits.{width};
 ghost use Rattle.zones.specs.Table.{entryAt};
 ghost use Rattle.zones.specs.Lent.{Agrees};
-ghost use Rattle.zones.specs.Search.{pastEntry, withLeast, kindOf, judgedTurn, entryTurn, versionOf, judgeIn, turnAt, searched, toldSearched, Sought};
+ghost use Rattle.zones.specs.Search.{pastEntry, withLeast, kindOf, judgedTurn, entryTurn, judgeIn, turnAt, searched, toldSearched, Sought};
 use crate::header::Head;
 use crate::hits::Hit;
 use crate::hits::put_hit;
@@ -21,6 +22,7 @@ use crate::table::entry_at;
 use crate::table::holds;
 use crate::table::is_above;
 use border::place::Point;
+use border::reader::Encoding;
 use border::reader::Version;
 use border::verdict::Judged;
 use border::verdict::Verdict;
@@ -147,8 +149,11 @@ fn judge(file: &[u8], head: Head, fix: Point, asked: bool, polygon: u32, least: 
     let sections = head.sections;
     let start = sections.data;
     let place = wrapping_add_u32(start, polygon) as usize;
-    let version = version_of(preamble.version);
-    point_in_polygon(file, version, start, place, fix.lat, fix.lon, asked, least)
+    let encoding = Encoding {
+        version: version_of(preamble.version),
+        data: start,
+    };
+    point_in_polygon(file, encoding, place, fix.lat, fix.lon, asked, least)
 }
 
 fn on_entry(file: &[u8], head: Head, fix: Point, asked: bool, at: Cursor, entry: Entry) -> Turn
@@ -179,7 +184,7 @@ fn turn_at(file: &[u8], head: Head, fix: Point, asked: bool, at: Cursor) -> Turn
             mark: 2,
             least: at.least,
         },
-        Row::Refused => Turn::Refused(12),
+        Row::Refused(number) => Turn::Refused(number),
     }
 }
 

@@ -37,7 +37,7 @@ bound failed next e = let z : _≡_ {A = ℕ} 0 1 = cc in absurd (omega arith)
 bound (refused n) next e = let z : _≡_ {A = ℕ} 0 1 = cc in absurd (omega arith)
 
 grew : (file : List ℕ) (place : ℕ) (number : Numeral) → forwardAt file place ≡ found number → place < number .place
-grew file place number e = number-read file place {a = Number (number .value) (number .place)} (sym e) refl .grows
+grew file place number e = number-read file place {a = Number number} (sym e) refl .grows
 
 -- a number, and what follows it up to an end
 after : {B : Type 0} (file : List ℕ) (place end : ℕ) (next : Numeral → Answer B) {b : B} → ((number : Numeral) → next number ≡ found b → number .place ≤ end) → (forwardAt file place >>= next) ≡ found b → place < end

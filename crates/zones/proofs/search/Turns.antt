@@ -7,8 +7,9 @@ use native.Mathlib.Omega.{arith}
 use borrow.Author.Tests.{eq-eqb, ne-eqb}
 use denote.Enum.Declared.{tagOf, declared}
 use lib.IntN.{pos, negℤ}
-use Rattle.numbers.specs.Answer.{Answer, failed, refused}
+use Rattle.numbers.specs.Answer.{Answer, failed}
 use Rattle.numbers.specs.Point.{low32, halfOf}
+use Rattle.border.specs.Encoding.{versionOf, encodedIn}
 use Rattle.border.specs.Verdict.{Judgement, told, judgedAt}
 use Rattle.border.specs.declared.reader.Version.{Version}
 use Rattle.border.specs.declared.verdict.Verdict.{Verdict}
@@ -16,7 +17,7 @@ use Rattle.border.specs.declared.verdict.Judged.{Judged}
 use Rattle.border.specs.declared.verdict.Judged.the-variants as J
 use Rattle.zones.specs.Hits.{hitOf}
 use Rattle.zones.specs.Table.{toldRow, isAbove, holds}
-use Rattle.zones.specs.Search.{pastEntry, withLeast, kindOf, judgedTurn, entryTurn, versionOf, judgeIn}
+use Rattle.zones.specs.Search.{pastEntry, withLeast, kindOf, judgedTurn, entryTurn, judgeIn}
 use Rattle.zones.specs.declared.header.Head.{Head}
 use Rattle.zones.specs.declared.table.Entry.{Entry}
 use Rattle.border.specs.declared.place.Point.{Point}
@@ -42,8 +43,8 @@ module _ (id step : ℕ) where
 -- ---- a judged border
 module _ (file : List ℕ) (head : Head) (fix : Point) (asked : Bool) (polygon least : ℕ) where
   pub judged-in : {version : Version} {place : ℕ} {judgement : Judgement} → version ≡ versionOf (head .preamble .version) → place ≡ (head .sections .«data» + polygon) % 2 ^ 32
-      → judgement ≡ judgedAt file version (head .sections .«data») place (fix .lat) (fix .lon) asked least → judgement ≡ judgeIn file head fix asked polygon least
-  judged-in v p j = j ∙ (λ i. judgedAt file (v i) (head .sections .«data») (p i) (fix .lat) (fix .lon) asked least)
+      → judgement ≡ judgedAt file (encodedIn version (head .sections .«data»)) place (fix .lat) (fix .lon) asked least → judgement ≡ judgeIn file head fix asked polygon least
+  judged-in v p j = j ∙ (λ i. judgedAt file (encodedIn (v i) (head .sections .«data»)) (p i) (fix .lat) (fix .lon) asked least)
 
 module _ (at : Cursor) (entry : Entry) {judgement : Judged} {verdict : Verdict} {least kind : ℕ} (is : judgement ≡ J.Answered verdict least) (k : kind ≡ kindOf verdict)
     {passed next : Cursor} (p : passed ≡ pastEntry at entry) (n : next ≡ withLeast passed least) where
@@ -73,13 +74,8 @@ module _ (read : ℕ → Answer Entry) (judge : ℕ → ℕ → Judgement) (fix 
     unfolding entryTurn
     held f = rw (below, f)
 
--- a row that holds no entry, by the case that a `match` found
+-- a row that could not be read, by the case that a `match` found
 pub row-failed : (row : Row) → tagOf (declared R.enum) row ≡ 1 → failed ≡ toldRow row
 row-failed (W.Read entry) is = absurd (omega (arith, is))
 row-failed W.Failed is = refl
-row-failed W.Refused is = absurd (omega (arith, is))
-
-pub row-refused : (row : Row) → tagOf (declared R.enum) row ≡ 2 → refused 12 ≡ toldRow row
-row-refused (W.Read entry) is = absurd (omega (arith, is))
-row-refused W.Failed is = absurd (omega (arith, is))
-row-refused W.Refused is = refl
+row-failed (W.Refused n) is = absurd (omega (arith, is))

@@ -2,7 +2,7 @@
 use borrow.Author.Needs.{needs}
 use mathlib.Core.Path.{sym, ap, _∙_}
 use native.Mathlib.Omega.{arith}
-use Rattle.zones.proofs.search.Turns.{row-failed, row-refused}
+use Rattle.zones.proofs.search.Turns.{row-failed}
 use Rattle.zones.proofs.search.turn_at.Statement.{statement}
 use Rattle.zones.specs.Search.{turnAt, turnOf, readTurn}
 use Rattle.zones.specs.Table.{toldRow}
@@ -10,9 +10,6 @@ use Rattle.zones.proofs.search.turn_at.Tie as tie
 
 enum-told : tie.Need-enum-told
 enum-told c = search needs
-
-enum-told-2 : tie.Need-enum-told-2
-enum-told-2 c = search needs
 
 returns : tie.Need-returns
 unfolding turnAt turnOf
@@ -27,7 +24,10 @@ returns-2 c = ap (readTurn _ _ _ _) (row-failed (c .before .before .entry-at .re
 
 returns-3 : tie.Need-returns-3
 unfolding turnAt turnOf
-returns-3 c = ap (readTurn _ _ _ _) (row-refused (c .before .before .entry-at .result) (enum-told-2 (c .before)) ∙ c .before .before .entry-at .ensures)
+returns-3 c =
+    let row = c .before .row2 in
+    let entry-at = c .before .before .before .entry-at in
+    ap (readTurn _ _ _ _) (sym (ap toldRow (row .given .1)) ∙ entry-at .ensures)
 
 pub turn-at-spec : {M : Type 1} → statement M
 turn-at-spec =
@@ -37,7 +37,7 @@ turn-at-spec =
     (λ c. omega arith)
     (λ c κs. tt)
     enum-told
-    enum-told-2
+    (λ c. omega arith)
     returns
     returns-2
     returns-3)
