@@ -11,7 +11,8 @@ use lib.Seq.{take-at}
 use Rattle.numbers.specs.Answer.{if_then_else_}
 use Rattle.border.specs.Moves.{pointsOf}
 use Rattle.border.specs.Trace.{traceOf, borderAt}
-use Rattle.border.specs.Writer.{Reply, given, refused, encodingOf, Replied, replied, zeros, fitted}
+use Rattle.border.specs.Encoding.{versionOf, encodingOf}
+use Rattle.border.specs.Writer.{Reply, given, refused, Replied, replied, zeros, fitted}
 use Rattle.border.specs.Written.{Stands, roundTrip}
 use Rattle.border.specs.WrittenAt.{WrittenAt}
 use Rattle.border.specs.declared.writer.Written.the-variants.{Wrote}
@@ -39,7 +40,7 @@ wrote room size out (given bytes) e = by-test (leb (length bytes) room) e
         absurd (omega arith)
 
 module _ {version : ℕ} {lats lons : List ℤ} {file : List ℕ} {base place : ℕ} (h : WrittenAt version lats lons file base place) where
-  pub written-stands : Stands (encodingOf version) file base place (pointsOf lats lons)
+  pub written-stands : Stands (versionOf version) file base place (pointsOf lats lons)
   written-stands =
       record {
         earlier = h .earlier;
@@ -49,5 +50,5 @@ module _ {version : ℕ} {lats lons : List ℤ} {file : List ℕ} {base place : 
       }
 
   -- at its place, after the same earlier data, in any file of that version up to 1 GiB: its points in order, then the first again, closed
-  pub written-trace : traceOf file (encodingOf version) base (borderAt place) ≡ roundTrip (pointsOf lats lons)
+  pub written-trace : traceOf file (encodingOf version base) (borderAt place) ≡ roundTrip (pointsOf lats lons)
   written-trace = delivered written-stands

@@ -9,7 +9,6 @@ use Rattle.numbers.specs.Answer.{if_then_else_}
 use Rattle.numbers.specs.declared.point.{RawPoint.RawPoint}
 use Rattle.border.specs.Moves.{varintOf, plainMoveBytes, movesOf, isMove}
 use Rattle.border.specs.Pieces.{goodPieces, packedFrom}
-use Rattle.border.specs.declared.reader.{Version.Version, Version.the-variants.Plain, Version.the-variants.Packed}
 use Rattle.border.specs.declared.writer.{Piece.Piece, Written.Written}
 use Rattle.border.specs.declared.writer.Written.the-variants as W
 
@@ -68,10 +67,6 @@ unfoldable pub borderOf : ℕ → List ℤ → List ℤ → List Piece → List 
 borderOf version lats lons pieces earlier = do
   checks version lats lons earlier
   if eqb version 0 then plainBorder (movesOf lats lons) pieces else packedBorder (movesOf lats lons) pieces earlier
-
--- the encoding of a version
-abbrev pub encodingOf : ℕ → Version
-encodingOf version = if eqb version 0 then Plain else Packed
 
 -- ---- the reply, and all of the lent output
 abbrev pub told : Written → Reply ℕ

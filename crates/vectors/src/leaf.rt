@@ -13,16 +13,16 @@ use numbers::varint::Varint;
 fn reads_as(line: &[u8], answer: Varint) -> bool {
     let told = word(line, 4);
     match answer {
-        Varint::Number { value, place } => {
-            if value != decimal(told) {
+        Varint::Number(number) => {
+            if number.value != decimal(told) {
                 return false;
             }
-            place as u64 == decimal(word(line, 5))
+            number.place as u64 == decimal(word(line, 5))
         }
         Varint::Failed => check::same(told, b"fails"),
-        Varint::Refused => {
+        Varint::Refused(number) => {
             if check::same(told, b"refused") {
-                return decimal(word(line, 5)) == 12;
+                return decimal(word(line, 5)) == number as u64;
             }
             false
         }

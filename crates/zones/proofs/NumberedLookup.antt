@@ -118,7 +118,7 @@ module _ (judge : ℕ → ℕ → Judgement) (fix : Point) (judges : (place leas
 searches : (file : List ℕ) (head : Head) (fix : Point) (asked : Bool) (room : ℕ) → NumberedReply Known (searched file head fix asked room)
 unfolding searched rowsIn
 searches file head fix asked room =
-    seeks (judgeIn file head fix asked) fix (λ place least. judged-numbered refl refl file _ _ _ _ _ asked least) room _ (rows-read file (head .sections .metadata) _) farthest []
+    seeks (judgeIn file head fix asked) fix (λ place least. judged-numbered refl refl file _ _ _ _ asked least) room _ (rows-read file (head .sections .metadata) _) farthest []
 
 -- ---- what both lookups begin with
 matched-numbered : (file : List ℕ) (head : Head) (location : Location) (asked : Bool) (room : ℕ) → NumberedReply Known (matchedWith file head location asked room)

@@ -5,10 +5,9 @@ use lib.ListN.{length}
 use mathlib.Core.Bool.{Bool}
 use mathlib.Core.List.{List, [], _∷_, _++_}
 use mathlib.Core.Path.{_≡_}
+use Rattle.border.specs.Encoding.{encodingOf}
 use Rattle.border.specs.Verdict.{Judgement, reached, judgedAt}
 use Rattle.border.specs.declared.place.Point.{Point}
-use Rattle.border.specs.declared.reader.Version.the-variants.{Plain, Packed}
-use Rattle.border.specs.declared.reader.Version.{Version}
 use Rattle.border.specs.declared.verdict.Verdict.the-variants.{NotInZone, InZone, InExcludedZone, OnBorderVertex, OnBorderSegment}
 use Rattle.border.specs.declared.verdict.Verdict.{Verdict}
 use Rattle.numbers.specs.Answer.{if_then_else_}
@@ -77,14 +76,11 @@ abbrev pub farthest : ℕ
 farthest = 2 ^ 64 - 1
 
 -- ---- in a file
-abbrev pub versionOf : ℕ → Version
-versionOf byte = if eqb byte 0 then Plain else Packed
-
 -- the border at a place of the data, counted modulo 2 ^ 32
 abbrev pub judgeIn : List ℕ → Head → Point → Bool → ℕ → ℕ → Judgement
 judgeIn file head fix asked polygon least =
     let start = head .sections .«data» in
-    judgedAt file (versionOf (head .preamble .version)) start ((start + polygon) % 2 ^ 32) (fix .lat) (fix .lon) asked least
+    judgedAt file (encodingOf (head .preamble .version) start) ((start + polygon) % 2 ^ 32) (fix .lat) (fix .lon) asked least
 
 -- the search of some rows, with so many slots for hits
 abbrev pub searchedRows : List ℕ → Head → Point → Bool → ℕ → Rows → Reply Found

@@ -57,7 +57,7 @@ holds bounds fix = between (bounds .«min_lat» .0) (fix .lat .0) (bounds .«max
 abbrev pub toldEntered : Entered → Answer Entry
 toldEntered (E.Entry entry) = found entry
 toldEntered E.Failed = failed
-toldEntered E.Refused = refused 12
+toldEntered (E.Refused n) = refused n
 
 -- a number with nothing to follow it
 abbrev pub stoppedBy : Varint → Answer Entry

@@ -49,7 +49,8 @@ fn moved_id(metadata: u32, step: u64) -> u32
     }
 }
 
-fn row_of(at: Cursor, entry: Entry) -> Row
+// The row of an entry that was read at a cursor.
+pub fn row_of(at: Cursor, entry: Entry) -> Row
     ensures { λ r. ⌜ r ≡ rowOf at entry ⌝ }
 {
     let polygon = (entry.polygon % 0x1_0000_0000) as u32;
@@ -95,6 +96,6 @@ pub fn row_at(file: &[u8], at: Cursor) -> Reading
     match entered {
         Entered::Entry(entry) => Reading::Row(row_of(at, entry)),
         Entered::Failed => Reading::Failed,
-        Entered::Refused => Reading::Refused(12),
+        Entered::Refused(number) => Reading::Refused(number),
     }
 }

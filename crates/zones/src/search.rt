@@ -2,25 +2,28 @@
 ghost use mathlib.Core.Path.{_≡_};
 ghost use Prim.Native.Nat.{_/_};
 ghost use lib.ListN.{length};
+ghost use Rattle.border.specs.Encoding.{versionOf};
 ghost use Rattle.border.specs.Verdict.{told};
 ghost use Rattle.zones.specs.Lists.{zeros};
 ghost use Rattle.zones.specs.Hits.{width};
 ghost use Rattle.zones.specs.Lent.{Agrees};
-ghost use Rattle.zones.specs.Search.{kindOf, judgedTurn, rowTurn, versionOf, judgeIn, searched, toldSearched, Sought};
+ghost use Rattle.zones.specs.Search.{kindOf, judgedTurn, rowTurn, judgeIn, searched, toldSearched, Sought};
 use crate::header::Head;
 use crate::hits::Hit;
 use crate::hits::put_hit;
 use crate::hits::room;
 use crate::refusal::Refusal;
 use crate::refusal::plain;
-use crate::rows::Reading;
 use crate::rows::Row;
 use crate::rows::after;
-use crate::rows::row_at;
+use crate::rows::row_of;
 use crate::rows::start_at;
+use crate::table::Entered;
+use crate::table::entry_at;
 use crate::table::holds;
 use crate::table::is_above;
 use border::place::Point;
+use border::reader::Encoding;
 use border::reader::Version;
 use border::verdict::Judged;
 use border::verdict::Verdict;
@@ -99,8 +102,11 @@ fn judge(file: &[u8], head: Head, fix: Point, asked: bool, polygon: u32, least: 
     let sections = head.sections;
     let start = sections.data;
     let place = wrapping_add_u32(start, polygon) as usize;
-    let version = version_of(preamble.version);
-    point_in_polygon(file, version, start, place, fix.lat, fix.lon, asked, least)
+    let encoding = Encoding {
+        version: version_of(preamble.version),
+        data: start,
+    };
+    point_in_polygon(file, encoding, place, fix.lat, fix.lon, asked, least)
 }
 
 pub fn on_row(file: &[u8], head: Head, fix: Point, asked: bool, row: Row, least: u64) -> Turn
@@ -136,11 +142,12 @@ pub(crate) fn search(file: &[u8], head: Head, fix: Point, asked: bool, hits: &mu
     let mut least = 0xffff_ffff_ffff_ffff;
     let mut at = start_at(sections.table as usize);
     while at.place < end {
-        let row = match row_at(file, at) {
-            Reading::Row(row) => row,
-            Reading::Failed => return end_with(count, 2, least),
-            Reading::Refused(number) => return Searched::Refused(plain(number)),
+        let entry = match entry_at(file, at.place) {
+            Entered::Entry(entry) => entry,
+            Entered::Failed => return end_with(count, 2, least),
+            Entered::Refused(number) => return Searched::Refused(plain(number)),
         };
+        let row = row_of(at, entry);
         at = after(row);
         let turn = on_row(file, head, fix, asked, row, least);
         match turn {

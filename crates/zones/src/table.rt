@@ -29,8 +29,7 @@ pub struct Entry {
 pub enum Entered {
     Entry(Entry),
     Failed,
-    // Refusal 12.
-    Refused,
+    Refused(u8),
 }
 
 // A number that could not be read ends its entry.
@@ -38,9 +37,9 @@ fn stopped(answer: Varint) -> Entered
     ensures { λ r. ⌜ toldEntered r ≡ stoppedBy answer ⌝ }
 {
     match answer {
-        Varint::Number { value: _, place: _ } => Entered::Failed,
+        Varint::Number(_) => Entered::Failed,
         Varint::Failed => Entered::Failed,
-        Varint::Refused => Entered::Refused,
+        Varint::Refused(number) => Entered::Refused(number),
     }
 }
 
@@ -49,26 +48,18 @@ fn steps_at(file: &[u8], place: usize, bounds: Bounds) -> Entered
     ensures { λ r. ⌜ toldEntered r ≡ stepsBy (forwardAt (now (file .entry))) place bounds ⌝ }
 {
     let fifth = read_forward(file, place);
-    let Varint::Number {
-        value: metadata,
-        place: p5,
-    } = fifth
-    else {
+    let Varint::Number(metadata) = fifth else {
         return stopped(fifth);
     };
-    let sixth = read_forward(file, p5);
-    let Varint::Number {
-        value: polygon,
-        place: next,
-    } = sixth
-    else {
+    let sixth = read_forward(file, metadata.place);
+    let Varint::Number(polygon) = sixth else {
         return stopped(sixth);
     };
     Entered::Entry(Entry {
         bounds,
-        metadata,
-        polygon,
-        next,
+        metadata: metadata.value,
+        polygon: polygon.value,
+        next: polygon.place,
     })
 }
 
@@ -77,38 +68,23 @@ pub fn entry_at(file: &[u8], place: usize) -> Entered
     ensures { λ r. ⌜ toldEntered r ≡ entryBy (forwardAt (now (file .entry))) place ⌝ }
 {
     let first = read_forward(file, place);
-    let Varint::Number {
-        value: min_lat,
-        place: p1,
-    } = first
-    else {
+    let Varint::Number(min_lat) = first else {
         return stopped(first);
     };
-    let second = read_forward(file, p1);
-    let Varint::Number {
-        value: min_lon,
-        place: p2,
-    } = second
-    else {
+    let second = read_forward(file, min_lat.place);
+    let Varint::Number(min_lon) = second else {
         return stopped(second);
     };
-    let third = read_forward(file, p2);
-    let Varint::Number {
-        value: max_lat,
-        place: p3,
-    } = third
-    else {
+    let third = read_forward(file, min_lon.place);
+    let Varint::Number(max_lat) = third else {
         return stopped(third);
     };
-    let fourth = read_forward(file, p3);
-    let Varint::Number {
-        value: max_lon,
-        place: p4,
-    } = fourth
-    else {
+    let fourth = read_forward(file, max_lat.place);
+    let Varint::Number(max_lon) = fourth else {
         return stopped(fourth);
     };
-    steps_at(file, p4, bounds_of(min_lat, min_lon, max_lat, max_lon))
+    let bounds = bounds_of(min_lat.value, min_lon.value, max_lat.value, max_lon.value);
+    steps_at(file, max_lon.place, bounds)
 }
 
 fn bounds_of(min_lat: u64, min_lon: u64, max_lat: u64, max_lon: u64) -> Bounds

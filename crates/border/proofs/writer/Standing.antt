@@ -18,7 +18,8 @@ use Rattle.border.specs.Place.{pointAt, moveBy, isStill, checked, movedB
 use Rattle.border.specs.Moves.{varintOf, signedForm, plainMoveBytes, packedMoveBytes, packedNumber, moveTo, movesFrom, pointsOf, movesOf, isMove, turnedBack, sameMove}
 use Rattle.border.specs.Pieces.{lentBy, lentMoves, readAnd, spells, clearBefore, accepted, goodPieces, pieceBytes, packedFrom}
 use Rattle.border.specs.Writer as R
-use Rattle.border.specs.Writer.{Reply, given, demand, _>>_, every, near, sized, checks, plainBorder, packedBorder, borderOf, encodingOf}
+use Rattle.border.specs.Encoding.{versionOf}
+use Rattle.border.specs.Writer.{Reply, given, demand, _>>_, every, near, sized, checks, plainBorder, packedBorder, borderOf}
 use Rattle.border.specs.Written as W
 use Rattle.border.specs.Written.{Splits, Turned, Borrowed, Version1, Pairs, Version0, Leads, Border}
 use Rattle.border.specs.declared.place.{Point.Point}
@@ -368,7 +369,7 @@ module _ (version : ℕ) (lats lons : List ℤ) (pieces : List Piece) (earlier b
   leads h = h .walked .leads
 
   -- Whatever the writer accepts, in version 0, version 1, and version 1 with pieces: the bytes that it writes are a border of the points, behind the same earlier data.
-  pub written-border : borderOf version lats lons pieces earlier ≡ given bytes → Border (encodingOf version) earlier bytes (pointsOf lats lons)
+  pub written-border : borderOf version lats lons pieces earlier ≡ given bytes → Border (versionOf version) earlier bytes (pointsOf lats lons)
   unfolding borderOf
   written-border e =
       let h = then-given (checks version lats lons earlier) e in

@@ -43,19 +43,20 @@ fn run_spells(run: &[u8], lats: &[i32], lons: &[i32], piece: Piece) -> bool
     let mut place = 0;
     let mut j = 0;
     while j < piece.count {
-        let Varint::Number { value, place: next } = read_forward(run, place) else {
+        let Varint::Number(number) = read_forward(run, place) else {
             return false;
         };
-        if run.len() < next {
+        if run.len() < number.place {
             return false;
         }
-        if value == 0 {
+        if number.value == 0 {
             return false;
         }
-        if !is_lent(value, lats, lons, index_of(piece, j), piece.direction) {
+        let index = index_of(piece, j);
+        if !is_lent(number.value, lats, lons, index, piece.direction) {
             return false;
         }
-        place = next;
+        place = number.place;
         j += 1;
     }
     place == run.len()

@@ -13,7 +13,10 @@ use Rattle.zones.specs.Lists.{zeros}
 use Rattle.zones.proofs.find.find_in.Tie as tie
 
 matches-in-requires : tie.Need-matches-in-requires
-matches-in-requires c κs = all-zero _ (length (c .before .before .before .before .before .before .before .args .hits .now)) (c .before .before .before .zero-words .ensures)
+matches-in-requires c κs =
+    let args = c .before .before .before .before .before .before .before .args in
+    let zero-words = c .before .before .before .zero-words in
+    all-zero _ (length (args .hits .now)) (zero-words .ensures)
 
 same-length : tie.Need-same-length
 same-length c = search needs
@@ -21,12 +24,22 @@ same-length c = search needs
 returns : tie.Need-returns
 unfolding foundWith
 returns c =
-    refuses (λ (n : ℕ). matchedWith (c .before .before .before .before .before .before .before .before .before .before .before .before .before .before .before .before .before .args .file .now) (c .before .before .before .before .before .before .before .before .before .before .before .before .before .before .before .before .before .args .head) (c .before .before .before .before .before .before .before .before .before .before .before .before .before .before .before .before .before .args .location) (c .before .before .before .before .before .before .before .before .before .before .before .before .before .before .before .before .before .args .asked) (n / width)) (of-length _ (length (c .before .before .before .before .before .before .before .before .before .before .before .before .before .before .before .before .before .args .hits .now)) (c .before .before .before .before .before .before .before .before .before .before .before .before .before .zero-words .ensures)) _ (toldFound (c .before .before .before .before .before .before .before .before .before .matches-in .result)) (c .before .before .before .before .before .before .before .before .before .matches-in .ensures) (ap toldFound (c .before .before .before .before .before .why .given .1))
-    (all-zero _ (length (c .before .before .before .before .before .before .before .before .before .matches-in .last .1 .1 .1 .1 .0)) (c .before .before .zero-words2 .ensures) ∙ ap zeros (same-length c))
+    let args = c .before .before .before .before .before .before .before .before .before .before .before .before .before .before .before .before .before .args in
+    let zero-words = c .before .before .before .before .before .before .before .before .before .before .before .before .before .zero-words in
+    let matches-in = c .before .before .before .before .before .before .before .before .before .matches-in in
+    let why = c .before .before .before .before .before .why in
+    let zero-words2 = c .before .before .zero-words2 in
+    refuses (λ (n : ℕ). matchedWith (args .file .now) (args .head) (args .location) (args .asked) (n / width)) (of-length _ (length (args .hits .now)) (zero-words .ensures)) _ (toldFound (matches-in .result)) (matches-in .ensures) (ap toldFound (why .given .1))
+    (all-zero _ (length (matches-in .last .1 .1 .1 .1 .0)) (zero-words2 .ensures) ∙ ap zeros (same-length c))
 
 returns-2 : tie.Need-returns-2
 unfolding foundWith
-returns-2 c = finds (λ (n : ℕ). matchedWith (c .before .before .before .before .before .before .before .before .before .before .before .before .before .args .file .now) (c .before .before .before .before .before .before .before .before .before .before .before .before .before .args .head) (c .before .before .before .before .before .before .before .before .before .before .before .before .before .args .location) (c .before .before .before .before .before .before .before .before .before .before .before .before .before .args .asked) (n / width)) (of-length _ (length (c .before .before .before .before .before .before .before .before .before .before .before .before .before .args .hits .now)) (c .before .before .before .before .before .before .before .before .before .zero-words .ensures)) _ (toldFound (c .before .before .before .before .before .matches-in .result)) (c .before .before .before .before .before .matches-in .ensures) (ap toldFound (c .before .matches .given .1))
+returns-2 c =
+    let args = c .before .before .before .before .before .before .before .before .before .before .before .before .before .args in
+    let zero-words = c .before .before .before .before .before .before .before .before .before .zero-words in
+    let matches-in = c .before .before .before .before .before .matches-in in
+    let matches = c .before .matches in
+    finds (λ (n : ℕ). matchedWith (args .file .now) (args .head) (args .location) (args .asked) (n / width)) (of-length _ (length (args .hits .now)) (zero-words .ensures)) _ (toldFound (matches-in .result)) (matches-in .ensures) (ap toldFound (matches .given .1))
 
 pub find-in-spec : {M : Type 1} → statement M
 find-in-spec =

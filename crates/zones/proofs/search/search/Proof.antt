@@ -7,13 +7,14 @@ use mathlib.Core.Path.{sym, ap, _∙_}
 use native.Mathlib.Omega.{arith}
 use Rattle.numbers.specs.Varint.{forwardAt}
 use Rattle.zones.proofs.TableRows.{forward-grows, at-end, at-row, at-unreadable, at-refused, row-less}
-use Rattle.zones.proofs.rows.Entering.{reading-failed}
+use Rattle.zones.proofs.rows.Entering.{row-read, row-failed, row-refused}
 use Rattle.zones.proofs.search.Searching.{Going, starts, kept-length, stops, refuses, on, full, met}
 use Rattle.zones.proofs.search.Turns.{met-kind}
 use Rattle.zones.proofs.search.search.Statement.{statement}
 use Rattle.zones.specs.Hits.{width}
-use Rattle.zones.specs.Rows.{rowsFrom, rowsIn, toldReading}
+use Rattle.zones.specs.Rows.{rowsFrom, rowsIn}
 use Rattle.zones.specs.Search.{judgeIn, searched}
+use Rattle.zones.specs.Table.{toldEntered}
 use Rattle.zones.proofs.search.Searching as S
 use Rattle.zones.proofs.search.search.Tie as tie
 
@@ -42,8 +43,8 @@ returns : tie.Need-returns Inv-loop μ-loop
 returns c =
     let loop = c .before .before .before .before .before .before .loop in
     let if1 = c .before .before .before .before .if1 in
-    let row-at = c .before .before .before .row-at in
-    rw (c .end-with .ensures) (S.at-unreadable _ _ _ (loop .inv) (at-unreadable _ (forward-grows _) _ (if1 .taken) (reading-failed (row-at .result) (enum-told (c .before .before)) ∙ row-at .ensures)))
+    let entry-at = c .before .before .before .entry-at in
+    rw (c .end-with .ensures) (S.at-unreadable _ _ _ (loop .inv) (at-unreadable _ (forward-grows _) _ (if1 .taken) (row-failed _ _ (entry-at .result) (enum-told (c .before .before)) (entry-at .ensures))))
 
 same-length-2 : tie.Need-same-length-2 Inv-loop μ-loop
 same-length-2 c =
@@ -55,112 +56,119 @@ returns-2 c =
     let loop = c .before .before .before .before .before .before .before .loop in
     let if1 = c .before .before .before .before .before .if1 in
     let number = c .before .before .number in
-    let row-at = c .before .before .before .before .row-at in
-    rw (c .plain .ensures) (S.at-refused _ _ _ (loop .inv) _ (at-refused _ (forward-grows _) _ (if1 .taken) (sym (ap toldReading (number .given .1)) ∙ row-at .ensures)))
+    let entry-at = c .before .before .before .before .entry-at in
+    rw (c .plain .ensures) (S.at-refused _ _ _ (loop .inv) _ (at-refused _ (forward-grows _) _ (if1 .taken) (row-refused _ _ (sym (ap toldEntered (number .given .1)) ∙ entry-at .ensures))))
 
 loop-less : tie.Need-loop-less Inv-loop μ-loop
 loop-less c =
-    let if1 = c .before .before .before .before .before .before .before .before .before .if1 in
-    let row = c .before .before .before .before .before .before .row in
-    let row-at = c .before .before .before .before .before .before .before .before .row-at in
+    let if1 = c .before .before .before .before .before .before .before .before .before .before .if1 in
+    let entry = c .before .before .before .before .before .before .before .entry in
+    let entry-at = c .before .before .before .before .before .before .before .before .before .entry-at in
+    let row-of = c .before .before .before .before .before .row-of in
     let after = c .before .before .before .before .after in
-    row-less _ (forward-grows _) _ (if1 .taken) (sym (ap toldReading (row .given .1)) ∙ row-at .ensures) (after .ensures)
+    row-less _ (forward-grows _) _ (if1 .taken) (row-read _ _ (sym (ap toldEntered (entry .given .1)) ∙ entry-at .ensures) (row-of .ensures)) (after .ensures)
 
 loop-again : tie.Need-loop-again Inv-loop μ-loop
 loop-again c =
-    let loop = c .before .before .before .before .before .before .before .before .before .before .before .loop in
-    let if1 = c .before .before .before .before .before .before .before .before .before .if1 in
-    let row = c .before .before .before .before .before .before .row in
-    let row-at = c .before .before .before .before .before .before .before .before .row-at in
+    let loop = c .before .before .before .before .before .before .before .before .before .before .before .before .loop in
+    let if1 = c .before .before .before .before .before .before .before .before .before .before .if1 in
+    let entry = c .before .before .before .before .before .before .before .entry in
+    let entry-at = c .before .before .before .before .before .before .before .before .before .entry-at in
+    let row-of = c .before .before .before .before .before .row-of in
     let after = c .before .before .before .before .after in
     let turn = c .before .turn in
     let on-row = c .before .before .before .on-row in
-    on _ _ _ (loop .inv) (at-row _ (forward-grows _) _ (if1 .taken) (sym (ap toldReading (row .given .1)) ∙ row-at .ensures) (after .ensures)) (sym (turn .given .1) ∙ on-row .ensures)
+    on _ _ _ (loop .inv) (at-row _ (forward-grows _) _ (if1 .taken) (row-read _ _ (sym (ap toldEntered (entry .given .1)) ∙ entry-at .ensures) (row-of .ensures)) (after .ensures)) (sym (turn .given .1) ∙ on-row .ensures)
 
 same-length-3 : tie.Need-same-length-3 Inv-loop μ-loop
 same-length-3 c =
-    let loop = c .before .before .before .before .before .before .before .before .before .before .before .before .before .loop in
+    let loop = c .before .before .before .before .before .before .before .before .before .before .before .before .before .before .loop in
     kept-length _ _ _ (loop .inv)
 
 returns-3 : tie.Need-returns-3 Inv-loop μ-loop
 returns-3 c =
-    let loop = c .before .before .before .before .before .before .before .before .before .before .before .before .before .loop in
-    let if1 = c .before .before .before .before .before .before .before .before .before .before .before .if1 in
-    let row = c .before .before .before .before .before .before .before .before .row in
-    let row-at = c .before .before .before .before .before .before .before .before .before .before .row-at in
+    let loop = c .before .before .before .before .before .before .before .before .before .before .before .before .before .before .loop in
+    let if1 = c .before .before .before .before .before .before .before .before .before .before .before .before .if1 in
+    let entry = c .before .before .before .before .before .before .before .before .before .entry in
+    let entry-at = c .before .before .before .before .before .before .before .before .before .before .before .entry-at in
+    let row-of = c .before .before .before .before .before .before .before .row-of in
     let after = c .before .before .before .before .before .before .after in
     let turn2 = c .before .before .before .turn2 in
     let on-row = c .before .before .before .before .before .on-row in
     let if2 = c .before .if2 in
-    let room = c .before .before .before .before .before .before .before .before .before .before .before .before .before .before .before .before .room in
-    rw (c .plain2 .ensures) (full _ _ _ (loop .inv) (at-row _ (forward-grows _) _ (if1 .taken) (sym (ap toldReading (row .given .1)) ∙ row-at .ensures) (after .ensures)) (sym (turn2 .given .1) ∙ on-row .ensures) _ (omega (arith, if2 .taken, room .ensures)))
+    let room = c .before .before .before .before .before .before .before .before .before .before .before .before .before .before .before .before .before .room in
+    rw (c .plain2 .ensures) (full _ _ _ (loop .inv) (at-row _ (forward-grows _) _ (if1 .taken) (row-read _ _ (sym (ap toldEntered (entry .given .1)) ∙ entry-at .ensures) (row-of .ensures)) (after .ensures)) (sym (turn2 .given .1) ∙ on-row .ensures) _ (omega (arith, if2 .taken, room .ensures)))
 
 put-hit-requires : tie.Need-put-hit-requires Inv-loop μ-loop
 put-hit-requires c κs =
-    let loop = c .before .before .before .before .before .before .before .before .before .before .before .before .before .loop in
+    let loop = c .before .before .before .before .before .before .before .before .before .before .before .before .before .before .loop in
     let if2 = c .before .if2 in
-    let room = c .before .before .before .before .before .before .before .before .before .before .before .before .before .before .before .before .room in
+    let room = c .before .before .before .before .before .before .before .before .before .before .before .before .before .before .before .before .before .room in
     omega (arith, kept-length _ _ _ (loop .inv), if2 .left, room .ensures)
 
 add-count : tie.Need-add-count Inv-loop μ-loop
 add-count c =
     let if2 = c .before .before .before .before .if2 in
-    let room = c .before .before .before .before .before .before .before .before .before .before .before .before .before .before .before .before .before .before .before .room in
+    let room = c .before .before .before .before .before .before .before .before .before .before .before .before .before .before .before .before .before .before .before .before .room in
     omega (arith, if2 .left, room .ok)
 
 loop-less-2 : tie.Need-loop-less-2 Inv-loop μ-loop
 loop-less-2 c =
-    let if1 = c .before .before .before .before .before .before .before .before .before .before .before .before .before .before .if1 in
-    let row = c .before .before .before .before .before .before .before .before .before .before .before .row in
-    let row-at = c .before .before .before .before .before .before .before .before .before .before .before .before .before .row-at in
+    let if1 = c .before .before .before .before .before .before .before .before .before .before .before .before .before .before .before .if1 in
+    let entry = c .before .before .before .before .before .before .before .before .before .before .before .before .entry in
+    let entry-at = c .before .before .before .before .before .before .before .before .before .before .before .before .before .before .entry-at in
+    let row-of = c .before .before .before .before .before .before .before .before .before .before .row-of in
     let after = c .before .before .before .before .before .before .before .before .before .after in
-    row-less _ (forward-grows _) _ (if1 .taken) (sym (ap toldReading (row .given .1)) ∙ row-at .ensures) (after .ensures)
+    row-less _ (forward-grows _) _ (if1 .taken) (row-read _ _ (sym (ap toldEntered (entry .given .1)) ∙ entry-at .ensures) (row-of .ensures)) (after .ensures)
 
 loop-again-2 : tie.Need-loop-again-2 Inv-loop μ-loop
 loop-again-2 c =
     let put-hit = c .before .before .put-hit in
-    let loop = c .before .before .before .before .before .before .before .before .before .before .before .before .before .before .before .before .loop in
-    let if1 = c .before .before .before .before .before .before .before .before .before .before .before .before .before .before .if1 in
-    let row = c .before .before .before .before .before .before .before .before .before .before .before .row in
-    let row-at = c .before .before .before .before .before .before .before .before .before .before .before .before .before .row-at in
+    let loop = c .before .before .before .before .before .before .before .before .before .before .before .before .before .before .before .before .before .loop in
+    let if1 = c .before .before .before .before .before .before .before .before .before .before .before .before .before .before .before .if1 in
+    let entry = c .before .before .before .before .before .before .before .before .before .before .before .before .entry in
+    let entry-at = c .before .before .before .before .before .before .before .before .before .before .before .before .before .before .entry-at in
+    let row-of = c .before .before .before .before .before .before .before .before .before .before .row-of in
     let after = c .before .before .before .before .before .before .before .before .before .after in
     let turn2 = c .before .before .before .before .before .before .turn2 in
     let on-row = c .before .before .before .before .before .before .before .before .on-row in
     let if2 = c .before .before .before .before .if2 in
-    let room = c .before .before .before .before .before .before .before .before .before .before .before .before .before .before .before .before .before .before .before .room in
-    rw (put-hit .ensures) (met _ _ _ (loop .inv) (at-row _ (forward-grows _) _ (if1 .taken) (sym (ap toldReading (row .given .1)) ∙ row-at .ensures) (after .ensures)) (sym (turn2 .given .1) ∙ on-row .ensures) (omega (arith, if2 .left, room .ensures)) (met-kind _ _ _ _ (sym (turn2 .given .1) ∙ on-row .ensures)))
+    let room = c .before .before .before .before .before .before .before .before .before .before .before .before .before .before .before .before .before .before .before .before .room in
+    rw (put-hit .ensures) (met _ _ _ (loop .inv) (at-row _ (forward-grows _) _ (if1 .taken) (row-read _ _ (sym (ap toldEntered (entry .given .1)) ∙ entry-at .ensures) (row-of .ensures)) (after .ensures)) (sym (turn2 .given .1) ∙ on-row .ensures) (omega (arith, if2 .left, room .ensures)) (met-kind _ _ _ _ (sym (turn2 .given .1) ∙ on-row .ensures)))
 
 same-length-4 : tie.Need-same-length-4 Inv-loop μ-loop
 same-length-4 c =
-    let loop = c .before .before .before .before .before .before .before .before .before .before .before .before .loop in
+    let loop = c .before .before .before .before .before .before .before .before .before .before .before .before .before .loop in
     kept-length _ _ _ (loop .inv)
 
 returns-4 : tie.Need-returns-4 Inv-loop μ-loop
 returns-4 c =
-    let loop = c .before .before .before .before .before .before .before .before .before .before .before .before .loop in
-    let if1 = c .before .before .before .before .before .before .before .before .before .before .if1 in
-    let row = c .before .before .before .before .before .before .before .row in
-    let row-at = c .before .before .before .before .before .before .before .before .before .row-at in
+    let loop = c .before .before .before .before .before .before .before .before .before .before .before .before .before .loop in
+    let if1 = c .before .before .before .before .before .before .before .before .before .before .before .if1 in
+    let entry = c .before .before .before .before .before .before .before .before .entry in
+    let entry-at = c .before .before .before .before .before .before .before .before .before .before .entry-at in
+    let row-of = c .before .before .before .before .before .before .row-of in
     let after = c .before .before .before .before .before .after in
     let turn3 = c .before .before .turn3 in
     let on-row = c .before .before .before .before .on-row in
-    rw (c .end-with2 .ensures) (stops _ _ _ (loop .inv) (at-row _ (forward-grows _) _ (if1 .taken) (sym (ap toldReading (row .given .1)) ∙ row-at .ensures) (after .ensures)) (sym (turn3 .given .1) ∙ on-row .ensures))
+    rw (c .end-with2 .ensures) (stops _ _ _ (loop .inv) (at-row _ (forward-grows _) _ (if1 .taken) (row-read _ _ (sym (ap toldEntered (entry .given .1)) ∙ entry-at .ensures) (row-of .ensures)) (after .ensures)) (sym (turn3 .given .1) ∙ on-row .ensures))
 
 same-length-5 : tie.Need-same-length-5 Inv-loop μ-loop
 same-length-5 c =
-    let loop = c .before .before .before .before .before .before .before .before .before .before .before .before .loop in
+    let loop = c .before .before .before .before .before .before .before .before .before .before .before .before .before .loop in
     kept-length _ _ _ (loop .inv)
 
 returns-5 : tie.Need-returns-5 Inv-loop μ-loop
 returns-5 c =
-    let loop = c .before .before .before .before .before .before .before .before .before .before .before .before .loop in
-    let if1 = c .before .before .before .before .before .before .before .before .before .before .if1 in
-    let row = c .before .before .before .before .before .before .before .row in
-    let row-at = c .before .before .before .before .before .before .before .before .before .row-at in
+    let loop = c .before .before .before .before .before .before .before .before .before .before .before .before .before .loop in
+    let if1 = c .before .before .before .before .before .before .before .before .before .before .before .if1 in
+    let entry = c .before .before .before .before .before .before .before .before .entry in
+    let entry-at = c .before .before .before .before .before .before .before .before .before .before .entry-at in
+    let row-of = c .before .before .before .before .before .before .row-of in
     let after = c .before .before .before .before .before .after in
     let turn4 = c .before .before .turn4 in
     let on-row = c .before .before .before .before .on-row in
-    rw (c .plain3 .ensures) (refuses _ _ _ (loop .inv) (at-row _ (forward-grows _) _ (if1 .taken) (sym (ap toldReading (row .given .1)) ∙ row-at .ensures) (after .ensures)) _ (sym (turn4 .given .1) ∙ on-row .ensures))
+    rw (c .plain3 .ensures) (refuses _ _ _ (loop .inv) (at-row _ (forward-grows _) _ (if1 .taken) (row-read _ _ (sym (ap toldEntered (entry .given .1)) ∙ entry-at .ensures) (row-of .ensures)) (after .ensures)) _ (sym (turn4 .given .1) ∙ on-row .ensures))
 
 same-length-6 : tie.Need-same-length-6 Inv-loop μ-loop
 same-length-6 c = kept-length _ _ _ (c .before .before .before .loop .inv)
@@ -192,6 +200,7 @@ search-spec =
     (λ c κs. tt)
     same-length-2
     returns-2
+    (λ c κs. tt)
     (λ c κs. tt)
     (λ c κs. tt)
     (λ c. omega arith)
