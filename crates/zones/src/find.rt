@@ -6,6 +6,7 @@ ghost use Rattle.zones.specs.Lists.{zeros};
 ghost use Rattle.zones.specs.Hits.{width};
 ghost use Rattle.zones.specs.Lent.{Agrees};
 ghost use Rattle.zones.specs.Find.{fixOf, isPrecision, matchedWith, foundWith, finding, toldFound, Matching};
+use crate::codes::BAD_PRECISION;
 use crate::header::Head;
 use crate::location::Location;
 use crate::merge::merge_front;
@@ -61,7 +62,7 @@ pub(crate) fn matches_in(
     let preamble = head.preamble;
     let precision = preamble.precision;
     if !is_precision(precision) {
-        return Found::Refused(plain(16));
+        return Found::Refused(plain(BAD_PRECISION));
     }
     let fix = fix_of(location, precision);
     let ended = match search(file, head, fix, asked, hits) {

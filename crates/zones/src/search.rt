@@ -8,6 +8,15 @@ ghost use Rattle.zones.specs.Lists.{zeros};
 ghost use Rattle.zones.specs.Hits.{width};
 ghost use Rattle.zones.specs.Lent.{Agrees};
 ghost use Rattle.zones.specs.Search.{kindOf, judgedTurn, rowTurn, judgeIn, searched, toldSearched, Sought};
+use crate::codes::BROKEN;
+use crate::codes::EXCLUDED;
+use crate::codes::HITS_FULL;
+use crate::codes::IN_ZONE;
+use crate::codes::NO_KIND;
+use crate::codes::ON_SEGMENT;
+use crate::codes::ON_VERTEX;
+use crate::codes::UNREADABLE;
+use crate::codes::WHOLE;
 use crate::header::Head;
 use crate::hits::Hit;
 use crate::hits::put_hit;
@@ -54,11 +63,11 @@ fn kind_of(verdict: Verdict) -> u32
     ensures { λ r. ⌜ r ≡ kindOf verdict ⌝ }
 {
     match verdict {
-        Verdict::NotInZone => 0,
-        Verdict::InZone => 1,
-        Verdict::InExcludedZone => 2,
-        Verdict::OnBorderVertex => 3,
-        Verdict::OnBorderSegment => 4,
+        Verdict::NotInZone => NO_KIND,
+        Verdict::InZone => IN_ZONE,
+        Verdict::InExcludedZone => EXCLUDED,
+        Verdict::OnBorderVertex => ON_VERTEX,
+        Verdict::OnBorderSegment => ON_SEGMENT,
     }
 }
 
@@ -79,7 +88,7 @@ fn judged(row: Row, judgement: Judged) -> Turn
     match judgement {
         Judged::Answered { verdict, least } => {
             let kind = kind_of(verdict);
-            if kind == 0 {
+            if kind == NO_KIND {
                 return Turn::On(least);
             }
             let hit = Hit {
@@ -89,7 +98,10 @@ fn judged(row: Row, judgement: Judged) -> Turn
             };
             Turn::Met { hit, least }
         }
-        Judged::Failed { least } => Turn::Stopped { mark: 3, least },
+        Judged::Failed { least } => Turn::Stopped {
+            mark: BROKEN,
+            least,
+        },
         Judged::Refused(number) => Turn::Refused(number),
     }
 }
@@ -114,7 +126,7 @@ pub fn on_row(file: &[u8], head: Head, fix: Point, asked: bool, row: Row, least:
 {
     let bounds = row.bounds;
     if is_above(bounds, fix) {
-        return Turn::Stopped { mark: 1, least };
+        return Turn::Stopped { mark: WHOLE, least };
     }
     if holds(bounds, fix) {
         let judgement = judge(file, head, fix, asked, row.polygon, least);
@@ -144,7 +156,7 @@ pub(crate) fn search(file: &[u8], head: Head, fix: Point, asked: bool, hits: &mu
     while at.place < end {
         let entry = match entry_at(file, at.place) {
             Entered::Entry(entry) => entry,
-            Entered::Failed => return end_with(count, 2, least),
+            Entered::Failed => return end_with(count, UNREADABLE, least),
             Entered::Refused(number) => return Searched::Refused(plain(number)),
         };
         let row = row_of(at, entry);
@@ -154,7 +166,7 @@ pub(crate) fn search(file: &[u8], head: Head, fix: Point, asked: bool, hits: &mu
             Turn::On(closer) => least = closer,
             Turn::Met { hit, least: closer } => {
                 if room <= count {
-                    return Searched::Refused(plain(17));
+                    return Searched::Refused(plain(HITS_FULL));
                 }
                 put_hit(hits, count, hit);
                 count += 1;
@@ -164,5 +176,5 @@ pub(crate) fn search(file: &[u8], head: Head, fix: Point, asked: bool, hits: &mu
             Turn::Refused(number) => return Searched::Refused(plain(number)),
         }
     }
-    end_with(count, 1, least)
+    end_with(count, WHOLE, least)
 }

@@ -10,6 +10,8 @@ ghost use Rattle.zones.specs.Hits.{width, slots};
 ghost use Rattle.zones.specs.Fields.{toldFields, Wrote};
 ghost use Rattle.zones.specs.Lent.{Agrees, Filled, replied};
 ghost use Rattle.zones.specs.Simple.{same, partOf, begun, newer, pickedFrom, checked, fitting, wordedOf, toldPicks, toldChecked, toldWorded, Worded, describedWith, simplyLookedWith, simplyLooked, toldSimple};
+use crate::codes::BAD_FIELD;
+use crate::codes::TEXT_FULL;
 use crate::field::unmask;
 use crate::fields::Fields;
 use crate::fields::fields_place;
@@ -161,7 +163,7 @@ fn pick(file: &[u8], head: Head, start: usize) -> Picks
     let sections = head.sections;
     let names = preamble.count as usize;
     let blame = Blame {
-        number: 15,
+        number: BAD_FIELD,
         detail: 0,
     };
     let mut index = 0;
@@ -214,10 +216,10 @@ fn join(text: &mut [u8], file: &[u8], one: Text, two: Text) -> Fields
     let second = two.start;
     let more = two.size;
     if text.len() < size {
-        return Fields::Refused(plain(18));
+        return Fields::Refused(plain(TEXT_FULL));
     }
     if text.len() - size < more {
-        return Fields::Refused(plain(18));
+        return Fields::Refused(plain(TEXT_FULL));
     }
     unmask(text, &file[first..first + size]);
     unmask(&mut text[size..], &file[second..second + more]);
