@@ -28,3 +28,8 @@ forward-square = refl
 backward-square : traceOf (127 ∷ 0 ∷ 130 ∷ 4 ∷ 129 ∷ 2 ∷ 48 ∷ 0 ∷ 1 ∷ 5 ∷ 9 ∷ 129 ∷ 2 ∷ 0 ∷ 0 ∷ []) (encodedIn Packed 1) (borderAt 6) ≡ square
 unfolding traceOf traceWithin traceThen nextPoint nextWithin roundAgain turnOf packedTurn marker reference opened lent backwardFrom negated advanced movedBy checked backwardAt startOf forwardAt valueOf sizeOf tooLong signedOf evenBits pointOf
 backward-square = refl
+
+-- point 3 is (0,0) and no marker: a point like any other, and the border goes on
+pub no-marker : traceOf (3 ∷ 0 ∷ 0 ∷ []) Packed 0 (borderAt 0) ≡ point (pointAt (pos 0) (pos 0)) (point (pointAt (pos 0) (pos 0)) closed)
+unfolding traceOf traceWithin traceThen nextPoint nextWithin roundAgain turnOf packedTurn marker advanced movedBy checked forwardAt valueOf sizeOf tooLong signedOf evenBits pointOf
+no-marker = refl

@@ -6,6 +6,7 @@ use crate::leaf::is_integer;
 use crate::leaf::small_integer;
 use crate::text::bytes;
 use crate::text::decimal;
+use crate::text::is_decimal;
 use crate::text::word;
 use border::place::FixedLat;
 use border::place::FixedLon;
@@ -44,7 +45,7 @@ fn is_refused(line: &[u8], k: usize, number: u8) -> bool
     requires { ⌜ k < 1001 ⌝ }
 {
     if check::same(word(line, k), b"refused") {
-        return decimal(word(line, k + 1)) == number as u64;
+        return is_decimal(word(line, k + 1), number as u64);
     }
     false
 }
@@ -126,8 +127,8 @@ fn number_of(verdict: Verdict) -> u64 {
 fn is_verdict(line: &[u8], k: usize, verdict: u64, least: u64) -> bool
     requires { ⌜ k < 1000 ⌝ }
 {
-    if decimal(word(line, k + 2)) == verdict {
-        return decimal(word(line, k + 3)) == least;
+    if is_decimal(word(line, k + 2), verdict) {
+        return is_decimal(word(line, k + 3), least);
     }
     false
 }

@@ -2,6 +2,7 @@
 mod answer;
 mod bytes;
 mod lines;
+mod zero;
 
 ghost use mathlib.Core.Path.{_≡_};
 ghost use Prim.Native.Nat.{_≤_};
