@@ -1,4 +1,6 @@
 pub mod Answer
+pub mod Reply
+pub mod Lists
 pub mod Varint
 pub mod Point
 pub mod Float

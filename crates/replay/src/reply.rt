@@ -2,7 +2,7 @@
 use crate::record::byte_at;
 use crate::record::long_at;
 use libc::STDOUT_FILENO;
-use zones::refusal::Refusal;
+use numbers::refusal::Refusal;
 
 pub struct Reply {
     // 0 answered, 1 refused, 2 failed or none.

@@ -10,7 +10,7 @@ use crate::reply::refused;
 use border::writer::Written;
 use border::writer::write_border_words;
 use numbers::point::signed;
-use zones::refusal::Refusal;
+use numbers::refusal::Refusal;
 
 // A word as an i32 has it: the signed form of twice the word.
 fn signed_word(word: u32) -> i32 {

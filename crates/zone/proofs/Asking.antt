@@ -7,14 +7,14 @@ use mathlib.Core.List.{List}
 use mathlib.Core.Path.{_≡_, subst, ap, _∙_}
 use Rattle.zones.proofs.Agreeing.{agree-refused}
 use Rattle.zones.proofs.Buffers.{tail-lent}
-use Rattle.zones.proofs.Laws.{met, unmet}
+use Rattle.numbers.proofs.Replies.{met, unmet}
 use Rattle.zones.proofs.Replying.{looked-agrees}
 use Rattle.zones.specs.Lent.{Agrees, Outcome, replied, Filled}
 use Rattle.zones.specs.Lookup.{zonesIn, lookedUp}
-use Rattle.zones.specs.Reply.{Reply, refused, plain}
+use Rattle.numbers.specs.Reply.{Reply, refused, plain}
 use Rattle.zones.specs.declared.location.Location.{Location}
 use Rattle.zones.specs.declared.lookup.Zones.{Zones}
-use Rattle.zones.specs.declared.refusal.Refusal.{Refusal}
+use Rattle.numbers.specs.declared.refusal.Refusal.{Refusal}
 use Rattle.zone.specs.Answer.{locationOf, answerOf}
 
 module _ (input : List ℕ) (n room : ℕ) where

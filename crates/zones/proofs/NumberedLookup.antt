@@ -11,7 +11,8 @@ use Rattle.numbers.specs.Varint.{forwardAt}
 use Rattle.border.proofs.Numbered.{NumberedJudgement, judged, unjudged, not-judged, judged-numbered}
 use Rattle.border.specs.Verdict.{Judgement}
 use Rattle.border.specs.declared.place.Point.{Point}
-use Rattle.zones.proofs.Numbered.{headerNumbers, NumberedReply, answers, refuses, then-reply, and-then, demands, number-of, text-numbered, blame-numbered, head-numbered}
+use Rattle.numbers.proofs.Replies.{NumberedReply, answers, refuses, then-reply, and-then, demands, number-of}
+use Rattle.zones.proofs.Numbered.{headerNumbers, text-numbered, blame-numbered, head-numbered}
 use Rattle.zones.specs.Field.{field, fieldAt}
 use Rattle.zones.specs.Fields.{fieldsPlace, fieldsFrom, fieldsOf}
 use Rattle.zones.specs.Find.{fixOf, isPrecision, matchedIn}
@@ -19,7 +20,7 @@ use Rattle.zones.specs.Header.{blameOf}
 use Rattle.zones.specs.Hits.{width}
 use Rattle.zones.specs.Lent.{Outcome, repliedOf}
 use Rattle.zones.specs.Lookup.{zonesIn, lookedUp}
-use Rattle.zones.specs.Reply.{Reply, refused, plain}
+use Rattle.numbers.specs.Reply.{Reply, refused, plain}
 use Rattle.zones.specs.Search.{kindOf, judgedTurn, entryTurn, readTurn, turnOf, Found, afterTurn, walk, judgeIn, pastEntry, turnAt, searched}
 use Rattle.zones.specs.Simple.{pickedFrom, pickedOf, checked, descriptionOf, bytesIn, wordedOf, describedIn, simplyLooked}
 use Rattle.zones.specs.Table.{stepsAt, entryAt, isAbove, holds}
@@ -27,7 +28,7 @@ use Rattle.zones.specs.Text.{bytesOf, textAt}
 use Rattle.zones.specs.declared.header.Head.{Head}
 use Rattle.zones.specs.declared.hits.Hit.{Hit}
 use Rattle.zones.specs.declared.location.Location.{Location}
-use Rattle.zones.specs.declared.refusal.Refusal.{Refusal}
+use Rattle.numbers.specs.declared.refusal.Refusal.{Refusal}
 use Rattle.zones.specs.declared.search.Cursor.{Cursor}
 use Rattle.zones.specs.declared.search.Turn.{Turn}
 use Rattle.zones.specs.declared.search.Turn.the-variants.{On, Met, Stopped, Refused}

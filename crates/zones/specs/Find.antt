@@ -8,8 +8,8 @@ use lib.IntN.{pos}
 use lib.Ieee.{Float, fin}
 use lib.ListN.{length}
 use Rattle.numbers.specs.Float.{fixedPoint}
-use Rattle.zones.specs.Lists.{padded}
-use Rattle.zones.specs.Reply.{Reply, given, refused, plain, demand, _>>=_, _>>_}
+use Rattle.numbers.specs.Lists.{padded}
+use Rattle.numbers.specs.Reply.{Reply, given, refused, plain, demand, _>>=_, _>>_}
 use Rattle.zones.specs.Header.{headOf}
 use Rattle.zones.specs.Hits.{words}
 use Rattle.zones.specs.Search.{searched}

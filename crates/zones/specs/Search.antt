@@ -12,9 +12,9 @@ use Rattle.border.specs.Verdict.{Judgement, reached, judgedAt}
 use Rattle.border.specs.Verdict as J
 use Rattle.border.specs.declared.verdict.Verdict.{Verdict}
 use Rattle.border.specs.declared.verdict.Verdict.the-variants.{NotInZone, InZone, InExcludedZone, OnBorderVertex, OnBorderSegment}
-use Rattle.zones.specs.Reply.{Reply, given, plain}
-use Rattle.zones.specs.Reply as R
-use Rattle.zones.specs.Lists.{padded}
+use Rattle.numbers.specs.Reply.{Reply, given, plain}
+use Rattle.numbers.specs.Reply as R
+use Rattle.numbers.specs.Lists.{padded}
 use Rattle.zones.specs.Hits.{hitOf, words, Real}
 use Rattle.zones.specs.Table.{entryAt, isAbove, holds}
 use Rattle.zones.specs.declared.header.Head.{Head}

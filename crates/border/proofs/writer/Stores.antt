@@ -12,7 +12,7 @@ use lib.Seq.{sets, length-sets, set-out, sets-eq, drop-length}
 use borrow.Author.Tests.{lt-ltb, le-ltb}
 use Rattle.border.specs.Moves.{digitsOf, varintOf}
 use Rattle.border.specs.Stored.{Stored}
-use Rattle.border.specs.Writer.{zeros}
+use Rattle.numbers.specs.Lists.{zeros}
 
 sets-append : (xs ys before : List ℕ) (at : ℕ) → sets before at (xs ++ ys) ≡ sets (sets before at xs) (at + length xs) ys
 sets-append [] ys before at = ap (λ (n : ℕ). sets before n ys) (sym (add-zero at))

@@ -5,7 +5,7 @@ ghost use Prim.Native.Nat.{_+_, _^_, _<_};
 ghost use lib.ListN.{length};
 ghost use Rattle.border.specs.Moves.{varintOf};
 ghost use Rattle.border.specs.Stored.{Stored};
-ghost use Rattle.border.specs.Writer.{zeros};
+ghost use Rattle.numbers.specs.Lists.{zeros};
 
 fn put(out: &mut [u8], place: usize, byte: u8) -> usize
     requires { ⌜ place < 2 ^ 62 ⌝ }

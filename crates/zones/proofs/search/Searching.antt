@@ -6,9 +6,9 @@ use native.Mathlib.Nat.{sub-zero}
 use native.Mathlib.Omega.{arith}
 use borrow.Author.Tests.{lt-ltb, le-ltb}
 use lib.ListN.{length, length-append, length-replicate}
-use Rattle.zones.specs.Lists.{zeros, padded}
-use Rattle.zones.specs.Reply.{Reply, given, plain}
-use Rattle.zones.specs.Reply as R
+use Rattle.numbers.specs.Lists.{zeros, padded}
+use Rattle.numbers.specs.Reply.{Reply, given, plain}
+use Rattle.numbers.specs.Reply as R
 use Rattle.zones.specs.Hits.{width, words, putHit, Real}
 use Rattle.zones.specs.Search.{Found, ended, afterTurn, walk, Sought}
 use Rattle.zones.specs.Lent.{Agrees}

@@ -2,7 +2,8 @@
 use mathlib.Core.Path.{_≡_, sym, ap, _∙_}
 use mathlib.Core.List.{[]}
 use native.Mathlib.Omega.{arith}
-use Rattle.border.specs.Writer.{given, checks, passed, replied}
+use Rattle.numbers.specs.Reply.{given}
+use Rattle.border.specs.Writer.{checks, passed, replied}
 use Rattle.border.specs.declared.writer.Written.{Written}
 use Rattle.border.proofs.writer.Replying.{refusing, finished, faulty, good-sizes, plain-none, plain-given, packed-many, packed-bad, packed-given}
 use Rattle.border.proofs.writer.write_checked.Statement.{statement}
@@ -13,7 +14,7 @@ returns c =
     let told = c .enum-told2 .given in
     let zero-bytes = c .before .before .before .before .before .zero-bytes in
     λ ps h. ap (λ (w : Written). replied w (zero-bytes .last .0)) (told .1)
-    ∙ refusing _ _ (told .0 .0) (told .0 .1 .0) _ (faulty _ _ _ _ ps _ _ (ap passed (sym (told .1)) ∙ c .before .before .border-fault .ensures)) (zero-bytes .ensures)
+    ∙ refusing _ _ (told .0 .0) (told .0 .1 .0) _ (faulty _ _ _ _ ps (ap passed (sym (told .1)) ∙ c .before .before .border-fault .ensures)) (zero-bytes .ensures)
 
 -- where every check of the border has passed
 good : (c : tie.After-enum-told) → let args = c .before .before .before .before .before .before .before .before .before .args in given tt ≡ checks (args .version) (args .lats .now) (args .lons .now) (args .earlier .now)
