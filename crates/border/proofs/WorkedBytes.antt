@@ -6,7 +6,8 @@ use lib.IntN.{ℤ, pos}
 use Rattle.numbers.specs.Varint.{forwardAt, valueOf, sizeOf, tooLong}
 use Rattle.numbers.specs.Point.{signedOf, evenBits, pointOf}
 use Rattle.border.specs.Place.{isStill}
-use Rattle.border.specs.Moves.{digitsOf, varintOf, signedForm, interleaved, plainMoveBytes, packedNumber, packedMoveBytes, moveTo, movesFrom, pointsOf, movesOf, sameMove}
+use Rattle.numbers.specs.Spelling.{digitsOf, varintOf, signedForm, interleaved}
+use Rattle.border.specs.Moves.{plainMoveBytes, packedNumber, packedMoveBytes, moveTo, movesFrom, pointsOf, movesOf, sameMove}
 use Rattle.border.specs.Pieces.{lentMoves, readAnd, spells, clearBefore, accepted, goodPieces, pieceBytes, packedFrom}
 use Rattle.numbers.specs.Reply.{given, refused, plain}
 use Rattle.border.specs.Writer.{every, sized, near, checks, plainBorder, packedBorder, borderOf}

@@ -9,7 +9,8 @@ use Rattle.numbers.specs.Answer.{if_then_else_}
 use Rattle.numbers.specs.Lists.{zeros, padded}
 use Rattle.numbers.specs.Reply.{Reply, given, refused, refusal, plain, demand, _>>_}
 use Rattle.numbers.specs.declared.point.{RawPoint.RawPoint}
-use Rattle.border.specs.Moves.{varintOf, plainMoveBytes, movesOf, isMove}
+use Rattle.numbers.specs.Spelling.{varintOf}
+use Rattle.border.specs.Moves.{plainMoveBytes, movesOf, isMove}
 use Rattle.border.specs.Pieces.{goodPieces, packedFrom}
 use Rattle.border.specs.declared.writer.{Piece.Piece, Written.Written}
 use Rattle.border.specs.declared.writer.Written.the-variants as W

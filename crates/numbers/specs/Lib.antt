@@ -3,5 +3,6 @@ pub mod Reply
 pub mod Lists
 pub mod Varint
 pub mod Point
+pub mod Spelling
 pub mod Float
 pub mod Marked

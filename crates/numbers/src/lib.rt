@@ -3,3 +3,4 @@ pub mod float;
 pub mod point;
 pub mod refusal;
 pub mod varint;
+pub mod write;

@@ -15,7 +15,8 @@ use Rattle.numbers.specs.Lists.{zeros}
 use Rattle.numbers.specs.Reply.{Reply, given, refused, refusal, plain, _>>_}
 use Rattle.numbers.specs.declared.refusal.Refusal.{Refusal}
 use Rattle.numbers.specs.declared.point.{RawPoint.RawPoint}
-use Rattle.border.specs.Moves.{varintOf, plainMoveBytes, movesOf}
+use Rattle.numbers.specs.Spelling.{varintOf}
+use Rattle.border.specs.Moves.{plainMoveBytes, movesOf}
 use Rattle.border.specs.Pieces.{packedFrom}
 use Rattle.border.specs.Writer.{sized, checks, plainBorder, packedBorder, borderOf, Replied, replied, fitted}
 use Rattle.border.specs.Stored.{Stored, Checked}

@@ -16,7 +16,8 @@ use Rattle.numbers.specs.Varint.{Numeral, forwardAt, isLast}
 use Rattle.numbers.specs.declared.point.{RawPoint.RawPoint}
 use Rattle.numbers.specs.Answer.{checked}
 use Rattle.border.specs.Place.{pointAt, moveBy, isStill, movedBy, negated}
-use Rattle.border.specs.Moves.{varintOf, signedForm, plainMoveBytes, packedMoveBytes, packedNumber, moveTo, movesFrom, pointsOf, movesOf, isMove, turnedBack, sameMove}
+use Rattle.numbers.specs.Spelling.{varintOf, signedForm}
+use Rattle.border.specs.Moves.{plainMoveBytes, packedMoveBytes, packedNumber, moveTo, movesFrom, pointsOf, movesOf, isMove, turnedBack, sameMove}
 use Rattle.border.specs.Pieces.{lentBy, lentMoves, readAnd, spells, clearBefore, accepted, goodPieces, pieceBytes, packedFrom}
 use Rattle.numbers.specs.Reply as R
 use Rattle.border.specs.Encoding.{versionOf}
@@ -28,13 +29,15 @@ use Rattle.border.specs.declared.place.{Point.Point}
 use Rattle.border.specs.declared.reader.Version.the-variants.{Plain, Packed}
 use Rattle.border.specs.declared.writer.{Piece.Piece}
 use Rattle.numbers.proofs.Wholes.{read-whole}
-use Rattle.border.proofs.OnWay.{one-byte}
+use Rattle.numbers.proofs.Spelling.{one-byte}
 use Rattle.border.proofs.writer.Faults.{sizes}
 use Rattle.border.proofs.writer.Indexed.{points-length, moves-length}
-use Rattle.border.proofs.writer.Inverse.{varint-whole, signed-small, even-back, odd-back, Moves, pair-back, packed-back, packed-some, packed-small}
+use Rattle.numbers.proofs.Spelling.{varint-whole, signed-small, even-back, odd-back}
+use Rattle.border.proofs.writer.Inverse.{Moves, pair-back, packed-back, packed-some, packed-small}
 use Rattle.numbers.proofs.Replies.{demanded}
 use Rattle.border.proofs.Signs.{differ, both}
-use Rattle.border.proofs.writer.Signs.{size-sum, size-neg, mag-size, form-one}
+use Rattle.numbers.proofs.Spelling.{form-one}
+use Rattle.border.proofs.writer.Signs.{size-sum, size-neg, mag-size}
 
 -- ---- from a point to the next
 not-true : (t : Bool) → not t ≡ true → t ≡ false
@@ -135,8 +138,8 @@ pairs (some {m = m} {ms = ms} h g) =
     (W.some (varint-whole lat (omega (arith, signed-small (m .lat) (h .lat-small)))) (varint-whole lon (omega (arith, signed-small (m .lon) (h .lon-small)))) (ap isStill back ∙ h .moves) (pairs g)))
 
 guard : Pairs (2 ∷ 2 ∷ []) (moveBy (signedOf 2) (signedOf 2) ∷ [])
-unfolding isStill signedOf
-guard = W.some (one-byte 2 (lit< tt)) (one-byte 2 (lit< tt)) refl W.none
+unfolding isStill
+guard = W.some (one-byte 2 (lit< tt)) (one-byte 2 (lit< tt)) (rw (even-back 1 (lit< tt))) W.none
 
 -- ---- a run that spells moves
 same-move : (a b : RawPoint) → sameMove a b ≡ true → a ≡ b
