@@ -9,14 +9,14 @@ ghost use Rattle.numbers.specs.Spelling.{varintOf};
 use numbers::write::write_varint;
 
 // The shortest varint, and the place behind it.
-pub fn put_varint(out: &mut [u8], place: usize, value: u64) -> usize
+pub(crate) fn put_varint(out: &mut [u8], place: usize, value: u64) -> usize
     requires { ⌜ place < 2 ^ 61 ⌝ }
     ensures { λ r. ⌜ Stored (now (out .entry)) place (varintOf value) (now (out .exit)) r ⌝ }
 {
     place + write_varint(out, place, value)
 }
 
-pub fn put_two(out: &mut [u8], place: usize, first: u64, second: u64) -> usize
+pub(crate) fn put_two(out: &mut [u8], place: usize, first: u64, second: u64) -> usize
     requires { ⌜ place < 2 ^ 60 + 20 ⌝ }
     ensures { λ r. ⌜ Stored (now (out .entry)) place (varintOf first ++ varintOf second) (now (out .exit)) r ⌝ }
 {
@@ -24,7 +24,7 @@ pub fn put_two(out: &mut [u8], place: usize, first: u64, second: u64) -> usize
     put_varint(out, next, second)
 }
 
-pub fn zero_bytes(out: &mut [u8])
+pub(crate) fn zero_bytes(out: &mut [u8])
     ensures { λ _. ⌜ now (out .exit) ≡ zeros (length (now (out .entry))) ⌝ }
 {
     let mut i = 0;

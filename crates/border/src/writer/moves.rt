@@ -59,7 +59,7 @@ fn turned_form(list: &[i32], i: usize, direction: u32) -> u64
 }
 
 // Whether the border's ith point differs from the one before it.
-pub fn moves_at(lats: &[i32], lons: &[i32], i: usize) -> bool
+pub(crate) fn moves_at(lats: &[i32], lons: &[i32], i: usize) -> bool
     requires { ⌜ (i < length (now lats)) × (i < length (now lons)) ⌝ }
     ensures { λ r. ⌜ r ≡ isMove (moveAt (now (lats .entry)) (now (lons .entry)) i) ⌝ }
 {
@@ -70,7 +70,7 @@ pub fn moves_at(lats: &[i32], lons: &[i32], i: usize) -> bool
 }
 
 // Whether a number is the border's ith move, negated when the direction is backward.
-pub fn is_lent(value: u64, lats: &[i32], lons: &[i32], i: usize, direction: u32) -> bool
+pub(crate) fn is_lent(value: u64, lats: &[i32], lons: &[i32], i: usize, direction: u32) -> bool
     requires { ⌜ (i < length (now lats)) × (i < length (now lons)) ⌝ }
     ensures { λ r. ⌜ r ≡ sameMove (pointOf value) (if eqb direction 0 then moveAt (now (lats .entry)) (now (lons .entry)) i else turnedBack (moveAt (now (lats .entry)) (now (lons .entry)) i)) ⌝ }
 {
@@ -90,7 +90,7 @@ fn move_number(lats: &[i32], lons: &[i32], i: usize) -> u64
 }
 
 // The version 1 moves to the points from index `from` up to `to`.
-pub fn put_packed(
+pub(crate) fn put_packed(
     out: &mut [u8],
     place: usize,
     lats: &[i32],
@@ -111,7 +111,7 @@ pub fn put_packed(
 }
 
 // The version 0 moves to the points from index `from` up to `to`.
-pub fn put_plain(
+pub(crate) fn put_plain(
     out: &mut [u8],
     place: usize,
     lats: &[i32],

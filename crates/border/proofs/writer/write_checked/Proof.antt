@@ -21,8 +21,8 @@ good : (c : tie.After-enum-told) → let args = c .before .before .before .befor
 good c = ap passed (sym (c .enum-told .given .1)) ∙ c .before .before .border-fault .ensures
 
 returns-2 : tie.Need-returns-2
-returns-2 c = λ ps h.
-    refusing _ _ 23 0 _ (plain-none _ _ _ _ ps (good (c .before .before)) _ h (c .before .if1 .taken) (c .if2 .taken)) (c .before .before .before .before .before .before .before .zero-bytes .ensures)
+returns-2 c = λ ps h. ap (λ (w : Written). replied w (c .before .before .before .before .before .before .before .before .zero-bytes .last .0)) (c .refused .ensures) ∙
+    refusing _ _ 23 0 _ (plain-none _ _ _ _ ps (good (c .before .before .before)) _ h (c .before .before .if1 .taken) (c .before .if2 .taken)) (c .before .before .before .before .before .before .before .before .zero-bytes .ensures)
 
 write-plain-requires : tie.Need-write-plain-requires
 write-plain-requires c κs = let s = good-sizes _ _ _ _ [] (good (c .before .before .before)) in (s .same, s .few)
@@ -33,12 +33,12 @@ returns-3 c = λ ps h.
     (c .before .before .before .before .before .before .before .before .before .before .before .before .before .before .before .zero-bytes .ensures) (c .before .before .before .before .before .before .write-plain .ensures) (c .before .before .finish .ensures)
 
 returns-4 : tie.Need-returns-4
-returns-4 c = λ ps h.
-    refusing _ _ 23 16 _ (packed-many _ _ _ _ ps (good (c .before .before)) _ h (c .before .if1 .left) (c .if3 .taken)) (c .before .before .before .before .before .before .before .zero-bytes .ensures)
+returns-4 c = λ ps h. ap (λ (w : Written). replied w (c .before .before .before .before .before .before .before .before .zero-bytes .last .0)) (c .refused2 .ensures) ∙
+    refusing _ _ 23 16 _ (packed-many _ _ _ _ ps (good (c .before .before .before)) _ h (c .before .before .if1 .left) (c .before .if3 .taken)) (c .before .before .before .before .before .before .before .before .zero-bytes .ensures)
 
 returns-5 : tie.Need-returns-5
-returns-5 c = λ ps h.
-    refusing _ _ 23 _ _ (packed-bad _ _ _ _ ps (good (c .before .before .before .before)) _ h (c .before .before .before .if1 .left) (c .before .before .if3 .left) (c .if4 .taken)) (c .before .before .before .before .before .before .before .before .before .zero-bytes .ensures)
+returns-5 c = λ ps h. ap (λ (w : Written). replied w (c .before .before .before .before .before .before .before .before .before .before .zero-bytes .last .0)) (c .refused3 .ensures) ∙
+    refusing _ _ 23 _ _ (packed-bad _ _ _ _ ps (good (c .before .before .before .before .before)) _ h (c .before .before .before .before .if1 .left) (c .before .before .before .if3 .left) (c .before .if4 .taken)) (c .before .before .before .before .before .before .before .before .before .before .zero-bytes .ensures)
 
 write-packed-requires : tie.Need-write-packed-requires
 write-packed-requires c κs = let s = good-sizes _ _ _ _ [] (good (c .before .before .before .before .before .before)) in (s .same, s .few, c .before .before .before .before .if3 .left)
@@ -58,14 +58,17 @@ write-checked-spec =
     (λ c. omega arith)
     (λ c. omega arith)
     returns
+    (λ c κs. tt)
     (λ c. omega arith)
     returns-2
     write-plain-requires
     (λ c κs. tt)
     (λ c. omega arith)
     returns-3
+    (λ c κs. tt)
     (λ c. omega arith)
     returns-4
+    (λ c κs. tt)
     (λ c. omega arith)
     returns-5
     write-packed-requires
