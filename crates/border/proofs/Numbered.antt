@@ -13,7 +13,6 @@ use Rattle.numbers.specs.declared.point.{RawPoint.RawPoint}
 use Rattle.border.specs.Distance.{squared, toSegment, toVertex, distanceOf, measured}
 use Rattle.border.specs.Edge.{samePoint, sameZ, inBox, straight, quadrantOf, locationOf, edgeOf, closestOn, cutOf}
 use Rattle.border.specs.Place.{movedBy, negated}
-use Rattle.border.specs.Place
 use Rattle.border.specs.Reader.{Turn, gives, again, ends, advanced, plainMove, plainPair, plainTurn, opened, reference, marker, lent, packedTurn, turnOf}
 use Rattle.border.specs.Step.{Step}
 use Rattle.border.specs.Step as S
@@ -62,8 +61,8 @@ module _ {P : ℕ → Type 0} (twelve : P 12) (thirteen : P 13) where
   forward : (f : List ℕ) (place : ℕ) → Numbered P (forwardAt f place)
   forward = forward-numbered twelve
 
-  fits : (bits : ℕ) (z : ℤ) → Numbered P (Place.checked bits z)
-  unfolding Place.checked
+  fits : (bits : ℕ) (z : ℤ) → Numbered P (A.checked bits z)
+  unfolding A.checked
   fits bits z = either (Numbered P) (ltb (mag z) (2 ^ bits)) as-found (as-refused thirteen)
 
   moved : (p : Point) (by : RawPoint) → Numbered P (movedBy p by)

@@ -1,7 +1,5 @@
 -- Bytes that stand at a place of a file, and a reader on its way through a border: what one turn delivers, and what the turns after it. Assumes nothing.
 use Prim.Native.Nat.{ℕ, suc, _+_, _-_, _<_, _≤_}
-use borrow.Author.Tests.{lt-ltb}
-use lib.Dec.{lit≤}
 use lib.ListN.{length, getD, drop}
 use lib.Seq.{drop-drop, drop-append-seam, getD-drop}
 use mathlib.Core.Bool.{Bool, true, false}
@@ -19,10 +17,11 @@ use Rattle.border.specs.Encoding.{encodedIn}
 use Rattle.border.specs.Place.{movedBy}
 use Rattle.border.specs.Reader.{gives, again, closing, turnOf}
 use Rattle.border.specs.Trace.{point, closed, traceOf}
-use Rattle.border.specs.Written.{Whole, Leads, pointsThen}
+use Rattle.border.specs.Written.{Leads, pointsThen}
 use Rattle.border.specs.declared.reader.Run.the-variants.{Idle}
 use Rattle.numbers.specs.Answer.{found, if_then_else_}
-use Rattle.numbers.specs.Varint.{numeral, valueOf, sizeOf, forwardAt, backwardAt}
+use Rattle.numbers.specs.Spelling.{Whole}
+use Rattle.numbers.specs.Varint.{numeral, forwardAt, backwardAt}
 use Rattle.border.specs.Written as W
 
 -- ---- bytes at a place
@@ -59,11 +58,6 @@ module _ {f w : List ℕ} {place value : ℕ} (h : Whole w value) where
 
   pub stays-clear : At f (suc place) w → getD f (place + length w) 0 < 128
   stays-clear here = whole-clear f w (here .rest) place (h .complete) (here .here)
-
--- a byte with a clear high bit is a whole number
-pub one-byte : (b : ℕ) → b < 128 → Whole (b ∷ []) b
-unfolding sizeOf valueOf
-one-byte b h = record { complete = rw (lt-ltb b 128 h); short = lit≤ tt; reads = rw (lt-ltb b 128 h) (omega arith) }
 
 -- ---- a reader on its way
 

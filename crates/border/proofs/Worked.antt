@@ -4,7 +4,8 @@ use mathlib.Core.List.{[], _∷_}
 use lib.IntN.{pos}
 use Rattle.numbers.specs.Varint.{forwardAt, valueOf, sizeOf, tooLong, startOf, backwardAt}
 use Rattle.numbers.specs.Point.{signedOf, evenBits, pointOf}
-use Rattle.border.specs.Place.{pointAt, isStill, checked, movedBy, negated}
+use Rattle.numbers.specs.Answer.{checked}
+use Rattle.border.specs.Place.{pointAt, isStill, movedBy, negated}
 use Rattle.border.specs.Reader.{advanced, plainMove, plainPair, plainTurn, opened, reference, marker, lent, forwardFrom, backwardFrom, packedTurn, turnOf}
 use Rattle.border.specs.Trace.{roundAgain, nextWithin, nextPoint, Trace, point, closed, traceThen, traceWithin, traceOf, borderAt}
 use Rattle.border.specs.Encoding.{encodedIn}

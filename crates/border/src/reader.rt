@@ -17,6 +17,7 @@ use crate::place::negate;
 use numbers::point::RawPoint;
 use numbers::point::decode_point;
 use numbers::point::signed;
+use numbers::refusal::OUT_OF_RANGE;
 use numbers::varint::Number;
 use numbers::varint::Varint;
 use numbers::varint::read_backward;
@@ -124,7 +125,7 @@ fn advance(reader: Reader, place: usize, run: Run, by: RawPoint) -> Turn
 {
     let here = reader.point;
     let Moved::To(point) = move_by(here, by) else {
-        return Turn::Refused(13);
+        return Turn::Refused(OUT_OF_RANGE);
     };
     Turn::Gives(arrive(reader, place, reader.moves, run, point))
 }
@@ -149,7 +150,7 @@ fn plain_move(reader: Reader, place: usize, moves: u64, by: RawPoint) -> Turn
     }
     let here = reader.point;
     let Moved::To(point) = move_by(here, by) else {
-        return Turn::Refused(13);
+        return Turn::Refused(OUT_OF_RANGE);
     };
     shown(arrive(reader, place, moves - 1, Run::Idle, point), by)
 }
@@ -273,7 +274,7 @@ fn open_reference(file: &[u8], base: u32, reader: Reader, place: usize) -> Turn
         return stop(m);
     };
     let Opened::Run(run) = open_run(base, start.value, signed(length.value)) else {
-        return Turn::Refused(13);
+        return Turn::Refused(OUT_OF_RANGE);
     };
     Turn::Again(go_on(reader, length.place, run))
 }
@@ -376,7 +377,7 @@ fn run_backward(file: &[u8], base: u32, reader: Reader, next: usize, end: usize)
         return Turn::Failed;
     }
     let Away::By(by) = negate(decode_point(behind.value)) else {
-        return Turn::Refused(13);
+        return Turn::Refused(OUT_OF_RANGE);
     };
     advance(reader, reader.place, backward_from(behind.place, end), by)
 }

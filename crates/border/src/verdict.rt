@@ -18,6 +18,7 @@ use crate::reader::Next;
 use crate::reader::next_point;
 use crate::reader::open_border;
 use crate::winding::wound;
+use numbers::refusal::OUT_OF_RANGE;
 
 pub enum Verdict {
     NotInZone,
@@ -139,7 +140,7 @@ fn stopped(passed: Passed, asked: bool, least: u64) -> Judged
     ensures { λ r. ⌜ told r ≡ thenOn asked least (step.told passed) (λ tally. verdict.refused 13) ⌝ }
 {
     let Passed::Meets(verdict) = passed else {
-        return Judged::Refused(13);
+        return Judged::Refused(OUT_OF_RANGE);
     };
     on_border(verdict, asked, least)
 }

@@ -6,14 +6,14 @@ use mathlib.Core.Bool.{true}
 use mathlib.Core.List.{List}
 use mathlib.Core.Path.{_≡_, ap, _∙_}
 use Rattle.zones.proofs.Buffers.{tail-lent}
-use Rattle.zones.proofs.Laws.{met, unmet}
+use Rattle.numbers.proofs.Replies.{met, unmet}
+use Rattle.numbers.specs.Lists.{zeros}
 use Rattle.zones.specs.Lent.{Outcome, replied, repliedOf}
-use Rattle.zones.specs.Lists.{zeros}
 use Rattle.zones.specs.Lookup.{zonesIn, lookedUp}
-use Rattle.zones.specs.Reply.{Reply, refused, plain}
+use Rattle.numbers.specs.Reply.{Reply, refused, plain}
 use Rattle.zones.specs.declared.location.Location.{Location}
 use Rattle.zones.specs.declared.lookup.Zones.{Zones}
-use Rattle.zones.specs.declared.refusal.Refusal.{Refusal}
+use Rattle.numbers.specs.declared.refusal.Refusal.{Refusal}
 use Rattle.zone.specs.Answer.{locationOf, outcomeOf, answerOf}
 
 module _ (input : List ℕ) (n room : ℕ) where

@@ -5,7 +5,7 @@ use Prim.Native.Nat.{ℕ, _+_, _*_}
 use lib.Dec.{leb}
 use lib.Ieee.{binary32, ofBits}
 use lib.ListN.{length, drop, getD}
-use Rattle.zones.specs.Reply.{Reply, plain, demand, _>>_}
+use Rattle.numbers.specs.Reply.{Reply, plain, demand, _>>_}
 use Rattle.zones.specs.Lent.{Outcome, Replied, repliedOf}
 use Rattle.zones.specs.Lookup.{zonesIn}
 use Rattle.zones.specs.declared.location.Location.{Location}

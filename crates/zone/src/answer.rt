@@ -7,10 +7,10 @@ ghost use Rattle.zone.specs.Answer.{answerOf};
 use crate::bytes::word_at;
 use crate::zero::zero_both;
 use numbers::float::bits::of_bits;
+use numbers::refusal::plain;
 use zones::location::Location;
 use zones::lookup::Looked;
 use zones::lookup::lookup;
-use zones::refusal::plain;
 
 // Latitude and longitude (f32 bits, low byte first), then the file.
 pub fn answer(input: &[u8], hits: &mut [u32], text: &mut [u8]) -> Looked

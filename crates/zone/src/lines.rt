@@ -1,7 +1,7 @@
 // The lines that are printed. Each function puts something at a place of a lent buffer, as far as it fits, and answers the place after it.
 use crate::bytes::byte_at;
+use numbers::refusal::Refusal;
 use zones::lookup::Zones;
-use zones::refusal::Refusal;
 
 // Where the next line goes, and where the next field of the text begins.
 struct Places {

@@ -1,7 +1,7 @@
 // A refusal leaves what was lent zero.
 ghost use mathlib.Core.Path.{_≡_};
 ghost use lib.ListN.{length};
-ghost use Rattle.zones.specs.Lists.{zeros};
+ghost use Rattle.numbers.specs.Lists.{zeros};
 
 fn zero_words(hits: &mut [u32])
     ensures { λ _. ⌜ now (hits .exit) ≡ zeros (length (now (hits .entry))) ⌝ }

@@ -5,14 +5,14 @@ use mathlib.Core.List.{List}
 use Prim.Native.Nat.{ℕ}
 use Rattle.zones.specs.Header.{headOf}
 use Rattle.zones.specs.Lent.{Outcome, Replied, replied, repliedOf}
-use Rattle.zones.specs.Lists.{zeros}
+use Rattle.numbers.specs.Lists.{zeros}
 use Rattle.zones.specs.Lookup.{zonesWith, zonesIn, lookedWith, lookedUp}
-use Rattle.zones.specs.Reply.{Reply, given, refused}
+use Rattle.numbers.specs.Reply.{Reply, given, refused}
 use Rattle.zones.specs.Simple.{describedWith, describedIn, simplyLookedWith, simplyLooked}
 use Rattle.zones.specs.declared.header.Head.{Head}
 use Rattle.zones.specs.declared.location.Location.{Location}
-use Rattle.zones.specs.declared.refusal.Refusal.{Refusal}
-use Rattle.zones.proofs.Laws.{carried, onward}
+use Rattle.numbers.specs.declared.refusal.Refusal.{Refusal}
+use Rattle.numbers.proofs.Replies.{carried, onward}
 
 refused-zero : {A : Type 0} (n room : ℕ) {whole : Reply (Outcome A)} {why : Refusal} {hs ts : List ℕ} → refused why ≡ whole → hs ≡ zeros n → ts ≡ zeros room
     → replied {A = A} (refused why) hs ts ≡ repliedOf n room whole

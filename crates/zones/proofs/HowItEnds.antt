@@ -18,11 +18,11 @@ use Rattle.zones.specs.Find.{fixOf, isPrecision, Matched, matchedWith}
 use Rattle.zones.specs.Header.{headOf}
 use Rattle.zones.specs.Hits.{width, words, hitOf}
 use Rattle.zones.specs.Lent.{Outcome, repliedOf}
-use Rattle.zones.specs.Lists.{padded}
+use Rattle.numbers.specs.Lists.{padded}
 use Rattle.zones.specs.Lookup.{zonesWith, zonesIn, lookedUp}
 use Rattle.zones.specs.Merge.{merged}
-use Rattle.zones.specs.Reply.{Reply, given, plain, demand, _>>=_, _>>_}
-use Rattle.zones.specs.Reply as R
+use Rattle.numbers.specs.Reply.{Reply, given, plain, demand, _>>=_, _>>_}
+use Rattle.numbers.specs.Reply as R
 use Rattle.zones.specs.Rows.{Rows, row, tableEnd, unreadable, rowsIn}
 use Rattle.zones.specs.Rows as T
 use Rattle.zones.specs.Search.{kindOf, judgedTurn, rowTurn, Found, ended, afterTurn, seek, judgeIn, farthest, searched}
@@ -35,7 +35,7 @@ use Rattle.zones.specs.declared.lookup.Zones.{Zones}
 use Rattle.zones.specs.declared.rows.Row.{Row}
 use Rattle.zones.specs.declared.search.Turn.the-variants.{On, Met, Stopped, Refused}
 use Rattle.zones.specs.declared.simple.Described.{Described}
-use Rattle.zones.proofs.Laws.{From, given-from}
+use Rattle.numbers.proofs.Replies.{From, given-from}
 
 -- ---- the search of rows
 module _ (judge : ℕ → ℕ → Judgement) (fix : Point) (room : ℕ) where

@@ -14,10 +14,10 @@ use Rattle.border.specs.declared.verdict.Verdict.{Verdict}
 use Rattle.border.specs.declared.verdict.Verdict.the-variants.{NotInZone, InZone, InExcludedZone, OnBorderVertex, OnBorderSegment}
 use Rattle.zones.specs.Ending.{hitsOf, Through, here, outside, judged, Answered}
 use Rattle.zones.specs.Hits.{width, words, hitOf, noHit, hitAt}
-use Rattle.zones.specs.Lists.{zeros, padded}
+use Rattle.numbers.specs.Lists.{zeros, padded}
 use Rattle.zones.specs.Lookup.{lookedUp}
 use Rattle.zones.specs.Merge.{Summary, summed, later, _⊕_, single, summary, differs, groupKind, seen, matchOf, mergedAfter, merged}
-use Rattle.zones.specs.Reply.{given}
+use Rattle.numbers.specs.Reply.{given}
 use Rattle.zones.specs.Rows.{Rows}
 use Rattle.zones.specs.Simple.{simplyLooked}
 use Rattle.zones.specs.declared.hits.Hit.{Hit}

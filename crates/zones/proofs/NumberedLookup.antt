@@ -12,7 +12,8 @@ use Rattle.border.specs.declared.place.Point.{Point}
 use Rattle.numbers.proofs.Refusals.{Listed, still-listed, Numbered, as-found, as-failed, as-refused, either, then-numbered, forward-numbered}
 use Rattle.numbers.specs.Answer.{Answer}
 use Rattle.numbers.specs.Varint.{forwardAt}
-use Rattle.zones.proofs.Numbered.{headerNumbers, NumberedReply, answers, refuses, then-reply, and-then, demands, number-of, text-numbered, blame-numbered, head-numbered}
+use Rattle.numbers.proofs.Replies.{NumberedReply, answers, refuses, then-reply, and-then, demands, number-of}
+use Rattle.zones.proofs.Numbered.{headerNumbers, text-numbered, blame-numbered, head-numbered}
 use Rattle.zones.proofs.TableRows.{rows-so}
 use Rattle.zones.specs.Field.{field, fieldAt}
 use Rattle.zones.specs.Fields.{fieldsPlace, fieldsFrom, fieldsOf}
@@ -21,7 +22,7 @@ use Rattle.zones.specs.Header.{blameOf}
 use Rattle.zones.specs.Hits.{width}
 use Rattle.zones.specs.Lent.{Outcome, repliedOf}
 use Rattle.zones.specs.Lookup.{zonesWith, zonesIn, lookedUp}
-use Rattle.zones.specs.Reply.{Reply, refused, plain}
+use Rattle.numbers.specs.Reply.{Reply, refused, plain}
 use Rattle.zones.specs.Rows.{Rows, row, tableEnd, unreadable, rowBy, rowsFrom, rowsIn}
 use Rattle.zones.specs.Search.{kindOf, judgedTurn, rowTurn, Found, afterTurn, seek, judgeIn, farthest, searched}
 use Rattle.zones.specs.Simple.{pickedFrom, pickedOf, checked, descriptionOf, bytesIn, wordedOf, describedWith, describedIn, simplyLooked}
@@ -30,7 +31,7 @@ use Rattle.zones.specs.Text.{bytesOf, textAt}
 use Rattle.zones.specs.declared.header.Head.{Head}
 use Rattle.zones.specs.declared.hits.Hit.{Hit}
 use Rattle.zones.specs.declared.location.Location.{Location}
-use Rattle.zones.specs.declared.refusal.Refusal.{Refusal}
+use Rattle.numbers.specs.declared.refusal.Refusal.{Refusal}
 use Rattle.zones.specs.declared.rows.Cursor.{Cursor}
 use Rattle.zones.specs.declared.rows.Row.{Row}
 use Rattle.zones.specs.declared.search.Turn.the-variants.{On, Met, Stopped, Refused}

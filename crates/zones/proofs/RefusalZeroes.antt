@@ -6,14 +6,14 @@ use Prim.Native.Nat.{ℕ}
 use native.Mathlib.Omega.{arith}
 use Rattle.zones.specs.Header.{Contents}
 use Rattle.zones.specs.Lent.{Outcome, repliedOf}
-use Rattle.zones.specs.Lists.{zeros}
+use Rattle.numbers.specs.Lists.{zeros}
 use Rattle.zones.specs.Lookup.{zonesIn, lookedUp}
 use Rattle.zones.specs.Opening as O
 use Rattle.zones.specs.Opening.{fittingOf, openedOf}
-use Rattle.zones.specs.Reply.{Reply, given, refused}
+use Rattle.numbers.specs.Reply.{Reply, given, refused}
 use Rattle.zones.specs.Simple.{describedIn, simplyLooked}
 use Rattle.zones.specs.declared.location.Location.{Location}
-use Rattle.zones.specs.declared.refusal.Refusal.{Refusal}
+use Rattle.numbers.specs.declared.refusal.Refusal.{Refusal}
 
 both-zero : {A : Type 0} (n room : ℕ) (reply : Reply (Outcome A)) (why : Refusal) → repliedOf n room reply .reply ≡ refused why
     → (repliedOf n room reply .hits ≡ zeros n) × (repliedOf n room reply .text ≡ zeros room)

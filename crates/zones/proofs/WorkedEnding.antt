@@ -25,7 +25,7 @@ use Rattle.zones.specs.Ending.{Answered}
 use Rattle.zones.specs.Lent.{Replied, replied, repliedOf}
 use Rattle.zones.specs.Lookup.{safezoneBits, zonesWith, zonesIn, lookedUp}
 use Rattle.zones.specs.Merge.{summary, seen, mergedAfter, merged}
-use Rattle.zones.specs.Reply.{given}
+use Rattle.numbers.specs.Reply.{given}
 use Rattle.zones.specs.Rows.{rowsThen, rowBy, rowsWithin, rowsFrom, rowsIn}
 use Rattle.zones.specs.Search.{judgedTurn, rowTurn, seek, searched}
 use Rattle.zones.specs.Table.{stepsBy, entryBy}

@@ -13,9 +13,9 @@ use Rattle.border.specs.declared.verdict.Verdict.{Verdict}
 use Rattle.zones.specs.Find.{fixOf}
 use Rattle.zones.specs.Header.{headOf}
 use Rattle.zones.specs.Hits.{hitOf, words}
-use Rattle.zones.specs.Lists.{padded}
+use Rattle.numbers.specs.Lists.{padded}
 use Rattle.zones.specs.Merge.{merged}
-use Rattle.zones.specs.Reply.{given}
+use Rattle.numbers.specs.Reply.{given}
 use Rattle.zones.specs.Rows.{Rows, row, tableEnd, unreadable, rowsIn}
 use Rattle.zones.specs.Search.{kindOf, Found, judgeIn, farthest}
 use Rattle.zones.specs.Table.{isAbove, holds}

@@ -8,7 +8,7 @@ use lib.ListN.{length}
 use Rattle.numbers.specs.Answer.{if_then_else_}
 use Rattle.numbers.specs.Float.{toF32, oneShifted, _⊠_, _⊘_}
 use Rattle.numbers.specs.Float.Root.{root}
-use Rattle.zones.specs.Reply.{Reply, given, refused, _>>=_}
+use Rattle.numbers.specs.Reply.{Reply, given, refused, _>>=_}
 use Rattle.zones.specs.Header.{headOf}
 use Rattle.zones.specs.Hits.{width}
 use Rattle.zones.specs.declared.header.Head.{Head}

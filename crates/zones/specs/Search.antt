@@ -12,8 +12,8 @@ use Rattle.border.specs.declared.verdict.Verdict.the-variants.{NotInZone, InZon
 use Rattle.border.specs.declared.verdict.Verdict.{Verdict}
 use Rattle.numbers.specs.Answer.{if_then_else_}
 use Rattle.zones.specs.Hits.{hitOf, words, Real}
-use Rattle.zones.specs.Lists.{padded}
-use Rattle.zones.specs.Reply.{Reply, given, plain}
+use Rattle.numbers.specs.Lists.{padded}
+use Rattle.numbers.specs.Reply.{Reply, given, plain}
 use Rattle.zones.specs.Rows.{Rows, row, tableEnd, unreadable, rowsIn}
 use Rattle.zones.specs.Table.{isAbove, holds}
 use Rattle.zones.specs.declared.header.Head.{Head}
@@ -24,7 +24,7 @@ use Rattle.zones.specs.declared.search.Searched.{Searched}
 use Rattle.zones.specs.declared.search.Turn.the-variants.{On, Met, Stopped, Refused}
 use Rattle.zones.specs.declared.search.Turn.{Turn}
 use Rattle.border.specs.Verdict as J
-use Rattle.zones.specs.Reply as R
+use Rattle.numbers.specs.Reply as R
 use Rattle.zones.specs.Rows as T
 use Rattle.zones.specs.declared.search.Searched.the-variants as S
 

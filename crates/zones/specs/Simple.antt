@@ -7,8 +7,8 @@ use Prim.Native.Nat.{ℕ, zero, suc, _+_, _/_}
 use lib.Dec.{leb, eqb}
 use lib.ListN.{length}
 use Rattle.numbers.specs.Answer.{if_then_else_}
-use Rattle.zones.specs.Lists.{padded}
-use Rattle.zones.specs.Reply.{Reply, given, refused, plain, demand, _>>=_, _>>_}
+use Rattle.numbers.specs.Lists.{padded}
+use Rattle.numbers.specs.Reply.{Reply, given, refused, plain, demand, _>>=_, _>>_}
 use Rattle.zones.specs.Text.{textAt, bytesOf}
 use Rattle.zones.specs.Header.{blameOf, headOf}
 use Rattle.zones.specs.Hits.{width}

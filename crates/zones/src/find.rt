@@ -2,7 +2,7 @@
 ghost use mathlib.Core.Path.{_≡_};
 ghost use Prim.Native.Nat.{_/_};
 ghost use lib.ListN.{length};
-ghost use Rattle.zones.specs.Lists.{zeros};
+ghost use Rattle.numbers.specs.Lists.{zeros};
 ghost use Rattle.zones.specs.Hits.{width};
 ghost use Rattle.zones.specs.Lent.{Agrees};
 ghost use Rattle.zones.specs.Find.{fixOf, isPrecision, matchedWith, foundWith, finding, toldFound, Matching};
@@ -10,8 +10,6 @@ use crate::codes::BAD_PRECISION;
 use crate::header::Head;
 use crate::location::Location;
 use crate::merge::merge_front;
-use crate::refusal::Refusal;
-use crate::refusal::plain;
 use crate::search::Searched;
 use crate::search::search;
 use crate::zero::zero_words;
@@ -19,6 +17,8 @@ use border::place::FixedLat;
 use border::place::FixedLon;
 use border::place::Point;
 use numbers::float::fixed::to_fixed;
+use numbers::refusal::Refusal;
+use numbers::refusal::plain;
 
 // The number of matches, the end mark and the least squared distance.
 pub struct Matches {

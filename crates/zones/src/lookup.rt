@@ -1,7 +1,7 @@
 // Lookup: the matches in the lent words, their fields in the lent text.
 ghost use mathlib.Core.Path.{_≡_};
 ghost use lib.ListN.{length};
-ghost use Rattle.zones.specs.Lists.{zeros};
+ghost use Rattle.numbers.specs.Lists.{zeros};
 ghost use Rattle.zones.specs.Lent.{Agrees, Filled, replied};
 ghost use Rattle.zones.specs.Lookup.{safezoneBits, zonesWith, lookedWith, lookedUp, toldLooked};
 use crate::fields::Fields;
@@ -12,12 +12,12 @@ use crate::header::Head;
 use crate::header::Headed;
 use crate::header::head_of;
 use crate::location::Location;
-use crate::refusal::Refusal;
 use crate::zero::zero_both;
 use numbers::float::bits::bits_of;
 use numbers::float::fixed::factor;
 use numbers::float::nearest::of_u64;
 use numbers::float::root::sqrt;
+use numbers::refusal::Refusal;
 
 // How many matches, the end mark, the safezone's bits (0 if not asked), and how much of the text is used.
 pub struct Zones {

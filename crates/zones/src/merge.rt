@@ -3,7 +3,7 @@ ghost use mathlib.Core.Path.{_≡_};
 ghost use Prim.Native.Nat.{_+_, _/_, _^_, _≤_, _<_};
 ghost use mathlib.Core.List.{_++_};
 ghost use lib.ListN.{length, take, drop};
-ghost use Rattle.zones.specs.Lists.{padded};
+ghost use Rattle.numbers.specs.Lists.{padded};
 ghost use Rattle.zones.specs.Hits.{width, words, slots, Real};
 ghost use Rattle.zones.specs.Merge.{later, _⊕_, single, summary, groupKind, merged, tallied, cleared};
 use crate::codes::EXCLUDED;

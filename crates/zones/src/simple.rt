@@ -3,7 +3,7 @@ ghost use mathlib.Core.Path.{_≡_};
 ghost use mathlib.Core.List.{map, _++_};
 ghost use Prim.Native.Nat.{_+_, _/_, _≤_};
 ghost use lib.ListN.{length, take};
-ghost use Rattle.zones.specs.Lists.{zeros};
+ghost use Rattle.numbers.specs.Lists.{zeros};
 ghost use Rattle.zones.specs.Utf8.{unmasked};
 ghost use Rattle.zones.specs.Text.{bytesOf};
 ghost use Rattle.zones.specs.Hits.{width, slots};
@@ -23,13 +23,13 @@ use crate::header::head_of;
 use crate::header::read_header_text;
 use crate::hits::hit_at;
 use crate::location::Location;
-use crate::refusal::Refusal;
-use crate::refusal::plain;
 use crate::text::Blame;
 use crate::text::Read;
 use crate::text::Text;
 use crate::text::read_text;
 use crate::zero::zero_both;
+use numbers::refusal::Refusal;
+use numbers::refusal::plain;
 
 pub enum Description {
     // How many bytes of the text it takes.

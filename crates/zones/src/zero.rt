@@ -1,7 +1,7 @@
 // Lent buffers are zero before the answer goes in, and again where it is a refusal.
 ghost use mathlib.Core.Path.{_≡_};
 ghost use lib.ListN.{length};
-ghost use Rattle.zones.specs.Lists.{zeros};
+ghost use Rattle.numbers.specs.Lists.{zeros};
 use crate::field::zero;
 
 pub fn zero_words(hits: &mut [u32])

@@ -4,8 +4,8 @@ use mathlib.Core.Bool.{Bool, true, false}
 use mathlib.Core.List.{List}
 use Prim.Native.Nat.{ℕ, _/_, _≤_}
 use lib.ListN.{length, take}
-use Rattle.zones.specs.Lists.{zeros, padded}
-use Rattle.zones.specs.Reply.{Reply, given, refused, plain}
+use Rattle.numbers.specs.Lists.{zeros, padded}
+use Rattle.numbers.specs.Reply.{Reply, given, refused, plain}
 use Rattle.zones.specs.Hits.{width, words, slots, Real}
 use Rattle.zones.specs.Search.{Found, searched, Sought}
 use Rattle.zones.specs.Lent.{Agrees}
@@ -13,13 +13,13 @@ use Rattle.zones.specs.Merge.{merged}
 use Rattle.zones.specs.Find.{fixOf, isPrecision, Matched, matchedWith, finding, findingOf, Matching}
 use Rattle.zones.specs.declared.header.Head.{Head}
 use Rattle.zones.specs.declared.hits.Hit.{Hit}
-use Rattle.zones.specs.declared.refusal.Refusal.{Refusal}
+use Rattle.numbers.specs.declared.refusal.Refusal.{Refusal}
 use Rattle.border.specs.declared.place.Point.{Point}
 use Rattle.zones.specs.declared.search.Ended.{Ended}
 use Rattle.zones.specs.declared.location.Location.{Location}
 use Rattle.zones.specs.declared.find.Matches.{Matches}
 use Rattle.zones.proofs.Agreeing.{gave, refused-so}
-use Rattle.zones.proofs.Laws.{carried, onward, met, unmet}
+use Rattle.numbers.proofs.Replies.{carried, onward, met, unmet}
 use Rattle.zones.proofs.hits.Words.{padded-slots, padded-room}
 
 module _ (file : List ℕ) (head : Head) (location : Location) (asked : Bool) (room : ℕ) where

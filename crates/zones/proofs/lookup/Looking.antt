@@ -4,17 +4,17 @@ use mathlib.Core.Bool.{Bool}
 use mathlib.Core.List.{List, []}
 use Prim.Native.Nat.{ℕ, _/_}
 use lib.ListN.{take}
-use Rattle.zones.specs.Reply.{Reply, given, refused}
+use Rattle.numbers.specs.Reply.{Reply, given, refused}
 use Rattle.zones.specs.Hits.{width, slots}
 use Rattle.zones.specs.Find.{Matched, matchedWith, Matching}
 use Rattle.zones.specs.Fields.{fieldsOf, Wrote}
 use Rattle.zones.specs.Lent.{Agrees, replied, repliedOf, Filled}
 use Rattle.zones.specs.Lookup.{safezoneBits, zonesWith}
 use Rattle.zones.specs.declared.header.Head.{Head}
-use Rattle.zones.specs.declared.refusal.Refusal.{Refusal}
+use Rattle.numbers.specs.declared.refusal.Refusal.{Refusal}
 use Rattle.zones.specs.declared.location.Location.{Location}
 use Rattle.zones.specs.declared.find.Matches.{Matches}
-use Rattle.zones.proofs.Laws.{carried, onward}
+use Rattle.numbers.proofs.Replies.{carried, onward}
 use Rattle.zones.proofs.Agreeing.{Gave, agree-given, agree-refused, gave, refused-so}
 use Rattle.zones.proofs.find.Finding.{count-is, matches-are}
 

@@ -9,7 +9,7 @@ use lib.Dec.{eqb}
 use lib.ListN.{length, take, drop, replicate, length-append, length-replicate, length-map}
 use lib.Seq.{take-at, drop-at}
 use Rattle.numbers.specs.Answer.{if_then_else_}
-use Rattle.zones.specs.Lists.{zeros, padded}
+use Rattle.numbers.specs.Lists.{zeros, padded}
 use Rattle.zones.specs.Hits.{hitOf, words, slots, Real, hitAt, putHit, noHit}
 use Rattle.zones.specs.Merge.{Summary, _⊕_, single, summary, groupKind, seen, matchOf, mergedAfter, merged, clear, cleared}
 use Rattle.zones.specs.declared.hits.Hit.{Hit}

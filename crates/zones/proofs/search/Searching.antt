@@ -12,8 +12,8 @@ use Rattle.zones.proofs.Agreeing.{agree-given, agree-refused}
 use Rattle.zones.proofs.hits.Words.{words-length, put-padded, real-append}
 use Rattle.zones.specs.Hits.{width, words, putHit, Real}
 use Rattle.zones.specs.Lent.{Agrees}
-use Rattle.zones.specs.Lists.{zeros, padded}
-use Rattle.zones.specs.Reply.{Reply, given, plain}
+use Rattle.numbers.specs.Lists.{zeros, padded}
+use Rattle.numbers.specs.Reply.{Reply, given, plain}
 use Rattle.zones.specs.Rows.{Rows, row, tableEnd, unreadable}
 use Rattle.zones.specs.Search.{rowTurn, Found, ended, afterTurn, seek, Sought}
 use Rattle.zones.specs.declared.hits.Hit.{Hit}
@@ -21,7 +21,7 @@ use Rattle.zones.specs.declared.rows.Row.{Row}
 use Rattle.zones.specs.declared.search.Ended.{Ended}
 use Rattle.zones.specs.declared.search.Turn.the-variants.{On, Met, Stopped, Refused}
 use Rattle.zones.specs.declared.search.Turn.{Turn}
-use Rattle.zones.specs.Reply as R
+use Rattle.numbers.specs.Reply as R
 use Rattle.zones.specs.Rows as T
 
 -- the hits so far stand at the front of words that are zero beyond them, and the search of the rows that are left gives the whole

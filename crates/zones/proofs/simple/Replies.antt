@@ -6,20 +6,20 @@ use Prim.Native.Nat.{ℕ, _/_}
 use native.Mathlib.Omega.{arith}
 use denote.Enum.Declared.{tagOf, declared}
 use lib.ListN.{take}
-use Rattle.zones.specs.Reply.{Reply, given, refused, _>>_}
+use Rattle.numbers.specs.Reply.{Reply, given, refused, _>>_}
 use Rattle.zones.specs.Hits.{width, slots}
 use Rattle.zones.specs.Find.{Matched, matchedWith, Matching}
 use Rattle.zones.specs.Lent.{Agrees, replied, repliedOf, Filled}
 use Rattle.zones.specs.Simple.{checked, wordedOf, Worded, describedWith, toldChecked}
 use Rattle.zones.specs.declared.header.Head.{Head}
-use Rattle.zones.specs.declared.refusal.Refusal.{Refusal}
+use Rattle.numbers.specs.declared.refusal.Refusal.{Refusal}
 use Rattle.zones.specs.declared.location.Location.{Location}
 use Rattle.zones.specs.declared.find.Matches.{Matches}
 use Rattle.zones.specs.declared.simple.Checked.{Checked}
 use Rattle.zones.specs.declared.simple.Checked.the-variants as C
 use Rattle.zones.specs.declared.simple.Description.{Description}
 use Rattle.zones.proofs.simple.Checked as K
-use Rattle.zones.proofs.Laws.{carried, onward}
+use Rattle.numbers.proofs.Replies.{carried, onward}
 use Rattle.zones.proofs.Agreeing.{Gave, agree-given, agree-refused, gave, refused-so}
 use Rattle.zones.proofs.find.Finding.{count-is, matches-are}
 

@@ -9,7 +9,7 @@ use Rattle.zones.proofs.find.Finding.{finds, refuses}
 use Rattle.zones.proofs.find.find_in.Statement.{statement}
 use Rattle.zones.specs.Find.{matchedWith, foundWith, toldFound}
 use Rattle.zones.specs.Hits.{width}
-use Rattle.zones.specs.Lists.{zeros}
+use Rattle.numbers.specs.Lists.{zeros}
 use Rattle.zones.proofs.find.find_in.Tie as tie
 
 matches-in-requires : tie.Need-matches-in-requires

@@ -1,10 +1,16 @@
 -- The bytes of a number, and its bits among another's. Assumes nothing.
-use Prim.Native.Nat.{ℕ, zero, suc, _+_, _*_, _/_, _%_, _^_, _<_, _≤_}
+use Prim.Native.Nat.{ℕ, zero, suc, _+_, _-_, _*_, _/_, _%_, _^_, _<_, _≤_}
 use native.Mathlib.Nat.{add-mul, mul-assoc, mul-comm, pow-suc, div-add-mod', div-div-eq-div-mul, add-comm}
 use native.Mathlib.Numerals.{add-one}
 use native.Mathlib.Omega.{arith}
-use mathlib.Core.Path.{_≡_, sym, ap, _∙_}
-use Rattle.border.specs.Moves.{interleaved}
+use mathlib.Core.Path.{_≡_, refl, sym, ap, _∙_}
+use mathlib.Core.Bool.{Bool, true, false}
+use mathlib.Core.List.{List, [], _∷_}
+use lib.Dec.{ltb}
+use lib.ListN.{length}
+use borrow.Author.Tests.{lt-ltb, le-ltb}
+use Rattle.numbers.specs.Answer.{if_then_else_}
+use Rattle.numbers.specs.Spelling.{digitsOf, interleaved}
 
 pub split-weight : (j n : ℕ) → n % 128 * 128 ^ j + n / 128 * 128 ^ (j + 1) ≡ n * 128 ^ j
 split-weight j n =
@@ -28,3 +34,24 @@ pub interleaved-small : (k a b : ℕ) → interleaved k a b < 4 ^ k
 unfolding interleaved
 interleaved-small zero a b = omega arith
 interleaved-small (suc k) a b = omega (arith, pow-suc 4 k, interleaved-small k (a / 2) (b / 2))
+
+-- ---- the bytes of a varint
+
+pub digits-last : (k n : ℕ) → n < 128 → digitsOf k n ≡ n ∷ []
+unfolding digitsOf
+digits-last zero n h = refl
+digits-last (suc k) n h = rw (lt-ltb n 128 h)
+
+pub digits-next : (k n : ℕ) → 0 < k → 128 ≤ n → digitsOf k n ≡ (128 + n % 128) ∷ digitsOf (k - 1) (n / 128)
+unfolding digitsOf
+digits-next zero n some h = absurd (omega arith)
+digits-next (suc k) n some h = let e : suc k - 1 ≡ k = omega arith in rw (le-ltb n 128 h, e)
+
+pub few : (t : Bool) (a b : List ℕ) (k : ℕ) → length a ≤ k → length b ≤ k → length (if t then a else b) ≤ k
+few true a b k h g = h
+few false a b k h g = g
+
+pub digits-few : (k n : ℕ) → length (digitsOf k n) ≤ k + 1
+unfolding digitsOf
+digits-few zero n = omega arith
+digits-few (suc k) n = few (ltb n 128) (n ∷ []) ((128 + n % 128) ∷ digitsOf k (n / 128)) (suc k + 1) (omega arith) (omega (arith, digits-few k (n / 128)))

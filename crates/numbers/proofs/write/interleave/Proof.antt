@@ -1,13 +1,13 @@
--- `border::writer::moves::interleave` meets its contract. Assumes nothing.
+-- `numbers::write::interleave` meets its contract. Assumes nothing.
 use native.Mathlib.Nat.{pow-suc, pow-le-pow-right}
 use lib.Dec.{lit<}
-use Rattle.border.proofs.writer.Digits.{interleaved-step, interleaved-small}
+use Rattle.numbers.proofs.write.Digits.{interleaved-step, interleaved-small}
 use Prim.Native.Nat.{ℕ, suc, _+_, _*_, _-_, _/_, _%_, _^_, _≤_, _<_}
 use native.Mathlib.Omega.{arith}
 use mathlib.Core.Path.{_≡_, refl, sym, ap, _∙_}
-use Rattle.border.specs.Moves.{interleaved}
-use Rattle.border.proofs.writer.moves.interleave.Statement.{statement}
-use Rattle.border.proofs.writer.moves.interleave.Tie as tie
+use Rattle.numbers.specs.Spelling.{interleaved}
+use Rattle.numbers.proofs.write.interleave.Statement.{statement}
+use Rattle.numbers.proofs.write.interleave.Tie as tie
 
 abbrev Inv-loop : tie.InvT-loop
 Inv-loop a b out₀ weight₀ i₀ out weight i = (i ≤ 32) × (weight ≡ 2 ^ i) × (out ≡ interleaved (32 - i) (a / weight) (b / weight))
