@@ -31,6 +31,6 @@ unfolding traceOf traceWithin traceThen nextPoint nextWithin roundAgain turnOf p
 backward-square = refl
 
 -- point 3 is (0,0) and no marker: a point like any other, and the border goes on
-pub no-marker : traceOf (3 ∷ 0 ∷ 0 ∷ []) Packed 0 (borderAt 0) ≡ point (pointAt (pos 0) (pos 0)) (point (pointAt (pos 0) (pos 0)) closed)
+pub no-marker : traceOf (3 ∷ 0 ∷ 0 ∷ []) (encodedIn Packed 0) (borderAt 0) ≡ point (pointAt (pos 0) (pos 0)) (point (pointAt (pos 0) (pos 0)) closed)
 unfolding traceOf traceWithin traceThen nextPoint nextWithin roundAgain turnOf packedTurn marker advanced movedBy checked forwardAt valueOf sizeOf tooLong signedOf evenBits pointOf
 no-marker = refl
