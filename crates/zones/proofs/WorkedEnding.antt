@@ -8,7 +8,8 @@ use lib.Ieee.{fin, ofInt, add, sub, mul, div, toSigned}
 use Rattle.numbers.specs.Varint.{forwardAt, valueOf, sizeOf, tooLong}
 use Rattle.numbers.specs.Point.{signedOf, evenBits, pointOf}
 use Rattle.numbers.specs.Float.{fixedPoint, oneShifted}
-use Rattle.border.specs.Place.{checked, movedBy}
+use Rattle.numbers.specs.Answer.{checked}
+use Rattle.border.specs.Place.{movedBy}
 use Rattle.border.specs.Reader.{advanced, marker, packedTurn, turnOf}
 use Rattle.border.specs.Trace.{roundAgain, nextWithin, nextPoint, traceThen, traceWithin, traceOf}
 use Rattle.border.specs.Edge.{samePoint, between, inBox, quadrantOf, slopeOf, edgeOf, straight, closestOn}

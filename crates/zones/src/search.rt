@@ -21,8 +21,6 @@ use crate::header::Head;
 use crate::hits::Hit;
 use crate::hits::put_hit;
 use crate::hits::room;
-use numbers::refusal::Refusal;
-use numbers::refusal::plain;
 use crate::rows::Row;
 use crate::rows::after;
 use crate::rows::row_of;
@@ -37,6 +35,8 @@ use border::reader::Version;
 use border::verdict::Judged;
 use border::verdict::Verdict;
 use border::verdict::point_in_polygon;
+use numbers::refusal::Refusal;
+use numbers::refusal::plain;
 use std::num::wrapping_add_u32;
 
 // What one row does to the search: it goes on with the least squared distance so far, it met a zone, or it stops.
