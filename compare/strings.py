@@ -1,6 +1,6 @@
 #!/usr/bin/env python3
 """The string and UTF-8 cases of a text file (lines `string PLACE METADATA FILE > ..`, `utf8 0 BYTES > ..`) as records of crate replay,
-and after them the examples of RFC 3629 and of document 01.
+and after them the examples of RFC 3629 and of document 01, and a string that is refused with 12.
 
     compare/strings.py leaf.txt > records
 """
@@ -60,3 +60,5 @@ for line in open(sys.argv[1]):
         utf8(octets(left[2]), right[0] == "true")
 for text, good in EXAMPLES:
     utf8(bytes.fromhex(text), good)
+# a length of eleven bytes
+string(["string", "0", "0", "80" * 10 + "00"], ["refused", "12"])

@@ -1,5 +1,6 @@
 /* example FILE LAT LON: the zone that a slip would carry, how the search ended, and every field of the zones that hold the fix.
- * Exit status: 0 answered, 1 refused, 2 not run. examples/slip.rs prints the same. */
+ * Exit status: 0 answered, 1 refused, 2 not run, or answered with a number that uskelzar.h does not name. examples/slip.rs prints
+ * the same. */
 #define _POSIX_C_SOURCE 200809L
 #include "uskelzar.h"
 #include <fcntl.h>
@@ -10,7 +11,7 @@
 #include <sys/stat.h>
 #include <unistd.h>
 
-enum { HITS = 3 * 64, TEXT = 4096 };
+enum { HITS = USKELZAR_HIT_WORDS * 64, TEXT = 4096 };
 
 struct map {
     const uint8_t *file;
@@ -41,6 +42,33 @@ static int refused(const char *call, uint8_t number)
     printf("%s: refusal %u, cause %llu, detail %llu\n", call, number, (unsigned long long)reply[USKELZAR_REFUSED_CAUSE],
            (unsigned long long)reply[USKELZAR_REFUSED_DETAIL]);
     return 1;
+}
+
+static int unknown(const char *what, uint64_t number)
+{
+    fprintf(stderr, "example: unknown %s %llu\n", what, (unsigned long long)number);
+    return 2;
+}
+
+/* What an end mark and a kind say; NULL where the header has no such number. */
+static const char *end_words(uint64_t end)
+{
+    switch (end) {
+    case USKELZAR_END_WHOLE: return "whole";
+    case USKELZAR_END_TABLE: return "stopped at a table entry";
+    case USKELZAR_END_BORDER: return "stopped at a border";
+    default: return NULL;
+    }
+}
+
+static const char *kind_words(uint32_t kind)
+{
+    switch (kind) {
+    case USKELZAR_IN_ZONE: return "in zone";
+    case USKELZAR_ON_BORDER_VERTEX: return "on border vertex";
+    case USKELZAR_ON_BORDER_SEGMENT: return "on border segment";
+    default: return NULL;
+    }
 }
 
 /* A string of a lent text, its length in two bytes before it; gives the place after it. */
@@ -75,18 +103,22 @@ static int print_slip(const struct map *map, float lat, float lon)
 
 static int print_zones(const struct map *map, uint64_t fields, float lat, float lon)
 {
-    static const char *const ends[] = {"", "whole", "stopped at a table entry", "stopped at a border"};
-    static const char *const kinds[] = {"", "in zone", "in excluded zone", "on border vertex", "on border segment"};
     uint8_t number = uskelzar_lookup(map->file, map->length, lat, lon, true, hits, HITS, text, TEXT, reply);
     if (number != USKELZAR_ANSWERED)
         return refused("lookup", number);
+    const char *end = end_words(reply[USKELZAR_LOOKUP_END]);
+    if (end == NULL)
+        return unknown("end mark", reply[USKELZAR_LOOKUP_END]);
     uint32_t bits = (uint32_t)reply[USKELZAR_LOOKUP_SAFEZONE];
     float safezone;
     memcpy(&safezone, &bits, sizeof safezone);
-    printf("search: %s; safezone %.6f\n", ends[reply[USKELZAR_LOOKUP_END]], safezone);
+    printf("search: %s; safezone %.6f\n", end, safezone);
     const uint8_t *at = text;
     for (uint64_t i = 0; i < reply[USKELZAR_LOOKUP_MATCHES]; i++) {
-        printf("zone: %s\n", kinds[hits[USKELZAR_HIT_WORDS * i + USKELZAR_HIT_KIND]]);
+        uint32_t kind = hits[USKELZAR_HIT_WORDS * i + USKELZAR_HIT_KIND];
+        if (kind_words(kind) == NULL)
+            return unknown("kind", kind);
+        printf("zone: %s\n", kind_words(kind));
         for (uint64_t j = 0; j < fields; j++) {
             printf("  ");
             print_string(name_of(at[0]));

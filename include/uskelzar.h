@@ -58,14 +58,19 @@ enum uskelzar_refusal {
 /* reply[0] of a refusal: which of the two causes, for 6, 7 and 15; otherwise none */
 enum uskelzar_cause { USKELZAR_CAUSE_NONE = 0, USKELZAR_CAUSE_ENCODING = 1, USKELZAR_CAUSE_UTF8 = 2 };
 
-/* ---- how a search ended. Print a zone only where it was whole. */
+/* ---- how a search ended. Print a zone only where it was whole.
+ * A search is over at the table's end or at an entry whose lower latitude is above the fix: in a table that is in order, by
+ * rising lower latitude, no later entry can hold the fix. The order is not checked: in a table that is not in order a search
+ * can be whole and an entry that holds the fix, an excluded one too, not looked at. */
 enum uskelzar_end {
-    USKELZAR_END_WHOLE = 1,           /* every entry that can hold the fix was looked at */
+    USKELZAR_END_WHOLE = 1,           /* in a table in order, every entry that can hold the fix was looked at */
     USKELZAR_END_TABLE = 2,           /* stopped at a table entry that could not be read */
     USKELZAR_END_BORDER = 3           /* stopped at a border that failed */
 };
 
-/* ---- what a match is; no answer has kind 2, an excluded zone: it takes a match away */
+/* ---- what a match is, of all hits with its metadata id: the last of their verdicts on a border; with none, 1 where those inside
+ * and those excluded differ in number, and no match where they are as many. So an excluded border takes the border round it
+ * away, and an excluded border alone is a match of kind 1. No answer has kind 2. */
 enum uskelzar_kind {
     USKELZAR_IN_ZONE = 1,
     USKELZAR_IN_EXCLUDED_ZONE = 2,

@@ -1,5 +1,7 @@
 //! What both programs share: the words they are run with, the rounds, and the checksum.
 
+#[path = "../../host/src/hit.rs"]
+pub mod hit;
 pub mod leaves;
 
 use std::{env, fs};

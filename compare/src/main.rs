@@ -3,6 +3,8 @@ mod border_lines;
 mod borders;
 mod encode;
 mod files;
+#[path = "../../host/src/hit.rs"]
+mod hit;
 mod leaves;
 mod ours;
 mod phases;

@@ -1,4 +1,5 @@
 //! What a call on lent rooms must reply, and the records that crate replay reads. Rooms are the library's alone; the Rust has none.
+use crate::hit::HIT_WORDS;
 use crate::rust::{refused, Facts, Looked, Refusal, Zone};
 
 pub const OPEN: u8 = 1;
@@ -78,7 +79,7 @@ fn reply_open(facts: &Facts, room: usize) -> Result<Reply, Refusal> {
 fn scanned<'a>(facts: &'a Facts, looked: &'a Option<Looked>, slots: usize) -> Result<&'a Looked, Refusal> {
     facts.opened.as_ref().map_err(Clone::clone)?;
     let looked = looked.as_ref().ok_or_else(|| refused(16, 0, 0))?;
-    if looked.hits.len() > slots / 3 {
+    if looked.hits.len() > slots / HIT_WORDS {
         return Err(refused(17, 0, 0));
     }
     match &looked.fault {

@@ -1,5 +1,5 @@
 //! Recorded cases (`*.bin`): what this harness expects of them must be what was recorded.
-use crate::record::{reply, reply_written, Call, Piece, Reply, Writing, WRITE};
+use crate::record::{reply, reply_written, Call, Piece, Reply, Writing, LOOKUP, OPEN, SIMPLE, WRITE};
 use crate::rust::facts;
 use crate::writer::written;
 
@@ -44,13 +44,16 @@ fn expected(op: u8, input: &mut Input) -> Reply {
     reply(&Call { op, lat, lon, ask, slots, room, file }, &facts)
 }
 
-/// How many records there are, and the ids of those that are expected otherwise.
+/// How many records there are of the ops that the harness knows, and the ids of those that are expected otherwise.
 pub fn compare(records: &[u8]) -> (usize, Vec<u32>) {
     let (mut input, mut count, mut wrong) = (Input(records), 0, Vec::new());
     while !input.0.is_empty() {
         let size = input.size();
         let mut record = Input(input.take(size));
         let (op, id) = (record.byte(), record.word());
+        if ![OPEN, LOOKUP, SIMPLE, WRITE].contains(&op) {
+            continue;
+        }
         if expected(op, &mut record).bytes() != record.0 {
             wrong.push(id);
         }

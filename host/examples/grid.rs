@@ -7,7 +7,8 @@
 use std::collections::hash_map::{Entry, HashMap};
 use std::io::{self, BufWriter, Write};
 use std::process::ExitCode;
-use uskelzar::{raw, Error, Map, Refusal, Table};
+use uskelzar::raw::{self, HIT_WORDS};
+use uskelzar::{Error, Map, Table};
 
 /// Room for a lookup, used again for each fix.
 struct Buffers {
@@ -23,7 +24,7 @@ fn fix_of(column: u32, row: u32, columns: u32, rows: u32) -> (f32, f32) {
     (lat as f32, lon as f32)
 }
 
-fn describe(map: &Map<Vec<u8>>, lat: f32, lon: f32, metadata: u32) -> Result<String, Refusal> {
+fn describe(map: &Map<Vec<u8>>, lat: f32, lon: f32, metadata: u32) -> Result<String, Error> {
     let found = map.simple_lookup(lat, lon)?;
     Ok(found.description.unwrap_or_else(|| format!("#{metadata}")))
 }
@@ -34,7 +35,7 @@ fn line_of(
     (lat, lon): (f32, f32),
     lent: &mut Buffers,
     known: &mut HashMap<u32, String>,
-) -> Result<String, Refusal> {
+) -> Result<String, Error> {
     let reply = raw::lookup(map.bytes(), lat, lon, false, &mut lent.hits, &mut lent.text)?;
     let end = reply[1];
     if reply[0] == 0 {
@@ -48,7 +49,7 @@ fn line_of(
     Ok(format!("{end} {kind} {zone}"))
 }
 
-fn print_grid(map: &Map<Vec<u8>>, columns: u32, rows: u32) -> io::Result<()> {
+fn print_grid(map: &Map<Vec<u8>>, columns: u32, rows: u32) -> Result<(), Error> {
     let mut out = BufWriter::new(io::stdout().lock());
     let header = map.header();
     let zones = match header.table {
@@ -62,7 +63,7 @@ fn print_grid(map: &Map<Vec<u8>>, columns: u32, rows: u32) -> io::Result<()> {
         header.version, header.precision
     )?;
     let mut lent = Buffers {
-        hits: vec![0; 3 * 256],
+        hits: vec![0; HIT_WORDS * 256],
         text: vec![0; 8192],
     };
     let mut known = HashMap::new();
@@ -75,11 +76,12 @@ fn print_grid(map: &Map<Vec<u8>>, columns: u32, rows: u32) -> io::Result<()> {
                 &mut known,
             ) {
                 Ok(line) => writeln!(out, "{line}")?,
-                Err(refusal) => writeln!(out, "refused {}", refusal.number as u8)?,
+                Err(Error::Refused(refusal)) => writeln!(out, "refused {}", refusal.number as u8)?,
+                Err(error) => return Err(error),
             }
         }
     }
-    out.flush()
+    Ok(out.flush()?)
 }
 
 fn main() -> ExitCode {
@@ -92,8 +94,7 @@ fn main() -> ExitCode {
         eprintln!("grid: {columns} {rows} are not two numbers");
         return ExitCode::from(2);
     };
-    let printed =
-        Map::read(path).and_then(|map| print_grid(&map, columns, rows).map_err(Error::from));
+    let printed = Map::read(path).and_then(|map| print_grid(&map, columns, rows));
     if let Err(error) = printed {
         eprintln!("grid: {path}: {error}");
         return ExitCode::from(1);

@@ -1,8 +1,8 @@
 //! slip FILE LAT LON: the zone that a slip would carry, how the search ended, and every field of the zones that hold the fix.
-//! Exit status: 0 answered, 1 refused, 2 not run. example.c prints the same.
+//! Exit status: 0 answered, 1 refused, 2 not run, or answered with a number that the crate does not know. example.c prints the same.
 
 use std::process::ExitCode;
-use uskelzar::{End, Error, Kind, Map, Refusal};
+use uskelzar::{End, Error, Kind, Map};
 
 fn end_words(end: End) -> &'static str {
     match end {
@@ -20,7 +20,7 @@ fn kind_words(kind: Kind) -> &'static str {
     }
 }
 
-fn print(map: &Map<Vec<u8>>, lat: f32, lon: f32) -> Result<(), Refusal> {
+fn print(map: &Map<Vec<u8>>, lat: f32, lon: f32) -> Result<(), Error> {
     let slip = map.zone_for_slip(lat, lon)?;
     println!("slip: {}", slip.as_deref().unwrap_or("no zone"));
     let zones = map.lookup(lat, lon)?;
@@ -48,14 +48,14 @@ fn main() -> ExitCode {
         eprintln!("slip: {lat} {lon} are not two numbers");
         return ExitCode::from(2);
     };
-    let done = Map::read(path).and_then(|map| Ok(print(&map, lat, lon)?));
+    let done = Map::read(path).and_then(|map| print(&map, lat, lon));
     match done {
         Ok(()) => ExitCode::SUCCESS,
         Err(Error::Refused(refusal)) => {
             println!("{refusal}");
             ExitCode::from(1)
         }
-        Err(Error::File(error)) => {
+        Err(error) => {
             eprintln!("slip: {path}: {error}");
             ExitCode::from(2)
         }

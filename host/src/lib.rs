@@ -15,11 +15,12 @@
 #![deny(unsafe_op_in_unsafe_fn, missing_docs)]
 
 mod entries;
+mod hit;
 mod map;
 pub mod raw;
 mod refusal;
 
-pub use map::{End, Error, Field, Header, Kind, Map, Match, Room, Simple, Table, Zones};
+pub use map::{End, Error, Field, Header, Kind, Map, Match, Room, Simple, Table, Unknown, Zones};
 pub use raw::Mapping;
 pub use refusal::{Cause, Number, Refusal};
 

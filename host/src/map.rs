@@ -1,19 +1,44 @@
 //! A map: the bytes of a PLB file, opened, and what it answers.
 
 use crate::entries::{text_of, Entries};
-use crate::raw;
+use crate::raw::{self, HIT_WORDS};
 use crate::refusal::Refusal;
 use std::fmt;
 use std::io;
 use std::path::Path;
 
-/// A file could not be read, or the library refused it.
+/// A number of an answer that this crate does not know: the archive is of another edition than the crate.
+#[derive(Clone, Copy, Debug, Eq, PartialEq)]
+pub enum Unknown {
+    /// What a file's zones are.
+    Table(u64),
+    /// How a search ended.
+    End(u64),
+    /// Where in a zone a fix is.
+    Kind(u32),
+}
+
+impl fmt::Display for Unknown {
+    fn fmt(&self, f: &mut fmt::Formatter) -> fmt::Result {
+        match self {
+            Unknown::Table(byte) => write!(f, "unknown table type {byte}"),
+            Unknown::End(mark) => write!(f, "unknown end mark {mark}"),
+            Unknown::Kind(kind) => write!(f, "unknown kind of match {kind}"),
+        }
+    }
+}
+
+impl std::error::Error for Unknown {}
+
+/// A file could not be read, the library refused, or its answer is not known here.
 #[derive(Debug)]
 pub enum Error {
     /// Reading failed.
     File(io::Error),
     /// The library refused.
     Refused(Refusal),
+    /// The library answered with a number that is not known.
+    Unknown(Unknown),
 }
 
 impl fmt::Display for Error {
@@ -21,6 +46,7 @@ impl fmt::Display for Error {
         match self {
             Error::File(error) => error.fmt(f),
             Error::Refused(refusal) => refusal.fmt(f),
+            Error::Unknown(unknown) => unknown.fmt(f),
         }
     }
 }
@@ -39,6 +65,12 @@ impl From<Refusal> for Error {
     }
 }
 
+impl From<Unknown> for Error {
+    fn from(unknown: Unknown) -> Error {
+        Error::Unknown(unknown)
+    }
+}
+
 /// What a file's zones are.
 #[derive(Clone, Copy, Debug, Eq, PartialEq)]
 pub enum Table {
@@ -46,6 +78,16 @@ pub enum Table {
     TimeZones,
     /// Type C.
     Countries,
+}
+
+impl Table {
+    fn of(byte: u64) -> Result<Table, Unknown> {
+        match u8::try_from(byte) {
+            Ok(b'T') => Ok(Table::TimeZones),
+            Ok(b'C') => Ok(Table::Countries),
+            _ => Err(Unknown::Table(byte)),
+        }
+    }
 }
 
 /// What a file says of itself.
@@ -75,11 +117,12 @@ pub enum End {
 }
 
 impl End {
-    fn of(mark: u64) -> End {
+    fn of(mark: u64) -> Result<End, Unknown> {
         match mark {
-            1 => End::Whole,
-            2 => End::TableUnreadable,
-            _ => End::BorderFailed,
+            1 => Ok(End::Whole),
+            2 => Ok(End::TableUnreadable),
+            3 => Ok(End::BorderFailed),
+            _ => Err(Unknown::End(mark)),
         }
     }
 }
@@ -97,11 +140,12 @@ pub enum Kind {
 
 impl Kind {
     /// No answer has an excluded zone, kind 2.
-    fn of(kind: u32) -> Kind {
+    fn of(kind: u32) -> Result<Kind, Unknown> {
         match kind {
-            3 => Kind::OnBorderVertex,
-            4 => Kind::OnBorderSegment,
-            _ => Kind::InZone,
+            1 => Ok(Kind::InZone),
+            3 => Ok(Kind::OnBorderVertex),
+            4 => Ok(Kind::OnBorderSegment),
+            _ => Err(Unknown::Kind(kind)),
         }
     }
 }
@@ -181,13 +225,13 @@ const HEADER_TEXT: usize = 256 * 258;
 impl Map<Vec<u8>> {
     /// Reads a file into memory and opens it.
     pub fn read(path: impl AsRef<Path>) -> Result<Map<Vec<u8>>, Error> {
-        Ok(Map::open(std::fs::read(path)?)?)
+        Map::open(std::fs::read(path)?)
     }
 }
 
 impl<B: AsRef<[u8]>> Map<B> {
     /// Opens a file's bytes.
-    pub fn open(bytes: B) -> Result<Map<B>, Refusal> {
+    pub fn open(bytes: B) -> Result<Map<B>, Error> {
         let header = header_of(bytes.as_ref())?;
         Ok(Map {
             bytes,
@@ -212,69 +256,92 @@ impl<B: AsRef<[u8]>> Map<B> {
     }
 
     /// The zones that hold a fix, in degrees.
-    pub fn lookup(&self, lat: f32, lon: f32) -> Result<Zones, Refusal> {
+    pub fn lookup(&self, lat: f32, lon: f32) -> Result<Zones, Error> {
         let (mut hits, mut text) = self.buffers();
         let reply = raw::lookup(self.bytes(), lat, lon, true, &mut hits, &mut text)?;
         let [matches, mark, safezone, used, _] = reply;
         let mut fields = Entries(&text[..used as usize]);
-        let hits = hits.chunks_exact(3).take(matches as usize);
+        let hits = hits.chunks_exact(HIT_WORDS).take(matches as usize);
+        let matches: Result<Vec<Match>, Unknown> =
+            hits.map(|hit| self.match_of(hit, &mut fields)).collect();
         Ok(Zones {
-            matches: hits.map(|hit| self.match_of(hit, &mut fields)).collect(),
-            end: End::of(mark),
+            matches: matches?,
+            end: End::of(mark)?,
             safezone: f32::from_bits(safezone as u32),
         })
     }
 
     /// A description of the first zone that holds a fix, in degrees.
-    pub fn simple_lookup(&self, lat: f32, lon: f32) -> Result<Simple, Refusal> {
+    pub fn simple_lookup(&self, lat: f32, lon: f32) -> Result<Simple, Error> {
         let (mut hits, mut text) = self.buffers();
         let reply = raw::simple_lookup(self.bytes(), lat, lon, &mut hits, &mut text)?;
         let [matches, mark, described, length, _] = reply;
         Ok(Simple {
             description: (described == 1).then(|| text_of(&text[..length as usize])),
             matches: matches as usize,
-            end: End::of(mark),
+            end: End::of(mark)?,
         })
     }
 
     /// The zone to print on a slip: the description, only where the search for it was whole.
-    pub fn zone_for_slip(&self, lat: f32, lon: f32) -> Result<Option<String>, Refusal> {
+    pub fn zone_for_slip(&self, lat: f32, lon: f32) -> Result<Option<String>, Error> {
         let found = self.simple_lookup(lat, lon)?;
         Ok(found.description.filter(|_| found.end == End::Whole))
     }
 
     fn buffers(&self) -> (Vec<u32>, Vec<u8>) {
-        (vec![0; 3 * self.room.hits], vec![0; self.room.text])
+        (vec![0; HIT_WORDS * self.room.hits], vec![0; self.room.text])
     }
 
-    fn match_of(&self, hit: &[u32], fields: &mut Entries) -> Match {
+    fn match_of(&self, hit: &[u32], fields: &mut Entries) -> Result<Match, Unknown> {
         let names = &self.header.names;
         let field = |_| Field {
             name: names[usize::from(fields.tag())].clone(),
             value: fields.string(),
         };
-        Match {
+        Ok(Match {
             polygon: hit[0],
             metadata: hit[1],
-            kind: Kind::of(hit[2]),
+            kind: Kind::of(hit[2])?,
             fields: (0..names.len()).map(field).collect(),
-        }
+        })
     }
 }
 
-fn header_of(file: &[u8]) -> Result<Header, Refusal> {
+fn header_of(file: &[u8]) -> Result<Header, Error> {
     let mut text = vec![0; HEADER_TEXT];
     let [kind, version, precision, count, used] = raw::open(file, &mut text)?;
     let mut strings = Entries(&text[..used as usize]);
     Ok(Header {
-        table: if kind == u64::from(b'T') {
-            Table::TimeZones
-        } else {
-            Table::Countries
-        },
+        table: Table::of(kind)?,
         version: version as u8,
         precision: precision as u8,
         names: (0..count).map(|_| strings.string()).collect(),
         notice: strings.string(),
     })
+}
+
+#[cfg(test)]
+mod tests {
+    use super::*;
+
+    #[test]
+    fn what_is_not_known_is_an_error() {
+        assert_eq!(End::of(3), Ok(End::BorderFailed));
+        assert_eq!(
+            [0, 4].map(End::of),
+            [0, 4].map(|mark| Err(Unknown::End(mark)))
+        );
+        assert_eq!(Kind::of(1), Ok(Kind::InZone));
+        assert_eq!(
+            [0, 2, 5].map(Kind::of),
+            [0, 2, 5].map(|kind| Err(Unknown::Kind(kind)))
+        );
+        assert_eq!(Table::of(u64::from(b'C')), Ok(Table::Countries));
+        assert_eq!(Table::of(0x143), Err(Unknown::Table(0x143)));
+        assert_eq!(
+            Error::from(Unknown::End(4)).to_string(),
+            "unknown end mark 4"
+        );
+    }
 }

@@ -1,6 +1,7 @@
 //! The library's four functions over lent buffers (include/uskelzar.h has their contracts), and files mapped into memory.
 //! All that is unsafe in this crate is here.
 
+pub use crate::hit::HIT_WORDS;
 use crate::refusal::Refusal;
 use std::ffi::{c_int, c_void};
 use std::fs::File;

@@ -3,6 +3,7 @@
 mod common;
 
 use common::files::{overlap, LAT_STEP, LON_STEP, SQUARE, SQUARE_LAT, SQUARE_LON};
+use common::files::{TABLE_CUT, TABLE_CUT_LAT, TABLE_CUT_LON};
 use common::WORLD;
 use std::fs::{self, File};
 use uskelzar::{End, Error, Kind, Map, Mapping, Number, Room, Table};
@@ -133,6 +134,25 @@ fn no_slip_from_a_search_that_stopped() {
 }
 
 #[test]
+fn no_slip_behind_an_entry_that_could_not_be_read() {
+    // one zone whose border's first vertex is the fix, then a table entry that is cut
+    let map = Map::open(TABLE_CUT).unwrap();
+    let (lat, lon) = (f32::from_bits(TABLE_CUT_LAT), f32::from_bits(TABLE_CUT_LON));
+    let zones = map.lookup(lat, lon).unwrap();
+    let kinds: Vec<Kind> = zones.matches.iter().map(|zone| zone.kind).collect();
+    assert_eq!(
+        (kinds.as_slice(), zones.end),
+        ([Kind::OnBorderVertex].as_slice(), End::TableUnreadable)
+    );
+    let found = map.simple_lookup(lat, lon).unwrap();
+    assert_eq!(
+        (found.description.as_deref(), found.end),
+        (Some("A"), End::TableUnreadable)
+    );
+    assert_eq!(map.zone_for_slip(lat, lon).unwrap(), None);
+}
+
+#[test]
 fn refusals_have_words() {
     let refused = |bytes: &[u8]| Map::open(bytes).err().unwrap().to_string();
     assert_eq!(refused(b"PLB"), "refusal 2: under 7 bytes (length 3)");
@@ -149,7 +169,13 @@ fn refusals_have_words() {
 fn little_room_is_refused_and_more_is_enough() {
     let number = |hits, text| {
         let map = world().with_room(Room { hits, text });
-        map.lookup(52.52, 13.40).err().map(|refusal| refusal.number)
+        match map.lookup(52.52, 13.40) {
+            Err(Error::Refused(refusal)) => Some(refusal.number),
+            other => {
+                other.unwrap();
+                None
+            }
+        }
     };
     assert_eq!(number(0, 64), Some(Number::TooManyHits));
     assert_eq!(number(1, 33), Some(Number::TextRoom));

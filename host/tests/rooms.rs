@@ -6,6 +6,7 @@ mod common;
 use common::fence::{Edge, Fence, EDGES};
 use common::files::{overlap, LAT_STEP, LON_STEP};
 use common::{Buffers, Fix, Outcome, WORLD};
+use uskelzar::raw::HIT_WORDS;
 
 const MOST: usize = 64;
 const AMPLE: usize = 512;
@@ -20,13 +21,13 @@ struct Needs {
 fn assert_fits(got: &Outcome, ample: &Outcome, needs: &Needs) {
     let (words, bytes) = (got.hits.len(), got.text.len());
     let want = match () {
-        _ if words / 3 < needs.hits => 17,
+        _ if words / HIT_WORDS < needs.hits => 17,
         _ if bytes < needs.bytes => 18,
         _ => 0,
     };
     assert_eq!(got.number(), want, "{words} words, {bytes} bytes");
     if want == 0 {
-        let front = 3 * ample.reply.unwrap()[0] as usize;
+        let front = HIT_WORDS * ample.reply.unwrap()[0] as usize;
         assert_eq!(got.reply, ample.reply);
         assert_eq!(got.hits[..front], ample.hits[..front]);
         assert_eq!(got.text[..needs.bytes], ample.text[..needs.bytes]);

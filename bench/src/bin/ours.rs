@@ -1,9 +1,10 @@
 //! The library's archive, with buffers as firmware lends them.
 
+use bench::hit::HIT_WORDS;
 use bench::{Checksum, Question, Task};
 use std::fs;
 
-const WORDS: usize = 48;
+const WORDS: usize = 16 * HIT_WORDS;
 const BYTES: usize = 1024;
 
 #[link(name = "uskelzar", kind = "static")]
@@ -97,7 +98,7 @@ impl Ours {
 
     fn fold_matches(&self, sum: &mut Checksum) {
         sum.number(self.reply[0]);
-        for &word in &self.hits[..3 * self.reply[0] as usize] {
+        for &word in &self.hits[..HIT_WORDS * self.reply[0] as usize] {
             sum.number(u64::from(word));
         }
         // a field: tag, length in two bytes, bytes

@@ -13,6 +13,7 @@ use Rattle.border.specs.declared.reader.{Version.Version}
 use Rattle.border.proofs.OnWay.{At, at-first, at-next, Reads}
 use Rattle.border.proofs.Version0.{counted}
 use Rattle.border.proofs.Version1.{packed}
+use Rattle.border.specs.Encoding.{encodedIn}
 use Rattle.border.specs.Place.{pointAt}
 use Rattle.border.specs.Trace.{Trace, traceOf, borderAt}
 use Rattle.border.specs.Written.{Encodes, Leads, Placed, Stands, roundTrip}
@@ -51,16 +52,16 @@ module _ {earlier bytes file : List ℕ} {base place : ℕ} (h : Placed earlier 
 
 -- In version 0, plain version 1, and version 1 with borrowed runs forward and backward: a border that stands at a place of a file is read as its points in order, then
 -- the first again, closed.
-pub delivered : {version : Version} {file : List ℕ} {base place : ℕ} {points : List Point} → Stands version file base place points → traceOf file version base (borderAt place) ≡ roundTrip points
+pub delivered : {version : Version} {file : List ℕ} {base place : ℕ} {points : List Point} → Stands version file base place points → traceOf file (encodedIn version base) (borderAt place) ≡ roundTrip points
 unfolding roundTrip
 delivered {version} {file} {base} {place} {points} h = go points (h .written .some) (h .written .leads)
   where
-    go : (points : List Point) → 0 < length points → Leads (pointAt (pos 0) (pos 0)) (h .written .moves) points → traceOf file version base (borderAt place) ≡ roundTrip points
+    go : (points : List Point) → 0 < length points → Leads (pointAt (pos 0) (pos 0)) (h .written .moves) points → traceOf file (encodedIn version base) (borderAt place) ≡ roundTrip points
     go [] some leads = absurd (omega arith)
     go (first ∷ others) some leads = encoded-reads (h .placed) version (h .written .encoded) (omega (arith, leads-length leads)) _ _ (first ∷ others) leads
 
 -- Two ways to write one border, in two files: whatever judges by the points and the end judges them alike.
 pub one-border-one-judgement : {A : Type 0} (judge : Trace → A) {version version′ : Version} {file file′ : List ℕ} {base base′ place place′ : ℕ} {points : List Point}
     → Stands version file base place points → Stands version′ file′ base′ place′ points
-    → judge (traceOf file version base (borderAt place)) ≡ judge (traceOf file′ version′ base′ (borderAt place′))
+    → judge (traceOf file (encodedIn version base) (borderAt place)) ≡ judge (traceOf file′ (encodedIn version′ base′) (borderAt place′))
 one-border-one-judgement judge h k = ap judge (delivered h ∙ sym (delivered k))

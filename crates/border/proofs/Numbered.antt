@@ -13,7 +13,6 @@ use Rattle.numbers.specs.declared.point.{RawPoint.RawPoint}
 use Rattle.border.specs.Distance.{squared, toSegment, toVertex, distanceOf, measured}
 use Rattle.border.specs.Edge.{samePoint, sameZ, inBox, straight, quadrantOf, locationOf, edgeOf, closestOn, cutOf}
 use Rattle.border.specs.Place.{movedBy, negated}
-use Rattle.border.specs.Place
 use Rattle.border.specs.Reader.{Turn, gives, again, ends, advanced, plainMove, plainPair, plainTurn, opened, reference, marker, lent, packedTurn, turnOf}
 use Rattle.border.specs.Step.{Step}
 use Rattle.border.specs.Step as S
@@ -26,6 +25,7 @@ use Rattle.border.specs.declared.edge.Edge.{Edge}
 use Rattle.border.specs.declared.edge.Edge.the-variants.{Sloped, EqualLongitude, EqualLatitude}
 use Rattle.border.specs.declared.edge.Location.{Location}
 use Rattle.border.specs.declared.place.{FixedLat.FixedLat, FixedLon.FixedLon, Point.Point}
+use Rattle.border.specs.declared.reader.Encoding.{Encoding}
 use Rattle.border.specs.declared.reader.Reader.{Reader}
 use Rattle.border.specs.declared.reader.Run.{Run}
 use Rattle.border.specs.declared.reader.Run.the-variants.{Idle, Forward, Backward}
@@ -61,8 +61,8 @@ module _ {P : ℕ → Type 0} (twelve : P 12) (thirteen : P 13) where
   forward : (f : List ℕ) (place : ℕ) → Numbered P (forwardAt f place)
   forward = forward-numbered twelve
 
-  fits : (bits : ℕ) (z : ℤ) → Numbered P (Place.checked bits z)
-  unfolding Place.checked
+  fits : (bits : ℕ) (z : ℤ) → Numbered P (A.checked bits z)
+  unfolding A.checked
   fits bits z = either (Numbered P) (ltb (mag z) (2 ^ bits)) as-found (as-refused thirteen)
 
   moved : (p : Point) (by : RawPoint) → Numbered P (movedBy p by)
@@ -134,14 +134,14 @@ module _ {P : ℕ → Type 0} (twelve : P 12) (thirteen : P 13) where
   rounds k (again s) = k s
   rounds k ends = as-found
 
-  within : (more : ℕ) (f : List ℕ) (version : Version) (base : ℕ) (s : Reader) → Numbered P (nextWithin more f version base s)
+  within : (more : ℕ) (f : List ℕ) (encoding : Encoding) (s : Reader) → Numbered P (nextWithin more f encoding s)
   unfolding nextWithin
-  within zero f version base s = as-failed
-  within (suc more) f version base s = then-numbered (turn f version base s) (rounds (within more f version base))
+  within zero f encoding s = as-failed
+  within (suc more) f encoding s = then-numbered (turn f (encoding .version) (encoding .«data») s) (rounds (within more f encoding))
 
-  pub next-numbered : (f : List ℕ) (version : Version) (base : ℕ) (s : Reader) → Numbered P (nextPoint f version base s)
+  pub next-numbered : (f : List ℕ) (encoding : Encoding) (s : Reader) → Numbered P (nextPoint f encoding s)
   unfolding nextPoint
-  next-numbered f version base s = within (turns f) f version base s
+  next-numbered f encoding s = within (turns f) f encoding s
 
   -- ---- the trace
   traces : (answer : Answer Given) {rest : Reader → Trace} → Numbered P answer → ((s : Reader) → NumberedTrace P (rest s)) → NumberedTrace P (traceThen answer rest)
@@ -151,14 +151,14 @@ module _ {P : ℕ → Type 0} (twelve : P 12) (thirteen : P 13) where
   traces A.failed h k = failed
   traces (A.refused n) (as-refused h) k = stopped h
 
-  trace-within : (more : ℕ) (f : List ℕ) (version : Version) (base : ℕ) (s : Reader) → NumberedTrace P (traceWithin more f version base s)
+  trace-within : (more : ℕ) (f : List ℕ) (encoding : Encoding) (s : Reader) → NumberedTrace P (traceWithin more f encoding s)
   unfolding traceWithin
-  trace-within zero f version base s = failed
-  trace-within (suc more) f version base s = traces (nextPoint f version base s) (next-numbered f version base s) (trace-within more f version base)
+  trace-within zero f encoding s = failed
+  trace-within (suc more) f encoding s = traces (nextPoint f encoding s) (next-numbered f encoding s) (trace-within more f encoding)
 
-  pub trace-numbered : (f : List ℕ) (version : Version) (base : ℕ) (s : Reader) → NumberedTrace P (traceOf f version base s)
+  pub trace-numbered : (f : List ℕ) (encoding : Encoding) (s : Reader) → NumberedTrace P (traceOf f encoding s)
   unfolding traceOf
-  trace-numbered f version base s = trace-within (turns f) f version base s
+  trace-numbered f encoding s = trace-within (turns f) f encoding s
 
   -- ---- along an edge
   step-fits : (bits : ℕ) (z : ℤ) → NumberedStep P (S.checked bits z)
@@ -252,7 +252,7 @@ module _ {P : ℕ → Type 0} (twelve : P 12) (thirteen : P 13) where
   judges fix asked last tally failed = unjudged
   judges fix asked last tally (stopped h) = not-judged h
 
-  pub judged-numbered : (file : List ℕ) (version : Version) (data-offset place : ℕ) (lat : FixedLat) (lon : FixedLon) (asked : Bool) (least : ℕ)
-      → NumberedJudgement P (judgedAt file version data-offset place lat lon asked least)
+  pub judged-numbered : (file : List ℕ) (encoding : Encoding) (place : ℕ) (lat : FixedLat) (lon : FixedLon) (asked : Bool) (least : ℕ)
+      → NumberedJudgement P (judgedAt file encoding place lat lon asked least)
   unfolding judgedAt
-  judged-numbered file version data-offset place lat lon asked least = judges _ asked none _ (trace-numbered file version data-offset _)
+  judged-numbered file encoding place lat lon asked least = judges _ asked none _ (trace-numbered file encoding _)

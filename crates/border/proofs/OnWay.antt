@@ -1,7 +1,5 @@
 -- Bytes that stand at a place of a file, and a reader on its way through a border: what one turn delivers, and what the turns after it. Assumes nothing.
 use Prim.Native.Nat.{ℕ, suc, _+_, _-_, _<_, _≤_}
-use borrow.Author.Tests.{lt-ltb}
-use lib.Dec.{lit≤}
 use lib.ListN.{length, getD, drop}
 use lib.Seq.{drop-drop, drop-append-seam, getD-drop}
 use mathlib.Core.Bool.{Bool, true, false}
@@ -15,13 +13,15 @@ use Rattle.border.specs.declared.reader.{Reader.Reader, Run.Run, Version
 use Rattle.numbers.proofs.Wholes.{whole-forward, whole-clear, whole-backward, whole-some}
 use Rattle.border.proofs.Trace.{gives-trace, again-trace, ends-trace}
 use Rattle.border.proofs.reader.Turns.{closed-ends}
+use Rattle.border.specs.Encoding.{encodedIn}
 use Rattle.border.specs.Place.{movedBy}
 use Rattle.border.specs.Reader.{gives, again, closing, turnOf}
 use Rattle.border.specs.Trace.{point, closed, traceOf}
-use Rattle.border.specs.Written.{Whole, Leads, pointsThen}
+use Rattle.border.specs.Written.{Leads, pointsThen}
 use Rattle.border.specs.declared.reader.Run.the-variants.{Idle}
 use Rattle.numbers.specs.Answer.{found, if_then_else_}
-use Rattle.numbers.specs.Varint.{numeral, valueOf, sizeOf, forwardAt, backwardAt}
+use Rattle.numbers.specs.Spelling.{Whole}
+use Rattle.numbers.specs.Varint.{numeral, forwardAt, backwardAt}
 use Rattle.border.specs.Written as W
 
 -- ---- bytes at a place
@@ -59,11 +59,6 @@ module _ {f w : List ℕ} {place value : ℕ} (h : Whole w value) where
   pub stays-clear : At f (suc place) w → getD f (place + length w) 0 < 128
   stays-clear here = whole-clear f w (here .rest) place (h .complete) (here .here)
 
--- a byte with a clear high bit is a whole number
-pub one-byte : (b : ℕ) → b < 128 → Whole (b ∷ []) b
-unfolding sizeOf valueOf
-one-byte b h = record { complete = rw (lt-ltb b 128 h); short = lit≤ tt; reads = rw (lt-ltb b 128 h) (omega arith) }
-
 -- ---- a reader on its way
 
 abbrev pub onWay : Bool → ℕ → ℕ → Run → Point → Point → Reader
@@ -76,7 +71,7 @@ headOr first (q ∷ qs) = q
 -- from a state on the moves lead through the points, and the border closes with its first one
 abbrev pub Reads : List ℕ → Version → ℕ → Bool → ℕ → ℕ → Run → List RawPoint → Type 0
 Reads f version base begun place left run moves =
-    (first p : Point) (qs : List Point) → Leads p moves qs → traceOf f version base (onWay begun place left run first p) ≡ pointsThen qs (point (if begun then first else headOr first qs) closed)
+    (first p : Point) (qs : List Point) → Leads p moves qs → traceOf f (encodedIn version base) (onWay begun place left run first p) ≡ pointsThen qs (point (if begun then first else headOr first qs) closed)
 
 module _ (f : List ℕ) (version : Version) (base : ℕ) (begun : Bool) (place left : ℕ) (run : Run) where
   abbrev state : Point → Point → Reader
@@ -88,14 +83,14 @@ module _ (f : List ℕ) (version : Version) (base : ℕ) (begun : Bool) (place l
       → Reads f version base true place′ left′ run′ moves → Reads f version base begun place left run (by ∷ moves)
   unfolding pointsThen
   steps place′ left′ run′ by moves turn rest first p (q ∷ qs) (W.step m l) =
-      sym (gives-trace f version base (state first p) (onWay true place′ left′ run′ (if begun then first else q) q) (sym (turn first p q (sym m)))) ∙ ap (point q) (rest (if begun then first else q) q qs l)
+      sym (gives-trace f (encodedIn version base) (state first p) (onWay true place′ left′ run′ (if begun then first else q) q) (sym (turn first p q (sym m)))) ∙ ap (point q) (rest (if begun then first else q) q qs l)
 
   -- a turn that reads on
   pub reads-on : (place′ left′ : ℕ) (run′ : Run) (moves : List RawPoint)
       → ((first p : Point) → turnOf f version base (state first p) ≡ found (again (onWay begun place′ left′ run′ first p)))
       → Reads f version base begun place′ left′ run′ moves → Reads f version base begun place left run moves
   reads-on place′ left′ run′ moves turn rest first p qs l =
-      sym (again-trace f version base (state first p) (onWay begun place′ left′ run′ first p) (sym (turn first p))) ∙ rest first p qs l
+      sym (again-trace f (encodedIn version base) (state first p) (onWay begun place′ left′ run′ first p) (sym (turn first p))) ∙ rest first p qs l
 
   -- a turn that closes
   pub closes-with : (place′ left′ : ℕ) → ((first p : Point) → turnOf f version base (state first p) ≡ found (gives (closing (onWay begun place′ left′ Idle first p))))
@@ -103,8 +98,8 @@ module _ (f : List ℕ) (version : Version) (base : ℕ) (begun : Bool) (place l
   unfolding pointsThen
   closes-with place′ left′ turn first p [] W.stays =
       let end = closing (onWay begun place′ left′ Idle first p) in
-      sym (gives-trace f version base (state first p) end (sym (turn first p)))
-      ∙ ap (point first) (sym (ends-trace f version base end (sym (closed-ends f version base end refl))))
+      sym (gives-trace f (encodedIn version base) (state first p) end (sym (turn first p)))
+      ∙ ap (point first) (sym (ends-trace f (encodedIn version base) end (sym (closed-ends f version base end refl))))
       ∙ ap (λ (q : Point). point q closed) (same begun)
     where
       same : (t : Bool) → first ≡ (if t then first else first)

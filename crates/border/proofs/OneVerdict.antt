@@ -7,7 +7,7 @@ use mathlib.Core.List.{List}
 use lib.IntN.{ℤ, pos}
 use Rattle.border.specs.Verdict.{none, judge, judgedAt}
 use Rattle.border.specs.Written.{Stands}
-use Rattle.border.specs.Writer.{encodingOf}
+use Rattle.border.specs.Encoding.{encodedIn, encodingOf}
 use Rattle.border.specs.WrittenAt.{WrittenAt}
 use Rattle.border.specs.declared.place.{Point.Point, FixedLat.FixedLat, FixedLon.FixedLon}
 use Rattle.border.specs.declared.reader.{Version.Version}
@@ -18,7 +18,7 @@ use Rattle.border.proofs.WrittenTrace.{written-stands}
 -- distance so far, `point_in_polygon` replies the same.
 pub standing-border-one-verdict : {version version′ : Version} {file file′ : List ℕ} {base base′ place place′ : ℕ} {points : List Point}
     → Stands version file base place points → Stands version′ file′ base′ place′ points
-    → (lat : FixedLat) (lon : FixedLon) (asked : Bool) (least : ℕ) → judgedAt file version base place lat lon asked least ≡ judgedAt file′ version′ base′ place′ lat lon asked least
+    → (lat : FixedLat) (lon : FixedLon) (asked : Bool) (least : ℕ) → judgedAt file (encodedIn version base) place lat lon asked least ≡ judgedAt file′ (encodedIn version′ base′) place′ lat lon asked least
 unfolding judgedAt
 standing-border-one-verdict h k lat lon asked least = one-border-one-judgement (judge (record { lat = lat; lon = lon }) asked none (record { winding = pos 0; least = least })) h k
 
@@ -27,5 +27,5 @@ standing-border-one-verdict h k lat lon asked least = one-border-one-judgement (
 pub one-border-one-verdict : {version version′ : ℕ} {lats lons : List ℤ} {file file′ : List ℕ} {base base′ place place′ : ℕ}
     → WrittenAt version lats lons file base place → WrittenAt version′ lats lons file′ base′ place′
     → (lat : FixedLat) (lon : FixedLon) (asked : Bool) (least : ℕ)
-    → judgedAt file (encodingOf version) base place lat lon asked least ≡ judgedAt file′ (encodingOf version′) base′ place′ lat lon asked least
+    → judgedAt file (encodingOf version base) place lat lon asked least ≡ judgedAt file′ (encodingOf version′ base′) place′ lat lon asked least
 one-border-one-verdict h k = standing-border-one-verdict (written-stands h) (written-stands k)

@@ -8,7 +8,9 @@ use Rattle.border.specs.Trace.{Given, reaches, ended}
 use Rattle.border.specs.Verdict as Judge
 use Rattle.border.specs.Verdict.{Judgement, reached}
 use Rattle.border.specs.Writer as Writer
-use Rattle.border.specs.Writer.{given, Replied, replied}
+use Rattle.numbers.specs.Reply as R
+use Rattle.numbers.specs.Reply.{given}
+use Rattle.border.specs.Writer.{Replied, replied}
 use Rattle.border.specs.declared.verdict.Judged.{Judged}
 use Rattle.border.specs.declared.verdict.Judged.the-variants as J
 use Rattle.border.specs.declared.writer.Written.{Written}
@@ -55,9 +57,9 @@ unjudged-told (J.Refused n) = refl
 pub same-judgement : {judgement : Judgement} (a b : Judged) → Judge.told a ≡ judgement → Judge.told b ≡ judgement → a ≡ b
 same-judgement a b e g = sym (unjudged-told a) ∙ ap unjudged (e ∙ sym g) ∙ unjudged-told b
 
-unwritten : Writer.Reply ℕ → Written
+unwritten : R.Reply ℕ → Written
 unwritten (given length) = W.Wrote length
-unwritten (Writer.refused number detail) = W.Refused number detail
+unwritten (R.refused why) = W.Refused (why .number) (why .detail)
 
 unwritten-told : (w : Written) → unwritten (Writer.told w) ≡ w
 unfolding unwritten

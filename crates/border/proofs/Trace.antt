@@ -8,7 +8,7 @@ use Rattle.numbers.specs.Answer as A
 use Rattle.numbers.specs.Answer.{Answer, found, _>>=_}
 use Rattle.border.specs.Reader.{Turn, gives, again, ends, turnOf}
 use Rattle.border.specs.Trace.{Given, reaches, ended, roundAgain, turns, nextWithin, nextPoint, Trace, point, closed, failed, refused, traceThen, traceWithin, traceOf}
-use Rattle.border.specs.declared.reader.{Reader.Reader, Version.Version}
+use Rattle.border.specs.declared.reader.{Reader.Reader, Encoding.Encoding}
 use Rattle.numbers.proofs.Answers.{All}
 use Rattle.border.proofs.Room.{left, room-most, Less, turn-lowers}
 
@@ -48,81 +48,81 @@ module _ (f : List ℕ) (b : ℕ) where
   loosen c A.failed h k = tt
   loosen c (A.refused n) h k = tt
 
-module _ (f : List ℕ) (version : Version) (base : ℕ) where
+module _ (f : List ℕ) (encoding : Encoding) where
   -- a turn fewer than there are is still enough after one turn
   enough : (s t : Reader) → left f t < left f s → left f t < suc (length f) * suc (length f)
   enough s t l = lt-of-lt-of-le l (room-most (length f) (s .place) (s .run))
 
-  next-agree : (n m : ℕ) (s : Reader) → left f s < n → left f s < m → nextWithin n f version base s ≡ nextWithin m f version base s
+  next-agree : (n m : ℕ) (s : Reader) → left f s < n → left f s < m → nextWithin n f encoding s ≡ nextWithin m f encoding s
   unfolding nextWithin
   next-agree zero m s h k = absurd (not-suc-le-zero h)
   next-agree (suc n) zero s h k = absurd (not-suc-le-zero k)
   next-agree (suc n) (suc m) s h k =
-      round-agree f (left f s) (turnOf f version base s) _ _ (turn-lowers f version base s)
+      round-agree f (left f s) (turnOf f (encoding .version) (encoding .«data») s) _ _ (turn-lowers f (encoding .version) (encoding .«data») s)
       (λ t l. next-agree n m t (lt-of-lt-of-le l (le-of-suc-le-suc h)) (lt-of-lt-of-le l (le-of-suc-le-suc k)))
 
   -- the next point, turn by turn
-  pub next-step : (s : Reader) → nextPoint f version base s ≡ (turnOf f version base s >>= roundAgain (nextPoint f version base))
+  pub next-step : (s : Reader) → nextPoint f encoding s ≡ (turnOf f (encoding .version) (encoding .«data») s >>= roundAgain (nextPoint f encoding))
   unfolding nextPoint nextWithin
   next-step s =
-      round-agree f (left f s) (turnOf f version base s) _ _ (turn-lowers f version base s)
+      round-agree f (left f s) (turnOf f (encoding .version) (encoding .«data») s) _ _ (turn-lowers f (encoding .version) (encoding .«data») s)
       (λ t l. next-agree _ _ t (enough s t l) (lt-trans (enough s t l) (lt-suc-self _)))
 
-  within-less : (n b : ℕ) (s : Reader) → left f s ≤ b → All (LessThere f b) (nextWithin n f version base s)
+  within-less : (n b : ℕ) (s : Reader) → left f s ≤ b → All (LessThere f b) (nextWithin n f encoding s)
   unfolding nextWithin
   within-less zero b s h = tt
   within-less (suc n) b s h =
-      round-less f b (turnOf f version base s) _ (loosen f b (left f s) (turnOf f version base s) h (turn-lowers f version base s))
+      round-less f b (turnOf f (encoding .version) (encoding .«data») s) _ (loosen f b (left f s) (turnOf f (encoding .version) (encoding .«data») s) h (turn-lowers f (encoding .version) (encoding .«data») s))
       (λ t l. within-less n b t (le-of-lt l))
 
-  next-lowers : (s : Reader) → All (LessThere f (left f s)) (nextPoint f version base s)
+  next-lowers : (s : Reader) → All (LessThere f (left f s)) (nextPoint f encoding s)
   unfolding nextPoint
   next-lowers s = within-less (turns f) (left f s) s (le-refl _)
 
-  trace-agree : (n m : ℕ) (s : Reader) → left f s < n → left f s < m → traceWithin n f version base s ≡ traceWithin m f version base s
+  trace-agree : (n m : ℕ) (s : Reader) → left f s < n → left f s < m → traceWithin n f encoding s ≡ traceWithin m f encoding s
   unfolding traceWithin
   trace-agree zero m s h k = absurd (not-suc-le-zero h)
   trace-agree (suc n) zero s h k = absurd (not-suc-le-zero k)
   trace-agree (suc n) (suc m) s h k =
-      then-agree f (left f s) (nextPoint f version base s) _ _ (next-lowers s)
+      then-agree f (left f s) (nextPoint f encoding s) _ _ (next-lowers s)
       (λ t l. trace-agree n m t (lt-of-lt-of-le l (le-of-suc-le-suc h)) (lt-of-lt-of-le l (le-of-suc-le-suc k)))
 
   -- the trace, point by point: reading always ends
-  pub trace-step : (s : Reader) → traceOf f version base s ≡ traceThen (nextPoint f version base s) (traceOf f version base)
+  pub trace-step : (s : Reader) → traceOf f encoding s ≡ traceThen (nextPoint f encoding s) (traceOf f encoding)
   unfolding traceOf traceWithin
   trace-step s =
-      then-agree f (left f s) (nextPoint f version base s) _ _ (next-lowers s)
+      then-agree f (left f s) (nextPoint f encoding s) _ _ (next-lowers s)
       (λ t l. trace-agree _ _ t (enough s t l) (lt-trans (enough s t l) (lt-suc-self _)))
 
   -- ---- what a loop over turns or points needs
 
-  pub again-less : (s t : Reader) → found (again t) ≡ turnOf f version base s → left f t < left f s
-  again-less s t e = subst (All (Less f (left f s))) (sym e) (turn-lowers f version base s)
+  pub again-less : (s t : Reader) → found (again t) ≡ turnOf f (encoding .version) (encoding .«data») s → left f t < left f s
+  again-less s t e = subst (All (Less f (left f s))) (sym e) (turn-lowers f (encoding .version) (encoding .«data») s)
 
-  pub again-same : (s t : Reader) → found (again t) ≡ turnOf f version base s → nextPoint f version base t ≡ nextPoint f version base s
+  pub again-same : (s t : Reader) → found (again t) ≡ turnOf f (encoding .version) (encoding .«data») s → nextPoint f encoding t ≡ nextPoint f encoding s
   unfolding roundAgain
-  again-same s t e = ap (λ (u : Answer Turn). u >>= roundAgain (nextPoint f version base)) e ∙ sym (next-step s)
+  again-same s t e = ap (λ (u : Answer Turn). u >>= roundAgain (nextPoint f encoding)) e ∙ sym (next-step s)
 
-  pub point-less : (s t : Reader) → found (reaches t) ≡ nextPoint f version base s → left f t < left f s
+  pub point-less : (s t : Reader) → found (reaches t) ≡ nextPoint f encoding s → left f t < left f s
   point-less s t e = subst (All (LessThere f (left f s))) (sym e) (next-lowers s)
 
-  pub point-trace : (s t : Reader) → found (reaches t) ≡ nextPoint f version base s → point (t .point) (traceOf f version base t) ≡ traceOf f version base s
+  pub point-trace : (s t : Reader) → found (reaches t) ≡ nextPoint f encoding s → point (t .point) (traceOf f encoding t) ≡ traceOf f encoding s
   unfolding traceThen
-  point-trace s t e = ap (λ (u : Answer Given). traceThen u (traceOf f version base)) e ∙ sym (trace-step s)
+  point-trace s t e = ap (λ (u : Answer Given). traceThen u (traceOf f encoding)) e ∙ sym (trace-step s)
 
   -- ---- the trace, turn by turn
 
-  by-turn : (s : Reader) {t : Answer Turn} → t ≡ turnOf f version base s → traceThen (t >>= roundAgain (nextPoint f version base)) (traceOf f version base) ≡ traceOf f version base s
-  by-turn s e = ap (λ (u : Answer Turn). traceThen (u >>= roundAgain (nextPoint f version base)) (traceOf f version base)) e ∙ ap (λ (n : Answer Given). traceThen n (traceOf f version base)) (sym (next-step s)) ∙ sym (trace-step s)
+  by-turn : (s : Reader) {t : Answer Turn} → t ≡ turnOf f (encoding .version) (encoding .«data») s → traceThen (t >>= roundAgain (nextPoint f encoding)) (traceOf f encoding) ≡ traceOf f encoding s
+  by-turn s e = ap (λ (u : Answer Turn). traceThen (u >>= roundAgain (nextPoint f encoding)) (traceOf f encoding)) e ∙ ap (λ (n : Answer Given). traceThen n (traceOf f encoding)) (sym (next-step s)) ∙ sym (trace-step s)
 
-  pub gives-trace : (s t : Reader) → found (gives t) ≡ turnOf f version base s → point (t .point) (traceOf f version base t) ≡ traceOf f version base s
+  pub gives-trace : (s t : Reader) → found (gives t) ≡ turnOf f (encoding .version) (encoding .«data») s → point (t .point) (traceOf f encoding t) ≡ traceOf f encoding s
   unfolding roundAgain traceThen
   gives-trace s t e = by-turn s e
 
-  pub again-trace : (s t : Reader) → found (again t) ≡ turnOf f version base s → traceOf f version base t ≡ traceOf f version base s
+  pub again-trace : (s t : Reader) → found (again t) ≡ turnOf f (encoding .version) (encoding .«data») s → traceOf f encoding t ≡ traceOf f encoding s
   unfolding roundAgain
   again-trace s t e = trace-step t ∙ by-turn s e
 
-  pub ends-trace : (s : Reader) → found ends ≡ turnOf f version base s → closed ≡ traceOf f version base s
+  pub ends-trace : (s : Reader) → found ends ≡ turnOf f (encoding .version) (encoding .«data») s → closed ≡ traceOf f encoding s
   unfolding roundAgain traceThen
   ends-trace s e = by-turn s e

@@ -5,6 +5,7 @@ use mathlib.Core.Bool.{true}
 use mathlib.Core.List.{List, [], _∷_}
 use lib.IntN.{pos}
 use lib.Ieee.{ofInt, add, sub, mul, div, toSigned}
+use Rattle.border.specs.Encoding.{encodedIn}
 use Rattle.border.specs.Place.{pointAt}
 use Rattle.border.specs.Trace.{Trace, point, closed}
 use Rattle.border.specs.Step.{checked}
@@ -53,7 +54,7 @@ abbrev plain : List ℕ
 plain = 4 ∷ 4 ∷ 4 ∷ 16 ∷ 0 ∷ 0 ∷ 16 ∷ 17 ∷ 0 ∷ 2 ∷ 2 ∷ []
 
 abbrev judgedIn : List ℕ → Version → ℕ → ℕ → Judgement
-judgedIn file version lat lon = judgedAt file version 0 0 (record { 0 = pos lat }) (record { 0 = pos lon }) true (2 ^ 64 - 1)
+judgedIn file version lat lon = judgedAt file (encodedIn version 0) 0 (record { 0 = pos lat }) (record { 0 = pos lon }) true (2 ^ 64 - 1)
 
 -- from the bytes
 pub packed-verdicts : (judgedIn packed Packed 5 5 ≡ reached InZone 9) × (judgedIn packed Packed 2 2 ≡ reached OnBorderVertex 0) × (judgedIn packed Packed 2 5 ≡ reached OnBorderSegment 0)

@@ -12,11 +12,12 @@ use Rattle.border.proofs.OnWay.{At, at-first, at-next, reads, onWay, Re
 use Rattle.border.proofs.reader.Turns.{pair-read, pair-closes, pair-moves, counted-before, count-read}
 use Rattle.border.specs.Place.{moveBy, isStill, movedBy}
 use Rattle.border.specs.Reader.{gives, closing, plainMove, plainPair, plainTurn, turnOf}
-use Rattle.border.specs.Written.{Whole, Pairs, Version0}
+use Rattle.border.specs.Written.{Pairs, Version0}
 use Rattle.border.specs.declared.reader.Run.the-variants.{Idle}
 use Rattle.border.specs.declared.reader.Version.the-variants.{Plain}
 use Rattle.numbers.specs.Answer.{found, if_then_else_}
 use Rattle.numbers.specs.Point.{signedOf}
+use Rattle.numbers.specs.Spelling.{Whole}
 use Rattle.border.specs.Written as W
 
 -- a pair that is no zero move

@@ -13,13 +13,14 @@ use native.Mathlib.Omega.{arith}
 use Rattle.numbers.specs.declared.point.{RawPoint.RawPoint}
 use Rattle.border.specs.declared.place.{Point.Point}
 use Rattle.border.specs.declared.reader.{Reader.Reader, Run.Run}
-use Rattle.border.proofs.OnWay.{At, at-first, at-next, at-head, some-bytes, reads, reads-back, stays-clear, one-byte, onWay, Reads, steps, reads-on, closes-with}
+use Rattle.border.proofs.OnWay.{At, at-first, at-next, at-head, some-bytes, reads, reads-back, stays-clear, onWay, Reads, steps, reads-on, closes-with}
 use Rattle.border.proofs.reader.Places.{none-opened, forward-opened, backward-opened}
 use Rattle.border.proofs.reader.Turns.{turn-move, turn-marker, mark-closes, mark-opens, reference-opens, forward-move, backward-move, advances}
 use Rattle.border.specs.Reader.{onward, advanced, dataPlace, asI64, opened, marker, forwardFrom, backwardFrom, packedTurn, turnOf}
 use Rattle.border.specs.Written.{Splits, Turned, Borrowed, Version1}
 use Rattle.border.specs.declared.reader.Run.the-variants.{Idle, Forward, Backward}
 use Rattle.border.specs.declared.reader.Version.the-variants.{Packed}
+use Rattle.numbers.proofs.Spelling.{one-byte}
 use Rattle.numbers.specs.Answer.{found}
 use Rattle.numbers.specs.Point.{signedOf, pointOf}
 use Rattle.numbers.specs.Varint.{numeral, forwardAt}

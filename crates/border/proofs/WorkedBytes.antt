@@ -6,9 +6,11 @@ use lib.IntN.{ℤ, pos}
 use Rattle.numbers.specs.Varint.{forwardAt, valueOf, sizeOf, tooLong}
 use Rattle.numbers.specs.Point.{signedOf, evenBits, pointOf}
 use Rattle.border.specs.Place.{isStill}
-use Rattle.border.specs.Moves.{digitsOf, varintOf, signedForm, interleaved, plainMoveBytes, packedNumber, packedMoveBytes, moveTo, movesFrom, pointsOf, movesOf, sameMove}
+use Rattle.numbers.specs.Spelling.{digitsOf, varintOf, signedForm, interleaved}
+use Rattle.border.specs.Moves.{plainMoveBytes, packedNumber, packedMoveBytes, moveTo, movesFrom, pointsOf, movesOf, sameMove}
 use Rattle.border.specs.Pieces.{lentMoves, readAnd, spells, clearBefore, accepted, goodPieces, pieceBytes, packedFrom}
-use Rattle.border.specs.Writer.{given, refused, every, sized, near, checks, plainBorder, packedBorder, borderOf}
+use Rattle.numbers.specs.Reply.{given, refused, plain}
+use Rattle.border.specs.Writer.{every, sized, near, checks, plainBorder, packedBorder, borderOf}
 use Rattle.border.specs.declared.writer.Piece.{Piece}
 
 abbrev lats : List ℤ
@@ -33,6 +35,6 @@ pub borrowed-bytes : borderOf 1 lats lons (back 1 ∷ []) (0x00 ∷ 0x82 ∷ 0x0
 unfolding digitsOf varintOf signedForm interleaved packedNumber packedMoveBytes moveTo movesFrom pointsOf movesOf sameMove zipWith flatMap isStill lentMoves readAnd spells clearBefore accepted goodPieces pieceBytes packedFrom every sized near checks packedBorder borderOf forwardAt valueOf sizeOf tooLong signedOf evenBits pointOf
 borrowed-bytes = refl
 
-pub at-byte-zero : borderOf 1 lats lons (back 0 ∷ []) (0x82 ∷ 0x04 ∷ 0x81 ∷ 0x02 ∷ 0x33 ∷ []) ≡ refused 23 0
+pub at-byte-zero : borderOf 1 lats lons (back 0 ∷ []) (0x82 ∷ 0x04 ∷ 0x81 ∷ 0x02 ∷ 0x33 ∷ []) ≡ refused (plain 23)
 unfolding digitsOf varintOf signedForm interleaved packedNumber packedMoveBytes moveTo movesFrom pointsOf movesOf sameMove zipWith flatMap isStill lentMoves readAnd spells clearBefore accepted goodPieces pieceBytes packedFrom every sized near checks packedBorder borderOf forwardAt valueOf sizeOf tooLong signedOf evenBits pointOf
 at-byte-zero = refl

@@ -9,9 +9,12 @@ use lib.IntN.{ℤ}
 use lib.ListN.{length, take}
 use lib.Seq.{take-at}
 use Rattle.numbers.specs.Answer.{if_then_else_}
+use Rattle.numbers.specs.Lists.{zeros, padded}
+use Rattle.numbers.specs.Reply.{Reply, given, refused, plain}
 use Rattle.border.specs.Moves.{pointsOf}
 use Rattle.border.specs.Trace.{traceOf, borderAt}
-use Rattle.border.specs.Writer.{Reply, given, refused, encodingOf, Replied, replied, zeros, fitted}
+use Rattle.border.specs.Encoding.{versionOf, encodingOf}
+use Rattle.border.specs.Writer.{Replied, replied, fitted}
 use Rattle.border.specs.Written.{Stands, roundTrip}
 use Rattle.border.specs.WrittenAt.{WrittenAt}
 use Rattle.border.specs.declared.writer.Written.the-variants.{Wrote}
@@ -21,25 +24,25 @@ use Rattle.border.proofs.writer.Standing.{written-border}
 -- what a reply with a length says: the border was accepted, and its bytes are the front of the output
 pub wrote : (room size : ℕ) (out : List ℕ) (answer : Reply (List ℕ)) → replied (Wrote size) out ≡ fitted room answer → answer ≡ given (take size out)
 unfolding fitted
-wrote room size out (refused number detail) e =
-    let r : given size ≡ refused number detail = ap (λ (x : Replied). x .reply) e in
+wrote room size out (refused why) e =
+    let r : given size ≡ refused why = ap (λ (x : Replied). x .reply) e in
     let z : _≡_ {A = ℕ} 0 1 = cc in
     absurd (omega arith)
 wrote room size out (given bytes) e = by-test (leb (length bytes) room) e
   where
-    by-test : (t : Bool) → replied (Wrote size) out ≡ (if t then record { reply = given (length bytes); out = bytes ++ zeros (room - length bytes) } else record { reply = refused 24 0; out = zeros room }) → given bytes ≡ given (take size out)
+    by-test : (t : Bool) → replied (Wrote size) out ≡ (if t then record { reply = given (length bytes); out = padded room bytes } else record { reply = refused (plain 24); out = zeros room }) → given bytes ≡ given (take size out)
     by-test true g =
         let r : given size ≡ given (length bytes) = ap (λ (x : Replied). x .reply) g in
         let n : size ≡ length bytes = cc in
-        let o : out ≡ bytes ++ zeros (room - length bytes) = ap (λ (x : Replied). x .out) g in
+        let o : out ≡ padded room bytes = ap (λ (x : Replied). x .out) g in
         ap given (sym (ap (take size) o ∙ take-at bytes (zeros (room - length bytes)) size (sym n)))
     by-test false g =
-        let r : given size ≡ refused 24 0 = ap (λ (x : Replied). x .reply) g in
+        let r : given size ≡ refused (plain 24) = ap (λ (x : Replied). x .reply) g in
         let z : _≡_ {A = ℕ} 0 1 = cc in
         absurd (omega arith)
 
 module _ {version : ℕ} {lats lons : List ℤ} {file : List ℕ} {base place : ℕ} (h : WrittenAt version lats lons file base place) where
-  pub written-stands : Stands (encodingOf version) file base place (pointsOf lats lons)
+  pub written-stands : Stands (versionOf version) file base place (pointsOf lats lons)
   written-stands =
       record {
         earlier = h .earlier;
@@ -49,5 +52,5 @@ module _ {version : ℕ} {lats lons : List ℤ} {file : List ℕ} {base place : 
       }
 
   -- at its place, after the same earlier data, in any file of that version up to 1 GiB: its points in order, then the first again, closed
-  pub written-trace : traceOf file (encodingOf version) base (borderAt place) ≡ roundTrip (pointsOf lats lons)
+  pub written-trace : traceOf file (encodingOf version base) (borderAt place) ≡ roundTrip (pointsOf lats lons)
   written-trace = delivered written-stands

@@ -1,5 +1,4 @@
 pub mod Stores
-pub mod Digits
 pub mod Signs
 pub mod Indexed
 pub mod Elements

@@ -1,5 +1,6 @@
 pub mod Place
 pub mod Reader
+pub mod Encoding
 pub mod Trace
 pub mod Told
 pub mod Written

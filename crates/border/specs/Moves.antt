@@ -1,32 +1,13 @@
 -- How a border's moves are written: document 01, "Moves as in the reader, shortest varints, odd only for negatives".
-use Prim.Native.Nat.{ℕ, zero, suc, _+_, _*_, _/_, _%_}
+use Prim.Native.Nat.{ℕ}
 use mathlib.Core.Bool.{Bool, not, _&&_}
 use mathlib.Core.List.{List, [], _∷_, _++_, zipWith}
-use lib.Dec.{ltb, eqb}
-use lib.IntN.{ℤ, pos, negsuc, negℤ, _-ℤ_}
-use Rattle.numbers.specs.Answer.{if_then_else_}
+use lib.Dec.{eqb}
+use lib.IntN.{ℤ, pos, negℤ, _-ℤ_}
+use Rattle.numbers.specs.Spelling.{varintOf, signedForm, interleaved}
 use Rattle.numbers.specs.declared.point.{RawPoint.RawPoint}
 use Rattle.border.specs.Place.{pointAt, moveBy, isStill}
 use Rattle.border.specs.declared.place.{Point.Point}
-
--- seven bits a byte, low first, the high bit set in all but the last; at most k + 1 bytes
-unfoldable pub digitsOf : ℕ → ℕ → List ℕ
-digitsOf zero n = n ∷ []
-digitsOf (suc k) n = if ltb n 128 then (n ∷ []) else ((128 + n % 128) ∷ digitsOf k (n / 128))
-
--- the shortest varint of a number below 2 ^ 64
-unfoldable pub varintOf : ℕ → List ℕ
-varintOf n = digitsOf 9 n
-
--- twice the size, odd only for negatives
-unfoldable pub signedForm : ℤ → ℕ
-signedForm (pos n) = 2 * n
-signedForm (negsuc n) = 2 * suc n + 1
-
--- of k bits each: those of a at the even places, those of b at the odd ones
-unfoldable pub interleaved : ℕ → ℕ → ℕ → ℕ
-interleaved zero a b = 0
-interleaved (suc k) a b = a % 2 + 2 * (b % 2) + 4 * interleaved k (a / 2) (b / 2)
 
 -- a move in version 0, two numbers
 unfoldable pub plainMoveBytes : RawPoint → List ℕ

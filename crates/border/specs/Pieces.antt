@@ -9,7 +9,8 @@ use Rattle.numbers.specs.Answer.{Answer, found, failed, refused, if_then_else_}
 use Rattle.numbers.specs.Varint.{Numeral, isLast, forwardAt}
 use Rattle.numbers.specs.Point.{pointOf}
 use Rattle.numbers.specs.declared.point.{RawPoint.RawPoint}
-use Rattle.border.specs.Moves.{varintOf, packedMoveBytes, turnedBack, sameMove}
+use Rattle.numbers.specs.Spelling.{varintOf}
+use Rattle.border.specs.Moves.{packedMoveBytes, turnedBack, sameMove}
 use Rattle.border.specs.declared.writer.{Piece.Piece}
 
 -- direction 0 is forward, others backward

@@ -1,10 +1,8 @@
 -- Fixed points and the moves between them, as document 01 has them.
-use Prim.Native.Nat.{ℕ, _^_}
 use mathlib.Core.Bool.{Bool, false, _&&_}
-use lib.Dec.{ltb, eqb}
+use lib.Dec.{eqb}
 use lib.IntN.{ℤ, pos, negsuc, negℤ, _+ℤ_}
-use lib.Signed.{mag}
-use Rattle.numbers.specs.Answer.{Answer, found, refused, if_then_else_, _>>=_}
+use Rattle.numbers.specs.Answer.{Answer, found, checked, _>>=_}
 use Rattle.numbers.specs.declared.point.{RawPoint.RawPoint}
 use Rattle.border.specs.declared.place.{Point.Point}
 
@@ -22,10 +20,6 @@ isZero (negsuc n) = false
 -- a zero move
 unfoldable pub isStill : RawPoint → Bool
 isStill by = isZero (by .lat) && isZero (by .lon)
-
--- an integer step on which the checked Rust panics: the result needs more bits than these beside its sign
-unfoldable pub checked : ℕ → ℤ → Answer ℤ
-checked bits z = if ltb (mag z) (2 ^ bits) then found z else refused 13
 
 -- the point that a move leads to
 unfoldable pub movedBy : Point → RawPoint → Answer Point

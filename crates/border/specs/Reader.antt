@@ -4,11 +4,11 @@ use mathlib.Core.Bool.{true}
 use mathlib.Core.List.{List}
 use lib.Dec.{ltb, leb, eqb}
 use lib.IntN.{ℤ, pos, negsuc, _+ℤ_, _-ℤ_}
-use Rattle.numbers.specs.Answer.{Answer, found, failed, if_then_else_, _>>=_}
+use Rattle.numbers.specs.Answer.{Answer, found, failed, checked, if_then_else_, _>>=_}
 use Rattle.numbers.specs.Varint.{forwardAt, backwardAt}
 use Rattle.numbers.specs.Point.{low32, signedOf, pointOf}
 use Rattle.numbers.specs.declared.point.{RawPoint.RawPoint}
-use Rattle.border.specs.Place.{checked, moveBy, isStill, movedBy, negated}
+use Rattle.border.specs.Place.{moveBy, isStill, movedBy, negated}
 use Rattle.border.specs.declared.place.{Point.Point}
 use Rattle.border.specs.declared.reader.{Reader.Reader, Version.Version, Version.the-variants.Plain, Version.the-variants.Packed}
 use Rattle.border.specs.declared.reader.{Run.Run, Run.the-variants.Idle, Run.the-variants.Forward, Run.the-variants.Backward}

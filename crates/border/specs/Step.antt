@@ -1,9 +1,7 @@
 -- What a step along a border comes to.
-use Prim.Native.Nat.{ℕ, _^_}
-use lib.Dec.{ltb}
+use Prim.Native.Nat.{ℕ}
 use lib.IntN.{ℤ}
-use lib.Signed.{mag}
-use Rattle.numbers.specs.Answer.{if_then_else_}
+use Rattle.numbers.specs.Answer.{inRange, if_then_else_}
 use Rattle.border.specs.declared.verdict.{Verdict.Verdict, Tally.Tally, Passed.Passed}
 use Rattle.border.specs.declared.verdict.Passed.the-variants.{On, Meets, Over}
 
@@ -19,9 +17,9 @@ _>>=_ (meets v) k = meets v
 _>>=_ (refused n) k = refused n
 
 infixl 20 _>>=_
--- an integer step on which the checked Rust panics: the result needs more bits than these beside its sign
+-- an integer step on which the checked Rust panics, between two edges
 unfoldable pub checked : ℕ → ℤ → Step ℤ
-checked bits z = if ltb (mag z) (2 ^ bits) then found z else refused 13
+checked bits z = if inRange bits z then found z else refused 13
 
 -- what the enum's cases say
 abbrev pub told : Passed → Step Tally

@@ -9,7 +9,7 @@ use Rattle.numbers.specs.Answer.{Answer, found, _>>=_}
 use Rattle.border.specs.Place.{pointAt}
 use Rattle.border.specs.Reader.{Turn, gives, again, ends, turnOf}
 use Rattle.border.specs.declared.place.{Point.Point}
-use Rattle.border.specs.declared.reader.{Reader.Reader, Version.Version, Run.the-variants.Idle}
+use Rattle.border.specs.declared.reader.{Reader.Reader, Encoding.Encoding, Run.the-variants.Idle}
 
 -- the state at the next point, which is its own; or the border's end
 pub data Given : Type 0 where
@@ -27,12 +27,12 @@ abbrev pub turns : List ℕ → ℕ
 turns f = suc (suc (length f) * suc (length f))
 
 -- turns up to a point or the end; that they are never used up is the law `next-step`
-unfoldable pub nextWithin : ℕ → List ℕ → Version → ℕ → Reader → Answer Given
-nextWithin zero f version base s = A.failed
-nextWithin (suc more) f version base s = turnOf f version base s >>= roundAgain (nextWithin more f version base)
+unfoldable pub nextWithin : ℕ → List ℕ → Encoding → Reader → Answer Given
+nextWithin zero f encoding s = A.failed
+nextWithin (suc more) f encoding s = turnOf f (encoding .version) (encoding .«data») s >>= roundAgain (nextWithin more f encoding)
 
-unfoldable pub nextPoint : List ℕ → Version → ℕ → Reader → Answer Given
-nextPoint f version base s = nextWithin (turns f) f version base s
+unfoldable pub nextPoint : List ℕ → Encoding → Reader → Answer Given
+nextPoint f encoding s = nextWithin (turns f) f encoding s
 
 -- the points of a border, and how it ends
 pub data Trace : Type 0 where
@@ -49,12 +49,12 @@ traceThen A.failed rest = failed
 traceThen (A.refused n) rest = refused n
 
 -- one point after the other; that they are never used up is the law `trace-step`
-unfoldable pub traceWithin : ℕ → List ℕ → Version → ℕ → Reader → Trace
-traceWithin zero f version base s = failed
-traceWithin (suc more) f version base s = traceThen (nextPoint f version base s) (traceWithin more f version base)
+unfoldable pub traceWithin : ℕ → List ℕ → Encoding → Reader → Trace
+traceWithin zero f encoding s = failed
+traceWithin (suc more) f encoding s = traceThen (nextPoint f encoding s) (traceWithin more f encoding)
 
-unfoldable pub traceOf : List ℕ → Version → ℕ → Reader → Trace
-traceOf f version base s = traceWithin (turns f) f version base s
+unfoldable pub traceOf : List ℕ → Encoding → Reader → Trace
+traceOf f encoding s = traceWithin (turns f) f encoding s
 
 -- a border that is about to be read at a place
 abbrev pub borderAt : ℕ → Reader

@@ -12,7 +12,7 @@ use Rattle.border.specs.Edge.{sameZ, samePoint}
 use Rattle.border.specs.Winding.{woundBy}
 use Rattle.border.specs.Distance.{measured}
 use Rattle.border.specs.declared.place.{FixedLat.FixedLat, FixedLon.FixedLon, Point.Point}
-use Rattle.border.specs.declared.reader.Version.{Version}
+use Rattle.border.specs.declared.reader.Encoding.{Encoding}
 use Rattle.border.specs.declared.verdict.{Tally.Tally, Verdict.Verdict, Judged.Judged}
 use Rattle.border.specs.declared.verdict.Verdict.the-variants.{NotInZone, InZone, InExcludedZone, OnBorderVertex, OnBorderSegment}
 use Rattle.border.specs.declared.verdict.Judged.the-variants as J
@@ -70,6 +70,6 @@ judge fix asked last tally T.failed = failed (tally .least)
 judge fix asked last tally (T.refused n) = refused n
 
 -- The judgement of the border at a place of the file.
-unfoldable pub judgedAt : List ℕ → Version → ℕ → ℕ → FixedLat → FixedLon → Bool → ℕ → Judgement
-judgedAt file version data-offset place lat lon asked least =
-    judge (record { lat = lat; lon = lon }) asked none (record { winding = pos 0; least = least }) (traceOf file version data-offset (borderAt place))
+unfoldable pub judgedAt : List ℕ → Encoding → ℕ → FixedLat → FixedLon → Bool → ℕ → Judgement
+judgedAt file encoding place lat lon asked least =
+    judge (record { lat = lat; lon = lon }) asked none (record { winding = pos 0; least = least }) (traceOf file encoding (borderAt place))

@@ -1,32 +1,19 @@
 -- What the writer writes, and when it refuses: document 01, "The writer".
-use Prim.Native.Nat.{ℕ, zero, suc, _+_, _-_, _^_}
+use Prim.Native.Nat.{ℕ, _^_}
 use mathlib.Core.Bool.{Bool, true, false, _&&_}
 use mathlib.Core.List.{List, [], _∷_, _++_, flatMap}
 use lib.Dec.{ltb, leb, eqb}
 use lib.IntN.{ℤ, natAbs}
-use lib.ListN.{length, take, drop, replicate}
+use lib.ListN.{length, take, drop}
 use Rattle.numbers.specs.Answer.{if_then_else_}
+use Rattle.numbers.specs.Lists.{zeros, padded}
+use Rattle.numbers.specs.Reply.{Reply, given, refused, refusal, plain, demand, _>>_}
 use Rattle.numbers.specs.declared.point.{RawPoint.RawPoint}
-use Rattle.border.specs.Moves.{varintOf, plainMoveBytes, movesOf, isMove}
+use Rattle.numbers.specs.Spelling.{varintOf}
+use Rattle.border.specs.Moves.{plainMoveBytes, movesOf, isMove}
 use Rattle.border.specs.Pieces.{goodPieces, packedFrom}
-use Rattle.border.specs.declared.reader.{Version.Version, Version.the-variants.Plain, Version.the-variants.Packed}
 use Rattle.border.specs.declared.writer.{Piece.Piece, Written.Written}
 use Rattle.border.specs.declared.writer.Written.the-variants as W
-
--- what was asked for, or a refusal with its number and detail
-pub data Reply (A : Type 0) : Type 0 where
-  given : A → Reply A
-  refused : ℕ → ℕ → Reply A
-
--- a test that must hold, in a `do` block
-abbrev pub demand : Bool → ℕ → ℕ → Reply (Unit {0})
-demand true number detail = given tt
-demand false number detail = refused number detail
-
-infixl 20 _>>_
-abbrev pub _>>_ : {A B : Type 0} → Reply A → Reply B → Reply B
-_>>_ (given a) next = next
-_>>_ (refused number detail) next = refused number detail
 
 -- each element of the list is good
 unfoldable pub every : {A : Type 0} → (A → Bool) → List A → Bool
@@ -43,24 +30,24 @@ near z = leb (natAbs z) 1073741823
 -- the checks of the border, in order
 unfoldable pub checks : ℕ → List ℤ → List ℤ → List ℕ → Reply (Unit {0})
 checks version lats lons earlier = do
-  demand (leb (length earlier) (2 ^ 30)) 1 0
-  demand (ltb version 2) 5 version
-  demand (sized lats lons) 19 0
-  demand (every near lats && every near lons) 20 0
-  demand (every isMove (drop 1 (movesOf lats lons))) 21 0
-  demand (every isMove (take 1 (movesOf lats lons))) 22 0
+  demand (leb (length earlier) (2 ^ 30)) (plain 1)
+  demand (ltb version 2) (refusal 5 0 version)
+  demand (sized lats lons) (plain 19)
+  demand (every near lats && every near lons) (plain 20)
+  demand (every isMove (drop 1 (movesOf lats lons))) (plain 21)
+  demand (every isMove (take 1 (movesOf lats lons))) (plain 22)
 
 -- "Version 0: count, moves, then guard bytes 02 02"; it takes no pieces
 unfoldable pub plainBorder : List RawPoint → List Piece → Reply (List ℕ)
 plainBorder moves pieces = do
-  demand (eqb (length pieces) 0) 23 0
+  demand (eqb (length pieces) 0) (plain 23)
   given (varintOf (length moves) ++ (flatMap plainMoveBytes moves ++ (2 ∷ 2 ∷ [])))
 
 -- "Version 1: moves, 00 00", with at most 16 pieces; else the lowest bad index
 unfoldable pub packedBorder : List RawPoint → List Piece → List ℕ → Reply (List ℕ)
 packedBorder moves pieces earlier = do
-  demand (leb (length pieces) 16) 23 16
-  demand (eqb (goodPieces earlier moves 0 pieces) (length pieces)) 23 (goodPieces earlier moves 0 pieces)
+  demand (leb (length pieces) 16) (refusal 23 0 16)
+  demand (eqb (goodPieces earlier moves 0 pieces) (length pieces)) (refusal 23 0 (goodPieces earlier moves 0 pieces))
   given (packedFrom moves 0 pieces)
 
 -- the border's bytes, in whatever room
@@ -69,14 +56,10 @@ borderOf version lats lons pieces earlier = do
   checks version lats lons earlier
   if eqb version 0 then plainBorder (movesOf lats lons) pieces else packedBorder (movesOf lats lons) pieces earlier
 
--- the encoding of a version
-abbrev pub encodingOf : ℕ → Version
-encodingOf version = if eqb version 0 then Plain else Packed
-
--- ---- the reply, and all of the lent output
+-- ---- the reply, and all of the lent output; no refusal of the writer has a cause
 abbrev pub told : Written → Reply ℕ
 told (W.Wrote length) = given length
-told (W.Refused number detail) = refused number detail
+told (W.Refused number detail) = refused (refusal number 0 detail)
 
 -- only whether it was refused
 abbrev pub passed : Written → Reply (Unit {0})
@@ -89,13 +72,10 @@ pub record Replied : Type 0 where
 abbrev pub replied : Written → List ℕ → Replied
 replied r out = record { reply = told r; out = out }
 
-abbrev pub zeros : ℕ → List ℕ
-zeros n = replicate n 0
-
 -- 24 where the bytes do not fit; behind them, and on a refusal, all is zero
 unfoldable pub fitted : ℕ → Reply (List ℕ) → Replied
 fitted room (given bytes) =
     if leb (length bytes) room
-    then record { reply = given (length bytes); out = bytes ++ zeros (room - length bytes) }
-    else record { reply = refused 24 0; out = zeros room }
-fitted room (refused number detail) = record { reply = refused number detail; out = zeros room }
+    then record { reply = given (length bytes); out = padded room bytes }
+    else record { reply = refused (plain 24); out = zeros room }
+fitted room (refused why) = record { reply = refused why; out = zeros room }

@@ -6,19 +6,13 @@ use mathlib.Core.List.{List, [], _∷_, _++_}
 use lib.IntN.{pos, negℤ}
 use lib.ListN.{length}
 use Rattle.numbers.specs.Answer.{found}
-use Rattle.numbers.specs.Varint.{valueOf, sizeOf}
+use Rattle.numbers.specs.Spelling.{Whole}
 use Rattle.numbers.specs.Point.{signedOf, pointOf}
 use Rattle.numbers.specs.declared.point.{RawPoint.RawPoint}
 use Rattle.border.specs.Place.{pointAt, moveBy, isStill, movedBy, negated}
 use Rattle.border.specs.Trace.{Trace, point, closed}
 use Rattle.border.specs.declared.place.{Point.Point}
 use Rattle.border.specs.declared.reader.{Version.Version, Version.the-variants.Plain, Version.the-variants.Packed}
-
--- one "whole varint of at most ten bytes": the first byte with a clear high bit is its last
-pub record Whole (bytes : List ℕ) (value : ℕ) : Type 0 where
-  pub complete : sizeOf bytes ≡ length bytes
-  pub short : length bytes ≤ 10
-  pub reads : valueOf bytes % 2 ^ 64 ≡ value
 
 -- a run "splits into whole varints, none 0": the moves that they are
 pub data Splits : List ℕ → List RawPoint → Type 0 where

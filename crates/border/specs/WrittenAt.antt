@@ -3,7 +3,8 @@ use Prim.Native.Nat.{ℕ}
 use mathlib.Core.Path.{_≡_}
 use mathlib.Core.List.{List}
 use lib.IntN.{ℤ}
-use Rattle.border.specs.Writer.{given, borderOf}
+use Rattle.numbers.specs.Reply.{given}
+use Rattle.border.specs.Writer.{borderOf}
 use Rattle.border.specs.Written.{Placed}
 use Rattle.border.specs.declared.writer.{Piece.Piece}
 

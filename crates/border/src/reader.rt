@@ -1,4 +1,4 @@
-// Reading a border's points, one at a time. The state is plain data; the file's bytes, its version and its data offset stand beside it.
+// Reading a border's points, one at a time. The state is plain data; the file's bytes and its encoding stand beside it.
 ghost use mathlib.Core.Path.{_≡_};
 ghost use lib.IntN.{pos, negsuc};
 ghost use Rattle.numbers.specs.Answer.{found};
@@ -17,14 +17,22 @@ use crate::place::negate;
 use numbers::point::RawPoint;
 use numbers::point::decode_point;
 use numbers::point::signed;
+use numbers::refusal::OUT_OF_RANGE;
+use numbers::varint::Number;
 use numbers::varint::Varint;
 use numbers::varint::read_backward;
 use numbers::varint::read_forward;
 
-// The encoding of a border: version 0 and version 1.
+// How borders are written: version 0 and version 1.
 pub enum Version {
     Plain,
     Packed,
+}
+
+// The encoding of a file's borders: their version, and where the data section begins that references count from.
+pub struct Encoding {
+    pub version: Version,
+    pub data: u32,
 }
 
 // A reference that is being read: its next place and its end.
@@ -61,9 +69,9 @@ fn stop(n: Varint) -> Turn
     ensures { λ r. ⌜ toldTurn r ≡ stopped n ⌝ }
 {
     match n {
-        Varint::Refused => Turn::Refused(12),
+        Varint::Refused(number) => Turn::Refused(number),
         Varint::Failed => Turn::Failed,
-        Varint::Number { value: _, place: _ } => Turn::Failed,
+        Varint::Number(_) => Turn::Failed,
     }
 }
 
@@ -117,7 +125,7 @@ fn advance(reader: Reader, place: usize, run: Run, by: RawPoint) -> Turn
 {
     let here = reader.point;
     let Moved::To(point) = move_by(here, by) else {
-        return Turn::Refused(13);
+        return Turn::Refused(OUT_OF_RANGE);
     };
     Turn::Gives(arrive(reader, place, reader.moves, run, point))
 }
@@ -142,7 +150,7 @@ fn plain_move(reader: Reader, place: usize, moves: u64, by: RawPoint) -> Turn
     }
     let here = reader.point;
     let Moved::To(point) = move_by(here, by) else {
-        return Turn::Refused(13);
+        return Turn::Refused(OUT_OF_RANGE);
     };
     shown(arrive(reader, place, moves - 1, Run::Idle, point), by)
 }
@@ -152,26 +160,18 @@ fn plain_pair(file: &[u8], reader: Reader, place: usize, moves: u64) -> Turn
     ensures { λ r. ⌜ toldTurn r ≡ plainPair (now (file .entry)) (onward reader place moves Run.Idle) ⌝ }
 {
     let n = read_forward(file, place);
-    let Varint::Number {
-        value: lat,
-        place: middle,
-    } = n
-    else {
+    let Varint::Number(lat) = n else {
         return stop(n);
     };
-    let m = read_forward(file, middle);
-    let Varint::Number {
-        value: lon,
-        place: after,
-    } = m
-    else {
+    let m = read_forward(file, lat.place);
+    let Varint::Number(lon) = m else {
         return stop(m);
     };
     let by = RawPoint {
-        lat: signed(lat),
-        lon: signed(lon),
+        lat: signed(lat.value),
+        lon: signed(lon.value),
     };
-    plain_move(reader, after, moves, by)
+    plain_move(reader, lon.place, moves, by)
 }
 
 // Version 0: the moves that are left, and where the next pair stands. The count comes before the first move.
@@ -180,20 +180,16 @@ fn moves_left(file: &[u8], reader: Reader) -> Varint
 {
     let place = reader.place;
     if reader.begun {
-        return Varint::Number {
+        return Varint::Number(Number {
             value: reader.moves,
             place,
-        };
+        });
     }
     let n = read_forward(file, place);
-    let Varint::Number {
-        value: count,
-        place: _,
-    } = n
-    else {
+    let Varint::Number(count) = n else {
         return n;
     };
-    if count == 0 {
+    if count.value == 0 {
         return Varint::Failed;
     }
     n
@@ -204,14 +200,10 @@ fn plain_turn(file: &[u8], reader: Reader) -> Turn
     ensures { λ r. ⌜ toldTurn r ≡ plainTurn (now (file .entry)) reader ⌝ }
 {
     let n = moves_left(file, reader);
-    let Varint::Number {
-        value: moves,
-        place,
-    } = n
-    else {
+    let Varint::Number(moves) = n else {
         return stop(n);
     };
-    plain_pair(file, reader, place, moves)
+    plain_pair(file, reader, moves.place, moves.value)
 }
 
 // A reference, or that its end leaves the i64.
@@ -274,25 +266,17 @@ fn open_reference(file: &[u8], base: u32, reader: Reader, place: usize) -> Turn
     ensures { λ r. ⌜ toldTurn r ≡ reference (now (file .entry)) base (onward reader place (reader .moves) Run.Idle) ⌝ }
 {
     let n = read_forward(file, place);
-    let Varint::Number {
-        value: start,
-        place: middle,
-    } = n
-    else {
+    let Varint::Number(start) = n else {
         return stop(n);
     };
-    let m = read_forward(file, middle);
-    let Varint::Number {
-        value: length,
-        place: after,
-    } = m
-    else {
+    let m = read_forward(file, start.place);
+    let Varint::Number(length) = m else {
         return stop(m);
     };
-    let Opened::Run(run) = open_run(base, start, signed(length)) else {
-        return Turn::Refused(13);
+    let Opened::Run(run) = open_run(base, start.value, signed(length.value)) else {
+        return Turn::Refused(OUT_OF_RANGE);
     };
-    Turn::Again(go_on(reader, after, run))
+    Turn::Again(go_on(reader, length.place, run))
 }
 
 // Reading goes on at a place, in a run.
@@ -317,21 +301,17 @@ fn read_marker(file: &[u8], base: u32, reader: Reader, place: usize) -> Turn
     ensures { λ r. ⌜ toldTurn r ≡ marker (now (file .entry)) base (onward reader place (reader .moves) Run.Idle) ⌝ }
 {
     let n = read_forward(file, place);
-    let Varint::Number {
-        value: mark,
-        place: after,
-    } = n
-    else {
+    let Varint::Number(mark) = n else {
         return stop(n);
     };
-    if mark == 0 {
-        return Turn::Gives(close(reader, after, reader.moves));
+    if mark.value == 0 {
+        return Turn::Gives(close(reader, mark.place, reader.moves));
     }
-    if mark == 1 {
-        return open_reference(file, base, reader, after);
+    if mark.value == 1 {
+        return open_reference(file, base, reader, mark.place);
     }
     let here = reader.point;
-    Turn::Gives(arrive(reader, after, reader.moves, Run::Idle, here))
+    Turn::Gives(arrive(reader, mark.place, reader.moves, Run::Idle, here))
 }
 
 // Version 1, outside a reference.
@@ -340,17 +320,13 @@ fn read_move(file: &[u8], base: u32, reader: Reader) -> Turn
 {
     let place = reader.place;
     let n = read_forward(file, place);
-    let Varint::Number {
-        value,
-        place: after,
-    } = n
-    else {
+    let Varint::Number(number) = n else {
         return stop(n);
     };
-    if value == 0 {
-        return read_marker(file, base, reader, after);
+    if number.value == 0 {
+        return read_marker(file, base, reader, number.place);
     }
-    advance(reader, after, Run::Idle, decode_point(value))
+    advance(reader, number.place, Run::Idle, decode_point(number.value))
 }
 
 // What is left of a reference.
@@ -379,18 +355,14 @@ fn run_forward(file: &[u8], base: u32, reader: Reader, next: usize, end: usize) 
     ensures { λ r. ⌜ toldTurn r ≡ packedTurn (Run.Forward next end) (now (file .entry)) base reader ⌝ }
 {
     let n = read_forward(file, next);
-    let Varint::Number {
-        value: ahead,
-        place: after,
-    } = n
-    else {
+    let Varint::Number(ahead) = n else {
         return stop(n);
     };
-    if ahead == 0 {
+    if ahead.value == 0 {
         return Turn::Failed;
     }
-    let place = reader.place;
-    advance(reader, place, forward_from(after, end), decode_point(ahead))
+    let run = forward_from(ahead.place, end);
+    advance(reader, reader.place, run, decode_point(ahead.value))
 }
 
 // Version 1, inside a reference that is read backward.
@@ -398,21 +370,16 @@ fn run_backward(file: &[u8], base: u32, reader: Reader, next: usize, end: usize)
     ensures { λ r. ⌜ toldTurn r ≡ packedTurn (Run.Backward next end) (now (file .entry)) base reader ⌝ }
 {
     let n = read_backward(file, next);
-    let Varint::Number {
-        value: behind,
-        place: before,
-    } = n
-    else {
+    let Varint::Number(behind) = n else {
         return stop(n);
     };
-    if behind == 0 {
+    if behind.value == 0 {
         return Turn::Failed;
     }
-    let Away::By(by) = negate(decode_point(behind)) else {
-        return Turn::Refused(13);
+    let Away::By(by) = negate(decode_point(behind.value)) else {
+        return Turn::Refused(OUT_OF_RANGE);
     };
-    let place = reader.place;
-    advance(reader, place, backward_from(before, end), by)
+    advance(reader, reader.place, backward_from(behind.place, end), by)
 }
 
 fn packed_turn(file: &[u8], base: u32, reader: Reader) -> Turn
@@ -426,14 +393,15 @@ fn packed_turn(file: &[u8], base: u32, reader: Reader) -> Turn
     }
 }
 
-fn turn_once(file: &[u8], version: Version, base: u32, reader: Reader) -> Turn
-    ensures { λ r. ⌜ toldTurn r ≡ turnOf (now (file .entry)) version base reader ⌝ }
+fn turn_once(file: &[u8], encoding: Encoding, reader: Reader) -> Turn
+    ensures { λ r. ⌜ toldTurn r ≡ turnOf (now (file .entry)) (encoding .version) (encoding .«data») reader ⌝ }
 {
     if reader.closed {
         return Turn::Ended;
     }
+    let version = encoding.version;
     match version {
-        Version::Packed => packed_turn(file, base, reader),
+        Version::Packed => packed_turn(file, encoding.data, reader),
         Version::Plain => plain_turn(file, reader),
     }
 }
@@ -459,13 +427,13 @@ fn settled(t: Turn) -> Next
     }
 }
 
-// The next point of a border. The file's bytes, its version and its data offset are the same from point to point.
-pub fn next_point(file: &[u8], version: Version, data_offset: u32, reader: Reader) -> Next
-    ensures { λ r. ⌜ told r ≡ nextPoint (now (file .entry)) version «data_offset» reader ⌝ }
+// The next point of a border. The file's bytes and its encoding are the same from point to point.
+pub fn next_point(file: &[u8], encoding: Encoding, reader: Reader) -> Next
+    ensures { λ r. ⌜ told r ≡ nextPoint (now (file .entry)) encoding reader ⌝ }
 {
     let mut state = reader;
     loop {
-        let t = turn_once(file, version, data_offset, state);
+        let t = turn_once(file, encoding, state);
         let Turn::Again(later) = t else {
             return settled(t);
         };
@@ -507,10 +475,10 @@ struct Stepped {
 }
 
 // The end, a failure and a refusal leave the state as it was.
-fn step(file: &[u8], version: Version, data_offset: u32, reader: Reader) -> Stepped
-    ensures { λ r. ⌜ r ≡ steppedBy reader (nextPoint (now (file .entry)) version «data_offset» reader) ⌝ }
+fn step(file: &[u8], encoding: Encoding, reader: Reader) -> Stepped
+    ensures { λ r. ⌜ r ≡ steppedBy reader (nextPoint (now (file .entry)) encoding reader) ⌝ }
 {
-    let n = next_point(file, version, data_offset, reader);
+    let n = next_point(file, encoding, reader);
     match n {
         Next::Point(later) => {
             let point = later.point;
@@ -535,16 +503,11 @@ fn step(file: &[u8], version: Version, data_offset: u32, reader: Reader) -> Step
 }
 
 // The thin form: the lent state goes through `step` and back.
-pub fn reader_get_point(
-    file: &[u8],
-    version: Version,
-    data_offset: u32,
-    reader: &mut Reader,
-) -> Reply
-    ensures { λ r. ⌜ (r ≡ steppedBy (now (reader .entry)) (nextPoint (now (file .entry)) version «data_offset» (now (reader .entry))) .reply)
-        × (now (reader .exit) ≡ steppedBy (now (reader .entry)) (nextPoint (now (file .entry)) version «data_offset» (now (reader .entry))) .reader) ⌝ }
+pub fn reader_get_point(file: &[u8], encoding: Encoding, reader: &mut Reader) -> Reply
+    ensures { λ r. ⌜ (r ≡ steppedBy (now (reader .entry)) (nextPoint (now (file .entry)) encoding (now (reader .entry))) .reply)
+        × (now (reader .exit) ≡ steppedBy (now (reader .entry)) (nextPoint (now (file .entry)) encoding (now (reader .entry))) .reader) ⌝ }
 {
-    let stepped = step(file, version, data_offset, *reader);
+    let stepped = step(file, encoding, *reader);
     *reader = stepped.reader;
     stepped.reply
 }

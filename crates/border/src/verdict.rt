@@ -13,11 +13,12 @@ use crate::edge::seen_from;
 use crate::place::FixedLat;
 use crate::place::FixedLon;
 use crate::place::Point;
+use crate::reader::Encoding;
 use crate::reader::Next;
-use crate::reader::Version;
 use crate::reader::next_point;
 use crate::reader::open_border;
 use crate::winding::wound;
+use numbers::refusal::OUT_OF_RANGE;
 
 pub enum Verdict {
     NotInZone,
@@ -139,7 +140,7 @@ fn stopped(passed: Passed, asked: bool, least: u64) -> Judged
     ensures { λ r. ⌜ told r ≡ thenOn asked least (step.told passed) (λ tally. verdict.refused 13) ⌝ }
 {
     let Passed::Meets(verdict) = passed else {
-        return Judged::Refused(13);
+        return Judged::Refused(OUT_OF_RANGE);
     };
     on_border(verdict, asked, least)
 }
@@ -147,15 +148,14 @@ fn stopped(passed: Passed, asked: bool, least: u64) -> Judged
 // What the border at a place of the file says of a location, with the least squared distance so far.
 pub fn point_in_polygon(
     file: &[u8],
-    version: Version,
-    data_offset: u32,
+    encoding: Encoding,
     place: usize,
     lat: FixedLat,
     lon: FixedLon,
     asked: bool,
     least: u64,
 ) -> Judged
-    ensures { λ r. ⌜ told r ≡ judgedAt (now (file .entry)) version «data_offset» place lat lon asked least ⌝ }
+    ensures { λ r. ⌜ told r ≡ judgedAt (now (file .entry)) encoding place lat lon asked least ⌝ }
 {
     let fix = Point { lat, lon };
     let at = location_of(fix);
@@ -164,7 +164,7 @@ pub fn point_in_polygon(
     let mut last = seen_from(fix, at, asked, fix);
     let mut tally = Tally { winding: 0, least };
     loop {
-        let next = next_point(file, version, data_offset, reader);
+        let next = next_point(file, encoding, reader);
         let Next::Point(later) = next else {
             return ended(next, asked, tally);
         };

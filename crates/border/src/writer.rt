@@ -5,14 +5,17 @@ ghost use Prim.Native.Nat.{_≤_, min};
 ghost use lib.ListN.{length, take};
 ghost use lib.Dec.{leb};
 ghost use Rattle.numbers.specs.Answer.{if_then_else_};
-ghost use Rattle.border.specs.Moves.{varintOf, plainMoveBytes, movesOf};
+ghost use Rattle.numbers.specs.Lists.{zeros};
+ghost use Rattle.numbers.specs.Spelling.{varintOf};
+ghost use Rattle.border.specs.Moves.{plainMoveBytes, movesOf};
 ghost use Rattle.border.specs.Pieces.{packedFrom, piecesOf};
 ghost use Rattle.border.specs.Stored.{Stored, Checked};
-ghost use Rattle.border.specs.Writer.{borderOf, replied, fitted, zeros};
+ghost use Rattle.border.specs.Writer.{borderOf, replied, fitted};
 use crate::writer::bytes::put_two;
 use crate::writer::bytes::put_varint;
 use crate::writer::bytes::zero_bytes;
 use crate::writer::checks::border_fault;
+use crate::writer::checks::refused;
 use crate::writer::moves::put_packed;
 use crate::writer::moves::put_plain;
 use crate::writer::pieces::Check;
@@ -20,7 +23,10 @@ use crate::writer::pieces::check_pieces;
 use crate::writer::pieces::check_words;
 use crate::writer::pieces::no_pieces;
 use crate::writer::pieces::put_piece;
+use numbers::refusal::BAD_PIECES;
+use numbers::refusal::NO_ROOM;
 
+// For this crate alone: their functions may require something of the caller.
 mod bytes;
 mod checks;
 mod moves;
@@ -90,10 +96,7 @@ fn finish(out: &mut [u8], end: usize) -> Written
 {
     if out.len() < end {
         zero_bytes(out);
-        return Written::Refused {
-            number: 24,
-            detail: 0,
-        };
+        return refused(NO_ROOM, 0);
     }
     Written::Wrote(end)
 }
@@ -117,25 +120,16 @@ fn write_checked(
     let seen = check.seen;
     if version == 0 {
         if seen != 0 {
-            return Written::Refused {
-                number: 23,
-                detail: 0,
-            };
+            return refused(BAD_PIECES, 0);
         }
         let end = write_plain(out, lats, lons);
         return finish(out, end);
     }
     if 16 < seen {
-        return Written::Refused {
-            number: 23,
-            detail: 16,
-        };
+        return refused(BAD_PIECES, 16);
     }
     if check.good != seen {
-        return Written::Refused {
-            number: 23,
-            detail: check.good as u64,
-        };
+        return refused(BAD_PIECES, check.good as u64);
     }
     let kept = check.kept;
     let end = write_packed(out, lats, lons, kept, seen);

@@ -1,75 +1,49 @@
 // The calls that a record on a file can ask for, each with its reply in the record's words. What is lent is slots and text.
+// Open and both lookups are those that firmware calls.
 use crate::record::byte_at;
 use crate::record::size_at;
 use crate::record::word_at;
 use crate::reply::Reply;
 use crate::reply::answered;
 use crate::reply::answered_none;
+use crate::reply::described;
 use crate::reply::refused;
+use crate::reply::spoken;
+use crate::reply::unspoken;
 use numbers::float::bits::of_bits;
-use zones::location::Location;
-use zones::lookup::Looked;
-use zones::lookup::lookup;
-use zones::opening::Opened;
-use zones::opening::open;
-use zones::refusal::plain;
-use zones::simple::Described;
-use zones::simple::Description;
-use zones::simple::Simple;
-use zones::simple::simple_lookup;
+use uskelzar::uskelzar_lookup;
+use uskelzar::uskelzar_open;
+use uskelzar::uskelzar_simple_lookup;
 use zones::text::String;
 use zones::text::read_string;
 use zones::utf8::is_utf8;
 
 fn run_open(file: &[u8], text: &mut [u8]) -> Reply {
-    match open(file, text) {
-        Opened::Opening(opening) => answered([
-            opening.kind as u64,
-            opening.version as u64,
-            opening.precision as u64,
-            opening.count as u64,
-            opening.used as u64,
-        ]),
-        Opened::Refused(why) => refused(why),
-    }
+    let mut words = unspoken();
+    let number = uskelzar_open(file, text, &mut words);
+    spoken(number, words)
 }
 
-// The latitude and the longitude of a record.
-fn location_of(record: &[u8]) -> Location {
-    let lat = of_bits(word_at(record, 5));
-    let lon = of_bits(word_at(record, 9));
-    Location { lat, lon }
+// A coordinate of a record.
+fn coordinate(record: &[u8], at: usize) -> f32 {
+    of_bits(word_at(record, at))
 }
 
 fn run_lookup(record: &[u8], file: &[u8], slots: &mut [u32], text: &mut [u8]) -> Reply {
+    let lat = coordinate(record, 5);
+    let lon = coordinate(record, 9);
     let asked = byte_at(record, 13) != 0;
-    match lookup(file, location_of(record), asked, slots, text) {
-        Looked::Zones(zones) => answered([
-            zones.matches as u64,
-            zones.mark as u64,
-            zones.safezone as u64,
-            zones.used as u64,
-            0,
-        ]),
-        Looked::Refused(why) => refused(why),
-    }
-}
-
-fn described(found: Described) -> Reply {
-    let matches = found.matches as u64;
-    let mark = found.mark as u64;
-    let description = found.description;
-    match description {
-        Description::Length(size) => answered([matches, mark, size as u64, 0, 0]),
-        Description::Missing => answered_none([matches, mark, 0, 0, 0]),
-    }
+    let mut words = unspoken();
+    let number = uskelzar_lookup(file, lat, lon, asked, slots, text, &mut words);
+    spoken(number, words)
 }
 
 fn run_simple(record: &[u8], file: &[u8], slots: &mut [u32], text: &mut [u8]) -> Reply {
-    match simple_lookup(file, location_of(record), slots, text) {
-        Simple::Described(found) => described(found),
-        Simple::Refused(why) => refused(why),
-    }
+    let lat = coordinate(record, 5);
+    let lon = coordinate(record, 9);
+    let mut words = unspoken();
+    let number = uskelzar_simple_lookup(file, lat, lon, slots, text, &mut words);
+    described(number, words)
 }
 
 // As many bytes as the text has, from a place of the file on, each XOR 0x80.
@@ -89,7 +63,7 @@ fn run_string(file: &[u8], metadata: u32, place: usize, text: &mut [u8]) -> Repl
             answered([string.size as u64, string.next as u64, 0, 0, 0])
         }
         String::Failed => answered_none([0; 5]),
-        String::Refused(number) => refused(plain(number)),
+        String::Refused(number) => refused(number, [0; 5]),
     }
 }
 

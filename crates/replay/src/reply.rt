@@ -2,13 +2,12 @@
 use crate::record::byte_at;
 use crate::record::long_at;
 use libc::STDOUT_FILENO;
-use zones::refusal::Refusal;
 
 pub struct Reply {
     // 0 answered, 1 refused, 2 failed or none.
     pub outcome: u8,
     pub number: u64,
-    pub cause: u8,
+    pub cause: u64,
     pub detail: u64,
     pub words: [u64; 5],
 }
@@ -23,13 +22,14 @@ pub fn answered(words: [u64; 5]) -> Reply {
     }
 }
 
-pub fn refused(why: Refusal) -> Reply {
+// The words of a refusal are its cause and its detail, and three that must be 0.
+pub fn refused(number: u8, words: [u64; 5]) -> Reply {
     Reply {
         outcome: 1,
-        number: why.number as u64,
-        cause: why.cause,
-        detail: why.detail,
-        words: [0; 5],
+        number: number as u64,
+        cause: words[0],
+        detail: words[1],
+        words: [words[2], words[3], words[4], 0, 0],
     }
 }
 
@@ -44,12 +44,36 @@ pub fn answered_none(words: [u64; 5]) -> Reply {
     }
 }
 
+// Words that no reply has, lent to a call.
+pub fn unspoken() -> [u64; 5] {
+    [0xAAAA_AAAA_AAAA_AAAA; 5]
+}
+
+// What a call of the exported form said.
+pub fn spoken(number: u8, words: [u64; 5]) -> Reply {
+    if number == 0 {
+        return answered(words);
+    }
+    refused(number, words)
+}
+
+// The same of a simple lookup, whose third word says whether there is a description; a record has it as the outcome.
+pub fn described(number: u8, words: [u64; 5]) -> Reply {
+    if number != 0 {
+        return refused(number, words);
+    }
+    if words[2] == 1 {
+        return answered([words[0], words[1], words[3], words[4], 0]);
+    }
+    answered_none([words[0], words[1], words[3], words[4], words[2]])
+}
+
 // The reply that 34 bytes of a record hold.
 pub fn recorded(bytes: &[u8]) -> Reply {
     Reply {
         outcome: byte_at(bytes, 0),
         number: long_at(bytes, 1),
-        cause: byte_at(bytes, 5),
+        cause: byte_at(bytes, 5) as u64,
         detail: long_at(bytes, 6) | long_at(bytes, 10) << 32,
         words: [
             long_at(bytes, 14),
@@ -81,7 +105,7 @@ fn print_next(n: u64) {
 pub fn print_reply(reply: Reply) {
     print_next(reply.outcome as u64);
     print_next(reply.number);
-    print_next(reply.cause as u64);
+    print_next(reply.cause);
     print_next(reply.detail);
     print_next(reply.words[0]);
     print_next(reply.words[1]);

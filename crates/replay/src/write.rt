@@ -5,12 +5,10 @@ ghost use Prim.Native.Nat.{_+_, _*_, _≤_};
 ghost use lib.ListN.{length};
 use crate::record::word_at;
 use crate::reply::Reply;
-use crate::reply::answered;
-use crate::reply::refused;
-use border::writer::Written;
-use border::writer::write_border_words;
+use crate::reply::spoken;
+use crate::reply::unspoken;
 use numbers::point::signed;
-use zones::refusal::Refusal;
+use uskelzar::uskelzar_write_border;
 
 // A word as an i32 has it: the signed form of twice the word.
 fn signed_word(word: u32) -> i32 {
@@ -49,17 +47,6 @@ fn piece_words(record: &[u8], at: usize, count: usize) -> [u32; 160]
     list
 }
 
-fn reply_of(written: Written) -> Reply {
-    match written {
-        Written::Wrote(size) => answered([size as u64, 0, 0, 0, 0]),
-        Written::Refused { number, detail } => refused(Refusal {
-            number,
-            cause: 0,
-            detail,
-        }),
-    }
-}
-
 // Writes into the lent output what the record asks for.
 pub fn run_write(
     record: &[u8],
@@ -75,13 +62,15 @@ pub fn run_write(
     let x = coordinates(record, 26, lats);
     let y = coordinates(record, 26 + 4 * lats, lons);
     let pieces = piece_words(record, 26 + 4 * lats + 4 * lons, words);
-    let written = write_border_words(
+    let mut said = unspoken();
+    let number = uskelzar_write_border(
         version,
         &x[..lats],
         &y[..lons],
         &pieces[..words],
         earlier,
         out,
+        &mut said,
     );
-    reply_of(written)
+    spoken(number, said)
 }

@@ -10,24 +10,20 @@ use lib.IntN.{ℤ}
 use Rattle.numbers.proofs.Refusals.{Listed}
 use Rattle.border.proofs.NumberedWriter.{writerNumbers, writer-refusals}
 use Rattle.border.specs.Writer.{borderOf, fitted}
-use Rattle.border.specs.Writer as W
 use Rattle.border.specs.declared.writer.Piece.{Piece}
 use Rattle.zones.proofs.Numbered.{openingNumbers, opening-refusals}
 use Rattle.zones.proofs.NumberedLookup.{lookupNumbers, lookup-refusals, simple-lookup-refusals}
 use Rattle.zones.specs.Lookup.{lookedUp}
 use Rattle.zones.specs.Opening.{openedOf}
-use Rattle.zones.specs.Reply.{Reply, given, refused}
+use Rattle.numbers.specs.Reply.{Reply, given, refused}
 use Rattle.zones.specs.Simple.{simplyLooked}
 use Rattle.zones.specs.declared.location.Location.{Location}
-use Rattle.zones.specs.declared.refusal.Refusal.{Refusal}
-use Rattle.uskelzar.specs.Spoken.{saidOf, openingValues, zonesValues, describedValues, lengthValue, causeless, openingSpoken, foundSpoken, writtenSpoken}
+use Rattle.numbers.specs.declared.refusal.Refusal.{Refusal}
+use Rattle.uskelzar.specs.Spoken.{saidOf, openingValues, zonesValues, describedValues, lengthValue, openingSpoken, foundSpoken, writtenSpoken}
 
 -- the reply is an answer, and no refusal
 abbrev pub Answered : {A : Type 0} → Reply A → Type 0
 Answered {A} reply = (answer : A) × (reply ≡ given answer)
-
-abbrev pub Wrote : W.Reply ℕ → Type 0
-Wrote reply = (length : ℕ) × (reply ≡ W.given length)
 
 -- a number of a list without 0 is not 0
 never-zero : (numbers : List ℕ) → (Listed numbers 0 → false ≡ true) → (n : ℕ) → Listed numbers n → n ≡ 0 → ⊥
@@ -39,11 +35,6 @@ module _ {A : Type 0} (values : A → List ℕ) where
   unfolding saidOf
   zero-said (given a) never = ((λ zero. (a, refl)), (λ answered. refl))
   zero-said (refused why) never = ((λ zero. absurd (never why refl zero)), (λ answered. cc))
-
-zero-written : (reply : W.Reply ℕ) → ((number detail : ℕ) → reply ≡ W.refused number detail → number ≡ 0 → ⊥) → (saidOf lengthValue (causeless reply) .number ≡ 0) ↔ Wrote reply
-unfolding saidOf
-zero-written (W.given length) never = ((λ zero. (length, refl)), (λ wrote. refl))
-zero-written (W.refused number detail) never = ((λ zero. absurd (never number detail refl zero)), (λ wrote. cc))
 
 -- ---- for each exported function
 -- `uskelzar_open`
@@ -67,7 +58,7 @@ simple-lookup-zero file location n room =
 
 -- `uskelzar_write_border`
 pub write-border-zero : (room version : ℕ) (lats lons : List ℤ) (pieces : List Piece) (earlier : List ℕ)
-    → (writtenSpoken (fitted room (borderOf version lats lons pieces earlier)) .said .number ≡ 0) ↔ Wrote (fitted room (borderOf version lats lons pieces earlier) .reply)
+    → (writtenSpoken (fitted room (borderOf version lats lons pieces earlier)) .said .number ≡ 0) ↔ Answered (fitted room (borderOf version lats lons pieces earlier) .reply)
 write-border-zero room version lats lons pieces earlier =
-    zero-written (fitted room (borderOf version lats lons pieces earlier) .reply)
-    (λ number detail is. never-zero writerNumbers (λ z. z) number (writer-refusals room version lats lons pieces earlier number detail is))
+    zero-said lengthValue (fitted room (borderOf version lats lons pieces earlier) .reply)
+    (λ why is. never-zero writerNumbers (λ z. z) (why .number) (writer-refusals room version lats lons pieces earlier why is))

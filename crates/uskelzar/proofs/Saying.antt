@@ -2,9 +2,9 @@
 use Prim.Native.Nat.{ℕ}
 use mathlib.Core.List.{List, []}
 use mathlib.Core.Path.{_≡_, ap, sym, _∙_}
-use Rattle.zones.specs.Lists.{padded}
-use Rattle.zones.specs.Reply.{Reply, given, refused}
-use Rattle.zones.specs.declared.refusal.Refusal.{Refusal}
+use Rattle.numbers.specs.Lists.{padded}
+use Rattle.numbers.specs.Reply.{Reply, given, refused}
+use Rattle.numbers.specs.declared.refusal.Refusal.{Refusal}
 use Rattle.uskelzar.specs.Spoken.{saidOf, refusedSaid, Spoken, spoken}
 use Rattle.uskelzar.specs.declared.Said.{Said}
 

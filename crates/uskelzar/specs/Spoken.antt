@@ -3,11 +3,11 @@ use mathlib.Core.List.{List, [], _∷_}
 use Prim.Native.Nat.{ℕ}
 use Rattle.border.specs.Writer as W
 use Rattle.zones.specs.Lent.{Replied}
-use Rattle.zones.specs.Lists.{padded}
+use Rattle.numbers.specs.Lists.{padded}
 use Rattle.zones.specs.Opening as O
-use Rattle.zones.specs.Reply.{Reply, given, refused, refusal}
+use Rattle.numbers.specs.Reply.{Reply, given, refused}
 use Rattle.zones.specs.declared.lookup.Zones.{Zones}
-use Rattle.zones.specs.declared.refusal.Refusal.{Refusal}
+use Rattle.numbers.specs.declared.refusal.Refusal.{Refusal}
 use Rattle.zones.specs.declared.opening.Opening.{Opening}
 use Rattle.zones.specs.declared.simple.Described.{Described}
 use Rattle.zones.specs.declared.simple.Description.{Description}
@@ -41,11 +41,6 @@ describedValues d = d .matches ∷ d .mark ∷ descriptionValues (d .description
 abbrev pub lengthValue : ℕ → List ℕ
 lengthValue length = length ∷ []
 
--- the writer's refusals have no cause
-abbrev pub causeless : W.Reply ℕ → Reply ℕ
-causeless (W.given length) = given length
-causeless (W.refused number detail) = refused (refusal number 0 detail)
-
 -- ---- what a call leaves
 pub record Spoken : Type 0 where
   pub said : Said
@@ -62,4 +57,4 @@ abbrev pub foundSpoken : {A : Type 0} → (A → List ℕ) → Replied A → Spo
 foundSpoken values left = record { said = saidOf values (left .reply); lent = left .hits ∷ left .text ∷ [] }
 
 abbrev pub writtenSpoken : W.Replied → Spoken
-writtenSpoken left = record { said = saidOf lengthValue (causeless (left .reply)); lent = left .out ∷ [] }
+writtenSpoken left = record { said = saidOf lengthValue (left .reply); lent = left .out ∷ [] }

@@ -7,18 +7,18 @@ ghost use Rattle.border.specs.Pieces.{piecesOf};
 ghost use Rattle.border.specs.Writer.{borderOf, fitted, told};
 ghost use Rattle.zones.specs.Lookup.{lookedUp, toldLooked};
 ghost use Rattle.zones.specs.Opening.{openedOf, toldOpened};
-ghost use Rattle.zones.specs.Reply.{Reply, given, refused};
+ghost use Rattle.numbers.specs.Reply.{Reply, given, refused};
 ghost use Rattle.zones.specs.Simple.{simplyLooked, toldSimple};
-ghost use Rattle.uskelzar.specs.Spoken.{saidOf, openingValues, zonesValues, describedValues, lengthValue, refusedSaid, causeless, spoken, openingSpoken, foundSpoken, writtenSpoken};
+ghost use Rattle.uskelzar.specs.Spoken.{saidOf, openingValues, zonesValues, describedValues, lengthValue, refusedSaid, spoken, openingSpoken, foundSpoken, writtenSpoken};
 use border::writer::Written;
 use border::writer::write_border_words;
+use numbers::refusal::Refusal;
+use numbers::refusal::refuse;
 use zones::location::Location;
 use zones::lookup::Looked;
 use zones::lookup::lookup;
 use zones::opening::Opened;
 use zones::opening::open;
-use zones::refusal::Refusal;
-use zones::refusal::refuse;
 use zones::simple::Description;
 use zones::simple::Simple;
 use zones::simple::simple_lookup;
@@ -92,7 +92,7 @@ fn say_described(simple: Simple) -> Said
 }
 
 fn say_written(written: Written) -> Said
-    ensures { λ r. ⌜ r ≡ saidOf lengthValue (causeless (told written)) ⌝ }
+    ensures { λ r. ⌜ r ≡ saidOf lengthValue (told written) ⌝ }
 {
     match written {
         Written::Wrote(length) => Said {

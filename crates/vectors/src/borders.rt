@@ -6,10 +6,12 @@ use crate::leaf::is_integer;
 use crate::leaf::small_integer;
 use crate::text::bytes;
 use crate::text::decimal;
+use crate::text::is_decimal;
 use crate::text::word;
 use border::place::FixedLat;
 use border::place::FixedLon;
 use border::place::Point;
+use border::reader::Encoding;
 use border::reader::Next;
 use border::reader::Version;
 use border::reader::next_point;
@@ -31,8 +33,11 @@ fn version_of(line: &[u8]) -> Version {
     Version::Packed
 }
 
-fn data_offset_of(line: &[u8]) -> u32 {
-    (decimal(word(line, 2)) % 0x1_0000_0000) as u32
+fn encoding_of(line: &[u8]) -> Encoding {
+    Encoding {
+        version: version_of(line),
+        data: (decimal(word(line, 2)) % 0x1_0000_0000) as u32,
+    }
 }
 
 // Word k and the one behind it.
@@ -40,7 +45,7 @@ fn is_refused(line: &[u8], k: usize, number: u8) -> bool
     requires { ⌜ k < 1001 ⌝ }
 {
     if check::same(word(line, k), b"refused") {
-        return decimal(word(line, k + 1)) == number as u64;
+        return is_decimal(word(line, k + 1), number as u64);
     }
     false
 }
@@ -92,12 +97,11 @@ fn end_at(line: &[u8], k: usize, next: Next) -> usize
 fn points_end(line: &[u8], file: &[u8], place: usize) -> usize
     ensures { λ r. ⌜ r < 1000 ⌝ }
 {
-    let version = version_of(line);
-    let data_offset = data_offset_of(line);
+    let encoding = encoding_of(line);
     let mut reader = open_border(place);
     let mut k = READ + 2;
     while k < MOST {
-        let next = next_point(file, version, data_offset, reader);
+        let next = next_point(file, encoding, reader);
         let Next::Point(later) = next else {
             return end_at(line, k, next);
         };
@@ -123,8 +127,8 @@ fn number_of(verdict: Verdict) -> u64 {
 fn is_verdict(line: &[u8], k: usize, verdict: u64, least: u64) -> bool
     requires { ⌜ k < 1000 ⌝ }
 {
-    if decimal(word(line, k + 2)) == verdict {
-        return decimal(word(line, k + 3)) == least;
+    if is_decimal(word(line, k + 2), verdict) {
+        return is_decimal(word(line, k + 3), least);
     }
     false
 }
@@ -136,16 +140,7 @@ fn verdict_right(line: &[u8], k: usize, file: &[u8], place: usize) -> bool
     let lon = FixedLon(small_integer(word(line, 5)));
     let asked = decimal(word(line, 6)) == 1;
     let least = decimal(word(line, 7));
-    let judged = point_in_polygon(
-        file,
-        version_of(line),
-        data_offset_of(line),
-        place,
-        lat,
-        lon,
-        asked,
-        least,
-    );
+    let judged = point_in_polygon(file, encoding_of(line), place, lat, lon, asked, least);
     match judged {
         Judged::Answered { verdict, least } => is_verdict(line, k, number_of(verdict), least),
         Judged::Failed { least } => is_verdict(line, k, 0, least),

@@ -2,8 +2,10 @@
 use crate::text::bytes;
 use crate::text::decimal;
 use crate::text::hex;
-use crate::text::integer;
+use crate::text::is_bits;
+use crate::text::is_decimal;
 use crate::text::is_negative;
+use crate::text::is_signed;
 use crate::text::word;
 use numbers::float::bits::bits_of;
 use numbers::float::bits::of_bits;
@@ -13,16 +15,16 @@ use numbers::varint::Varint;
 fn reads_as(line: &[u8], answer: Varint) -> bool {
     let told = word(line, 4);
     match answer {
-        Varint::Number { value, place } => {
-            if value != decimal(told) {
-                return false;
+        Varint::Number(number) => {
+            if is_decimal(told, number.value) {
+                return is_decimal(word(line, 5), number.place as u64);
             }
-            place as u64 == decimal(word(line, 5))
+            false
         }
         Varint::Failed => check::same(told, b"fails"),
-        Varint::Refused => {
+        Varint::Refused(number) => {
             if check::same(told, b"refused") {
-                return decimal(word(line, 5)) == 12;
+                return is_decimal(word(line, 5), number as u64);
             }
             false
         }
@@ -44,7 +46,8 @@ pub fn backward(line: &[u8]) -> bool {
 }
 
 pub fn is_integer(line: &[u8], k: usize, value: i32) -> bool {
-    value as i64 == integer(word(line, k))
+    let wide = value as i64;
+    is_signed(word(line, k), wide)
 }
 
 pub fn signed(line: &[u8]) -> bool {
@@ -70,12 +73,18 @@ pub fn small_integer(word: &[u8]) -> i32 {
 
 pub fn i32_to_f32(line: &[u8]) -> bool {
     let value = small_integer(word(line, 1));
-    bits_of(numbers::float::nearest::of_i32(value)) == hex(word(line, 4))
+    is_bits(
+        word(line, 4),
+        bits_of(numbers::float::nearest::of_i32(value)),
+    )
 }
 
 pub fn u64_to_f32(line: &[u8]) -> bool {
     let value = decimal(word(line, 1));
-    bits_of(numbers::float::nearest::of_u64(value)) == hex(word(line, 4))
+    is_bits(
+        word(line, 4),
+        bits_of(numbers::float::nearest::of_u64(value)),
+    )
 }
 
 pub fn f32_to_i32(line: &[u8]) -> bool {
@@ -85,12 +94,12 @@ pub fn f32_to_i32(line: &[u8]) -> bool {
 
 pub fn f32_to_i64(line: &[u8]) -> bool {
     let value = of_bits(hex(word(line, 1)));
-    numbers::float::cut::to_i64(value) == integer(word(line, 4))
+    is_signed(word(line, 4), numbers::float::cut::to_i64(value))
 }
 
 pub fn sqrt(line: &[u8]) -> bool {
     let value = of_bits(hex(word(line, 1)));
-    bits_of(numbers::float::root::sqrt(value)) == hex(word(line, 4))
+    is_bits(word(line, 4), bits_of(numbers::float::root::sqrt(value)))
 }
 
 fn precision_of(word: &[u8]) -> u8 {
@@ -114,5 +123,5 @@ pub fn safezone(line: &[u8]) -> bool {
     let squared = numbers::float::nearest::of_u64(decimal(word(line, 1)));
     let factor = numbers::float::fixed::factor(precision_of(word(line, 2)));
     let degrees = numbers::float::root::sqrt(squared) * 90.0 / factor;
-    bits_of(degrees) == hex(word(line, 5))
+    is_bits(word(line, 5), bits_of(degrees))
 }

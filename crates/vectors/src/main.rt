@@ -104,6 +104,14 @@ fn report(names: &[u8], compared: &[u64], wrong: &[u64]) {
     }
 }
 
+// Lines that there is no room for are not compared: that is said.
+fn report_rest() {
+    let mut next = [0u8; 1];
+    if 0 < io::read_full(STDIN_FILENO, &mut next) {
+        say(b"cut: more than 131072 bytes of input\n");
+    }
+}
+
 fn main() {
     let names =
         b"varint backward signed point i32_to_f32 u64_to_f32 f32_to_i32 f32_to_i64 sqrt fixed safezone border unknown";
@@ -113,4 +121,5 @@ fn main() {
     let mut wrong = [0u64; 13];
     run_all(names, &space[..size], &mut compared, &mut wrong);
     report(names, &compared, &wrong);
+    report_rest();
 }

@@ -1,4 +1,4 @@
-// Words of a line, and the numbers and bytes that they spell. Words are parted by a space or a comma.
+// Words of a line, the numbers and bytes that they spell, and whether one is the spelling of a number. Words are parted by a space or a comma.
 ghost use Prim.Native.Nat.{_≤_, _<_};
 ghost use lib.ListN.{length};
 ghost use Rattle.io.specs.Counts.{Counts};
@@ -102,12 +102,63 @@ fn from_zero(size: u64) -> i64 {
     size as i64
 }
 
-pub fn integer(word: &[u8]) -> i64 {
+fn integer(word: &[u8]) -> i64 {
     if is_negative(word) {
         below_zero(decimal(word))
     } else {
         from_zero(decimal(word))
     }
+}
+
+// ---- a recorded number is the spelling of what came out; a word that spells no number is none, and not 0
+
+pub fn is_decimal(word: &[u8], value: u64) -> bool {
+    let mut digits = [0u8; 20];
+    let size = io::decimal(value, &mut digits);
+    check::same(word, &digits[..size])
+}
+
+// Where a word's digits begin.
+fn sign_end(word: &[u8]) -> usize
+    ensures { λ r. ⌜ r ≤ length (now (word .entry)) ⌝ }
+{
+    if word.len() == 0 {
+        return 0;
+    }
+    if word[0] == b'-' { 1 } else { 0 }
+}
+
+// What does not fit an i64 reads as 0 too, so that 0 is told by its digits.
+pub fn is_signed(word: &[u8], value: i64) -> bool {
+    let size = decimal(word);
+    let start = sign_end(word);
+    if !is_decimal(&word[start..], size) {
+        return false;
+    }
+    if value == 0 {
+        return size == 0;
+    }
+    integer(word) == value
+}
+
+fn hex_digit(n: u32) -> u8 {
+    let digit = (n % 16) as u8;
+    if digit < 10 { 48 + digit } else { 55 + digit }
+}
+
+// Eight digits, the highest first.
+pub fn is_bits(word: &[u8], bits: u32) -> bool {
+    let digits = [
+        hex_digit(bits >> 28),
+        hex_digit(bits >> 24),
+        hex_digit(bits >> 20),
+        hex_digit(bits >> 16),
+        hex_digit(bits >> 12),
+        hex_digit(bits >> 8),
+        hex_digit(bits >> 4),
+        hex_digit(bits),
+    ];
+    check::same(word, &digits)
 }
 
 // ---- hexadecimal

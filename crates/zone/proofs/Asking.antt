@@ -4,33 +4,43 @@ use borrow.Author.Tests.{le-leb, lt-leb}
 use lib.ListN.{length, take, drop}
 use mathlib.Core.Bool.{true}
 use mathlib.Core.List.{List}
-use mathlib.Core.Path.{_≡_, subst, ap, _∙_}
-use Rattle.zones.proofs.Agreeing.{agree-refused}
+use mathlib.Core.Path.{_≡_, ap, _∙_}
 use Rattle.zones.proofs.Buffers.{tail-lent}
-use Rattle.zones.proofs.Laws.{met, unmet}
-use Rattle.zones.proofs.Replying.{looked-agrees}
-use Rattle.zones.specs.Lent.{Agrees, Outcome, replied, Filled}
+use Rattle.numbers.proofs.Replies.{met, unmet}
+use Rattle.numbers.specs.Lists.{zeros}
+use Rattle.zones.specs.Lent.{Outcome, replied, repliedOf}
 use Rattle.zones.specs.Lookup.{zonesIn, lookedUp}
-use Rattle.zones.specs.Reply.{Reply, refused, plain}
+use Rattle.numbers.specs.Reply.{Reply, refused, plain}
 use Rattle.zones.specs.declared.location.Location.{Location}
 use Rattle.zones.specs.declared.lookup.Zones.{Zones}
-use Rattle.zones.specs.declared.refusal.Refusal.{Refusal}
-use Rattle.zone.specs.Answer.{locationOf, answerOf}
+use Rattle.numbers.specs.declared.refusal.Refusal.{Refusal}
+use Rattle.zone.specs.Answer.{locationOf, outcomeOf, answerOf}
 
 module _ (input : List ℕ) (n room : ℕ) where
-  pub too-long : (so : Outcome Zones → Zones → Type 0) {why : Refusal} → why ≡ plain 1 → 65536 < length input → Agrees so (answerOf input n room) (refused why)
-  unfolding answerOf
-  too-long so is long = agree-refused so (ap refused is ∙ unmet (lt-leb (length input) 65536 long) _ _)
+  too-long : 65536 < length input → refused (plain 1) ≡ outcomeOf input n room
+  unfolding outcomeOf
+  too-long long = unmet (lt-leb (length input) 65536 long) _ _
 
-  pub too-short : (so : Outcome Zones → Zones → Type 0) {why : Refusal} → why ≡ plain 2 → length input ≤ 65536 → length input < 8 → Agrees so (answerOf input n room) (refused why)
-  unfolding answerOf
-  too-short so is fits short = agree-refused so (ap refused is ∙ unmet (lt-leb 8 (length input) short) _ _ ∙ met (le-leb (length input) 65536 fits) _ _)
+  too-short : length input ≤ 65536 → length input < 8 → refused (plain 2) ≡ outcomeOf input n room
+  unfolding outcomeOf
+  too-short fits short = unmet (lt-leb 8 (length input) short) _ _ ∙ met (le-leb (length input) 65536 fits) _ _
+
+  -- a refusal of the program's own, with both buffers zero
+  zeroed : {why w : Refusal} (hs ts : List ℕ) → why ≡ w → hs ≡ zeros n → ts ≡ zeros room → refused w ≡ outcomeOf input n room → replied (refused why) hs ts ≡ answerOf input n room
+  unfolding answerOf repliedOf
+  zeroed hs ts is zh zt e = (λ i. replied (refused (is i)) (zh i) (zt i)) ∙ ap (repliedOf n room) e
+
+  pub refused-long : {why : Refusal} (hs ts : List ℕ) → why ≡ plain 1 → hs ≡ zeros n → ts ≡ zeros room → 65536 < length input → replied (refused why) hs ts ≡ answerOf input n room
+  refused-long hs ts is zh zt long = zeroed hs ts is zh zt (too-long long)
+
+  pub refused-short : {why : Refusal} (hs ts : List ℕ) → why ≡ plain 2 → hs ≡ zeros n → ts ≡ zeros room → length input ≤ 65536 → length input < 8 → replied (refused why) hs ts ≡ answerOf input n room
+  refused-short hs ts is zh zt fits short = zeroed hs ts is zh zt (too-short fits short)
 
   -- what the lookup in the rest of the input replied
   pub asked : (location : Location) (reply : Reply Zones) (hs ts : List ℕ) → replied reply hs ts ≡ lookedUp (take (length input - 8) (drop 8 input)) location true n room
-      → location ≡ locationOf input → length input ≤ 65536 → 8 ≤ length input → Agrees (Filled n room hs ts) (answerOf input n room) reply
-  unfolding answerOf
+      → location ≡ locationOf input → length input ≤ 65536 → 8 ≤ length input → replied reply hs ts ≡ answerOf input n room
+  unfolding outcomeOf answerOf lookedUp
   asked location reply hs ts e is fits whole =
-      subst (λ (w : Reply (Outcome Zones)). Agrees (Filled n room hs ts) w reply)
+      e
+      ∙ ap (repliedOf n room)
       ((λ i. zonesIn (tail-lent 8 input i) (is i) true n room) ∙ met (le-leb 8 (length input) whole) _ _ ∙ met (le-leb (length input) 65536 fits) _ _)
-      (looked-agrees (take (length input - 8) (drop 8 input)) location true n room reply hs ts e)

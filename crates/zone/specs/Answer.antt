@@ -5,8 +5,8 @@ use Prim.Native.Nat.{ℕ, _+_, _*_}
 use lib.Dec.{leb}
 use lib.Ieee.{binary32, ofBits}
 use lib.ListN.{length, drop, getD}
-use Rattle.zones.specs.Reply.{Reply, plain, demand, _>>_}
-use Rattle.zones.specs.Lent.{Outcome}
+use Rattle.numbers.specs.Reply.{Reply, plain, demand, _>>_}
+use Rattle.zones.specs.Lent.{Outcome, Replied, repliedOf}
 use Rattle.zones.specs.Lookup.{zonesIn}
 use Rattle.zones.specs.declared.location.Location.{Location}
 use Rattle.zones.specs.declared.lookup.Zones.{Zones}
@@ -19,8 +19,12 @@ abbrev pub locationOf : List ℕ → Location
 locationOf input = record { lat = ofBits binary32 (wordAt input 0); lon = ofBits binary32 (wordAt input 4) }
 
 -- over 65,536 bytes refusal 1, under eight 2; else what the lookup says, with so many words for hits and bytes for text
-unfoldable pub answerOf : List ℕ → ℕ → ℕ → Reply (Outcome Zones)
-answerOf input n room = do
+unfoldable pub outcomeOf : List ℕ → ℕ → ℕ → Reply (Outcome Zones)
+outcomeOf input n room = do
   demand (leb (length input) 65536) (plain 1)
   demand (leb 8 (length input)) (plain 2)
   zonesIn (drop 8 input) (locationOf input) true n room
+
+-- the reply and both lent buffers
+unfoldable pub answerOf : List ℕ → ℕ → ℕ → Replied Zones
+answerOf input n room = repliedOf n room (outcomeOf input n room)

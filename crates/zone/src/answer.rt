@@ -1,24 +1,28 @@
 // What is asked of the library, and what it answers.
+ghost use mathlib.Core.Path.{_≡_};
 ghost use lib.ListN.{length};
-ghost use Rattle.zones.specs.Lent.{Agrees, Filled};
+ghost use Rattle.zones.specs.Lent.{replied};
 ghost use Rattle.zones.specs.Lookup.{toldLooked};
 ghost use Rattle.zone.specs.Answer.{answerOf};
 use crate::bytes::word_at;
+use crate::zero::zero_both;
 use numbers::float::bits::of_bits;
+use numbers::refusal::plain;
 use zones::location::Location;
 use zones::lookup::Looked;
 use zones::lookup::lookup;
-use zones::refusal::plain;
 
 // Latitude and longitude (f32 bits, low byte first), then the file.
 pub fn answer(input: &[u8], hits: &mut [u32], text: &mut [u8]) -> Looked
-    ensures { λ r. ⌜ Agrees (Filled (length (now (hits .entry))) (length (now (text .entry))) (now (hits .exit)) (now (text .exit)))
-        (answerOf (now (input .entry)) (length (now (hits .entry))) (length (now (text .entry)))) (toldLooked r) ⌝ }
+    ensures { λ r. ⌜ replied (toldLooked r) (now (hits .exit)) (now (text .exit))
+        ≡ answerOf (now (input .entry)) (length (now (hits .entry))) (length (now (text .entry))) ⌝ }
 {
     if 65536 < input.len() {
+        zero_both(hits, text);
         return Looked::Refused(plain(1));
     }
     if input.len() < 8 {
+        zero_both(hits, text);
         return Looked::Refused(plain(2));
     }
     let lat = of_bits(word_at(input, 0));

@@ -1,7 +1,8 @@
 // The lines that are printed. Each function puts something at a place of a lent buffer, as far as it fits, and answers the place after it.
 use crate::bytes::byte_at;
+use numbers::refusal::Refusal;
+use zones::hits::WIDTH;
 use zones::lookup::Zones;
-use zones::refusal::Refusal;
 
 // Where the next line goes, and where the next field of the text begins.
 struct Places {
@@ -138,7 +139,7 @@ fn put_matches(
                 text: text_place,
             },
         );
-        slot = after(slot, 3);
+        slot = after(slot, WIDTH);
         more -= 1;
     }
     places.out

@@ -2,16 +2,19 @@
 mod answer;
 mod bytes;
 mod lines;
+mod zero;
 
 ghost use mathlib.Core.Path.{_≡_};
-ghost use Prim.Native.Nat.{_≤_};
+ghost use Prim.Native.Nat.{_*_, _≤_};
 ghost use lib.ListN.{length};
+ghost use Rattle.zones.specs.Hits.{width};
 use answer::answer;
 use bytes::byte_at;
 use libc::STDIN_FILENO;
 use libc::STDOUT_FILENO;
 use lines::put_refusal;
 use lines::put_zones;
+use zones::hits::WIDTH;
 use zones::lookup::Looked;
 
 // One byte more than is taken, so that a longer input is seen.
@@ -21,11 +24,13 @@ fn input_space() -> [u8; 65537]
     [0; 65537]
 }
 
-// Three words for each of 1,024 hits.
-fn hit_space() -> [u32; 3072]
-    ensures { λ r. ⌜ 3072 ≡ length r ⌝ }
+// Room for 1,024 hits.
+const HIT_WORDS: usize = 1024 * WIDTH;
+
+fn hit_space() -> [u32; HIT_WORDS]
+    ensures { λ r. ⌜ 1024 * width ≡ length r ⌝ }
 {
-    [0; 3072]
+    [0; HIT_WORDS]
 }
 
 fn text_space() -> [u8; 16384]

@@ -5,9 +5,10 @@ use Prim.Native.Nat.{ℕ, _+_, _-_, _≤_}
 use native.Mathlib.Omega.{arith}
 use lib.ListN.{length, take, drop, length-append, length-replicate}
 use lib.Seq.{take-at, drop-at}
-use Rattle.zones.specs.Lists.{zeros, padded, over}
+use Rattle.numbers.specs.Lists.{zeros, padded, over}
 use Rattle.zones.specs.Fields.{Wrote}
-use Rattle.zones.proofs.Buffers.{zeros-drop, tail-lent, lent-length, tail-back}
+use Rattle.numbers.proofs.Lists.{zeros-drop}
+use Rattle.zones.proofs.Buffers.{tail-lent, lent-length, tail-back}
 
 pub record Held (room : ℕ) (out text : List ℕ) (at : ℕ) : Type 0 where
   pub sized : length out ≡ at

@@ -6,13 +6,14 @@ use Prim.Native.Nat.{ℕ, zero, suc, _+_, _%_, _^_}
 use lib.Dec.{ltb, leb, eqb}
 use lib.ListN.{length, getD}
 use Rattle.numbers.proofs.Refusals.{Listed, still-listed, Numbered, as-found, as-failed, as-refused, either, then-numbered, forward-numbered}
+use Rattle.numbers.proofs.Replies.{NumberedReply, answers, refuses, then-reply, and-then, demands, or-else, number-of}
 use Rattle.numbers.specs.Answer.{Answer}
 use Rattle.zones.specs.Header.{magicOf, isKind, preambleOf, blameOf, textsFrom, sizeAt, fits, sectionsFrom, sectionsAt, Contents, contentsOf, headOf}
 use Rattle.zones.specs.Opening.{fittingOf, repliedOf, openedOf}
-use Rattle.zones.specs.Reply.{Reply, given, refused, refusal, plain, demand, _orElse_, _>>=_, _>>_}
+use Rattle.numbers.specs.Reply.{Reply, given, refused, refusal, plain, demand, _orElse_, _>>=_, _>>_}
 use Rattle.zones.specs.Text.{within, remoteAt, stringAt, bytesOf, orBlamed, textAt}
 use Rattle.zones.specs.Utf8.{isUtf8}
-use Rattle.zones.specs.declared.refusal.Refusal.{Refusal}
+use Rattle.numbers.specs.declared.refusal.Refusal.{Refusal}
 use Rattle.zones.specs.declared.text.Blame.{Blame}
 use Rattle.zones.specs.declared.text.Text.{Text}
 
@@ -23,36 +24,6 @@ headerNumbers = 1 ∷ 2 ∷ 3 ∷ 4 ∷ 5 ∷ 6 ∷ 7 ∷ 8 ∷ 9 ∷ 10 ∷ 11 
 -- opening can also lack room for its text
 abbrev pub openingNumbers : List ℕ
 openingNumbers = headerNumbers ++ (18 ∷ [])
-
--- ---- replies
--- a number that it is refused with has the property
-pub data NumberedReply (P : ℕ → Type 0) {A : Type 0} : Reply A → Type 0 where
-  answers : {a : A} → NumberedReply P (given a)
-  refuses : {why : Refusal} → P (why .number) → NumberedReply P (refused why)
-
-module _ {P : ℕ → Type 0} where
-  pub then-reply : {A B : Type 0} {reply : Reply A} {next : A → Reply B} → NumberedReply P reply → ((a : A) → NumberedReply P (next a)) → NumberedReply P (reply >>= next)
-  then-reply answers k = k _
-  then-reply (refuses h) k = refuses h
-
-  pub and-then : {A : Type 0} {reply : Reply (Unit {0})} {next : Reply A} → NumberedReply P reply → NumberedReply P next → NumberedReply P (reply >> next)
-  and-then answers k = k
-  and-then (refuses h) k = refuses h
-
-  pub demands : (test : Bool) (why : Refusal) → P (why .number) → NumberedReply P (demand test why)
-  demands true why h = answers
-  demands false why h = refuses h
-
-  or-else : {A : Type 0} {answer : Answer A} (why : Refusal) → Numbered P answer → P (why .number) → NumberedReply P (answer orElse why)
-  or-else why as-found h = answers
-  or-else why as-failed h = refuses h
-  or-else why (as-refused n) h = refuses n
-
-  pub number-of : {A : Type 0} {why : Refusal} {reply : Reply A} → NumberedReply P reply → reply ≡ refused why → P (why .number)
-  number-of {A} {why} h e = last (subst (λ (r : Reply A). NumberedReply P r) e h)
-    where
-      last : NumberedReply P {A = A} (refused why) → P (why .number)
-      last (refuses h) = h
 
 -- ---- strings: 12, 14, and the number that a bad one is blamed with
 module _ {P : ℕ → Type 0} (twelve : P 12) (fourteen : P 14) (file : List ℕ) where

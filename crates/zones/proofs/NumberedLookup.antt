@@ -1,40 +1,45 @@
 -- Which numbers a lookup can be refused with. Assumes nothing.
-use mathlib.Core.Path.{_≡_, refl}
-use mathlib.Core.Bool.{Bool, false}
-use mathlib.Core.List.{List, [], _∷_, _++_}
 use Prim.Native.Nat.{ℕ, zero, suc, _+_, _-_, _/_}
 use lib.Dec.{ltb, leb, eqb}
 use lib.ListN.{length}
-use Rattle.numbers.proofs.Refusals.{Listed, still-listed, Numbered, as-found, as-failed, as-refused, either, then-numbered, forward-numbered}
-use Rattle.numbers.specs.Answer.{Answer}
-use Rattle.numbers.specs.Varint.{forwardAt}
+use mathlib.Core.Bool.{Bool, false}
+use mathlib.Core.List.{List, [], _∷_, _++_}
+use mathlib.Core.Path.{_≡_, refl}
+use native.Mathlib.Omega.{arith}
 use Rattle.border.proofs.Numbered.{NumberedJudgement, judged, unjudged, not-judged, judged-numbered}
 use Rattle.border.specs.Verdict.{Judgement}
 use Rattle.border.specs.declared.place.Point.{Point}
-use Rattle.zones.proofs.Numbered.{headerNumbers, NumberedReply, answers, refuses, then-reply, and-then, demands, number-of, text-numbered, blame-numbered, head-numbered}
+use Rattle.numbers.proofs.Refusals.{Listed, still-listed, Numbered, as-found, as-failed, as-refused, either, then-numbered, forward-numbered}
+use Rattle.numbers.specs.Answer.{Answer}
+use Rattle.numbers.specs.Varint.{forwardAt}
+use Rattle.numbers.proofs.Replies.{NumberedReply, answers, refuses, then-reply, and-then, demands, number-of}
+use Rattle.zones.proofs.Numbered.{headerNumbers, text-numbered, blame-numbered, head-numbered}
+use Rattle.zones.proofs.TableRows.{rows-so}
 use Rattle.zones.specs.Field.{field, fieldAt}
 use Rattle.zones.specs.Fields.{fieldsPlace, fieldsFrom, fieldsOf}
-use Rattle.zones.specs.Find.{fixOf, isPrecision, matchedIn}
+use Rattle.zones.specs.Find.{fixOf, isPrecision, matchedWith}
 use Rattle.zones.specs.Header.{blameOf}
 use Rattle.zones.specs.Hits.{width}
 use Rattle.zones.specs.Lent.{Outcome, repliedOf}
-use Rattle.zones.specs.Lookup.{zonesIn, lookedUp}
-use Rattle.zones.specs.Reply.{Reply, refused, plain}
-use Rattle.zones.specs.Search.{kindOf, judgedTurn, entryTurn, readTurn, turnOf, Found, afterTurn, walk, judgeIn, pastEntry, turnAt, searched}
-use Rattle.zones.specs.Simple.{pickedFrom, pickedOf, checked, descriptionOf, bytesIn, wordedOf, describedIn, simplyLooked}
-use Rattle.zones.specs.Table.{stepsAt, entryAt, isAbove, holds}
+use Rattle.zones.specs.Lookup.{zonesWith, zonesIn, lookedUp}
+use Rattle.numbers.specs.Reply.{Reply, refused, plain}
+use Rattle.zones.specs.Rows.{Rows, row, tableEnd, unreadable, rowBy, rowsFrom, rowsIn}
+use Rattle.zones.specs.Search.{kindOf, judgedTurn, rowTurn, Found, afterTurn, seek, judgeIn, farthest, searched}
+use Rattle.zones.specs.Simple.{pickedFrom, pickedOf, checked, descriptionOf, bytesIn, wordedOf, describedWith, describedIn, simplyLooked}
+use Rattle.zones.specs.Table.{stepsBy, entryBy, isAbove, holds}
 use Rattle.zones.specs.Text.{bytesOf, textAt}
 use Rattle.zones.specs.declared.header.Head.{Head}
 use Rattle.zones.specs.declared.hits.Hit.{Hit}
 use Rattle.zones.specs.declared.location.Location.{Location}
-use Rattle.zones.specs.declared.refusal.Refusal.{Refusal}
-use Rattle.zones.specs.declared.search.Cursor.{Cursor}
-use Rattle.zones.specs.declared.search.Turn.{Turn}
+use Rattle.numbers.specs.declared.refusal.Refusal.{Refusal}
+use Rattle.zones.specs.declared.rows.Cursor.{Cursor}
+use Rattle.zones.specs.declared.rows.Row.{Row}
 use Rattle.zones.specs.declared.search.Turn.the-variants.{On, Met, Stopped, Refused}
+use Rattle.zones.specs.declared.search.Turn.{Turn}
 use Rattle.zones.specs.declared.simple.Picked.{Picked}
 use Rattle.zones.specs.declared.text.Blame.{Blame}
-use Rattle.zones.specs.declared.table.Bounds.{Bounds}
-use Rattle.zones.specs.declared.table.Entry.{Entry}
+use Rattle.numbers.specs.Answer as A
+use Rattle.zones.specs.Rows as T
 
 -- the numbers that document 01 gives to reading a file: 1 to 18
 abbrev pub lookupNumbers : List ℕ
@@ -46,78 +51,82 @@ Known = Listed lookupNumbers
 known : (n : ℕ) → Listed headerNumbers n → Known n
 known = still-listed headerNumbers (15 ∷ 16 ∷ 17 ∷ 18 ∷ [])
 
--- ---- the search
-data NumberedTurn : Turn → Type 0 where
-  on : {next : Cursor} → NumberedTurn (On next)
-  met : {hit : Hit} {next : Cursor} → NumberedTurn (Met hit next)
-  ends : {mark least : ℕ} → NumberedTurn (Stopped mark least)
-  stops : {n : ℕ} → Known n → NumberedTurn (Refused n)
-
+-- ---- the table
 forward : (file : List ℕ) (place : ℕ) → Numbered Known (forwardAt file place)
 forward = forward-numbered {P = Known} refl
 
-steps : (file : List ℕ) (place : ℕ) (bounds : Bounds) → Numbered Known (stepsAt file place bounds)
-unfolding stepsAt
-steps file place bounds = then-numbered (forward file place) (λ metadata. then-numbered (forward file (metadata .place)) (λ polygon. as-found))
-
-entry-read : (file : List ℕ) (place : ℕ) → Numbered Known (entryAt file place)
-unfolding entryAt
+entry-read : (file : List ℕ) (place : ℕ) → Numbered Known (entryBy (forwardAt file) place)
+unfolding entryBy stepsBy
 entry-read file place =
     then-numbered (forward file place)
     (λ a. then-numbered (forward file (a .place))
     (λ b. then-numbered (forward file (b .place))
-    (λ c. then-numbered (forward file (c .place)) (λ d. steps file (d .place) _))))
+    (λ c. then-numbered (forward file (c .place))
+    (λ d. then-numbered (forward file (d .place)) (λ metadata. then-numbered (forward file (metadata .place)) (λ polygon. as-found))))))
 
-judged-turn : (at : Cursor) (entry : Entry) {judgement : Judgement} → NumberedJudgement Known judgement → NumberedTurn (judgedTurn at entry judgement)
+row-read : (file : List ℕ) (at : Cursor) → Numbered Known (rowBy (forwardAt file) at)
+unfolding rowBy
+row-read file at = then-numbered (entry-read file (at .place)) (λ entry. as-found)
+
+-- the number that the rows end with
+abbrev NumberedRows : Rows → Type 0
+NumberedRows (row r rows) = NumberedRows rows
+NumberedRows tableEnd = Unit
+NumberedRows unreadable = Unit
+NumberedRows (T.refused n) = Known n
+
+rows-read : (file : List ℕ) (end : ℕ) (at : Cursor) → NumberedRows (rowsFrom (forwardAt file) end at)
+rows-read file = rows-so (forwardAt file) NumberedRows tt tt (λ at r rest e h. h) (λ at n e. known-number (row-read file at) e)
+  where
+    known-number : {answer : Answer Row} {n : ℕ} → Numbered Known answer → A.refused n ≡ answer → Known n
+    known-number as-found e = let z : _≡_ {A = ℕ} 0 1 = cc in absurd (omega arith)
+    known-number as-failed e = let z : _≡_ {A = ℕ} 0 1 = cc in absurd (omega arith)
+    known-number {n = n} (as-refused {n = m} h) e = let same : n ≡ m = cc in rw same h
+
+-- ---- the search
+data NumberedTurn : Turn → Type 0 where
+  on : {least : ℕ} → NumberedTurn (On least)
+  met : {hit : Hit} {least : ℕ} → NumberedTurn (Met hit least)
+  ends : {mark least : ℕ} → NumberedTurn (Stopped mark least)
+  stops : {n : ℕ} → Known n → NumberedTurn (Refused n)
+
+judged-turn : (r : Row) {judgement : Judgement} → NumberedJudgement Known judgement → NumberedTurn (judgedTurn r judgement)
 unfolding judgedTurn
-judged-turn at entry (judged {v = verdict}) = either NumberedTurn (eqb (kindOf verdict) 0) on met
-judged-turn at entry unjudged = ends
-judged-turn at entry (not-judged h) = stops h
+judged-turn r (judged {v = verdict}) = either NumberedTurn (eqb (kindOf verdict) 0) on met
+judged-turn r unjudged = ends
+judged-turn r (not-judged h) = stops h
 
-module _ (read : ℕ → Answer Entry) (judge : ℕ → ℕ → Judgement) (fix : Point) (reads : (place : ℕ) → Numbered Known (read place))
-    (judges : (place least : ℕ) → NumberedJudgement Known (judge place least)) where
-  entry-turn : (at : Cursor) (entry : Entry) → NumberedTurn (entryTurn read judge fix at entry)
-  unfolding entryTurn
-  entry-turn at entry =
-      either NumberedTurn (isAbove (entry .bounds) fix) ends
-      (either NumberedTurn (holds (entry .bounds) fix) (judged-turn at entry (judges (pastEntry at entry .polygon) (at .least))) on)
-
-  read-turn : (at : Cursor) {answer : Answer Entry} → Numbered Known answer → NumberedTurn (readTurn read judge fix at answer)
-  read-turn at (as-found {a = entry}) = entry-turn at entry
-  read-turn at as-failed = ends
-  read-turn at (as-refused h) = stops h
-
-  turn-numbered : (at : Cursor) → NumberedTurn (turnOf read judge fix at)
-  unfolding turnOf
-  turn-numbered at = read-turn at (reads (at .place))
-
-after-turn : {turn : Turn} (hits : List Hit) (room : ℕ) {go : Cursor → List Hit → Reply Found} → NumberedTurn turn
-    → ((next : Cursor) (hits : List Hit) → NumberedReply Known (go next hits)) → NumberedReply Known (afterTurn turn hits room go)
-after-turn hits room (on {next}) k = k next hits
-after-turn hits room (met {hit} {next}) k = either (NumberedReply Known) (ltb (length hits) room) (k next (hits ++ hit ∷ [])) (refuses refl)
+after-turn : {turn : Turn} (hits : List Hit) (room : ℕ) {go : ℕ → List Hit → Reply Found} → NumberedTurn turn
+    → ((least : ℕ) (hits : List Hit) → NumberedReply Known (go least hits)) → NumberedReply Known (afterTurn turn hits room go)
+after-turn hits room (on {least}) k = k least hits
+after-turn hits room (met {hit} {least}) k = either (NumberedReply Known) (ltb (length hits) room) (k least (hits ++ hit ∷ [])) (refuses refl)
 after-turn hits room ends k = answers
 after-turn hits room (stops h) k = refuses h
 
-walks : {turn : Cursor → Turn} → ((at : Cursor) → NumberedTurn (turn at)) → (end room left : ℕ) (at : Cursor) (hits : List Hit) → NumberedReply Known (walk turn end room left at hits)
-unfolding walk
-walks k end room zero at hits = answers
-walks k end room (suc left) at hits = either (NumberedReply Known) (ltb (at .place) end) (after-turn hits room (k at) (walks k end room left)) answers
+module _ (judge : ℕ → ℕ → Judgement) (fix : Point) (judges : (place least : ℕ) → NumberedJudgement Known (judge place least)) where
+  row-turn : (r : Row) (least : ℕ) → NumberedTurn (rowTurn judge fix r least)
+  unfolding rowTurn
+  row-turn r least =
+      either NumberedTurn (isAbove (r .bounds) fix) ends (either NumberedTurn (holds (r .bounds) fix) (judged-turn r (judges (r .polygon) least)) on)
 
-turn-at : (file : List ℕ) (head : Head) (fix : Point) (asked : Bool) (at : Cursor) → NumberedTurn (turnAt file head fix asked at)
-unfolding turnAt
-turn-at file head fix asked = turn-numbered (entryAt file) (judgeIn file head fix asked) fix (entry-read file) (λ place least. judged-numbered refl refl file _ _ _ _ _ asked least)
+  seeks : (room : ℕ) (rows : Rows) → NumberedRows rows → (least : ℕ) (hits : List Hit) → NumberedReply Known (seek judge fix room rows least hits)
+  unfolding seek
+  seeks room (row r rows) h least hits = after-turn hits room (row-turn r least) (seeks room rows h)
+  seeks room tableEnd h least hits = answers
+  seeks room unreadable h least hits = answers
+  seeks room (T.refused n) h least hits = refuses h
 
 searches : (file : List ℕ) (head : Head) (fix : Point) (asked : Bool) (room : ℕ) → NumberedReply Known (searched file head fix asked room)
-unfolding searched
-searches file head fix asked room = walks (turn-at file head fix asked) (head .sections .metadata) room _ _ []
+unfolding searched rowsIn
+searches file head fix asked room =
+    seeks (judgeIn file head fix asked) fix (λ place least. judged-numbered refl refl file _ _ _ _ asked least) room _ (rows-read file (head .sections .metadata) _) farthest []
 
 -- ---- what both lookups begin with
-matched-numbered : (file : List ℕ) (location : Location) (asked : Bool) (room : ℕ) → NumberedReply Known (matchedIn file location asked room)
-unfolding matchedIn
-matched-numbered file location asked room =
-    then-reply (head-numbered known file)
-    (λ head. and-then (demands (isPrecision (head .preamble .precision)) (plain 16) refl)
-    (then-reply (searches file head (fixOf location (head .preamble .precision)) asked room) (λ found. answers)))
+matched-numbered : (file : List ℕ) (head : Head) (location : Location) (asked : Bool) (room : ℕ) → NumberedReply Known (matchedWith file head location asked room)
+unfolding matchedWith
+matched-numbered file head location asked room =
+    and-then (demands (isPrecision (head .preamble .precision)) (plain 16) refl)
+    (then-reply (searches file head (fixOf location (head .preamble .precision)) asked room) (λ found. answers))
 
 replied-numbered : {A : Type 0} (n room : ℕ) {reply : Reply (Outcome A)} → NumberedReply Known reply → NumberedReply Known (repliedOf n room reply .reply)
 unfolding repliedOf
@@ -147,9 +156,10 @@ module _ (file : List ℕ) (head : Head) (room : ℕ) where
   fields (match ∷ matches) text = then-reply (fields-from (head .preamble .count) 0 (fieldsPlace head (match .metadata)) text) (fields matches)
 
 zones-numbered : (file : List ℕ) (location : Location) (asked : Bool) (n room : ℕ) → NumberedReply Known (zonesIn file location asked n room)
-unfolding zonesIn
+unfolding zonesIn zonesWith
 zones-numbered file location asked n room =
-    then-reply (matched-numbered file location asked (n / width)) (λ found. then-reply (fields file (found .head) room (found .matches) []) (λ text. answers))
+    then-reply (head-numbered known file)
+    (λ head. then-reply (matched-numbered file head location asked (n / width)) (λ found. then-reply (fields file head room (found .matches) []) (λ text. answers)))
 
 -- a lookup that is not answered is refused with one of these
 pub lookup-refusals : (file : List ℕ) (location : Location) (asked : Bool) (n room : ℕ) (why : Refusal)
@@ -186,10 +196,11 @@ module _ (file : List ℕ) (head : Head) where
       (λ description. then-reply (and-then (demands (leb (length (bytesIn description)) room) (plain 18) refl) answers) (λ bytes. answers))
 
 described-numbered : (file : List ℕ) (location : Location) (n room : ℕ) → NumberedReply Known (describedIn file location n room)
-unfolding describedIn
+unfolding describedIn describedWith
 described-numbered file location n room =
-    then-reply (matched-numbered file location false (n / width))
-    (λ found. and-then (checks file (found .head) (found .matches)) (then-reply (words file (found .head) room (found .matches)) (λ description. answers)))
+    then-reply (head-numbered known file)
+    (λ head. then-reply (matched-numbered file head location false (n / width))
+    (λ found. and-then (checks file head (found .matches)) (then-reply (words file head room (found .matches)) (λ description. answers))))
 
 -- a simple lookup that is not answered is refused with one of these
 pub simple-lookup-refusals : (file : List ℕ) (location : Location) (n room : ℕ) (why : Refusal)

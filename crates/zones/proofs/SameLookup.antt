@@ -3,7 +3,7 @@ use mathlib.Core.Path.{_≡_, refl, sym, ap, _∙_}
 use mathlib.Core.Bool.{Bool}
 use mathlib.Core.List.{List}
 use Prim.Native.Nat.{ℕ}
-use Rattle.zones.specs.Reply.{Reply, given, refused}
+use Rattle.numbers.specs.Reply.{Reply, given, refused}
 use Rattle.zones.specs.Lent.{Replied, replied}
 use Rattle.zones.specs.Lookup.{lookedUp, toldLooked}
 use Rattle.zones.specs.Simple.{simplyLooked, toldSimple}

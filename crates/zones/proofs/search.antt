@@ -1,3 +1,2 @@
-mod Growing
 mod Searching
 mod Turns

@@ -3,8 +3,8 @@ use mathlib.Core.Path.{_≡_}
 use mathlib.Core.List.{List, [], _∷_, _++_}
 use Prim.Native.Nat.{ℕ, zero, suc, _+_, _-_, _%_, _^_}
 use lib.ListN.{length}
-use Rattle.zones.specs.Lists.{padded}
-use Rattle.zones.specs.Reply.{Reply, given, refused, _>>=_}
+use Rattle.numbers.specs.Lists.{padded}
+use Rattle.numbers.specs.Reply.{Reply, given, refused, _>>=_}
 use Rattle.zones.specs.Field.{fieldAt}
 use Rattle.zones.specs.declared.header.Head.{Head}
 use Rattle.zones.specs.declared.hits.Hit.{Hit}

@@ -1,17 +1,16 @@
--- What both lookups begin with: the file is opened, its precision looked at, its table searched, and the hits merged.
+-- What both lookups do in a file whose header was read: its precision is looked at, its table searched, and the hits merged.
 use mathlib.Core.Path.{_≡_}
 use mathlib.Core.Bool.{Bool, false, _&&_}
 use mathlib.Core.List.{List}
-use Prim.Native.Nat.{ℕ}
+use Prim.Native.Nat.{ℕ, _/_}
 use lib.Dec.{leb}
 use lib.IntN.{pos}
 use lib.Ieee.{Float, fin}
 use lib.ListN.{length}
 use Rattle.numbers.specs.Float.{fixedPoint}
-use Rattle.zones.specs.Lists.{padded}
-use Rattle.zones.specs.Reply.{Reply, given, refused, plain, demand, _>>=_, _>>_}
-use Rattle.zones.specs.Header.{headOf}
-use Rattle.zones.specs.Hits.{words}
+use Rattle.numbers.specs.Lists.{zeros, padded}
+use Rattle.numbers.specs.Reply.{Reply, given, refused, plain, demand, _>>=_, _>>_}
+use Rattle.zones.specs.Hits.{width, words}
 use Rattle.zones.specs.Search.{searched}
 use Rattle.zones.specs.Merge.{merged}
 use Rattle.zones.specs.declared.header.Head.{Head}
@@ -42,18 +41,31 @@ isPrecision precision = leb 1 precision && leb precision 32
 
 -- the matches, the end mark, and the least squared distance
 pub record Matched : Type 0 where
-  pub head : Head
   pub matches : List Hit
   pub mark : ℕ
   pub least : ℕ
 
--- with room for so many hits before merging
-unfoldable pub matchedIn : List ℕ → Location → Bool → ℕ → Reply Matched
-matchedIn file location asked room = do
-  head ← headOf file
+-- in a file with this header, with room for so many hits before merging
+unfoldable pub matchedWith : List ℕ → Head → Location → Bool → ℕ → Reply Matched
+matchedWith file head location asked room = do
   demand (isPrecision (head .preamble .precision)) (plain 16)
   found ← searched file head (fixOf location (head .preamble .precision)) asked room
-  given (record { head = head; matches = merged (found .hits); mark = found .mark; least = found .least })
+  given (record { matches = merged (found .hits); mark = found .mark; least = found .least })
+
+-- the reply, and all lent words: the matches, and zeros behind them; on a refusal zeros alone
+pub record Finding : Type 0 where
+  pub reply : Reply Matches
+  pub hits : List ℕ
+
+abbrev pub finding : Reply Matches → List ℕ → Finding
+finding reply hits = record { reply = reply; hits = hits }
+
+unfoldable pub findingOf : ℕ → Reply Matched → Finding
+findingOf n (given found) = record { reply = given (record { count = length (found .matches); mark = found .mark; least = found .least }); hits = padded n (words (found .matches)) }
+findingOf n (refused why) = record { reply = refused why; hits = zeros n }
+
+unfoldable pub foundWith : List ℕ → Head → Location → Bool → ℕ → Finding
+foundWith file head location asked n = findingOf n (matchedWith file head location asked (n / width))
 
 -- ---- the code's answer, and the lent words
 abbrev pub toldFound : Found → Reply Matches
@@ -61,5 +73,5 @@ toldFound (F.Matches m) = given m
 toldFound (F.Refused why) = refused why
 
 pub record Matching (n : ℕ) (ws : List ℕ) (found : Matched) (m : Matches) : Type 0 where
-  pub said : m ≡ record { head = found .head; count = length (found .matches); mark = found .mark; least = found .least }
+  pub said : m ≡ record { count = length (found .matches); mark = found .mark; least = found .least }
   pub kept : ws ≡ padded n (words (found .matches))

@@ -2,8 +2,8 @@
 use mathlib.Core.Path.{_≡_}
 use mathlib.Core.List.{List}
 use Prim.Native.Nat.{ℕ}
-use Rattle.zones.specs.Lists.{zeros, padded}
-use Rattle.zones.specs.Reply.{Reply, given, refused}
+use Rattle.numbers.specs.Lists.{zeros, padded}
+use Rattle.numbers.specs.Reply.{Reply, given, refused}
 use Rattle.zones.specs.Hits.{words}
 use Rattle.zones.specs.declared.hits.Hit.{Hit}
 

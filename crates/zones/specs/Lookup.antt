@@ -8,9 +8,11 @@ use lib.ListN.{length}
 use Rattle.numbers.specs.Answer.{if_then_else_}
 use Rattle.numbers.specs.Float.{toF32, oneShifted, _⊠_, _⊘_}
 use Rattle.numbers.specs.Float.Root.{root}
-use Rattle.zones.specs.Reply.{Reply, given, refused, _>>=_}
+use Rattle.numbers.specs.Reply.{Reply, given, refused, _>>=_}
+use Rattle.zones.specs.Header.{headOf}
 use Rattle.zones.specs.Hits.{width}
-use Rattle.zones.specs.Find.{ninety, matchedIn}
+use Rattle.zones.specs.declared.header.Head.{Head}
+use Rattle.zones.specs.Find.{ninety, matchedWith}
 use Rattle.zones.specs.Fields.{fieldsOf}
 use Rattle.zones.specs.Lent.{Outcome, Replied, repliedOf}
 use Rattle.zones.specs.declared.location.Location.{Location}
@@ -22,23 +24,33 @@ use Rattle.zones.specs.declared.lookup.Looked.the-variants as L
 unfoldable pub safezoneBits : Bool → ℕ → ℕ → ℕ
 safezoneBits asked least precision = if asked then toBits binary32 (root (toF32 (pos least)) ⊠ ninety ⊘ toF32 (oneShifted precision)) else 0
 
--- the matches and their fields, with so many words for hits and so many bytes for text
-unfoldable pub zonesIn : List ℕ → Location → Bool → ℕ → ℕ → Reply (Outcome Zones)
-zonesIn file location asked n room = do
-  found ← matchedIn file location asked (n / width)
-  text ← fieldsOf file (found .head) room (found .matches) []
+-- the matches and their fields, in a file with this header, with so many words for hits and so many bytes for text
+unfoldable pub zonesWith : List ℕ → Head → Location → Bool → ℕ → ℕ → Reply (Outcome Zones)
+zonesWith file head location asked n room = do
+  found ← matchedWith file head location asked (n / width)
+  text ← fieldsOf file head room (found .matches) []
   given (record {
     answer = record {
       matches = length (found .matches);
       mark = found .mark;
-      safezone = safezoneBits asked (found .least) (found .head .preamble .precision);
+      safezone = safezoneBits asked (found .least) (head .preamble .precision);
       used = length text;
     };
     matches = found .matches;
     text = text;
   })
 
--- the reply and both lent buffers
+-- the file is opened first
+unfoldable pub zonesIn : List ℕ → Location → Bool → ℕ → ℕ → Reply (Outcome Zones)
+zonesIn file location asked n room = do
+  head ← headOf file
+  zonesWith file head location asked n room
+
+-- the reply and both lent buffers, in a file with this header
+unfoldable pub lookedWith : List ℕ → Head → Location → Bool → ℕ → ℕ → Replied Zones
+lookedWith file head location asked n room = repliedOf n room (zonesWith file head location asked n room)
+
+-- and in a file that is opened first
 unfoldable pub lookedUp : List ℕ → Location → Bool → ℕ → ℕ → Replied Zones
 lookedUp file location asked n room = repliedOf n room (zonesIn file location asked n room)
 

@@ -1,32 +1,31 @@
--- The search, as document 01 has it: entry by entry, from the table's start up to the metadata.
-use mathlib.Core.Path.{_≡_}
-use mathlib.Core.Bool.{Bool, true, false, _&&_}
-use mathlib.Core.List.{List, [], _∷_, _++_}
-use Prim.Native.Nat.{ℕ, zero, suc, _+_, _-_, _%_, _^_}
+-- The search, as document 01 has it: a fold over the rows of the table.
+use Prim.Native.Nat.{ℕ, _+_, _-_, _%_, _^_}
 use lib.Dec.{ltb, eqb}
 use lib.ListN.{length}
-use Rattle.numbers.specs.Answer.{Answer, found, failed, refused, if_then_else_}
-use Rattle.numbers.specs.Point.{low32, halfOf}
+use mathlib.Core.Bool.{Bool}
+use mathlib.Core.List.{List, [], _∷_, _++_}
+use mathlib.Core.Path.{_≡_}
+use Rattle.border.specs.Encoding.{encodingOf}
 use Rattle.border.specs.Verdict.{Judgement, reached, judgedAt}
-use Rattle.border.specs.Verdict as J
-use Rattle.border.specs.declared.reader.Version.{Version}
-use Rattle.border.specs.declared.reader.Version.the-variants.{Plain, Packed}
-use Rattle.border.specs.declared.verdict.Verdict.{Verdict}
+use Rattle.border.specs.declared.place.Point.{Point}
 use Rattle.border.specs.declared.verdict.Verdict.the-variants.{NotInZone, InZone, InExcludedZone, OnBorderVertex, OnBorderSegment}
-use Rattle.zones.specs.Reply.{Reply, given, plain}
-use Rattle.zones.specs.Reply as R
-use Rattle.zones.specs.Lists.{padded}
+use Rattle.border.specs.declared.verdict.Verdict.{Verdict}
+use Rattle.numbers.specs.Answer.{if_then_else_}
 use Rattle.zones.specs.Hits.{hitOf, words, Real}
-use Rattle.zones.specs.Table.{entryAt, isAbove, holds}
+use Rattle.numbers.specs.Lists.{padded}
+use Rattle.numbers.specs.Reply.{Reply, given, plain}
+use Rattle.zones.specs.Rows.{Rows, row, tableEnd, unreadable, rowsIn}
+use Rattle.zones.specs.Table.{isAbove, holds}
 use Rattle.zones.specs.declared.header.Head.{Head}
 use Rattle.zones.specs.declared.hits.Hit.{Hit}
-use Rattle.zones.specs.declared.table.Entry.{Entry}
-use Rattle.border.specs.declared.place.Point.{Point}
-use Rattle.zones.specs.declared.search.Cursor.{Cursor}
-use Rattle.zones.specs.declared.search.Turn.{Turn}
-use Rattle.zones.specs.declared.search.Turn.the-variants.{On, Met, Stopped, Refused}
+use Rattle.zones.specs.declared.rows.Row.{Row}
 use Rattle.zones.specs.declared.search.Ended.{Ended}
 use Rattle.zones.specs.declared.search.Searched.{Searched}
+use Rattle.zones.specs.declared.search.Turn.the-variants.{On, Met, Stopped, Refused}
+use Rattle.zones.specs.declared.search.Turn.{Turn}
+use Rattle.border.specs.Verdict as J
+use Rattle.numbers.specs.Reply as R
+use Rattle.zones.specs.Rows as T
 use Rattle.zones.specs.declared.search.Searched.the-variants as S
 
 -- a hit's kind, in `ZoneMatchKind` order; a location that is not in the zone is no hit
@@ -37,45 +36,12 @@ kindOf InExcludedZone = 2
 kindOf OnBorderVertex = 3
 kindOf OnBorderSegment = 4
 
--- past an entry: the metadata id moves by its signed number and the border's place by its number, modulo 2 ^ 32
-abbrev pub pastEntry : Cursor → Entry → Cursor
-pastEntry at entry = record {
-  place = entry .next;
-  metadata = (at .metadata + low32 (halfOf (entry .metadata))) % 2 ^ 32;
-  polygon = (at .polygon + entry .polygon) % 2 ^ 32;
-  id = (at .id + 1) % 2 ^ 32;
-  least = at .least;
-}
+-- what a row whose border was judged does to the search: a border that failed stops it with mark 3
+unfoldable pub judgedTurn : Row → Judgement → Turn
+judgedTurn r (reached verdict least) = if eqb (kindOf verdict) 0 then On least else Met (hitOf (r .id) (r .metadata) (kindOf verdict)) least
+judgedTurn r (J.failed least) = Stopped 3 least
+judgedTurn r (J.refused n) = Refused n
 
-abbrev pub withLeast : Cursor → ℕ → Cursor
-withLeast at least = record { place = at .place; metadata = at .metadata; polygon = at .polygon; id = at .id; least = least }
-
--- the turn of an entry whose border was judged: a border that failed stops the search with mark 3
-unfoldable pub judgedTurn : Cursor → Entry → Judgement → Turn
-judgedTurn at entry (reached verdict least) =
-    let next = withLeast (pastEntry at entry) least in
-    if eqb (kindOf verdict) 0 then On next else Met (hitOf (at .id) (next .metadata) (kindOf verdict)) next
-judgedTurn at entry (J.failed least) = Stopped 3 least
-judgedTurn at entry (J.refused n) = Refused n
-
--- over the reading of an entry at a place, and the judging of a border at a place of the data with the least distance so far
-module _ (read : ℕ → Answer Entry) (judge : ℕ → ℕ → Judgement) (fix : Point) where
-  -- a lower latitude above the location stops the search with mark 1; where the box holds the location the border is judged
-  unfoldable pub entryTurn : Cursor → Entry → Turn
-  entryTurn at entry =
-      if isAbove (entry .bounds) fix then Stopped 1 (at .least)
-      else (if holds (entry .bounds) fix then judgedTurn at entry (judge (pastEntry at entry .polygon) (at .least)) else On (pastEntry at entry))
-
-  abbrev pub readTurn : Cursor → Answer Entry → Turn
-  readTurn at (found entry) = entryTurn at entry
-  readTurn at failed = Stopped 2 (at .least)
-  readTurn at (refused n) = Refused n
-
-  -- an entry that can't be read stops the search with mark 2
-  unfoldable pub turnOf : Cursor → Turn
-  turnOf at = readTurn at (read (at .place))
-
--- ---- all entries
 -- the hits in the order in which they were met, the end mark, the least squared distance
 pub record Found : Type 0 where
   pub hits : List Hit
@@ -86,40 +52,43 @@ abbrev pub ended : List Hit → ℕ → ℕ → Reply Found
 ended hits mark least = given (record { hits = hits; mark = mark; least = least })
 
 -- 17 where a hit has no slot
-abbrev pub afterTurn : Turn → List Hit → ℕ → (Cursor → List Hit → Reply Found) → Reply Found
-afterTurn (On next) hits room go = go next hits
-afterTurn (Met hit next) hits room go = if ltb (length hits) room then go next (hits ++ hit ∷ []) else R.refused (plain 17)
+abbrev pub afterTurn : Turn → List Hit → ℕ → (ℕ → List Hit → Reply Found) → Reply Found
+afterTurn (On least) hits room go = go least hits
+afterTurn (Met hit least) hits room go = if ltb (length hits) room then go least (hits ++ hit ∷ []) else R.refused (plain 17)
 afterTurn (Stopped mark least) hits room go = ended hits mark least
 afterTurn (Refused n) hits room go = R.refused (plain n)
 
--- the entries from a cursor up to the table's end, mark 1; each is longer than nothing, so that there are at most as many as places
-unfoldable pub walk : (Cursor → Turn) → ℕ → ℕ → ℕ → Cursor → List Hit → Reply Found
-walk turn end room zero at hits = ended hits 1 (at .least)
-walk turn end room (suc left) at hits =
-    if ltb (at .place) end then afterTurn (turn at) hits room (walk turn end room left) else ended hits 1 (at .least)
+-- over the judging of a border at a place of the data with the least distance so far
+module _ (judge : ℕ → ℕ → Judgement) (fix : Point) where
+  -- a lower latitude above the location stops the search with mark 1; where the box holds the location the border is judged
+  unfoldable pub rowTurn : Row → ℕ → Turn
+  rowTurn r least = if isAbove (r .bounds) fix then Stopped 1 least else (if holds (r .bounds) fix then judgedTurn r (judge (r .polygon) least) else On least)
 
-abbrev pub startAt : ℕ → Cursor
-startAt place = record { place = place; metadata = 0; polygon = 0; id = 0; least = 2 ^ 64 - 1 }
+  -- the search of rows, after these hits and with room for so many: mark 1 at the table's end, mark 2 at an entry that can't be read
+  unfoldable pub seek : ℕ → Rows → ℕ → List Hit → Reply Found
+  seek room (row r rows) least hits = afterTurn (rowTurn r least) hits room (seek room rows)
+  seek room tableEnd least hits = ended hits 1 least
+  seek room unreadable least hits = ended hits 2 least
+  seek room (T.refused n) least hits = R.refused (plain n)
 
-abbrev pub searchedBy : (Cursor → Turn) → ℕ → ℕ → ℕ → Reply Found
-searchedBy turn start end room = walk turn end room (end - start) (startAt start) []
+-- no distance yet
+abbrev pub farthest : ℕ
+farthest = 2 ^ 64 - 1
 
 -- ---- in a file
-abbrev pub versionOf : ℕ → Version
-versionOf byte = if eqb byte 0 then Plain else Packed
-
 -- the border at a place of the data, counted modulo 2 ^ 32
 abbrev pub judgeIn : List ℕ → Head → Point → Bool → ℕ → ℕ → Judgement
 judgeIn file head fix asked polygon least =
     let start = head .sections .«data» in
-    judgedAt file (versionOf (head .preamble .version)) start ((start + polygon) % 2 ^ 32) (fix .lat) (fix .lon) asked least
+    judgedAt file (encodingOf (head .preamble .version) start) ((start + polygon) % 2 ^ 32) (fix .lat) (fix .lon) asked least
 
-unfoldable pub turnAt : List ℕ → Head → Point → Bool → Cursor → Turn
-turnAt file head fix asked = turnOf (entryAt file) (judgeIn file head fix asked) fix
+-- the search of some rows, with so many slots for hits
+abbrev pub searchedRows : List ℕ → Head → Point → Bool → ℕ → Rows → Reply Found
+searchedRows file head fix asked room rows = seek (judgeIn file head fix asked) fix room rows farthest []
 
--- from the table's start, with so many slots for hits
+-- of the file's table
 unfoldable pub searched : List ℕ → Head → Point → Bool → ℕ → Reply Found
-searched file head fix asked room = searchedBy (turnAt file head fix asked) (head .sections .table) (head .sections .metadata) room
+searched file head fix asked room = searchedRows file head fix asked room (rowsIn file head)
 
 -- ---- the code's answers
 abbrev pub toldSearched : Searched → Reply Ended

@@ -7,12 +7,12 @@ use Prim.Native.Nat.{ℕ, zero, suc, _+_, _/_}
 use lib.Dec.{leb, eqb}
 use lib.ListN.{length}
 use Rattle.numbers.specs.Answer.{if_then_else_}
-use Rattle.zones.specs.Lists.{padded}
-use Rattle.zones.specs.Reply.{Reply, given, refused, plain, demand, _>>=_, _>>_}
+use Rattle.numbers.specs.Lists.{padded}
+use Rattle.numbers.specs.Reply.{Reply, given, refused, plain, demand, _>>=_, _>>_}
 use Rattle.zones.specs.Text.{textAt, bytesOf}
-use Rattle.zones.specs.Header.{blameOf}
+use Rattle.zones.specs.Header.{blameOf, headOf}
 use Rattle.zones.specs.Hits.{width}
-use Rattle.zones.specs.Find.{matchedIn}
+use Rattle.zones.specs.Find.{matchedWith}
 use Rattle.zones.specs.Fields.{fieldsPlace}
 use Rattle.zones.specs.Lent.{Outcome, Replied, repliedOf}
 use Rattle.zones.specs.declared.header.Head.{Head}
@@ -120,18 +120,29 @@ wordedOf file head room matches = do
   bytes ← fitting room (bytesIn description)
   given description
 
-unfoldable pub describedIn : List ℕ → Location → ℕ → ℕ → Reply (Outcome Described)
-describedIn file location n room = do
-  found ← matchedIn file location false (n / width)
-  checked file (found .head) (found .matches)
-  description ← wordedOf file (found .head) room (found .matches)
+-- in a file with this header
+unfoldable pub describedWith : List ℕ → Head → Location → ℕ → ℕ → Reply (Outcome Described)
+describedWith file head location n room = do
+  found ← matchedWith file head location false (n / width)
+  checked file head (found .matches)
+  description ← wordedOf file head room (found .matches)
   given (record {
     answer = record { matches = length (found .matches); mark = found .mark; description = lengthIn description };
     matches = found .matches;
     text = bytesIn description;
   })
 
--- with both lent buffers
+-- the file is opened first
+unfoldable pub describedIn : List ℕ → Location → ℕ → ℕ → Reply (Outcome Described)
+describedIn file location n room = do
+  head ← headOf file
+  describedWith file head location n room
+
+-- the reply and both lent buffers, in a file with this header
+unfoldable pub simplyLookedWith : List ℕ → Head → Location → ℕ → ℕ → Replied Described
+simplyLookedWith file head location n room = repliedOf n room (describedWith file head location n room)
+
+-- and in a file that is opened first
 unfoldable pub simplyLooked : List ℕ → Location → ℕ → ℕ → Replied Described
 simplyLooked file location n room = repliedOf n room (describedIn file location n room)
 

@@ -3,7 +3,7 @@ ghost use mathlib.Core.Path.{_≡_};
 ghost use mathlib.Core.List.{[]};
 ghost use Prim.Native.Nat.{_/_, _≤_};
 ghost use lib.ListN.{length, take};
-ghost use Rattle.zones.specs.Lists.{zeros, padded};
+ghost use Rattle.numbers.specs.Lists.{zeros, padded};
 ghost use Rattle.zones.specs.Hits.{width, slots};
 ghost use Rattle.zones.specs.Lent.{Agrees};
 ghost use Rattle.zones.specs.Fields.{fieldsPlace, fieldsFrom, fieldsOf, toldFields, Wrote};
@@ -11,7 +11,7 @@ use crate::field::Written;
 use crate::field::write_field;
 use crate::header::Head;
 use crate::hits::hit_at;
-use crate::refusal::Refusal;
+use numbers::refusal::Refusal;
 use std::num::wrapping_add_u32;
 
 pub enum Fields {

@@ -1,28 +1,27 @@
-// What both lookups begin with: the file is opened, its precision looked at, its table searched, and the hits merged.
+// What both lookups do in a file whose header was read: its precision is looked at, its table searched, and the hits merged.
 ghost use mathlib.Core.Path.{_≡_};
 ghost use Prim.Native.Nat.{_/_};
 ghost use lib.ListN.{length};
-ghost use Rattle.zones.specs.Lists.{zeros};
+ghost use Rattle.numbers.specs.Lists.{zeros};
 ghost use Rattle.zones.specs.Hits.{width};
 ghost use Rattle.zones.specs.Lent.{Agrees};
-ghost use Rattle.zones.specs.Find.{fixOf, isPrecision, matchedIn, toldFound, Matching};
+ghost use Rattle.zones.specs.Find.{fixOf, isPrecision, matchedWith, foundWith, finding, toldFound, Matching};
+use crate::codes::BAD_PRECISION;
 use crate::header::Head;
-use crate::header::Headed;
-use crate::header::head_of;
 use crate::location::Location;
 use crate::merge::merge_front;
-use crate::refusal::Refusal;
-use crate::refusal::plain;
 use crate::search::Searched;
 use crate::search::search;
+use crate::zero::zero_words;
 use border::place::FixedLat;
 use border::place::FixedLon;
 use border::place::Point;
 use numbers::float::fixed::to_fixed;
+use numbers::refusal::Refusal;
+use numbers::refusal::plain;
 
-// The header, the number of matches, the end mark and the least squared distance.
+// The number of matches, the end mark and the least squared distance.
 pub struct Matches {
-    pub head: Head,
     pub count: usize,
     pub mark: u8,
     pub least: u64,
@@ -33,7 +32,7 @@ pub enum Found {
     Refused(Refusal),
 }
 
-fn fix_of(location: Location, precision: u8) -> Point
+pub fn fix_of(location: Location, precision: u8) -> Point
     ensures { λ r. ⌜ r ≡ fixOf location precision ⌝ }
 {
     Point {
@@ -42,26 +41,28 @@ fn fix_of(location: Location, precision: u8) -> Point
     }
 }
 
-fn is_precision(precision: u8) -> bool
+pub fn is_precision(precision: u8) -> bool
     ensures { λ r. ⌜ r ≡ isPrecision precision ⌝ }
 {
     1 <= precision && precision <= 32
 }
 
-// The matches go into lent words that are zero.
-pub fn find(file: &[u8], location: Location, asked: bool, hits: &mut [u32]) -> Found
+// The matches go into lent words that are zero. For this crate alone.
+pub(crate) fn matches_in(
+    file: &[u8],
+    head: Head,
+    location: Location,
+    asked: bool,
+    hits: &mut [u32],
+) -> Found
     requires { ⌜ now hits ≡ zeros (length (now hits)) ⌝ }
     ensures { λ r. ⌜ Agrees (Matching (length (now (hits .entry))) (now (hits .exit)))
-        (matchedIn (now (file .entry)) location asked (length (now (hits .entry)) / width)) (toldFound r) ⌝ }
+        (matchedWith (now (file .entry)) head location asked (length (now (hits .entry)) / width)) (toldFound r) ⌝ }
 {
-    let head = match head_of(file) {
-        Headed::Head(head) => head,
-        Headed::Refused(why) => return Found::Refused(why),
-    };
     let preamble = head.preamble;
     let precision = preamble.precision;
     if !is_precision(precision) {
-        return Found::Refused(plain(16));
+        return Found::Refused(plain(BAD_PRECISION));
     }
     let fix = fix_of(location, precision);
     let ended = match search(file, head, fix, asked, hits) {
@@ -70,9 +71,23 @@ pub fn find(file: &[u8], location: Location, asked: bool, hits: &mut [u32]) -> F
     };
     let count = merge_front(hits, ended.count);
     Found::Matches(Matches {
-        head,
         count,
         mark: ended.mark,
         least: ended.least,
     })
+}
+
+// The matches at a location, in a file whose header was read; any header is taken.
+pub fn find_in(file: &[u8], head: Head, location: Location, asked: bool, hits: &mut [u32]) -> Found
+    ensures { λ r. ⌜ finding (toldFound r) (now (hits .exit)) ≡ foundWith (now (file .entry)) head location asked (length (now (hits .entry))) ⌝ }
+{
+    zero_words(hits);
+    let matches = match matches_in(file, head, location, asked, hits) {
+        Found::Matches(matches) => matches,
+        Found::Refused(why) => {
+            zero_words(hits);
+            return Found::Refused(why);
+        }
+    };
+    Found::Matches(matches)
 }

@@ -31,7 +31,7 @@ pub fn room(hits: &[u32]) -> usize
     hits.len() / WIDTH
 }
 
-pub fn hit_at(hits: &[u32], i: usize) -> Hit
+pub(crate) fn hit_at(hits: &[u32], i: usize) -> Hit
     requires { ⌜ i < length (now hits) / width ⌝ }
     ensures { λ r. ⌜ r ≡ hitAt (now (hits .entry)) i ⌝ }
 {
@@ -43,7 +43,7 @@ pub fn hit_at(hits: &[u32], i: usize) -> Hit
     }
 }
 
-pub fn put_hit(hits: &mut [u32], i: usize, hit: Hit)
+pub(crate) fn put_hit(hits: &mut [u32], i: usize, hit: Hit)
     requires { ⌜ i < length (now hits) / width ⌝ }
     ensures { λ _. ⌜ now (hits .exit) ≡ putHit (now (hits .entry)) i hit ⌝ }
 {

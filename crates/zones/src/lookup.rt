@@ -1,20 +1,23 @@
 // Lookup: the matches in the lent words, their fields in the lent text.
 ghost use mathlib.Core.Path.{_≡_};
 ghost use lib.ListN.{length};
-ghost use Rattle.zones.specs.Lists.{zeros};
+ghost use Rattle.numbers.specs.Lists.{zeros};
 ghost use Rattle.zones.specs.Lent.{Agrees, Filled, replied};
-ghost use Rattle.zones.specs.Lookup.{safezoneBits, zonesIn, lookedUp, toldLooked};
+ghost use Rattle.zones.specs.Lookup.{safezoneBits, zonesWith, lookedWith, lookedUp, toldLooked};
 use crate::fields::Fields;
 use crate::fields::write_fields;
 use crate::find::Found;
-use crate::find::find;
+use crate::find::matches_in;
+use crate::header::Head;
+use crate::header::Headed;
+use crate::header::head_of;
 use crate::location::Location;
-use crate::refusal::Refusal;
 use crate::zero::zero_both;
 use numbers::float::bits::bits_of;
 use numbers::float::fixed::factor;
 use numbers::float::nearest::of_u64;
 use numbers::float::root::sqrt;
+use numbers::refusal::Refusal;
 
 // How many matches, the end mark, the safezone's bits (0 if not asked), and how much of the text is used.
 pub struct Zones {
@@ -39,16 +42,22 @@ fn safezone(asked: bool, least: u64, precision: u8) -> u32
 }
 
 // In buffers that are zero.
-fn look(file: &[u8], location: Location, asked: bool, hits: &mut [u32], text: &mut [u8]) -> Looked
+fn look(
+    file: &[u8],
+    head: Head,
+    location: Location,
+    asked: bool,
+    hits: &mut [u32],
+    text: &mut [u8],
+) -> Looked
     requires { ⌜ (now hits ≡ zeros (length (now hits))) × (now text ≡ zeros (length (now text))) ⌝ }
     ensures { λ r. ⌜ Agrees (Filled (length (now (hits .entry))) (length (now (text .entry))) (now (hits .exit)) (now (text .exit)))
-        (zonesIn (now (file .entry)) location asked (length (now (hits .entry))) (length (now (text .entry)))) (toldLooked r) ⌝ }
+        (zonesWith (now (file .entry)) head location asked (length (now (hits .entry))) (length (now (text .entry)))) (toldLooked r) ⌝ }
 {
-    let found = match find(file, location, asked, hits) {
+    let found = match matches_in(file, head, location, asked, hits) {
         Found::Matches(found) => found,
         Found::Refused(why) => return Looked::Refused(why),
     };
-    let head = found.head;
     let preamble = head.preamble;
     let matches = found.count;
     let used = match write_fields(text, file, head, hits, matches) {
@@ -64,6 +73,29 @@ fn look(file: &[u8], location: Location, asked: bool, hits: &mut [u32], text: &m
     })
 }
 
+// In a file whose header was read; any header is taken.
+pub fn lookup_in(
+    file: &[u8],
+    head: Head,
+    location: Location,
+    asked: bool,
+    hits: &mut [u32],
+    text: &mut [u8],
+) -> Looked
+    ensures { λ r. ⌜ replied (toldLooked r) (now (hits .exit)) (now (text .exit))
+        ≡ lookedWith (now (file .entry)) head location asked (length (now (hits .entry))) (length (now (text .entry))) ⌝ }
+{
+    zero_both(hits, text);
+    let zones = match look(file, head, location, asked, hits, text) {
+        Looked::Zones(zones) => zones,
+        Looked::Refused(why) => {
+            zero_both(hits, text);
+            return Looked::Refused(why);
+        }
+    };
+    Looked::Zones(zones)
+}
+
 pub fn lookup(
     file: &[u8],
     location: Location,
@@ -74,13 +106,12 @@ pub fn lookup(
     ensures { λ r. ⌜ replied (toldLooked r) (now (hits .exit)) (now (text .exit))
         ≡ lookedUp (now (file .entry)) location asked (length (now (hits .entry))) (length (now (text .entry))) ⌝ }
 {
-    zero_both(hits, text);
-    let zones = match look(file, location, asked, hits, text) {
-        Looked::Zones(zones) => zones,
-        Looked::Refused(why) => {
+    let head = match head_of(file) {
+        Headed::Head(head) => head,
+        Headed::Refused(why) => {
             zero_both(hits, text);
             return Looked::Refused(why);
         }
     };
-    Looked::Zones(zones)
+    lookup_in(file, head, location, asked, hits, text)
 }

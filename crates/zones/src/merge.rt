@@ -3,9 +3,12 @@ ghost use mathlib.Core.Path.{_≡_};
 ghost use Prim.Native.Nat.{_+_, _/_, _^_, _≤_, _<_};
 ghost use mathlib.Core.List.{_++_};
 ghost use lib.ListN.{length, take, drop};
-ghost use Rattle.zones.specs.Lists.{padded};
+ghost use Rattle.numbers.specs.Lists.{padded};
 ghost use Rattle.zones.specs.Hits.{width, words, slots, Real};
 ghost use Rattle.zones.specs.Merge.{later, _⊕_, single, summary, groupKind, merged, tallied, cleared};
+use crate::codes::EXCLUDED;
+use crate::codes::IN_ZONE;
+use crate::codes::NO_KIND;
 use crate::hits::Hit;
 use crate::hits::WIDTH;
 use crate::hits::hit_at;
@@ -24,7 +27,7 @@ pub struct Tally {
 fn later(first: u32, second: u32) -> u32
     ensures { λ r. ⌜ r ≡ later first second ⌝ }
 {
-    if second == 0 { first } else { second }
+    if second == NO_KIND { first } else { second }
 }
 
 // One more hit in a group.
@@ -36,14 +39,14 @@ fn joined(t: Tally, kind: u32) -> Tally
     let inside = t.inside;
     let excluded = t.excluded;
     let border = t.border;
-    if kind == 1 {
+    if kind == IN_ZONE {
         return Tally {
             inside: inside + 1,
             excluded,
             border,
         };
     }
-    if kind == 2 {
+    if kind == EXCLUDED {
         return Tally {
             inside,
             excluded: excluded + 1,
@@ -86,13 +89,13 @@ fn gather(hits: &mut [u32], from: usize, id: u32) -> Tally
 fn kind_of(t: Tally) -> u32
     ensures { λ r. ⌜ r ≡ groupKind (tallied t) ⌝ }
 {
-    if t.border != 0 {
+    if t.border != NO_KIND {
         return t.border;
     }
     if t.inside != t.excluded {
-        return 1;
+        return IN_ZONE;
     }
-    0
+    NO_KIND
 }
 
 // Every slot holds a hit. The matches go to the front, and the rest is cleared.
@@ -107,9 +110,9 @@ fn merge(hits: &mut [u32]) -> usize
         let hit = hit_at(hits, i);
         let from = i;
         i += 1;
-        if hit.kind != 0 {
+        if hit.kind != NO_KIND {
             let kind = kind_of(gather(hits, from, hit.metadata));
-            if kind != 0 {
+            if kind != NO_KIND {
                 put_hit(
                     hits,
                     out,

@@ -3,29 +3,33 @@ ghost use mathlib.Core.Path.{_≡_};
 ghost use mathlib.Core.List.{map, _++_};
 ghost use Prim.Native.Nat.{_+_, _/_, _≤_};
 ghost use lib.ListN.{length, take};
-ghost use Rattle.zones.specs.Lists.{zeros};
+ghost use Rattle.numbers.specs.Lists.{zeros};
 ghost use Rattle.zones.specs.Utf8.{unmasked};
 ghost use Rattle.zones.specs.Text.{bytesOf};
 ghost use Rattle.zones.specs.Hits.{width, slots};
 ghost use Rattle.zones.specs.Fields.{toldFields, Wrote};
 ghost use Rattle.zones.specs.Lent.{Agrees, Filled, replied};
-ghost use Rattle.zones.specs.Simple.{same, partOf, begun, newer, pickedFrom, checked, fitting, wordedOf, toldPicks, toldChecked, toldWorded, Worded, describedIn, simplyLooked, toldSimple};
+ghost use Rattle.zones.specs.Simple.{same, partOf, begun, newer, pickedFrom, checked, fitting, wordedOf, toldPicks, toldChecked, toldWorded, Worded, describedWith, simplyLookedWith, simplyLooked, toldSimple};
+use crate::codes::BAD_FIELD;
+use crate::codes::TEXT_FULL;
 use crate::field::unmask;
 use crate::fields::Fields;
 use crate::fields::fields_place;
 use crate::find::Found;
-use crate::find::find;
+use crate::find::matches_in;
 use crate::header::Head;
+use crate::header::Headed;
+use crate::header::head_of;
 use crate::header::read_header_text;
 use crate::hits::hit_at;
 use crate::location::Location;
-use crate::refusal::Refusal;
-use crate::refusal::plain;
 use crate::text::Blame;
 use crate::text::Read;
 use crate::text::Text;
 use crate::text::read_text;
 use crate::zero::zero_both;
+use numbers::refusal::Refusal;
+use numbers::refusal::plain;
 
 pub enum Description {
     // How many bytes of the text it takes.
@@ -159,7 +163,7 @@ fn pick(file: &[u8], head: Head, start: usize) -> Picks
     let sections = head.sections;
     let names = preamble.count as usize;
     let blame = Blame {
-        number: 15,
+        number: BAD_FIELD,
         detail: 0,
     };
     let mut index = 0;
@@ -212,10 +216,10 @@ fn join(text: &mut [u8], file: &[u8], one: Text, two: Text) -> Fields
     let second = two.start;
     let more = two.size;
     if text.len() < size {
-        return Fields::Refused(plain(18));
+        return Fields::Refused(plain(TEXT_FULL));
     }
     if text.len() - size < more {
-        return Fields::Refused(plain(18));
+        return Fields::Refused(plain(TEXT_FULL));
     }
     unmask(text, &file[first..first + size]);
     unmask(&mut text[size..], &file[second..second + more]);
@@ -251,16 +255,15 @@ fn describe(text: &mut [u8], file: &[u8], head: Head, hits: &[u32], count: usize
 }
 
 // In buffers that are zero.
-fn look(file: &[u8], location: Location, hits: &mut [u32], text: &mut [u8]) -> Simple
+fn look(file: &[u8], head: Head, location: Location, hits: &mut [u32], text: &mut [u8]) -> Simple
     requires { ⌜ (now hits ≡ zeros (length (now hits))) × (now text ≡ zeros (length (now text))) ⌝ }
     ensures { λ r. ⌜ Agrees (Filled (length (now (hits .entry))) (length (now (text .entry))) (now (hits .exit)) (now (text .exit)))
-        (describedIn (now (file .entry)) location (length (now (hits .entry))) (length (now (text .entry)))) (toldSimple r) ⌝ }
+        (describedWith (now (file .entry)) head location (length (now (hits .entry))) (length (now (text .entry)))) (toldSimple r) ⌝ }
 {
-    let found = match find(file, location, false, hits) {
+    let found = match matches_in(file, head, location, false, hits) {
         Found::Matches(found) => found,
         Found::Refused(why) => return Simple::Refused(why),
     };
-    let head = found.head;
     let matches = found.count;
     let checked = check(file, head, hits, matches);
     if let Checked::Refused(why) = checked {
@@ -277,12 +280,19 @@ fn look(file: &[u8], location: Location, hits: &mut [u32], text: &mut [u8]) -> S
     })
 }
 
-pub fn simple_lookup(file: &[u8], location: Location, hits: &mut [u32], text: &mut [u8]) -> Simple
+// In a file whose header was read; any header is taken.
+pub fn simple_lookup_in(
+    file: &[u8],
+    head: Head,
+    location: Location,
+    hits: &mut [u32],
+    text: &mut [u8],
+) -> Simple
     ensures { λ r. ⌜ replied (toldSimple r) (now (hits .exit)) (now (text .exit))
-        ≡ simplyLooked (now (file .entry)) location (length (now (hits .entry))) (length (now (text .entry))) ⌝ }
+        ≡ simplyLookedWith (now (file .entry)) head location (length (now (hits .entry))) (length (now (text .entry))) ⌝ }
 {
     zero_both(hits, text);
-    let described = match look(file, location, hits, text) {
+    let described = match look(file, head, location, hits, text) {
         Simple::Described(described) => described,
         Simple::Refused(why) => {
             zero_both(hits, text);
@@ -290,4 +300,18 @@ pub fn simple_lookup(file: &[u8], location: Location, hits: &mut [u32], text: &m
         }
     };
     Simple::Described(described)
+}
+
+pub fn simple_lookup(file: &[u8], location: Location, hits: &mut [u32], text: &mut [u8]) -> Simple
+    ensures { λ r. ⌜ replied (toldSimple r) (now (hits .exit)) (now (text .exit))
+        ≡ simplyLooked (now (file .entry)) location (length (now (hits .entry))) (length (now (text .entry))) ⌝ }
+{
+    let head = match head_of(file) {
+        Headed::Head(head) => head,
+        Headed::Refused(why) => {
+            zero_both(hits, text);
+            return Simple::Refused(why);
+        }
+    };
+    simple_lookup_in(file, head, location, hits, text)
 }

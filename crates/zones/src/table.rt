@@ -1,7 +1,8 @@
 // The box table: each entry's bounds, and the steps of its metadata id and of its border's place.
 ghost use mathlib.Core.Path.{_≡_};
 ghost use lib.Signed.{ltZ, leZ};
-ghost use Rattle.zones.specs.Table.{toldRow, stoppedBy, entryAt, stepsAt, boundsOf, isAbove, holds};
+ghost use Rattle.numbers.specs.Varint.{forwardAt};
+ghost use Rattle.zones.specs.Table.{toldEntered, stoppedBy, entryBy, stepsBy, boundsOf, isAbove, between, holds};
 use border::place::FixedLat;
 use border::place::FixedLon;
 use border::place::Point;
@@ -25,89 +26,65 @@ pub struct Entry {
     pub next: usize,
 }
 
-pub enum Row {
-    Read(Entry),
+pub enum Entered {
+    Entry(Entry),
     Failed,
-    // Refusal 12.
-    Refused,
+    Refused(u8),
 }
 
 // A number that could not be read ends its entry.
-fn stopped(answer: Varint) -> Row
-    ensures { λ r. ⌜ toldRow r ≡ stoppedBy answer ⌝ }
+fn stopped(answer: Varint) -> Entered
+    ensures { λ r. ⌜ toldEntered r ≡ stoppedBy answer ⌝ }
 {
     match answer {
-        Varint::Number { value: _, place: _ } => Row::Failed,
-        Varint::Failed => Row::Failed,
-        Varint::Refused => Row::Refused,
+        Varint::Number(_) => Entered::Failed,
+        Varint::Failed => Entered::Failed,
+        Varint::Refused(number) => Entered::Refused(number),
     }
 }
 
 // The entry's last two numbers, after its bounds.
-fn steps_at(file: &[u8], place: usize, bounds: Bounds) -> Row
-    ensures { λ r. ⌜ toldRow r ≡ stepsAt (now (file .entry)) place bounds ⌝ }
+fn steps_at(file: &[u8], place: usize, bounds: Bounds) -> Entered
+    ensures { λ r. ⌜ toldEntered r ≡ stepsBy (forwardAt (now (file .entry))) place bounds ⌝ }
 {
     let fifth = read_forward(file, place);
-    let Varint::Number {
-        value: metadata,
-        place: p5,
-    } = fifth
-    else {
+    let Varint::Number(metadata) = fifth else {
         return stopped(fifth);
     };
-    let sixth = read_forward(file, p5);
-    let Varint::Number {
-        value: polygon,
-        place: next,
-    } = sixth
-    else {
+    let sixth = read_forward(file, metadata.place);
+    let Varint::Number(polygon) = sixth else {
         return stopped(sixth);
     };
-    Row::Read(Entry {
+    Entered::Entry(Entry {
         bounds,
-        metadata,
-        polygon,
-        next,
+        metadata: metadata.value,
+        polygon: polygon.value,
+        next: polygon.place,
     })
 }
 
 // All six numbers are read before any is tested.
-pub fn entry_at(file: &[u8], place: usize) -> Row
-    ensures { λ r. ⌜ toldRow r ≡ entryAt (now (file .entry)) place ⌝ }
+pub fn entry_at(file: &[u8], place: usize) -> Entered
+    ensures { λ r. ⌜ toldEntered r ≡ entryBy (forwardAt (now (file .entry))) place ⌝ }
 {
     let first = read_forward(file, place);
-    let Varint::Number {
-        value: min_lat,
-        place: p1,
-    } = first
-    else {
+    let Varint::Number(min_lat) = first else {
         return stopped(first);
     };
-    let second = read_forward(file, p1);
-    let Varint::Number {
-        value: min_lon,
-        place: p2,
-    } = second
-    else {
+    let second = read_forward(file, min_lat.place);
+    let Varint::Number(min_lon) = second else {
         return stopped(second);
     };
-    let third = read_forward(file, p2);
-    let Varint::Number {
-        value: max_lat,
-        place: p3,
-    } = third
-    else {
+    let third = read_forward(file, min_lon.place);
+    let Varint::Number(max_lat) = third else {
         return stopped(third);
     };
-    let fourth = read_forward(file, p3);
-    let Varint::Number {
-        value: max_lon,
-        place: p4,
-    } = fourth
-    else {
+    let fourth = read_forward(file, max_lat.place);
+    let Varint::Number(max_lon) = fourth else {
         return stopped(fourth);
     };
-    steps_at(file, p4, bounds_of(min_lat, min_lon, max_lat, max_lon))
+    let bounds = bounds_of(min_lat.value, min_lon.value, max_lat.value, max_lon.value);
+    steps_at(file, max_lon.place, bounds)
 }
 
 fn bounds_of(min_lat: u64, min_lon: u64, max_lat: u64, max_lon: u64) -> Bounds
@@ -146,14 +123,30 @@ pub fn is_above(bounds: Bounds, fix: Point) -> bool
     lat_below(fix.lat, bounds.min_lat)
 }
 
-// Whether the box holds the location, which its lower latitude is not above.
+fn lat_between(low: FixedLat, lat: FixedLat, high: FixedLat) -> bool
+    ensures { λ r. ⌜ r ≡ between (low .0) (lat .0) (high .0) ⌝ }
+{
+    if lat_upto(low, lat) {
+        return lat_upto(lat, high);
+    }
+    false
+}
+
+fn lon_between(low: FixedLon, lon: FixedLon, high: FixedLon) -> bool
+    ensures { λ r. ⌜ r ≡ between (low .0) (lon .0) (high .0) ⌝ }
+{
+    if lon_upto(low, lon) {
+        return lon_upto(lon, high);
+    }
+    false
+}
+
+// Whether the box holds the location.
 pub fn holds(bounds: Bounds, fix: Point) -> bool
     ensures { λ r. ⌜ r ≡ holds bounds fix ⌝ }
 {
-    if lat_upto(fix.lat, bounds.max_lat) {
-        if lon_upto(bounds.min_lon, fix.lon) {
-            return lon_upto(fix.lon, bounds.max_lon);
-        }
+    if lat_between(bounds.min_lat, fix.lat, bounds.max_lat) {
+        return lon_between(bounds.min_lon, fix.lon, bounds.max_lon);
     }
     false
 }

@@ -1,10 +1,10 @@
 // Lent buffers are zero before the answer goes in, and again where it is a refusal.
 ghost use mathlib.Core.Path.{_≡_};
 ghost use lib.ListN.{length};
-ghost use Rattle.zones.specs.Lists.{zeros};
+ghost use Rattle.numbers.specs.Lists.{zeros};
 use crate::field::zero;
 
-fn zero_words(hits: &mut [u32])
+pub fn zero_words(hits: &mut [u32])
     ensures { λ _. ⌜ now (hits .exit) ≡ zeros (length (now (hits .entry))) ⌝ }
 {
     let mut i = 0;

@@ -5,7 +5,7 @@ pub mod fence;
 pub mod files;
 
 use fence::{Edge, Fence};
-use uskelzar::raw::{self, Reply};
+use uskelzar::raw::{self, Reply, HIT_WORDS};
 use uskelzar::Refusal;
 
 pub const WORLD: &str = concat!(env!("CARGO_MANIFEST_DIR"), "/../examples/world-9.plb");
@@ -41,7 +41,7 @@ impl Outcome {
     /// On a refusal all is zero; on an answer all behind the matches, and behind so much of the text.
     pub fn assert_zero_behind(&self, used: impl Fn(Reply) -> u64) {
         let (words, bytes) = match self.reply {
-            Ok(reply) => (3 * reply[0] as usize, used(reply) as usize),
+            Ok(reply) => (HIT_WORDS * reply[0] as usize, used(reply) as usize),
             Err(_) => (0, 0),
         };
         assert!(self.hits[words..].iter().all(|word| *word == 0), "{self:?}");

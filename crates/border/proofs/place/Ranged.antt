@@ -10,7 +10,7 @@ use mir.Syntax.{w32, w64}
 use mir.Val.{SFits, toZ, ofZ}
 use Rattle.numbers.specs.Answer.{Answer, refused, _>>=_}
 use Rattle.border.proofs.place.Whole.{widened, negation-fits}
-use Rattle.border.specs.Place.{checked}
+use Rattle.numbers.specs.Answer.{checked}
 
 module _ {A : Type 0} (z : ℤ) {t : Bool} (e : t ≡ ltb (mag z) (2 ^ 31)) (next : ℤ → Answer A) where
   pub within : t ≡ true → next z ≡ (checked 31 z >>= next)

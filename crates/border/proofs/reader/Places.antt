@@ -10,7 +10,7 @@ use lib.Signed.{mag, ltZ}
 use borrow.Author.Tests.{ltb-true, ltb-false, lt-ltb, le-ltb}
 use Rattle.numbers.specs.Answer.{found, refused, if_then_else_}
 use Rattle.numbers.specs.Point.{low32}
-use Rattle.border.specs.Place.{checked}
+use Rattle.numbers.specs.Answer.{checked}
 use Rattle.border.specs.Reader.{dataPlace, asI64, opened}
 use Rattle.border.specs.declared.reader.Run.the-variants.{Idle, Forward, Backward}
 

@@ -14,7 +14,8 @@ use Rattle.numbers.specs.Answer.{if_then_else_}
 use Rattle.numbers.specs.Point.{pointOf}
 use Rattle.numbers.specs.declared.point.{RawPoint.RawPoint}
 use Rattle.border.specs.Place.{isStill, isZero}
-use Rattle.border.specs.Moves.{signedForm, isMove, turnedBack, sameMove}
+use Rattle.numbers.specs.Spelling.{signedForm}
+use Rattle.border.specs.Moves.{isMove, turnedBack, sameMove}
 use Rattle.border.specs.Writer.{near}
 use Rattle.border.specs.Stored.{gapAt, moveAt}
 use Rattle.border.proofs.Signs.{differ}

@@ -8,9 +8,10 @@ use lib.Dec.{ltb, leb, eqb}
 use lib.IntN.{ℤ}
 use lib.ListN.{length, take, drop}
 use borrow.Author.Tests.{lt-ltb, le-ltb, le-leb, lt-leb, ltb-true, leb-true, eqb-true}
+use Rattle.numbers.specs.Reply.{given, refused, refusal, plain, demand, _>>_}
 use Rattle.numbers.specs.declared.point.{RawPoint.RawPoint}
 use Rattle.border.specs.Moves.{movesOf, isMove}
-use Rattle.border.specs.Writer.{given, refused, demand, _>>_, every, near, sized, checks}
+use Rattle.border.specs.Writer.{every, near, sized, checks}
 use Rattle.border.specs.Stored.{moveAt}
 use Rattle.border.proofs.Signs.{both, and-true}
 use Rattle.border.proofs.writer.Indexed.{moves-next}
@@ -39,42 +40,42 @@ pub record Early (version : ℕ) (lats lons : List ℤ) (earlier : List ℕ) : T
   pub right : sized lats lons ≡ true
 
 module _ (version : ℕ) (lats lons : List ℤ) (earlier : List ℕ) where
-  pub long-data : 2 ^ 30 < length earlier → refused 1 0 ≡ checks version lats lons earlier
+  pub long-data : 2 ^ 30 < length earlier → refused (plain 1) ≡ checks version lats lons earlier
   unfolding checks
   long-data h = rw (lt-leb (length earlier) (2 ^ 30) h)
 
-  pub odd-version : length earlier ≤ 2 ^ 30 → 2 ≤ version → refused 5 version ≡ checks version lats lons earlier
+  pub odd-version : length earlier ≤ 2 ^ 30 → 2 ≤ version → refused (refusal 5 0 version) ≡ checks version lats lons earlier
   unfolding checks
   odd-version e₁ h = rw (le-leb (length earlier) (2 ^ 30) e₁, le-ltb version 2 h)
 
-  pub not-sized : length earlier ≤ 2 ^ 30 → version < 2 → sized lats lons ≡ false → refused 19 0 ≡ checks version lats lons earlier
+  pub not-sized : length earlier ≤ 2 ^ 30 → version < 2 → sized lats lons ≡ false → refused (plain 19) ≡ checks version lats lons earlier
   unfolding checks
   not-sized e₁ e₂ h = rw (le-leb (length earlier) (2 ^ 30) e₁, lt-ltb version 2 e₂, h)
 
 module _ {version : ℕ} {lats lons : List ℤ} {earlier : List ℕ} (g : Early version lats lons earlier) where
-  left : (demand (every near lats && every near lons) 20 0 >> (demand (every isMove (drop 1 (movesOf lats lons))) 21 0 >> demand (every isMove (take 1 (movesOf lats lons))) 22 0)) ≡ checks version lats lons earlier
+  left : (demand (every near lats && every near lons) (plain 20) >> (demand (every isMove (drop 1 (movesOf lats lons))) (plain 21) >> demand (every isMove (take 1 (movesOf lats lons))) (plain 22))) ≡ checks version lats lons earlier
   unfolding checks
   left = rw (le-leb (length earlier) (2 ^ 30) (g .short), lt-ltb version 2 (g .version-known), g .right)
 
-  pub far-lat : every near lats ≡ false → refused 20 0 ≡ checks version lats lons earlier
+  pub far-lat : every near lats ≡ false → refused (plain 20) ≡ checks version lats lons earlier
   far-lat h = rw h at left
 
   module _ (north : every near lats ≡ true) where
-    pub far-lon : every near lons ≡ false → refused 20 0 ≡ checks version lats lons earlier
+    pub far-lon : every near lons ≡ false → refused (plain 20) ≡ checks version lats lons earlier
     far-lon h = rw (north, h) at left
 
     module _ (east : every near lons ≡ true) where
-      pub repeated : every isMove (drop 1 (movesOf lats lons)) ≡ false → refused 21 0 ≡ checks version lats lons earlier
+      pub repeated : every isMove (drop 1 (movesOf lats lons)) ≡ false → refused (plain 21) ≡ checks version lats lons earlier
       repeated h = rw (north, east, h) at left
 
       module _ (apart : every isMove (drop 1 (movesOf lats lons)) ≡ true) where
-        last : demand (isMove (moveAt lats lons 0)) 22 0 ≡ checks version lats lons earlier
+        last : demand (isMove (moveAt lats lons 0)) (plain 22) ≡ checks version lats lons earlier
         last =
             let s = sizes lats lons (g .right) in
             let e = first-move lats lons (s .some) (omega (arith, s .some, s .same)) in
             rw (north, east, apart, e) at left
 
-        pub at-origin : isMove (moveAt lats lons 0) ≡ false → refused 22 0 ≡ checks version lats lons earlier
+        pub at-origin : isMove (moveAt lats lons 0) ≡ false → refused (plain 22) ≡ checks version lats lons earlier
         at-origin h = rw h at last
 
         pub no-fault : isMove (moveAt lats lons 0) ≡ true → given tt ≡ checks version lats lons earlier

@@ -6,9 +6,10 @@ use mathlib.Core.List.{List, flatMap}
 use lib.ListN.{length, length-append}
 use lib.Seq.{slice}
 use Rattle.numbers.specs.declared.point.{RawPoint.RawPoint}
-use Rattle.border.specs.Moves.{signedForm, plainMoveBytes, packedMoveBytes, packedNumber}
+use Rattle.numbers.specs.Spelling.{signedForm}
+use Rattle.border.specs.Moves.{plainMoveBytes, packedMoveBytes, packedNumber}
 use Rattle.border.proofs.writer.Indexed.{each-few, slice-few}
-use Rattle.border.proofs.writer.Stores.{varint-few}
+use Rattle.numbers.proofs.Spelling.{varint-few}
 
 plain-one : (m : RawPoint) → length (plainMoveBytes m) ≤ 20
 unfolding plainMoveBytes

@@ -10,13 +10,15 @@ use lib.ListN.{length, take, drop, getD, length-append}
 use lib.Seq.{slice, drop-cons, getD-take, length-take-le, drop-length}
 use Rattle.numbers.specs.Answer.{if_then_else_}
 use Rattle.numbers.specs.declared.point.{RawPoint.RawPoint}
-use Rattle.border.specs.Moves.{varintOf, digitsOf, packedMoveBytes, movesOf}
+use Rattle.numbers.specs.Spelling.{varintOf, digitsOf}
+use Rattle.border.specs.Moves.{packedMoveBytes, movesOf}
 use Rattle.border.specs.Pieces.{pieceBytes, packedFrom}
 use Rattle.border.specs.Stored.{Stored}
 use Rattle.border.specs.declared.writer.{Piece.Piece}
 use Rattle.border.proofs.writer.Indexed.{border-length, slice-ends, slice-rest}
 use Rattle.border.proofs.writer.Lengths.{packed-few}
-use Rattle.border.proofs.writer.Stores.{Left, left-step, left-last, varint-few}
+use Rattle.numbers.proofs.Spelling.{varint-few, varint-byte}
+use Rattle.border.proofs.writer.Stores.{Left, left-step, left-last}
 
 abbrev pub none : Piece
 none = record { start = 0; bytes = 0; direction = 0; first = 0; count = 0 }
@@ -30,8 +32,7 @@ piece-few p = go (eqb (p .direction) 0)
     go false = omega (arith, length-append (varintOf (p .start + p .bytes)) (varintOf (2 * p .bytes + 1)), varint-few (p .start + p .bytes), varint-few (2 * p .bytes + 1))
 
 two-zeros : varintOf 0 ++ varintOf 0 ≡ 0 ∷ 0 ∷ []
-unfolding varintOf digitsOf
-two-zeros = refl
+two-zeros = rw (varint-byte 0 (omega arith))
 
 -- what is left to write, from the jth piece on, and where
 pub record Packing (before : List ℕ) (ms : List RawPoint) (kept : List Piece) (count : ℕ) (j next : ℕ) (now : List ℕ) (place : ℕ) : Type 0 where

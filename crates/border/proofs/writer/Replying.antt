@@ -8,11 +8,17 @@ use lib.Dec.{leb, eqb, ltb}
 use lib.IntN.{ℤ}
 use lib.ListN.{length, drop, take, length-replicate}
 use borrow.Author.Tests.{leb-true, le-leb, lt-leb, eq-eqb, ne-eqb}
+use Rattle.numbers.proofs.Lists.{zeros-drop}
+use Rattle.numbers.proofs.Replies.{demanded}
 use Rattle.numbers.specs.Answer.{if_then_else_}
+use Rattle.numbers.specs.Lists.{zeros}
+use Rattle.numbers.specs.Reply.{Reply, given, refused, refusal, plain, _>>_}
+use Rattle.numbers.specs.declared.refusal.Refusal.{Refusal}
 use Rattle.numbers.specs.declared.point.{RawPoint.RawPoint}
-use Rattle.border.specs.Moves.{varintOf, plainMoveBytes, movesOf}
+use Rattle.numbers.specs.Spelling.{varintOf}
+use Rattle.border.specs.Moves.{plainMoveBytes, movesOf}
 use Rattle.border.specs.Pieces.{packedFrom}
-use Rattle.border.specs.Writer.{Reply, given, refused, demand, _>>_, sized, checks, plainBorder, packedBorder, borderOf, Replied, replied, zeros, fitted}
+use Rattle.border.specs.Writer.{sized, checks, plainBorder, packedBorder, borderOf, Replied, replied, fitted}
 use Rattle.border.specs.Stored.{Stored, Checked}
 use Rattle.border.specs.declared.writer.{Piece.Piece}
 use Rattle.border.specs.declared.writer.Written.the-variants.{Wrote, Refused}
@@ -21,14 +27,9 @@ use Rattle.border.proofs.writer.Faults.{Sizes, sizes}
 use Rattle.border.proofs.writer.Indexed.{border-length}
 use Rattle.border.proofs.writer.Stores.{stored-front, stored-length}
 
-drop-zeros : (k n : ℕ) → drop k (zeros n) ≡ zeros (n - k)
-drop-zeros zero n = let e : n ≡ n - 0 = omega arith in ap zeros e
-drop-zeros (suc k) zero = let e : 0 ≡ 0 - suc k = omega arith in ap zeros e
-drop-zeros (suc k) (suc n) = let e : n - k ≡ suc n - suc k = omega arith in drop-zeros k n ∙ ap zeros e
-
 -- ---- what was stored over zeros, if it fits
 module _ (n : ℕ) (answer : Reply (List ℕ)) where
-  pub refusing : (number detail : ℕ) (out : List ℕ) → answer ≡ refused number detail → out ≡ zeros n → replied (Refused number detail) out ≡ fitted n answer
+  pub refusing : (number detail : ℕ) (out : List ℕ) → answer ≡ refused (refusal number 0 detail) → out ≡ zeros n → replied (Refused number detail) out ≡ fitted n answer
   unfolding fitted
   refusing number detail out is e = ap (replied (Refused number detail)) e ∙ ap (fitted n) (sym is)
 
@@ -50,14 +51,10 @@ module _ (n : ℕ) (answer : Reply (List ℕ)) where
           ap (replied (Wrote (length bytes)))
           (stored-front before bytes after next s (omega (arith, leb-true (length bytes) n t))
           ∙ ap (λ (xs : List ℕ). bytes ++ drop (length bytes) xs) z
-          ∙ ap (λ (xs : List ℕ). bytes ++ xs) (drop-zeros (length bytes) n))
+          ∙ ap (λ (xs : List ℕ). bytes ++ xs) (zeros-drop (length bytes) n))
       by-test false t size = refl
 
 -- ---- the border after its checks
-pub passing : (t : Bool) (number detail : ℕ) (rest : Reply (Unit {0})) → given tt ≡ (demand t number detail >> rest) → (t ≡ true) × (given tt ≡ rest)
-passing true number detail rest e = (refl, e)
-passing false number detail rest e = absurd (let z : _≡_ {A = ℕ} 0 1 = cc in omega arith)
-
 module _ (version : ℕ) (lats lons : List ℤ) (earlier : List ℕ) (ps : List Piece) where
   abbrev border : Reply (List ℕ)
   border = borderOf version lats lons ps earlier
@@ -65,17 +62,17 @@ module _ (version : ℕ) (lats lons : List ℤ) (earlier : List ℕ) (ps : List 
   abbrev moves : List RawPoint
   moves = movesOf lats lons
 
-  pub faulty : (number detail : ℕ) → refused number detail ≡ checks version lats lons earlier → border ≡ refused number detail
+  pub faulty : {why : Refusal} → refused why ≡ checks version lats lons earlier → border ≡ refused why
   unfolding borderOf
-  faulty number detail e = ap (λ (r : Reply (Unit {0})). r >> (if eqb version 0 then plainBorder moves ps else packedBorder moves ps earlier)) (sym e)
+  faulty e = ap (λ (r : Reply (Unit {0})). r >> (if eqb version 0 then plainBorder moves ps else packedBorder moves ps earlier)) (sym e)
 
   module _ (good : given tt ≡ checks version lats lons earlier) where
     pub good-sizes : Sizes lats lons
     unfolding checks
     good-sizes =
-        let h₁ = passing (leb (length earlier) (2 ^ 30)) 1 0 _ good in
-        let h₂ = passing (ltb version 2) 5 version _ (h₁ .1) in
-        sizes lats lons (passing (sized lats lons) 19 0 _ (h₂ .1) .0)
+        let h₁ = demanded (leb (length earlier) (2 ^ 30)) (plain 1) good in
+        let h₂ = demanded (ltb version 2) (refusal 5 0 version) (h₁ .1) in
+        sizes lats lons (demanded (sized lats lons) (plain 19) (h₂ .1) .0)
 
     onward : border ≡ (if eqb version 0 then plainBorder moves ps else packedBorder moves ps earlier)
     unfolding borderOf
@@ -83,7 +80,7 @@ module _ (version : ℕ) (lats lons : List ℤ) (earlier : List ℕ) (ps : List 
 
     module _ (c : Check) (h : Checked earlier moves ps c) where
       module _ (v : version ≡ 0) where
-        pub plain-none : (c .seen ≡ 0 → ⊥) → border ≡ refused 23 0
+        pub plain-none : (c .seen ≡ 0 → ⊥) → border ≡ refused (plain 23)
         unfolding plainBorder
         plain-none some = onward ∙ rw (eq-eqb version 0 v, ne-eqb (length ps) 0 (λ z. some (omega (arith, h .seen))))
 
@@ -94,7 +91,7 @@ module _ (version : ℕ) (lats lons : List ℤ) (earlier : List ℕ) (ps : List 
             onward ∙ rw (eq-eqb version 0 v, eq-eqb (length ps) 0 (omega (arith, h .seen)), size)
 
       module _ (v : version ≡ 0 → ⊥) where
-        pub packed-many : 16 < c .seen → border ≡ refused 23 16
+        pub packed-many : 16 < c .seen → border ≡ refused (refusal 23 0 16)
         unfolding packedBorder
         packed-many many = onward ∙ rw (ne-eqb version 0 v, lt-leb (length ps) 16 (omega (arith, h .seen)))
 
@@ -105,7 +102,7 @@ module _ (version : ℕ) (lats lons : List ℤ) (earlier : List ℕ) (ps : List 
           all-seen : c .seen ≡ length ps
           all-seen = omega (arith, h .seen)
 
-          pub packed-bad : (c .good ≡ c .seen → ⊥) → border ≡ refused 23 (c .good)
+          pub packed-bad : (c .good ≡ c .seen → ⊥) → border ≡ refused (refusal 23 0 (c .good))
           unfolding packedBorder
           packed-bad bad =
               onward ∙ rw (ne-eqb version 0 v, le-leb (length ps) 16 short, sym (h .good short), ne-eqb (c .good) (length ps) (λ z. bad (z ∙ sym all-seen)))

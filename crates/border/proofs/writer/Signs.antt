@@ -11,7 +11,8 @@ use mir.Val.{SFits, toZ, ofZ}
 use mir.Facts.{toZ-ofZ}
 use borrow.Author.Tests.{ltb-true, ne-eqb}
 use Rattle.border.specs.Place.{isZero}
-use Rattle.border.specs.Moves.{signedForm}
+use Rattle.numbers.proofs.Spelling.{form-positive, form-negative}
+use Rattle.numbers.specs.Spelling.{signedForm}
 use Rattle.border.proofs.Signs.{differ}
 use Rattle.border.proofs.place.Whole.{widened}
 
@@ -96,12 +97,11 @@ module _ (from to : ℤ) (h : SFits w32 from) (k : SFits w32 to) where
       sign (negsuc n) e = tt
 
   pub away-form : ltZ read (pos 0) ≡ true → natAbs away * 2 + 1 ≡ signedForm gap
-  unfolding signedForm
   away-form e = rw away-read (form gap (rw gap-read at e))
     where
       form : (z : ℤ) → ltZ z (pos 0) ≡ true → natAbs (negℤ z) * 2 + 1 ≡ signedForm z
       form (pos n) e = absurd (omega (arith, ltb-true n 0 e))
-      form (negsuc n) e = omega arith
+      form (negsuc n) e = omega (arith, form-negative n)
 
   pub read-small : natAbs read < 2 ^ 33
   read-small = rw gap-read gap-size
@@ -114,26 +114,16 @@ module _ (from to : ℤ) (h : SFits w32 from) (k : SFits w32 to) where
       sign (negsuc n) e = differ (sym e)
 
   pub read-form : ltZ read (pos 0) ≡ false → natAbs read * 2 ≡ signedForm gap
-  unfolding signedForm
   read-form e = rw gap-read (form gap (rw gap-read at e))
     where
       form : (z : ℤ) → ltZ z (pos 0) ≡ false → natAbs z * 2 ≡ signedForm z
-      form (pos n) e = omega arith
+      form (pos n) e = omega (arith, form-positive n)
       form (negsuc n) e = differ (sym e)
 
--- ---- the signed form says the number
-pub form-one : (a b : ℤ) → signedForm a ≡ signedForm b → a ≡ b
-unfolding signedForm
-form-one (pos a) (pos b) e = ap pos (omega arith)
-form-one (pos a) (negsuc b) e = absurd (omega arith)
-form-one (negsuc a) (pos b) e = absurd (omega arith)
-form-one (negsuc a) (negsuc b) e = ap negsuc (omega arith)
-
 pub form-zero : (z : ℤ) → eqb (signedForm z) 0 ≡ isZero z
-unfolding signedForm
-form-zero (pos zero) = refl
-form-zero (pos (suc n)) = ne-eqb (2 * suc n) 0 (λ e. omega arith) ∙ sym (ne-eqb (suc n) 0 (λ e. omega arith))
-form-zero (negsuc n) = ne-eqb (2 * suc n + 1) 0 (λ e. omega arith)
+form-zero (pos zero) = rw (form-positive zero)
+form-zero (pos (suc n)) = ne-eqb (signedForm (pos (suc n))) 0 (λ e. omega (arith, form-positive (suc n))) ∙ sym (ne-eqb (suc n) 0 (λ e. omega arith))
+form-zero (negsuc n) = ne-eqb (signedForm (negsuc n)) 0 (λ e. omega (arith, form-negative n))
 
 -- a difference turned round
 pub turned : (a b : ℤ) → negℤ (a -ℤ b) ≡ b -ℤ a

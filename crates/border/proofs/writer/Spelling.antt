@@ -126,29 +126,29 @@ module _ (lats lons : List ℤ) (p : Piece) (lats-long : p .first + p .count ≤
         unread none = go a none ∙ ap (λ (x : Answer Numeral). readAnd x judged) answer ∙ sym spells-next
           where
             go : (a : Varint) → (caseOf a ≡ 1) ⊎ (caseOf a ≡ 2) → false ≡ readAnd (told a) judged
-            go (Number v q) (inl e) = absurd (omega arith)
-            go (Number v q) (inr e) = absurd (omega arith)
+            go (Number number) (inl e) = absurd (omega arith)
+            go (Number number) (inr e) = absurd (omega arith)
             go Failed h = refl
-            go Refused h = refl
+            go (Refused n) h = refl
 
-        module _ (value next : ℕ) (number : a ≡ Number value next) where
-          read : spells run place (drop j all) ≡ judged (record { value = value; place = next })
+        module _ (number : Numeral) (is-number : a ≡ Number number) where
+          read : spells run place (drop j all) ≡ judged number
           unfolding readAnd
-          read = spells-next ∙ ap (λ (x : Answer Numeral). readAnd x judged) (sym answer ∙ ap told number)
+          read = spells-next ∙ ap (λ (x : Answer Numeral). readAnd x judged) (sym answer ∙ ap told is-number)
 
-          pub cut-off : length run < next → false ≡ spells run place (drop j all)
-          cut-off l = sym (read ∙ rw (lt-leb next (length run) l))
+          pub cut-off : length run < number .place → false ≡ spells run place (drop j all)
+          cut-off l = sym (read ∙ rw (lt-leb (number .place) (length run) l))
 
-          pub of-zero : next ≤ length run → value ≡ 0 → false ≡ spells run place (drop j all)
-          of-zero l z = sym (read ∙ rw (le-leb next (length run) l, eq-eqb value 0 z))
+          pub of-zero : number .place ≤ length run → number .value ≡ 0 → false ≡ spells run place (drop j all)
+          of-zero l z = sym (read ∙ rw (le-leb (number .place) (length run) l, eq-eqb (number .value) 0 z))
 
           -- what was read, held against the move at an index
-          module _ (l : next ≤ length run) (some : value ≡ 0 → ⊥) {at : ℕ} (is : at ≡ i) {same : Bool} (held : same ≡ sameMove (pointOf value) (turnedAt (eqb (p .direction) 0) (moveAt lats lons at))) where
-            holds : same ≡ sameMove (pointOf value) here
-            holds = held ∙ ap (λ (k : ℕ). sameMove (pointOf value) (turnedAt (eqb (p .direction) 0) (moveAt lats lons k))) is
+          module _ (l : number .place ≤ length run) (some : number .value ≡ 0 → ⊥) {at : ℕ} (is : at ≡ i) {same : Bool} (held : same ≡ sameMove (pointOf (number .value)) (turnedAt (eqb (p .direction) 0) (moveAt lats lons at))) where
+            holds : same ≡ sameMove (pointOf (number .value)) here
+            holds = held ∙ ap (λ (k : ℕ). sameMove (pointOf (number .value)) (turnedAt (eqb (p .direction) 0) (moveAt lats lons k))) is
 
             pub of-other : same ≡ false → false ≡ spells run place (drop j all)
-            of-other e = sym (read ∙ rw (le-leb next (length run) l, ne-eqb value 0 some, sym holds, e))
+            of-other e = sym (read ∙ rw (le-leb (number .place) (length run) l, ne-eqb (number .value) 0 some, sym holds, e))
 
-            pub of-same : same ≡ true → spells run next (drop (j + 1) all) ≡ spells run place (drop j all)
-            of-same e = sym (read ∙ rw (le-leb next (length run) l, ne-eqb value 0 some, sym holds, e))
+            pub of-same : same ≡ true → spells run (number .place) (drop (j + 1) all) ≡ spells run place (drop j all)
+            of-same e = sym (read ∙ rw (le-leb (number .place) (length run) l, ne-eqb (number .value) 0 some, sym holds, e))

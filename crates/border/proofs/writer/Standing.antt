@@ -14,24 +14,30 @@ use Rattle.numbers.specs.Answer.{Answer, found, failed, refused, if_then_else_,
 use Rattle.numbers.specs.Point.{signedOf, pointOf}
 use Rattle.numbers.specs.Varint.{Numeral, forwardAt, isLast}
 use Rattle.numbers.specs.declared.point.{RawPoint.RawPoint}
-use Rattle.border.specs.Place.{pointAt, moveBy, isStill, checked, movedBy, negated}
-use Rattle.border.specs.Moves.{varintOf, signedForm, plainMoveBytes, packedMoveBytes, packedNumber, moveTo, movesFrom, pointsOf, movesOf, isMove, turnedBack, sameMove}
+use Rattle.numbers.specs.Answer.{checked}
+use Rattle.border.specs.Place.{pointAt, moveBy, isStill, movedBy, negated}
+use Rattle.numbers.specs.Spelling.{varintOf, signedForm}
+use Rattle.border.specs.Moves.{plainMoveBytes, packedMoveBytes, packedNumber, moveTo, movesFrom, pointsOf, movesOf, isMove, turnedBack, sameMove}
 use Rattle.border.specs.Pieces.{lentBy, lentMoves, readAnd, spells, clearBefore, accepted, goodPieces, pieceBytes, packedFrom}
-use Rattle.border.specs.Writer as R
-use Rattle.border.specs.Writer.{Reply, given, demand, _>>_, every, near, sized, checks, plainBorder, packedBorder, borderOf, encodingOf}
+use Rattle.numbers.specs.Reply as R
+use Rattle.border.specs.Encoding.{versionOf}
+use Rattle.numbers.specs.Reply.{Reply, given, refusal, plain, demand, _>>_}
+use Rattle.border.specs.Writer.{every, near, sized, checks, plainBorder, packedBorder, borderOf}
 use Rattle.border.specs.Written as W
 use Rattle.border.specs.Written.{Splits, Turned, Borrowed, Version1, Pairs, Version0, Leads, Border}
 use Rattle.border.specs.declared.place.{Point.Point}
 use Rattle.border.specs.declared.reader.Version.the-variants.{Plain, Packed}
 use Rattle.border.specs.declared.writer.{Piece.Piece}
 use Rattle.numbers.proofs.Wholes.{read-whole}
-use Rattle.border.proofs.OnWay.{one-byte}
+use Rattle.numbers.proofs.Spelling.{one-byte}
 use Rattle.border.proofs.writer.Faults.{sizes}
 use Rattle.border.proofs.writer.Indexed.{points-length, moves-length}
-use Rattle.border.proofs.writer.Inverse.{varint-whole, signed-small, even-back, odd-back, Moves, pair-back, packed-back, packed-some, packed-small}
-use Rattle.border.proofs.writer.Replying.{passing}
+use Rattle.numbers.proofs.Spelling.{varint-whole, signed-small, even-back, odd-back}
+use Rattle.border.proofs.writer.Inverse.{Moves, pair-back, packed-back, packed-some, packed-small}
+use Rattle.numbers.proofs.Replies.{demanded}
 use Rattle.border.proofs.Signs.{differ, both}
-use Rattle.border.proofs.writer.Signs.{size-sum, size-neg, mag-size, form-one}
+use Rattle.numbers.proofs.Spelling.{form-one}
+use Rattle.border.proofs.writer.Signs.{size-sum, size-neg, mag-size}
 
 -- ---- from a point to the next
 not-true : (t : Bool) → not t ≡ true → t ≡ false
@@ -132,8 +138,8 @@ pairs (some {m = m} {ms = ms} h g) =
     (W.some (varint-whole lat (omega (arith, signed-small (m .lat) (h .lat-small)))) (varint-whole lon (omega (arith, signed-small (m .lon) (h .lon-small)))) (ap isStill back ∙ h .moves) (pairs g)))
 
 guard : Pairs (2 ∷ 2 ∷ []) (moveBy (signedOf 2) (signedOf 2) ∷ [])
-unfolding isStill signedOf
-guard = W.some (one-byte 2 (lit< tt)) (one-byte 2 (lit< tt)) refl W.none
+unfolding isStill
+guard = W.some (one-byte 2 (lit< tt)) (one-byte 2 (lit< tt)) (rw (even-back 1 (lit< tt))) W.none
 
 -- ---- a run that spells moves
 same-move : (a b : RawPoint) → sameMove a b ≡ true → a ≡ b
@@ -312,11 +318,7 @@ module _ (earlier : List ℕ) (room : length earlier ≤ 2 ^ 30) where
 -- ---- the border
 then-given : {A : Type 0} {rest : Reply A} {a : A} (r : Reply (Unit {0})) → (r >> rest) ≡ given a → (given tt ≡ r) × (rest ≡ given a)
 then-given (given u) e = (refl, e)
-then-given (R.refused number detail) e = absurd (let z : _≡_ {A = ℕ} 0 1 = cc in omega arith)
-
-demanded : {rest : Reply (List ℕ)} {bytes : List ℕ} (t : Bool) (number detail : ℕ) → (demand t number detail >> rest) ≡ given bytes → (t ≡ true) × (rest ≡ given bytes)
-demanded true number detail e = (refl, e)
-demanded false number detail e = absurd (let z : _≡_ {A = ℕ} 0 1 = cc in omega arith)
+then-given (R.refused why) e = absurd (let z : _≡_ {A = ℕ} 0 1 = cc in omega arith)
 
 given-one : {a b : List ℕ} → given a ≡ given b → a ≡ b
 given-one e = cc
@@ -333,11 +335,11 @@ module _ (version : ℕ) (lats lons : List ℤ) (pieces : List Piece) (earlier b
   passes e =
       let origin = pointAt (pos 0) (pos 0) in
       let ms = movesFrom origin (pointsOf lats lons) in
-      let h₁ = passing (leb (length earlier) (2 ^ 30)) 1 0 _ e in
-      let h₂ = passing (ltb version 2) 5 version _ (h₁ .1) in
-      let h₃ = passing (sized lats lons) 19 0 _ (h₂ .1) in
-      let h₄ = passing (every near lats && every near lons) 20 0 _ (h₃ .1) in
-      let h₅ = passing (every isMove (drop 1 ms)) 21 0 _ (h₄ .1) in
+      let h₁ = demanded (leb (length earlier) (2 ^ 30)) (plain 1) e in
+      let h₂ = demanded (ltb version 2) (refusal 5 0 version) (h₁ .1) in
+      let h₃ = demanded (sized lats lons) (plain 19) (h₂ .1) in
+      let h₄ = demanded (every near lats && every near lons) (plain 20) (h₃ .1) in
+      let h₅ = demanded (every isMove (drop 1 ms)) (plain 21) (h₄ .1) in
       let h₆ = last (every isMove (take 1 ms)) (h₅ .1) in
       let near-all = both (every near lats) (every near lons) (h₄ .0) in
       let size = sizes lats lons (h₃ .0) in
@@ -348,27 +350,27 @@ module _ (version : ℕ) (lats lons : List ℤ) (pieces : List Piece) (earlier b
         walked = walks lats lons origin (record { lat-near = lit< tt; lon-near = lit< tt }) (near-all .0) (near-all .1) (all-move ms (h₅ .0) h₆);
       }
     where
-      last : (t : Bool) → given tt ≡ demand t 22 0 → t ≡ true
+      last : (t : Bool) → given tt ≡ demand t (plain 22) → t ≡ true
       last true e = refl
       last false e = absurd (let z : _≡_ {A = ℕ} 0 1 = cc in omega arith)
 
   encoded : (t : Bool) → Passes → (if t then plainBorder (movesOf lats lons) pieces else packedBorder (movesOf lats lons) pieces earlier) ≡ given bytes → W.Encodes (if t then Plain else Packed) earlier bytes (movesOf lats lons)
   unfolding plainBorder packedBorder movesOf
   encoded true h e =
-      let d = demanded (eqb (length pieces) 0) 23 0 e in
-      subst (λ (bs : List ℕ). Version0 bs (movesOf lats lons)) (given-one (d .1)) (W.counted (varint-whole (length (movesOf lats lons)) (omega (arith, h .few))) (pairs (h .walked .going)) guard)
+      let d = demanded (eqb (length pieces) 0) (plain 23) (sym e) in
+      subst (λ (bs : List ℕ). Version0 bs (movesOf lats lons)) (given-one (sym (d .1))) (W.counted (varint-whole (length (movesOf lats lons)) (omega (arith, h .few))) (pairs (h .walked .going)) guard)
   encoded false h e =
       let good = goodPieces earlier (movesOf lats lons) 0 pieces in
-      let d = demanded (leb (length pieces) 16) 23 16 e in
-      let d′ = demanded (eqb good (length pieces)) 23 good (d .1) in
-      subst (λ (bs : List ℕ). Version1 earlier bs (movesOf lats lons)) (given-one (d′ .1)) (packed earlier (h .room) (movesOf lats lons) (h .walked .going) pieces 0 (eqb-true good (length pieces) (d′ .0)))
+      let d = demanded (leb (length pieces) 16) (refusal 23 0 16) (sym e) in
+      let d′ = demanded (eqb good (length pieces)) (refusal 23 0 good) (d .1) in
+      subst (λ (bs : List ℕ). Version1 earlier bs (movesOf lats lons)) (given-one (sym (d′ .1))) (packed earlier (h .room) (movesOf lats lons) (h .walked .going) pieces 0 (eqb-true good (length pieces) (d′ .0)))
 
   leads : Passes → Leads (pointAt (pos 0) (pos 0)) (movesOf lats lons) (pointsOf lats lons)
   unfolding movesOf
   leads h = h .walked .leads
 
   -- Whatever the writer accepts, in version 0, version 1, and version 1 with pieces: the bytes that it writes are a border of the points, behind the same earlier data.
-  pub written-border : borderOf version lats lons pieces earlier ≡ given bytes → Border (encodingOf version) earlier bytes (pointsOf lats lons)
+  pub written-border : borderOf version lats lons pieces earlier ≡ given bytes → Border (versionOf version) earlier bytes (pointsOf lats lons)
   unfolding borderOf
   written-border e =
       let h = then-given (checks version lats lons earlier) e in

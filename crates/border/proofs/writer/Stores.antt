@@ -10,9 +10,10 @@ use mathlib.Core.List.{List, [], _∷_, _++_, append-nil}
 use lib.ListN.{length, set, drop, length-append, length-replicate}
 use lib.Seq.{sets, length-sets, set-out, sets-eq, drop-length}
 use borrow.Author.Tests.{lt-ltb, le-ltb}
-use Rattle.border.specs.Moves.{digitsOf, varintOf}
+use Rattle.numbers.proofs.Spelling.{varint-byte}
+use Rattle.numbers.specs.Spelling.{varintOf, Put}
 use Rattle.border.specs.Stored.{Stored}
-use Rattle.border.specs.Writer.{zeros}
+use Rattle.numbers.specs.Lists.{zeros}
 
 sets-append : (xs ys before : List ℕ) (at : ℕ) → sets before at (xs ++ ys) ≡ sets (sets before at xs) (at + length xs) ys
 sets-append [] ys before at = ap (λ (n : ℕ). sets before n ys) (sym (add-zero at))
@@ -21,12 +22,13 @@ sets-append (x ∷ xs) ys before at = sets-append xs ys (set before at x) (suc a
 pub stored-length : {before bytes after : List ℕ} {at next : ℕ} → Stored before at bytes after next → length after ≡ length before
 stored-length {before} {bytes} {after} {at} s = ap length (s .stored) ∙ length-sets before at bytes
 
--- of a byte, in the buffer or past its end
+-- of a byte
 pub stored-one : (before : List ℕ) (at byte : ℕ) → Stored before at (byte ∷ []) (set before at byte) (at + 1)
 stored-one before at byte = record { place-after = refl; stored = refl }
 
-pub stored-past : (before : List ℕ) (at byte : ℕ) → length before ≤ at → Stored before at (byte ∷ []) before (at + 1)
-stored-past before at byte h = record { place-after = refl; stored = sym (set-out before at byte h) }
+-- of a number that was written
+pub stored-put : {before bytes after : List ℕ} {at size : ℕ} → Put before at bytes after size → Stored before at bytes after (at + size)
+stored-put {at = at} p = record { place-after = ap (λ (n : ℕ). at + n) (p .counted); stored = p .stored }
 
 -- `rest` is what is left to store of `all`
 pub record Left (before : List ℕ) (from : ℕ) (all now : List ℕ) (at : ℕ) (rest : List ℕ) : Type 0 where
@@ -51,31 +53,6 @@ module _ {before all : List ℕ} {from : ℕ} where
 
   pub left-last : {now after : List ℕ} {at next : ℕ} (bytes : List ℕ) → Left before from all now at bytes → Stored now at bytes after next → Stored before from all after next
   left-last {now} {after} {at} {next} bytes l s = record { place-after = omega (arith, s .place-after, l .places); stored = s .stored ∙ l .same }
-
--- ---- the bytes of a varint
-
-pub digits-last : (k n : ℕ) → n < 128 → digitsOf k n ≡ n ∷ []
-unfolding digitsOf
-digits-last zero n h = refl
-digits-last (suc k) n h = rw (lt-ltb n 128 h)
-
-pub digits-next : (k n : ℕ) → 0 < k → 128 ≤ n → digitsOf k n ≡ (128 + n % 128) ∷ digitsOf (k - 1) (n / 128)
-unfolding digitsOf
-digits-next zero n some h = absurd (omega arith)
-digits-next (suc k) n some h = let e : suc k - 1 ≡ k = omega arith in rw (le-ltb n 128 h, e)
-
-pub few : (t : Bool) (a b : List ℕ) (k : ℕ) → length a ≤ k → length b ≤ k → length (if t then a else b) ≤ k
-few true a b k h g = h
-few false a b k h g = g
-
-digits-few : (k n : ℕ) → length (digitsOf k n) ≤ k + 1
-unfolding digitsOf
-digits-few zero n = omega arith
-digits-few (suc k) n = few (ltb n 128) (n ∷ []) ((128 + n % 128) ∷ digitsOf k (n / 128)) (suc k + 1) (omega arith) (omega (arith, digits-few k (n / 128)))
-
-pub varint-few : (n : ℕ) → length (varintOf n) ≤ 10
-unfolding varintOf
-varint-few n = digits-few 9 n
 
 -- one after another
 pub stored-then : {before middle after : List ℕ} {at next end : ℕ} (xs ys : List ℕ) → Stored before at xs middle next → Stored middle next ys after end → Stored before at (xs ++ ys) after end
@@ -108,8 +85,7 @@ stored-zeros before after next s =
 
 -- ---- the marks of a piece
 marks : varintOf 0 ++ varintOf 1 ≡ 0 ∷ 1 ∷ []
-unfolding varintOf digitsOf
-marks = refl
+marks = rw (varint-byte 0 (omega arith), varint-byte 1 (omega arith))
 
 pub marked : {before after : List ℕ} {at next : ℕ} → Stored before at (varintOf 0 ++ varintOf 1) after next → Stored before at (0 ∷ 1 ∷ []) after next
 marked {before} {after} {at} {next} s = subst (λ (bs : List ℕ). Stored before at bs after next) marks s

@@ -1,43 +1,22 @@
 // Bytes into a lent buffer. A byte that does not fit is counted and left out: the place is held against the buffer's length once, at the end.
 ghost use mathlib.Core.Path.{_≡_};
-ghost use mathlib.Core.List.{[], _∷_, _++_};
+ghost use mathlib.Core.List.{_++_};
 ghost use Prim.Native.Nat.{_+_, _^_, _<_};
 ghost use lib.ListN.{length};
-ghost use Rattle.border.specs.Moves.{varintOf};
 ghost use Rattle.border.specs.Stored.{Stored};
-ghost use Rattle.border.specs.Writer.{zeros};
+ghost use Rattle.numbers.specs.Lists.{zeros};
+ghost use Rattle.numbers.specs.Spelling.{varintOf};
+use numbers::write::write_varint;
 
-fn put(out: &mut [u8], place: usize, byte: u8) -> usize
-    requires { ⌜ place < 2 ^ 62 ⌝ }
-    ensures { λ r. ⌜ Stored (now (out .entry)) place (byte ∷ []) (now (out .exit)) r ⌝ }
-{
-    if place < out.len() {
-        out[place] = byte;
-        return place + 1;
-    }
-    place + 1
-}
-
-// The shortest varint.
-pub fn put_varint(out: &mut [u8], place: usize, value: u64) -> usize
+// The shortest varint, and the place behind it.
+pub(crate) fn put_varint(out: &mut [u8], place: usize, value: u64) -> usize
     requires { ⌜ place < 2 ^ 61 ⌝ }
     ensures { λ r. ⌜ Stored (now (out .entry)) place (varintOf value) (now (out .exit)) r ⌝ }
 {
-    let mut next = place;
-    let mut rest = value;
-    let mut left: u64 = 9;
-    while 0 < left {
-        if rest < 128 {
-            return put(out, next, rest as u8);
-        }
-        next = put(out, next, (128 + rest % 128) as u8);
-        rest /= 128;
-        left -= 1;
-    }
-    put(out, next, rest as u8)
+    place + write_varint(out, place, value)
 }
 
-pub fn put_two(out: &mut [u8], place: usize, first: u64, second: u64) -> usize
+pub(crate) fn put_two(out: &mut [u8], place: usize, first: u64, second: u64) -> usize
     requires { ⌜ place < 2 ^ 60 + 20 ⌝ }
     ensures { λ r. ⌜ Stored (now (out .entry)) place (varintOf first ++ varintOf second) (now (out .exit)) r ⌝ }
 {
@@ -45,7 +24,7 @@ pub fn put_two(out: &mut [u8], place: usize, first: u64, second: u64) -> usize
     put_varint(out, next, second)
 }
 
-pub fn zero_bytes(out: &mut [u8])
+pub(crate) fn zero_bytes(out: &mut [u8])
     ensures { λ _. ⌜ now (out .exit) ≡ zeros (length (now (out .entry))) ⌝ }
 {
     let mut i = 0;

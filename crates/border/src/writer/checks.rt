@@ -6,6 +6,12 @@ ghost use Rattle.border.specs.Moves.{movesOf, isMove};
 ghost use Rattle.border.specs.Writer.{every, near, sized, checks, passed};
 use crate::writer::Written;
 use crate::writer::moves::moves_at;
+use numbers::refusal::AT_ORIGIN;
+use numbers::refusal::BAD_LISTS;
+use numbers::refusal::BAD_VERSION;
+use numbers::refusal::REPEATED;
+use numbers::refusal::TOO_FAR;
+use numbers::refusal::TOO_LARGE;
 
 fn is_near(z: i32) -> bool
     ensures { λ r. ⌜ r ≡ near z ⌝ }
@@ -56,39 +62,36 @@ fn is_sized(lats: &[i32], lons: &[i32]) -> bool
     lats.len() <= 65535
 }
 
-fn refused(number: u8) -> Written
-    ensures { λ r. ⌜ r ≡ Written.Refused number 0 ⌝ }
+pub(crate) fn refused(number: u8, detail: u64) -> Written
+    ensures { λ r. ⌜ r ≡ Written.Refused number detail ⌝ }
 {
-    Written::Refused { number, detail: 0 }
+    Written::Refused { number, detail }
 }
 
 // The first refusal; where all checks hold, nothing is written yet.
-pub fn border_fault(version: u8, lats: &[i32], lons: &[i32], earlier: &[u8]) -> Written
+pub(crate) fn border_fault(version: u8, lats: &[i32], lons: &[i32], earlier: &[u8]) -> Written
     ensures { λ r. ⌜ passed r ≡ checks version (now (lats .entry)) (now (lons .entry)) (now (earlier .entry)) ⌝ }
 {
     if 1073741824 < earlier.len() {
-        return refused(1);
+        return refused(TOO_LARGE, 0);
     }
     if 2 <= version {
-        return Written::Refused {
-            number: 5,
-            detail: version as u64,
-        };
+        return refused(BAD_VERSION, version as u64);
     }
     if !is_sized(lats, lons) {
-        return refused(19);
+        return refused(BAD_LISTS, 0);
     }
     if !all_near(lats) {
-        return refused(20);
+        return refused(TOO_FAR, 0);
     }
     if !all_near(lons) {
-        return refused(20);
+        return refused(TOO_FAR, 0);
     }
     if !none_repeated(lats, lons) {
-        return refused(21);
+        return refused(REPEATED, 0);
     }
     if !moves_at(lats, lons, 0) {
-        return refused(22);
+        return refused(AT_ORIGIN, 0);
     }
     Written::Wrote(0)
 }

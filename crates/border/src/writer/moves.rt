@@ -9,11 +9,13 @@ ghost use lib.Dec.{eqb};
 ghost use lib.Seq.{slice};
 ghost use Rattle.numbers.specs.Answer.{if_then_else_};
 ghost use Rattle.numbers.specs.Point.{pointOf};
-ghost use Rattle.border.specs.Moves.{signedForm, interleaved, packedNumber, plainMoveBytes, packedMoveBytes, movesOf, isMove, turnedBack, sameMove};
+ghost use Rattle.numbers.specs.Spelling.{signedForm};
+ghost use Rattle.border.specs.Moves.{packedNumber, plainMoveBytes, packedMoveBytes, movesOf, isMove, turnedBack, sameMove};
 ghost use Rattle.border.specs.Stored.{Stored, gapAt, moveAt};
 use crate::writer::bytes::put_two;
 use crate::writer::bytes::put_varint;
 use numbers::point::decode_point;
+use numbers::write::interleave;
 
 // The coordinate before the ith one; before the first it is 0.
 fn before(list: &[i32], i: usize) -> i32
@@ -57,7 +59,7 @@ fn turned_form(list: &[i32], i: usize, direction: u32) -> u64
 }
 
 // Whether the border's ith point differs from the one before it.
-pub fn moves_at(lats: &[i32], lons: &[i32], i: usize) -> bool
+pub(crate) fn moves_at(lats: &[i32], lons: &[i32], i: usize) -> bool
     requires { ⌜ (i < length (now lats)) × (i < length (now lons)) ⌝ }
     ensures { λ r. ⌜ r ≡ isMove (moveAt (now (lats .entry)) (now (lons .entry)) i) ⌝ }
 {
@@ -68,7 +70,7 @@ pub fn moves_at(lats: &[i32], lons: &[i32], i: usize) -> bool
 }
 
 // Whether a number is the border's ith move, negated when the direction is backward.
-pub fn is_lent(value: u64, lats: &[i32], lons: &[i32], i: usize, direction: u32) -> bool
+pub(crate) fn is_lent(value: u64, lats: &[i32], lons: &[i32], i: usize, direction: u32) -> bool
     requires { ⌜ (i < length (now lats)) × (i < length (now lons)) ⌝ }
     ensures { λ r. ⌜ r ≡ sameMove (pointOf value) (if eqb direction 0 then moveAt (now (lats .entry)) (now (lons .entry)) i else turnedBack (moveAt (now (lats .entry)) (now (lons .entry)) i)) ⌝ }
 {
@@ -77,21 +79,6 @@ pub fn is_lent(value: u64, lats: &[i32], lons: &[i32], i: usize, direction: u32)
         return false;
     }
     form_of(0, by.lon) == turned_form(lons, i, direction)
-}
-
-// The bits of a at the even places, of b at the odd ones, the highest first.
-fn interleave(a: u64, b: u64) -> u64
-    ensures { λ r. ⌜ r ≡ interleaved 32 a b ⌝ }
-{
-    let mut out: u64 = 0;
-    let mut weight: u64 = 0x1_0000_0000;
-    let mut i: u64 = 32;
-    while 0 < i {
-        weight /= 2;
-        i -= 1;
-        out = a / weight % 2 + b / weight % 2 * 2 + out * 4;
-    }
-    out
 }
 
 // The number of the move to the border's ith point.
@@ -103,7 +90,7 @@ fn move_number(lats: &[i32], lons: &[i32], i: usize) -> u64
 }
 
 // The version 1 moves to the points from index `from` up to `to`.
-pub fn put_packed(
+pub(crate) fn put_packed(
     out: &mut [u8],
     place: usize,
     lats: &[i32],
@@ -124,7 +111,7 @@ pub fn put_packed(
 }
 
 // The version 0 moves to the points from index `from` up to `to`.
-pub fn put_plain(
+pub(crate) fn put_plain(
     out: &mut [u8],
     place: usize,
     lats: &[i32],

@@ -43,19 +43,20 @@ fn run_spells(run: &[u8], lats: &[i32], lons: &[i32], piece: Piece) -> bool
     let mut place = 0;
     let mut j = 0;
     while j < piece.count {
-        let Varint::Number { value, place: next } = read_forward(run, place) else {
+        let Varint::Number(number) = read_forward(run, place) else {
             return false;
         };
-        if run.len() < next {
+        if run.len() < number.place {
             return false;
         }
-        if value == 0 {
+        if number.value == 0 {
             return false;
         }
-        if !is_lent(value, lats, lons, index_of(piece, j), piece.direction) {
+        let index = index_of(piece, j);
+        if !is_lent(number.value, lats, lons, index, piece.direction) {
             return false;
         }
-        place = next;
+        place = number.place;
         j += 1;
     }
     place == run.len()
@@ -128,7 +129,7 @@ fn check_next(earlier: &[u8], lats: &[i32], lons: &[i32], check: Check, piece: P
 }
 
 // Before the first piece.
-pub fn no_pieces() -> Check
+pub(crate) fn no_pieces() -> Check
     ensures { λ r. ⌜ ((earlier : List ℕ) (lats lons : List ℤ) → Checked earlier (movesOf lats lons) [] r) ⌝ }
 {
     Check {
@@ -146,7 +147,7 @@ pub fn no_pieces() -> Check
 }
 
 // A lent list of records: each in turn goes to the by-value check.
-pub fn check_pieces(
+pub(crate) fn check_pieces(
     earlier: &[u8],
     lats: &[i32],
     lons: &[i32],
@@ -179,7 +180,13 @@ fn piece_at(words: &[u32], i: usize) -> Piece
 }
 
 // The same of pieces as words, five each.
-pub fn check_words(earlier: &[u8], lats: &[i32], lons: &[i32], words: &[u32], check: Check) -> Check
+pub(crate) fn check_words(
+    earlier: &[u8],
+    lats: &[i32],
+    lons: &[i32],
+    words: &[u32],
+    check: Check,
+) -> Check
     ensures { λ r. ⌜ (Checked (now (earlier .entry)) (movesOf (now (lats .entry)) (now (lons .entry))) [] check → Checked (now (earlier .entry)) (movesOf (now (lats .entry)) (now (lons .entry))) (piecesOf (now (words .entry))) r) ⌝ }
 {
     let count = words.len() / 5;
@@ -193,7 +200,7 @@ pub fn check_words(earlier: &[u8], lats: &[i32], lons: &[i32], words: &[u32], ch
 }
 
 // 00 01, run start, signed length; backward, run end and the length negated.
-pub fn put_piece(out: &mut [u8], place: usize, piece: Piece) -> usize
+pub(crate) fn put_piece(out: &mut [u8], place: usize, piece: Piece) -> usize
     requires { ⌜ place < 2 ^ 60 ⌝ }
     ensures { λ r. ⌜ Stored (now (out .entry)) place (pieceBytes piece) (now (out .exit)) r ⌝ }
 {

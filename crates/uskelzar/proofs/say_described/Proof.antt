@@ -1,6 +1,6 @@
 use mathlib.Core.List.{_∷_}
 use mathlib.Core.Path.{_≡_, ap, sym, _∙_}
-use Rattle.zones.specs.Lists.{padded}
+use Rattle.numbers.specs.Lists.{padded}
 use Rattle.zones.specs.Simple.{toldSimple}
 use Rattle.zones.specs.declared.simple.Described.{Described}
 use Rattle.zones.specs.declared.simple.Description.{Description}

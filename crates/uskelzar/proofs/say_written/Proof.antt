@@ -1,16 +1,16 @@
 use mathlib.Core.Path.{ap, sym, _∙_}
 use Rattle.border.specs.Writer.{told}
 use Rattle.border.specs.declared.writer.Written.{Written}
-use Rattle.zones.specs.Reply.{refused}
+use Rattle.numbers.specs.Reply.{refused}
 use Rattle.uskelzar.proofs.Saying.{said-given, said-refused}
-use Rattle.uskelzar.specs.Spoken.{lengthValue, causeless}
+use Rattle.uskelzar.specs.Spoken.{lengthValue}
 use borrow.Author.Needs.{needs}
 use Rattle.uskelzar.proofs.say_written.Statement.{statement}
 use Rattle.uskelzar.proofs.say_written.Tie as tie
 use Rattle.uskelzar.proofs.say_written.Reads as reads
 use Rattle.uskelzar.proofs.say_written.Lts as lts
 use Rattle.uskelzar.proofs.say_refused.Reads as say-refused-reads
-use Rattle.zones.proofs.refusal.refuse.Reads as refuse-reads
+use Rattle.numbers.proofs.refusal.refuse.Reads as refuse-reads
 
 enum-known-written : tie.Need-enum-known-written
 enum-known-written c = search needs
@@ -25,10 +25,10 @@ say-refused-requires : tie.Need-say-refused-requires
 say-refused-requires c κs = search needs
 
 returns : tie.Need-returns
-returns c = said-given lengthValue (ap (λ (w : Written). causeless (told w)) (c .before .written .given .1))
+returns c = said-given lengthValue (ap (λ (w : Written). told w) (c .before .written .given .1))
 
 returns-2 : tie.Need-returns-2
-returns-2 c = said-refused lengthValue (c .say-refused .ensures) (ap (λ (w : Written). causeless (told w)) (c .before .before .before .written2 .given .1) ∙ ap refused (sym (c .before .refuse .ensures)))
+returns-2 c = said-refused lengthValue (c .say-refused .ensures) (ap (λ (w : Written). told w) (c .before .before .before .written2 .given .1) ∙ ap refused (sym (c .before .refuse .ensures)))
 
 pub say-written-spec : {M : Type 1} → statement M
 say-written-spec =

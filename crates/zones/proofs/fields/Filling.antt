@@ -10,8 +10,8 @@ use borrow.Author.Tests.{leb-true}
 use lib.Dec.{leb}
 use lib.ListN.{length, getD, take, drop, length-append, drop-of-length-le}
 use lib.Seq.{drop-cons, length-take-le}
-use Rattle.zones.specs.Lists.{zeros, padded}
-use Rattle.zones.specs.Reply.{Reply, given, refused, plain, demand, _>>=_, _>>_}
+use Rattle.numbers.specs.Lists.{zeros, padded}
+use Rattle.numbers.specs.Reply.{Reply, given, refused, plain, demand, _>>=_, _>>_}
 use Rattle.zones.specs.Text.{bytesOf, textAt}
 use Rattle.zones.specs.Field.{Field, field, fieldAt, toldField, sentOf, textAfter}
 use Rattle.zones.specs.Hits.{noHit}
@@ -19,13 +19,13 @@ use Rattle.zones.specs.Lent.{Agrees}
 use Rattle.zones.specs.Fields.{fieldsPlace, fieldsFrom, fieldsOf, toldFields, Wrote}
 use Rattle.zones.specs.declared.header.Head.{Head}
 use Rattle.zones.specs.declared.hits.Hit.{Hit}
-use Rattle.zones.specs.declared.refusal.Refusal.{Refusal}
+use Rattle.numbers.specs.declared.refusal.Refusal.{Refusal}
 use Rattle.zones.specs.declared.field.Sent.{Sent}
 use Rattle.zones.specs.declared.field.Written.{Written}
 use Rattle.zones.specs.declared.field.Written.the-variants as W
 use Rattle.zones.specs.declared.fields.Fields.{Fields}
 use Rattle.zones.specs.declared.fields.Fields.the-variants as F
-use Rattle.zones.proofs.Laws.{given-from, carried, onward}
+use Rattle.numbers.proofs.Replies.{given-from, carried, onward}
 use Rattle.zones.proofs.Agreeing.{agree-given, agree-refused, gave, refused-so}
 use Rattle.zones.proofs.Buffers.{over-length, tail-back}
 use Rattle.zones.proofs.Holding.{Held, held-length, held-front, remains-length, written, held-all}

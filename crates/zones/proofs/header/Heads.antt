@@ -2,13 +2,13 @@
 use mathlib.Core.Path.{_≡_, ap, _∙_}
 use mathlib.Core.List.{List}
 use Prim.Native.Nat.{ℕ}
-use Rattle.zones.specs.Reply.{Reply, given, refused, _>>=_}
+use Rattle.numbers.specs.Reply.{Reply, given, refused, _>>=_}
 use Rattle.zones.specs.Header.{textsOf, placeAfter, preambleOf, sectionsAt, Contents, contentsOf, headOf}
 use Rattle.zones.specs.declared.header.Preamble.{Preamble}
 use Rattle.zones.specs.declared.header.Sections.{Sections}
 use Rattle.zones.specs.declared.header.Head.{Head}
-use Rattle.zones.specs.declared.refusal.Refusal.{Refusal}
-use Rattle.zones.proofs.Laws.{From, carried, onward, given-from, refused-from}
+use Rattle.numbers.specs.declared.refusal.Refusal.{Refusal}
+use Rattle.numbers.proofs.Replies.{From, carried, onward, given-from, refused-from}
 
 module _ (file : List ℕ) where
   -- the head alone

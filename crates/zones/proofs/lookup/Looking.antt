@@ -4,42 +4,43 @@ use mathlib.Core.Bool.{Bool}
 use mathlib.Core.List.{List, []}
 use Prim.Native.Nat.{ℕ, _/_}
 use lib.ListN.{take}
-use Rattle.zones.specs.Reply.{Reply, given, refused}
+use Rattle.numbers.specs.Reply.{Reply, given, refused}
 use Rattle.zones.specs.Hits.{width, slots}
-use Rattle.zones.specs.Find.{Matched, matchedIn, Matching}
+use Rattle.zones.specs.Find.{Matched, matchedWith, Matching}
 use Rattle.zones.specs.Fields.{fieldsOf, Wrote}
 use Rattle.zones.specs.Lent.{Agrees, replied, repliedOf, Filled}
-use Rattle.zones.specs.Lookup.{safezoneBits, zonesIn}
-use Rattle.zones.specs.declared.refusal.Refusal.{Refusal}
+use Rattle.zones.specs.Lookup.{safezoneBits, zonesWith}
+use Rattle.zones.specs.declared.header.Head.{Head}
+use Rattle.numbers.specs.declared.refusal.Refusal.{Refusal}
 use Rattle.zones.specs.declared.location.Location.{Location}
 use Rattle.zones.specs.declared.find.Matches.{Matches}
-use Rattle.zones.proofs.Laws.{carried, onward}
+use Rattle.numbers.proofs.Replies.{carried, onward}
 use Rattle.zones.proofs.Agreeing.{Gave, agree-given, agree-refused, gave, refused-so}
 use Rattle.zones.proofs.find.Finding.{count-is, matches-are}
 
-module _ (file : List ℕ) (location : Location) (asked : Bool) (n room : ℕ) where
-  pub no-match : {why : Refusal} (hs ts : List ℕ) → refused why ≡ matchedIn file location asked (n / width) → Agrees (Filled n room hs ts) (zonesIn file location asked n room) (refused why)
-  unfolding zonesIn
+module _ (file : List ℕ) (head : Head) (location : Location) (asked : Bool) (n room : ℕ) where
+  pub no-match : {why : Refusal} (hs ts : List ℕ) → refused why ≡ matchedWith file head location asked (n / width) → Agrees (Filled n room hs ts) (zonesWith file head location asked n room) (refused why)
+  unfolding zonesWith
   no-match hs ts e = agree-refused (Filled n room hs ts) (carried e _)
 
-  module _ {ws : List ℕ} {matches : Matches} (g : Gave (Matching n ws) (matchedIn file location asked (n / width)) matches) where
+  module _ {ws : List ℕ} {matches : Matches} (g : Gave (Matching n ws) (matchedWith file head location asked (n / width)) matches) where
     abbrev found : Matched
     found = g .it
 
     -- the fields, in the code's words
-    fields-so : fieldsOf file (matches .head) room (take (matches .count) (slots ws)) [] ≡ fieldsOf file (found .head) room (found .matches) []
-    fields-so = λ i. fieldsOf file (g .fits .said i .head) room (matches-are (g .fits) i) []
+    fields-so : fieldsOf file head room (take (matches .count) (slots ws)) [] ≡ fieldsOf file head room (found .matches) []
+    fields-so = λ i. fieldsOf file head room (matches-are (g .fits) i) []
 
-    module _ (ts : List ℕ) {reply : Reply ℕ} (a : Agrees (Wrote room ts) (fieldsOf file (matches .head) room (take (matches .count) (slots ws)) []) reply) where
-      pub no-fields : {why : Refusal} (hs ts′ : List ℕ) → reply ≡ refused why → Agrees (Filled n room hs ts′) (zonesIn file location asked n room) (refused why)
-      unfolding zonesIn
+    module _ (ts : List ℕ) {reply : Reply ℕ} (a : Agrees (Wrote room ts) (fieldsOf file head room (take (matches .count) (slots ws)) []) reply) where
+      pub no-fields : {why : Refusal} (hs ts′ : List ℕ) → reply ≡ refused why → Agrees (Filled n room hs ts′) (zonesWith file head location asked n room) (refused why)
+      unfolding zonesWith
       no-fields hs ts′ e = agree-refused (Filled n room hs ts′) (carried (refused-so (Wrote room ts) _ a e ∙ fields-so) _ ∙ onward (g .is) _)
 
-      pub looked : {used zone : ℕ} → reply ≡ given used → zone ≡ safezoneBits asked (matches .least) (matches .head .preamble .precision)
-          → Agrees (Filled n room ws ts) (zonesIn file location asked n room) (given (record { matches = matches .count; mark = matches .mark; safezone = zone; used = used }))
-      unfolding zonesIn repliedOf
+      pub looked : {used zone : ℕ} → reply ≡ given used → zone ≡ safezoneBits asked (matches .least) (head .preamble .precision)
+          → Agrees (Filled n room ws ts) (zonesWith file head location asked n room) (given (record { matches = matches .count; mark = matches .mark; safezone = zone; used = used }))
+      unfolding zonesWith repliedOf
       looked {used} {zone} e z =
           let text = gave (Wrote room ts) _ a e in
-          let bits : zone ≡ safezoneBits asked (found .least) (found .head .preamble .precision) = z ∙ (λ i. safezoneBits asked (g .fits .said i .least) (g .fits .said i .head .preamble .precision)) in
+          let bits : zone ≡ safezoneBits asked (found .least) (head .preamble .precision) = z ∙ (λ i. safezoneBits asked (g .fits .said i .least) (head .preamble .precision)) in
           agree-given (Filled n room ws ts) (onward (text .is ∙ fields-so) _ ∙ onward (g .is) _)
           (λ i. replied (given (record { matches = count-is (g .fits) i; mark = g .fits .said i .mark; safezone = bits i; used = text .fits .said i })) (g .fits .kept i) (text .fits .kept i))

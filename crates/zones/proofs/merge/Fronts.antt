@@ -5,7 +5,7 @@ use Prim.Native.Nat.{ℕ, _+_, _-_, _*_, _/_, _≤_}
 use native.Mathlib.Omega.{arith}
 use lib.ListN.{length, take, drop, length-append, length-replicate, replicate-append-replicate}
 use lib.Seq.{take-at, drop-at, length-take-le}
-use Rattle.zones.specs.Lists.{zeros, padded}
+use Rattle.numbers.specs.Lists.{zeros, padded}
 use Rattle.zones.specs.Hits.{width, words, slots, Real}
 use Rattle.zones.specs.Merge.{merged}
 use Rattle.zones.specs.declared.hits.Hit.{Hit}

@@ -6,7 +6,7 @@ use native.Mathlib.Omega.{arith}
 use borrow.Author.Tests.{eq-eqb, ne-eqb}
 use lib.ListN.{length, set, take, drop, length-append, length-drop, length-map, take-append-drop}
 use lib.Seq.{getD-at, set-at, length-take-le}
-use Rattle.zones.specs.Hits.{words, hitAt, putHit, noHit}
+use Rattle.zones.specs.Hits.{width, words, hitAt, putHit, noHit}
 use Rattle.zones.specs.Merge.{Summary, _⊕_, single, summary, tallied, clear, cleared}
 use Rattle.zones.specs.declared.hits.Hit.{Hit}
 use Rattle.zones.specs.declared.merge.Tally.{Tally}
@@ -63,10 +63,10 @@ module _ {all : List Hit} {from id : ℕ} {ws : List ℕ} {t : Tally} {j : ℕ} 
   front-length : length (take from all ++ cleared id (g .passed)) ≡ j
   front-length = length-append (take from all) (cleared id (g .passed)) ∙ rw (length-take-le from all (g .inside), length-map (g .passed) (clear id)) (g .place)
 
-  pub gathered-length : length ws ≡ 3 * length all
+  pub gathered-length : length ws ≡ width * length all
   gathered-length =
       ap length (g .kept) ∙ words-length ((take from all ++ cleared id (g .passed)) ++ g .left)
-      ∙ ap (λ (n : ℕ). 3 * n) (length-append (take from all ++ cleared id (g .passed)) (g .left) ∙ rw front-length (omega (arith, lengths, g .place)))
+      ∙ ap (λ (n : ℕ). width * n) (length-append (take from all ++ cleared id (g .passed)) (g .left) ∙ rw front-length (omega (arith, lengths, g .place)))
 
   pub gathered : length all ≤ j → (tallied t ≡ summary id (drop from all)) × (ws ≡ words (take from all ++ cleared id (drop from all)))
   unfolding summary

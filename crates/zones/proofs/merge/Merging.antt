@@ -9,8 +9,8 @@ use lib.Dec.{eqb}
 use lib.ListN.{length, take, drop, replicate, length-append, length-replicate, length-map}
 use lib.Seq.{take-at, drop-at}
 use Rattle.numbers.specs.Answer.{if_then_else_}
-use Rattle.zones.specs.Lists.{zeros, padded}
-use Rattle.zones.specs.Hits.{hitOf, words, slots, Real, hitAt, putHit, noHit}
+use Rattle.numbers.specs.Lists.{zeros, padded}
+use Rattle.zones.specs.Hits.{width, hitOf, words, slots, Real, hitAt, putHit, noHit}
 use Rattle.zones.specs.Merge.{Summary, _⊕_, single, summary, groupKind, seen, matchOf, mergedAfter, merged, clear, cleared}
 use Rattle.zones.specs.declared.hits.Hit.{Hit}
 use Rattle.zones.proofs.hits.Words.{words-length, words-append, slots-words}
@@ -106,10 +106,10 @@ nones-snoc : (gap : ℕ) (xs : List Hit) → nones gap ++ noHit ∷ xs ≡ noHit
 nones-snoc zero xs = refl
 nones-snoc (suc gap) xs = ap (λ (l : List Hit). noHit ∷ l) (nones-snoc gap xs)
 
-words-nones : (gap : ℕ) → words (nones gap) ≡ zeros (3 * gap)
+words-nones : (gap : ℕ) → words (nones gap) ≡ zeros (width * gap)
 unfolding words
 words-nones zero = refl
-words-nones (suc gap) = let e : 3 * suc gap ≡ suc (suc (suc (3 * gap))) = omega arith in rw e (ap (λ (l : List ℕ). 0 ∷ 0 ∷ 0 ∷ l) (words-nones gap))
+words-nones (suc gap) = let e : width * suc gap ≡ suc (suc (suc (width * gap))) = omega arith in rw e (ap (λ (l : List ℕ). 0 ∷ 0 ∷ 0 ∷ l) (words-nones gap))
 
 -- ---- before each turn: matches, empty slots, and the hits whose group is still to come
 pub record Merging (all : List Hit) (ws : List ℕ) (out i : ℕ) : Type 0 where
@@ -143,12 +143,12 @@ module _ {all : List Hit} {ws : List ℕ} {out i : ℕ} (g : Merging all ws out 
   front-length : length (g .done ++ nones (g .gap)) ≡ i
   front-length = length-append (g .done) (nones (g .gap)) ∙ rw (g .counted, length-replicate) (g .place)
 
-  pub merging-length : length ws ≡ 3 * length all
+  pub merging-length : length ws ≡ width * length all
   merging-length =
       ap length (g .kept) ∙ words-length ((g .done ++ nones (g .gap)) ++ struck (g .before) (g .left))
-      ∙ ap (λ (n : ℕ). 3 * n) (length-append (g .done ++ nones (g .gap)) (struck (g .before) (g .left)) ∙ rw (front-length, length-map (g .left) (strike (g .before))) (g .lengths))
+      ∙ ap (λ (n : ℕ). width * n) (length-append (g .done ++ nones (g .gap)) (struck (g .before) (g .left)) ∙ rw (front-length, length-map (g .left) (strike (g .before))) (g .lengths))
 
-  pub ends : (n : ℕ) → n ≡ 3 * length all → length all ≤ i → (out ≡ length (merged all)) × (ws ≡ padded n (words (merged all)))
+  pub ends : (n : ℕ) → n ≡ width * length all → length all ≤ i → (out ≡ length (merged all)) × (ws ≡ padded n (words (merged all)))
   unfolding mergedAfter
   ends n sized h = go (g .left) (g .kept) (g .so-far) (omega (arith, g .lengths))
     where
@@ -156,7 +156,7 @@ module _ {all : List Hit} {ws : List ℕ} {out i : ℕ} (g : Merging all ws out 
           → (out ≡ length (merged all)) × (ws ≡ padded n (words (merged all)))
       go [] k e z =
           let done : g .done ≡ merged all = sym (append-nil (g .done)) ∙ e in
-          let room : 3 * g .gap ≡ n - length (words (g .done)) = omega (arith, g .lengths, g .place, g .counted, words-length (g .done)) in (
+          let room : width * g .gap ≡ n - length (words (g .done)) = omega (arith, g .lengths, g .place, g .counted, words-length (g .done)) in (
             sym (g .counted) ∙ ap length done,
             k ∙ ap words (append-nil (g .done ++ nones (g .gap))) ∙ words-append (g .done) (nones (g .gap)) ∙ ap (λ (l : List ℕ). words (g .done) ++ l) (words-nones (g .gap) ∙ ap zeros room)
                 ∙ ap (λ (l : List Hit). padded n (words l)) done,
@@ -286,10 +286,10 @@ module _ {all : List Hit} {ws : List ℕ} {out i : ℕ} (g : Merging all ws out 
             ∙ ap (λ (h : Hit). words (front ++ h ∷ cleared (hit .metadata) (struck (g .before) rest))) self
             ∙ ap (λ (l : List Hit). words (front ++ noHit ∷ l)) (clear-all (g .before) hit rest)
 
-        pub taken-length : ws′ ≡ words (take i (slots ws) ++ cleared (got .metadata) (drop i (slots ws))) → length ws′ ≡ 3 * length all
+        pub taken-length : ws′ ≡ words (take i (slots ws) ++ cleared (got .metadata) (drop i (slots ws))) → length ws′ ≡ width * length all
         taken-length w =
             ap length (out-taken w) ∙ words-length (front ++ noHit ∷ struck (g .before ++ hit ∷ []) rest)
-            ∙ ap (λ (m : ℕ). 3 * m) (length-append front (noHit ∷ struck (g .before ++ hit ∷ []) rest) ∙ omega (arith, front-length, length-map rest (strike (g .before ++ hit ∷ [])), g .lengths, ap length (next more .is)))
+            ∙ ap (λ (m : ℕ). width * m) (length-append front (noHit ∷ struck (g .before ++ hit ∷ []) rest) ∙ omega (arith, front-length, length-map rest (strike (g .before ++ hit ∷ [])), g .lengths, ap length (next more .is)))
 
         group : s ≡ summary (got .metadata) (drop i (slots ws)) → s ≡ summary (hit .metadata) (hit ∷ rest)
         unfolding summary

@@ -1,85 +1,81 @@
--- What one entry does to the search, by the tests that the code makes. Assumes nothing.
-use mathlib.Core.Path.{_≡_, refl, sym, ap, _∙_}
+-- What one row does to the search, by the tests that the code makes. Assumes nothing.
+use Prim.Native.Nat.{ℕ, _+_, _%_, _^_}
+use borrow.Author.Tests.{eq-eqb, ne-eqb, eqb-false}
+use lib.Dec.{eqb}
 use mathlib.Core.Bool.{Bool, true, false}
 use mathlib.Core.List.{List}
-use Prim.Native.Nat.{ℕ, zero, suc, _+_, _-_, _/_, _%_, _^_, _<_}
-use native.Mathlib.Omega.{arith}
-use borrow.Author.Tests.{eq-eqb, ne-eqb}
-use denote.Enum.Declared.{tagOf, declared}
-use lib.IntN.{pos, negℤ}
-use Rattle.numbers.specs.Answer.{Answer, failed, refused}
-use Rattle.numbers.specs.Point.{low32, halfOf}
+use mathlib.Core.Path.{_≡_, refl, sym, ap, subst, _∙_}
+use Rattle.border.specs.Encoding.{versionOf, encodedIn}
 use Rattle.border.specs.Verdict.{Judgement, told, judgedAt}
-use Rattle.border.specs.declared.reader.Version.{Version}
-use Rattle.border.specs.declared.verdict.Verdict.{Verdict}
-use Rattle.border.specs.declared.verdict.Judged.{Judged}
-use Rattle.border.specs.declared.verdict.Judged.the-variants as J
-use Rattle.zones.specs.Hits.{hitOf}
-use Rattle.zones.specs.Table.{toldRow, isAbove, holds}
-use Rattle.zones.specs.Search.{pastEntry, withLeast, kindOf, judgedTurn, entryTurn, versionOf, judgeIn}
-use Rattle.zones.specs.declared.header.Head.{Head}
-use Rattle.zones.specs.declared.table.Entry.{Entry}
 use Rattle.border.specs.declared.place.Point.{Point}
-use Rattle.zones.specs.declared.table.Row.{Row}
-use Rattle.zones.specs.declared.table.Row.the-variants as W
-use Rattle.zones.specs.declared.search.Cursor.{Cursor}
+use Rattle.border.specs.declared.reader.Version.{Version}
+use Rattle.border.specs.declared.verdict.Judged.{Judged}
+use Rattle.border.specs.declared.verdict.Verdict.{Verdict}
+use Rattle.numbers.specs.Answer.{if_then_else_}
+use Rattle.zones.specs.Hits.{hitOf}
+use Rattle.zones.specs.Search.{kindOf, judgedTurn, rowTurn, judgeIn}
+use Rattle.zones.specs.Table.{isAbove, holds}
+use Rattle.zones.specs.declared.header.Head.{Head}
+use Rattle.zones.specs.declared.hits.Hit.{Hit}
+use Rattle.zones.specs.declared.rows.Row.{Row}
 use Rattle.zones.specs.declared.search.Turn.the-variants.{On, Met, Stopped, Refused}
-use Rattle.zones.proofs.table.Row as R
-
--- ---- a signed step, modulo 2 ^ 32
-module _ (id step : ℕ) where
-  pub forth : step % 2 ≡ 0 → (id + step / 2 % 2 ^ 32) % 2 ^ 32 ≡ (id + low32 (halfOf step)) % 2 ^ 32
-  forth e = simp (eq-eqb _ _ e)
-
-  -- the residue of a negated number
-  negated : (half : ℕ) → id < 2 ^ 32 → (id + (2 ^ 32 - half % 2 ^ 32)) % 2 ^ 32 ≡ (id + low32 (negℤ (pos half))) % 2 ^ 32
-  negated zero h = omega arith
-  negated (suc n) h = omega arith
-
-  pub back : (step % 2 ≡ 0 → ⊥) → id < 2 ^ 32 → (id + (2 ^ 32 - step / 2 % 2 ^ 32)) % 2 ^ 32 ≡ (id + low32 (halfOf step)) % 2 ^ 32
-  back e h = simp (ne-eqb _ _ e) (negated (step / 2) h)
+use Rattle.zones.specs.declared.search.Turn.{Turn}
+use Rattle.border.specs.Verdict as B
+use Rattle.border.specs.declared.verdict.Judged.the-variants as J
 
 -- ---- a judged border
 module _ (file : List ℕ) (head : Head) (fix : Point) (asked : Bool) (polygon least : ℕ) where
   pub judged-in : {version : Version} {place : ℕ} {judgement : Judgement} → version ≡ versionOf (head .preamble .version) → place ≡ (head .sections .«data» + polygon) % 2 ^ 32
-      → judgement ≡ judgedAt file version (head .sections .«data») place (fix .lat) (fix .lon) asked least → judgement ≡ judgeIn file head fix asked polygon least
-  judged-in v p j = j ∙ (λ i. judgedAt file (v i) (head .sections .«data») (p i) (fix .lat) (fix .lon) asked least)
+      → judgement ≡ judgedAt file (encodedIn version (head .sections .«data»)) place (fix .lat) (fix .lon) asked least → judgement ≡ judgeIn file head fix asked polygon least
+  judged-in v p j = j ∙ (λ i. judgedAt file (encodedIn (v i) (head .sections .«data»)) (p i) (fix .lat) (fix .lon) asked least)
 
-module _ (at : Cursor) (entry : Entry) {judgement : Judged} {verdict : Verdict} {least kind : ℕ} (is : judgement ≡ J.Answered verdict least) (k : kind ≡ kindOf verdict)
-    {passed next : Cursor} (p : passed ≡ pastEntry at entry) (n : next ≡ withLeast passed least) where
-  next-is : next ≡ withLeast (pastEntry at entry) least
-  next-is = n ∙ ap (λ (c : Cursor). withLeast c least) p
-
-  pub outside : kind ≡ 0 → On next ≡ judgedTurn at entry (told judgement)
+module _ (r : Row) {judgement : Judged} {verdict : Verdict} {least kind : ℕ} (is : judgement ≡ J.Answered verdict least) (k : kind ≡ kindOf verdict) where
+  pub outside : kind ≡ 0 → On least ≡ judgedTurn r (told judgement)
   unfolding judgedTurn
-  outside z = ap On next-is ∙ rw is (simp (eq-eqb _ _ (sym k ∙ z)))
+  outside z = rw is (simp (eq-eqb _ _ (sym k ∙ z)))
 
-  pub met : (kind ≡ 0 → ⊥) → Met (hitOf (at .id) (next .metadata) kind) next ≡ judgedTurn at entry (told judgement)
+  pub met : (kind ≡ 0 → ⊥) → Met (hitOf (r .id) (r .metadata) kind) least ≡ judgedTurn r (told judgement)
   unfolding judgedTurn
-  met z = (λ i. Met (hitOf (at .id) (next-is i .metadata) (k i)) (next-is i)) ∙ rw is (simp (ne-eqb _ _ (λ e. z (k ∙ e))))
+  met z = ap (λ (n : ℕ). Met (hitOf (r .id) (r .metadata) n) least) k ∙ rw is (simp (ne-eqb _ _ (λ e. z (k ∙ e))))
 
--- ---- an entry
-module _ (read : ℕ → Answer Entry) (judge : ℕ → ℕ → Judgement) (fix : Point) (at : Cursor) (entry : Entry) where
-  pub stops-above : isAbove (entry .bounds) fix ≡ true → Stopped 1 (at .least) ≡ entryTurn read judge fix at entry
-  unfolding entryTurn
+-- ---- a row
+module _ (judge : ℕ → ℕ → Judgement) (fix : Point) (r : Row) (least : ℕ) where
+  pub stops-above : isAbove (r .bounds) fix ≡ true → Stopped 1 least ≡ rowTurn judge fix r least
+  unfolding rowTurn
   stops-above e = rw e
 
-  module _ (below : isAbove (entry .bounds) fix ≡ false) where
-    pub not-held : holds (entry .bounds) fix ≡ false → On (pastEntry at entry) ≡ entryTurn read judge fix at entry
-    unfolding entryTurn
+  module _ (below : isAbove (r .bounds) fix ≡ false) where
+    pub not-held : holds (r .bounds) fix ≡ false → On least ≡ rowTurn judge fix r least
+    unfolding rowTurn
     not-held f = rw (below, f)
 
-    pub held : holds (entry .bounds) fix ≡ true → judgedTurn at entry (judge (pastEntry at entry .polygon) (at .least)) ≡ entryTurn read judge fix at entry
-    unfolding entryTurn
+    pub held : holds (r .bounds) fix ≡ true → judgedTurn r (judge (r .polygon) least) ≡ rowTurn judge fix r least
+    unfolding rowTurn
     held f = rw (below, f)
 
--- a row that holds no entry, by the case that a `match` found
-pub row-failed : (row : Row) → tagOf (declared R.enum) row ≡ 1 → failed ≡ toldRow row
-row-failed (W.Read entry) is = absurd (omega (arith, is))
-row-failed W.Failed is = refl
-row-failed W.Refused is = absurd (omega (arith, is))
+-- ---- a hit's kind is not 0
+unfoldable Kinded : Turn → Type 0
+Kinded (On least) = Unit
+Kinded (Met hit least) = hit .kind ≡ 0 → ⊥
+Kinded (Stopped mark least) = Unit
+Kinded (Refused n) = Unit
 
-pub row-refused : (row : Row) → tagOf (declared R.enum) row ≡ 2 → refused 12 ≡ toldRow row
-row-refused (W.Read entry) is = absurd (omega (arith, is))
-row-refused W.Failed is = absurd (omega (arith, is))
-row-refused W.Refused is = refl
+either : (test : Bool) (t u : Turn) → (test ≡ true → Kinded t) → (test ≡ false → Kinded u) → Kinded (if test then t else u)
+either true t u h k = h refl
+either false t u h k = k refl
+
+judged-kinded : (r : Row) (judgement : Judgement) → Kinded (judgedTurn r judgement)
+unfolding Kinded judgedTurn
+judged-kinded r (B.reached verdict least) = either (eqb (kindOf verdict) 0) (On least) (Met (hitOf (r .id) (r .metadata) (kindOf verdict)) least) (λ e. tt) (λ e. eqb-false _ _ e)
+judged-kinded r (B.failed least) = tt
+judged-kinded r (B.refused n) = tt
+
+row-kinded : (judge : ℕ → ℕ → Judgement) (fix : Point) (r : Row) (least : ℕ) → Kinded (rowTurn judge fix r least)
+unfolding Kinded rowTurn
+row-kinded judge fix r least =
+    either (isAbove (r .bounds) fix) (Stopped 1 least) _ (λ e. tt)
+    (λ e. either (holds (r .bounds) fix) (judgedTurn r (judge (r .polygon) least)) (On least) (λ f. judged-kinded r (judge (r .polygon) least)) (λ f. tt))
+
+pub met-kind : (judge : ℕ → ℕ → Judgement) (fix : Point) (r : Row) (least : ℕ) {hit : Hit} {closer : ℕ} → Met hit closer ≡ rowTurn judge fix r least → hit .kind ≡ 0 → ⊥
+unfolding Kinded
+met-kind judge fix r least e = subst Kinded (sym e) (row-kinded judge fix r least)

@@ -6,15 +6,15 @@ use native.Mathlib.Omega.{arith}
 use borrow.Author.Tests.{le-leb, lt-leb}
 use lib.ListN.{length, take, drop, length-append, length-map, length-drop}
 use lib.Seq.{length-take-le}
-use Rattle.zones.specs.Lists.{zeros, over}
-use Rattle.zones.specs.Reply.{given, refused, plain}
+use Rattle.numbers.specs.Lists.{zeros, over}
+use Rattle.numbers.specs.Reply.{given, refused, plain}
 use Rattle.zones.specs.Text.{bytesOf}
 use Rattle.zones.specs.Utf8.{unmasked}
 use Rattle.zones.specs.Fields.{Wrote}
 use Rattle.zones.specs.Lent.{Agrees}
 use Rattle.zones.specs.Simple.{fitting}
 use Rattle.zones.specs.declared.text.Text.{Text}
-use Rattle.zones.proofs.Laws.{met, unmet}
+use Rattle.numbers.proofs.Replies.{met, unmet}
 use Rattle.zones.proofs.Agreeing.{agree-given, agree-refused}
 use Rattle.zones.proofs.Holding.{Held, lent, remains-length, held-first, held-wrote, written}
 use Rattle.zones.proofs.text.Strings.{part, part-is}

@@ -11,7 +11,7 @@ use lib.Dec.{eqb}
 use lib.ListN.{length, getD, drop, drop-of-length-le}
 use lib.Seq.{drop-cons}
 use Rattle.numbers.specs.Answer.{if_then_else_}
-use Rattle.zones.specs.Reply.{Reply, given, refused, _>>=_}
+use Rattle.numbers.specs.Reply.{Reply, given, refused, _>>=_}
 use Rattle.zones.specs.Text.{textAt, bytesOf}
 use Rattle.zones.specs.Header.{blameOf}
 use Rattle.zones.specs.Hits.{noHit}
@@ -19,7 +19,7 @@ use Rattle.zones.specs.Fields.{fieldsPlace}
 use Rattle.zones.specs.Simple.{partOf, begun, newer, pickedFrom, checked, toldPicks}
 use Rattle.zones.specs.declared.header.Head.{Head}
 use Rattle.zones.specs.declared.hits.Hit.{Hit}
-use Rattle.zones.specs.declared.refusal.Refusal.{Refusal}
+use Rattle.numbers.specs.declared.refusal.Refusal.{Refusal}
 use Rattle.zones.specs.declared.text.Text.{Text}
 use Rattle.zones.specs.declared.text.Blame.{Blame}
 use Rattle.zones.specs.declared.simple.Value.{Value}
@@ -28,7 +28,7 @@ use Rattle.zones.specs.declared.simple.Picked.{Picked}
 use Rattle.zones.specs.declared.simple.Picks.{Picks}
 use Rattle.zones.specs.declared.simple.Picks.the-variants as P
 use Rattle.zones.proofs.simple.Picks as K
-use Rattle.zones.proofs.Laws.{carried, onward, given-from}
+use Rattle.numbers.proofs.Replies.{carried, onward, given-from}
 use Rattle.zones.proofs.text.Strings.{text-lies}
 
 abbrev fifteen : Blame

@@ -6,19 +6,20 @@ use Prim.Native.Nat.{ℕ, _/_}
 use native.Mathlib.Omega.{arith}
 use denote.Enum.Declared.{tagOf, declared}
 use lib.ListN.{take}
-use Rattle.zones.specs.Reply.{Reply, given, refused, _>>_}
+use Rattle.numbers.specs.Reply.{Reply, given, refused, _>>_}
 use Rattle.zones.specs.Hits.{width, slots}
-use Rattle.zones.specs.Find.{Matched, matchedIn, Matching}
+use Rattle.zones.specs.Find.{Matched, matchedWith, Matching}
 use Rattle.zones.specs.Lent.{Agrees, replied, repliedOf, Filled}
-use Rattle.zones.specs.Simple.{checked, wordedOf, Worded, describedIn, toldChecked}
-use Rattle.zones.specs.declared.refusal.Refusal.{Refusal}
+use Rattle.zones.specs.Simple.{checked, wordedOf, Worded, describedWith, toldChecked}
+use Rattle.zones.specs.declared.header.Head.{Head}
+use Rattle.numbers.specs.declared.refusal.Refusal.{Refusal}
 use Rattle.zones.specs.declared.location.Location.{Location}
 use Rattle.zones.specs.declared.find.Matches.{Matches}
 use Rattle.zones.specs.declared.simple.Checked.{Checked}
 use Rattle.zones.specs.declared.simple.Checked.the-variants as C
 use Rattle.zones.specs.declared.simple.Description.{Description}
 use Rattle.zones.proofs.simple.Checked as K
-use Rattle.zones.proofs.Laws.{carried, onward}
+use Rattle.numbers.proofs.Replies.{carried, onward}
 use Rattle.zones.proofs.Agreeing.{Gave, agree-given, agree-refused, gave, refused-so}
 use Rattle.zones.proofs.find.Finding.{count-is, matches-are}
 
@@ -34,35 +35,35 @@ pub is-good : (c : Checked) → tagOf (declared K.enum) c ≡ 0 → given tt ≡
 is-good C.Good t = refl
 is-good (C.Refused why) t = absurd (omega (arith, t))
 
-module _ (file : List ℕ) (location : Location) (n room : ℕ) where
-  pub no-match : {why : Refusal} (hs ts : List ℕ) → refused why ≡ matchedIn file location false (n / width) → Agrees (Filled n room hs ts) (describedIn file location n room) (refused why)
-  unfolding describedIn
+module _ (file : List ℕ) (head : Head) (location : Location) (n room : ℕ) where
+  pub no-match : {why : Refusal} (hs ts : List ℕ) → refused why ≡ matchedWith file head location false (n / width) → Agrees (Filled n room hs ts) (describedWith file head location n room) (refused why)
+  unfolding describedWith
   no-match hs ts e = agree-refused (Filled n room hs ts) (carried e _)
 
-  module _ {ws : List ℕ} {matches : Matches} (g : Gave (Matching n ws) (matchedIn file location false (n / width)) matches) where
+  module _ {ws : List ℕ} {matches : Matches} (g : Gave (Matching n ws) (matchedWith file head location false (n / width)) matches) where
     abbrev found : Matched
     found = g .it
 
-    checked-so : checked file (matches .head) (take (matches .count) (slots ws)) ≡ checked file (found .head) (found .matches)
-    checked-so = λ i. checked file (g .fits .said i .head) (matches-are (g .fits) i)
+    checked-so : checked file head (take (matches .count) (slots ws)) ≡ checked file head (found .matches)
+    checked-so = λ i. checked file head (matches-are (g .fits) i)
 
-    pub not-checked : {why : Refusal} (hs ts : List ℕ) → refused why ≡ checked file (matches .head) (take (matches .count) (slots ws)) → Agrees (Filled n room hs ts) (describedIn file location n room) (refused why)
-    unfolding describedIn
+    pub not-checked : {why : Refusal} (hs ts : List ℕ) → refused why ≡ checked file head (take (matches .count) (slots ws)) → Agrees (Filled n room hs ts) (describedWith file head location n room) (refused why)
+    unfolding describedWith
     not-checked hs ts e = agree-refused (Filled n room hs ts) (stopped-at (e ∙ checked-so) _ ∙ onward (g .is) _)
 
-    worded-so : wordedOf file (matches .head) room (take (matches .count) (slots ws)) ≡ wordedOf file (found .head) room (found .matches)
-    worded-so = λ i. wordedOf file (g .fits .said i .head) room (matches-are (g .fits) i)
+    worded-so : wordedOf file head room (take (matches .count) (slots ws)) ≡ wordedOf file head room (found .matches)
+    worded-so = λ i. wordedOf file head room (matches-are (g .fits) i)
 
-    module _ (good : given tt ≡ checked file (matches .head) (take (matches .count) (slots ws))) (ts : List ℕ) {reply : Reply Description}
-        (a : Agrees (Worded room ts) (wordedOf file (matches .head) room (take (matches .count) (slots ws))) reply) where
-      pub not-described : {why : Refusal} (hs ts′ : List ℕ) → reply ≡ refused why → Agrees (Filled n room hs ts′) (describedIn file location n room) (refused why)
-      unfolding describedIn
+    module _ (good : given tt ≡ checked file head (take (matches .count) (slots ws))) (ts : List ℕ) {reply : Reply Description}
+        (a : Agrees (Worded room ts) (wordedOf file head room (take (matches .count) (slots ws))) reply) where
+      pub not-described : {why : Refusal} (hs ts′ : List ℕ) → reply ≡ refused why → Agrees (Filled n room hs ts′) (describedWith file head location n room) (refused why)
+      unfolding describedWith
       not-described hs ts′ e =
           agree-refused (Filled n room hs ts′)
           (carried (refused-so (Worded room ts) _ a e ∙ worded-so) _ ∙ passed (good ∙ checked-so) _ ∙ onward (g .is) _)
 
-      pub described : {d : Description} → reply ≡ given d → Agrees (Filled n room ws ts) (describedIn file location n room) (given (record { matches = matches .count; mark = matches .mark; description = d }))
-      unfolding describedIn repliedOf
+      pub described : {d : Description} → reply ≡ given d → Agrees (Filled n room ws ts) (describedWith file head location n room) (given (record { matches = matches .count; mark = matches .mark; description = d }))
+      unfolding describedWith repliedOf
       described e =
           let words = gave (Worded room ts) _ a e in
           agree-given (Filled n room ws ts) (onward (words .is ∙ worded-so) _ ∙ passed (good ∙ checked-so) _ ∙ onward (g .is) _)

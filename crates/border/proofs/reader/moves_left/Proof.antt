@@ -29,12 +29,12 @@ returns-2 c =
 returns-3 : tie.Need-returns-3
 unfolding counted
 returns-3 c =
-    rw (c .before .before .before .before .before .if1 .left, ← c .before .before .before .before .read-forward .ensures, c .before .before .n .given .1, eq-eqb _ _ (c .if2 .taken))
+    rw (c .before .before .before .before .before .before .if1 .left, ← c .before .before .before .before .before .read-forward .ensures, c .before .before .before .n .given .1, eq-eqb _ _ (c .if2 .taken))
 
 returns-4 : tie.Need-returns-4
 unfolding counted
 returns-4 c =
-    rw (c .before .before .before .before .before .if1 .left, ← c .before .before .before .before .read-forward .ensures, c .before .before .n .given .1, ne-eqb _ _ (c .if2 .left))
+    rw (c .before .before .before .before .before .before .if1 .left, ← c .before .before .before .before .before .read-forward .ensures, c .before .before .before .n .given .1, ne-eqb _ _ (c .if2 .left))
 
 pub moves-left-spec : {M : Type 1} → statement M
 moves-left-spec =

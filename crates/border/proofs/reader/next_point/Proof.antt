@@ -12,10 +12,10 @@ use Rattle.numbers.specs.Answer.{Answer, _>>=_}
 use Rattle.border.proofs.reader.next_point.Tie as tie
 
 abbrev Inv-loop : tie.InvT-loop
-Inv-loop file version data-offset state₀ state = nextPoint file version data-offset state ≡ nextPoint file version data-offset state₀
+Inv-loop file encoding state₀ state = nextPoint file encoding state ≡ nextPoint file encoding state₀
 
 abbrev μ-loop : tie.MeasureT-loop
-μ-loop file version data-offset state₀ state = left file state
+μ-loop file encoding state₀ state = left file state
 
 loop-holds : tie.Need-loop-holds Inv-loop μ-loop
 loop-holds c = refl
@@ -35,11 +35,11 @@ returns c =
     let turn-once = c .before .before .turn-once in
     let matched = c .before .match in
     let loop = c .before .before .before .loop in
-    let rest = nextPoint (now (args .file)) (args .version) (args .data-offset) in
+    let rest = nextPoint (now (args .file)) (args .encoding) in
     c .settled .ensures
     ∙ last-round (turn-once .result) rest (matched .keys2)
     ∙ ap (λ (t : Answer Turn). t >>= roundAgain rest) (turn-once .ensures)
-    ∙ sym (next-step (now (args .file)) (args .version) (args .data-offset) (loop .state))
+    ∙ sym (next-step (now (args .file)) (args .encoding) (loop .state))
     ∙ loop .inv
 
 loop-less : tie.Need-loop-less Inv-loop μ-loop
@@ -48,7 +48,7 @@ loop-less c =
     let loop = c .before .before .before .before .loop in
     let t = c .before .t in
     let turn-once = c .before .before .before .turn-once in
-    again-less (now (args .file)) (args .version) (args .data-offset) (loop .state) (t .given .0 .0) (rw (t .given .1) at (turn-once .ensures))
+    again-less (now (args .file)) (args .encoding) (loop .state) (t .given .0 .0) (rw (t .given .1) at (turn-once .ensures))
 
 loop-again : tie.Need-loop-again Inv-loop μ-loop
 loop-again c =
@@ -56,7 +56,7 @@ loop-again c =
     let loop = c .before .before .before .before .loop in
     let t = c .before .t in
     let turn-once = c .before .before .before .turn-once in
-    again-same (now (args .file)) (args .version) (args .data-offset) (loop .state) (t .given .0 .0) (rw (t .given .1) at (turn-once .ensures)) ∙ loop .inv
+    again-same (now (args .file)) (args .encoding) (loop .state) (t .given .0 .0) (rw (t .given .1) at (turn-once .ensures)) ∙ loop .inv
 
 pub next-point-spec : {M : Type 1} → statement M
 next-point-spec =

@@ -32,9 +32,9 @@ close-requires c κs = search needs
 
 returns-2 : tie.Need-returns-2
 returns-2 c =
-    let args = c .before .before .before .before .before .before .before .args in
-    let n = c .before .before .before .n in
-    let read-forward = c .before .before .before .before .before .read-forward in
+    let args = c .before .before .before .before .before .before .before .before .args in
+    let n = c .before .before .before .before .n in
+    let read-forward = c .before .before .before .before .before .before .read-forward in
     let if1 = c .before .if1 in
     ap (λ (t : Reader). found (gives t)) (c .close .ensures) ∙ sym (mark-closes (now (args .file)) (args .base) (onward (args .reader) (args .place) (args .reader .moves) Idle) (rw (n .given .1) at (read-forward .ensures)) (if1 .taken))
 
@@ -43,10 +43,10 @@ open-reference-requires c κs = search needs
 
 returns-3 : tie.Need-returns-3
 returns-3 c =
-    let args = c .before .before .before .before .before .before .before .before .args in
-    let n = c .before .before .before .before .n in
-    let read-forward = c .before .before .before .before .before .before .read-forward in
-    let if1 = c .before .before .if1 in
+    let args = c .before .before .before .before .before .before .before .before .before .before .args in
+    let n = c .before .before .before .before .before .before .n in
+    let read-forward = c .before .before .before .before .before .before .before .before .read-forward in
+    let if1 = c .before .before .before .if1 in
     let if2 = c .before .if2 in
     c .open-reference .ensures ∙ sym (mark-opens (now (args .file)) (args .base) (onward (args .reader) (args .place) (args .reader .moves) Idle) (rw (n .given .1) at (read-forward .ensures)) (if1 .left) (if2 .taken))
 
@@ -55,10 +55,10 @@ arrive-requires c κs = search needs
 
 returns-4 : tie.Need-returns-4
 returns-4 c =
-    let args = c .before .before .before .before .before .before .before .before .before .args in
-    let n = c .before .before .before .before .before .n in
-    let read-forward = c .before .before .before .before .before .before .before .read-forward in
-    let if1 = c .before .before .before .if1 in
+    let args = c .before .before .before .before .before .before .before .before .before .before .before .args in
+    let n = c .before .before .before .before .before .before .before .n in
+    let read-forward = c .before .before .before .before .before .before .before .before .before .read-forward in
+    let if1 = c .before .before .before .before .if1 in
     let if2 = c .before .before .if2 in
     ap (λ (t : Reader). found (gives t)) (c .arrive .ensures) ∙ sym (mark-repeats (now (args .file)) (args .base) (onward (args .reader) (args .place) (args .reader .moves) Idle) (rw (n .given .1) at (read-forward .ensures)) (if1 .left) (if2 .left))
 

@@ -29,9 +29,9 @@ read-marker-requires c κs = search needs
 
 returns-2 : tie.Need-returns-2
 returns-2 c =
-    let args = c .before .before .before .before .before .before .before .args in
-    let n = c .before .before .before .n in
-    let read-forward = c .before .before .before .before .before .read-forward in
+    let args = c .before .before .before .before .before .before .before .before .args in
+    let n = c .before .before .before .before .n in
+    let read-forward = c .before .before .before .before .before .before .read-forward in
     let if1 = c .before .if1 in
     c .read-marker .ensures ∙ sym (turn-marker (now (args .file)) (args .base) (args .reader) (rw (n .given .1) at (read-forward .ensures)) (if1 .taken))
 
@@ -44,9 +44,9 @@ advance-requires c κs = search needs
 returns-3 : tie.Need-returns-3
 returns-3 c =
     let decode-point = c .before .decode-point in
-    let args = c .before .before .before .before .before .before .before .before .args in
-    let n = c .before .before .before .before .n in
-    let read-forward = c .before .before .before .before .before .before .read-forward in
+    let args = c .before .before .before .before .before .before .before .before .before .args in
+    let n = c .before .before .before .before .before .n in
+    let read-forward = c .before .before .before .before .before .before .before .read-forward in
     let if1 = c .before .before .if1 in
     rw (decode-point .ensures) at (c .advance .ensures) ∙ sym (turn-move (now (args .file)) (args .base) (args .reader) (rw (n .given .1) at (read-forward .ensures)) (if1 .left))
 

@@ -26,9 +26,9 @@ returns c =
 
 returns-2 : tie.Need-returns-2
 returns-2 c =
-    let args = c .before .before .before .before .before .before .args in
-    let n = c .before .before .n in
-    let read-backward = c .before .before .before .before .read-backward in
+    let args = c .before .before .before .before .before .before .before .args in
+    let n = c .before .before .before .n in
+    let read-backward = c .before .before .before .before .before .read-backward in
     sym (backward-fails (now (args .file)) (args .base) (args .reader) (args .next) (args .end) (rw (n .given .1) at (read-backward .ensures)) (c .if1 .taken))
 
 decode-point-requires : tie.Need-decode-point-requires
@@ -45,9 +45,9 @@ enum-told c = search needs
 
 returns-3 : tie.Need-returns-3
 returns-3 c =
-    let args = c .before .before .before .before .before .before .before .before .before .before .args in
-    let n = c .before .before .before .before .before .before .n in
-    let read-backward = c .before .before .before .before .before .before .before .before .read-backward in
+    let args = c .before .before .before .before .before .before .before .before .before .before .before .args in
+    let n = c .before .before .before .before .before .before .before .n in
+    let read-backward = c .before .before .before .before .before .before .before .before .before .read-backward in
     let if1 = c .before .before .before .before .if1 in
     let decode-point = c .before .before .before .decode-point in
     let negate = c .before .before .negate in
@@ -62,9 +62,9 @@ advance-requires c κs = search needs
 returns-4 : tie.Need-returns-4
 returns-4 c =
     let backward-from = c .before .backward-from in
-    let args = c .before .before .before .before .before .before .before .before .before .before .before .before .before .args in
-    let n = c .before .before .before .before .before .before .before .before .before .n in
-    let read-backward = c .before .before .before .before .before .before .before .before .before .before .before .read-backward in
+    let args = c .before .before .before .before .before .before .before .before .before .before .before .before .before .before .args in
+    let n = c .before .before .before .before .before .before .before .before .before .before .n in
+    let read-backward = c .before .before .before .before .before .before .before .before .before .before .before .before .read-backward in
     let if1 = c .before .before .before .before .before .before .before .if1 in
     let decode-point = c .before .before .before .before .before .before .decode-point in
     let by = c .before .before .before .by in

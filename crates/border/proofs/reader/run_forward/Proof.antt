@@ -26,9 +26,9 @@ returns c =
 
 returns-2 : tie.Need-returns-2
 returns-2 c =
-    let args = c .before .before .before .before .before .before .args in
-    let n = c .before .before .n in
-    let read-forward = c .before .before .before .before .read-forward in
+    let args = c .before .before .before .before .before .before .before .args in
+    let n = c .before .before .before .n in
+    let read-forward = c .before .before .before .before .before .read-forward in
     sym (forward-fails (now (args .file)) (args .base) (args .reader) (args .next) (args .end) (rw (n .given .1) at (read-forward .ensures)) (c .if1 .taken))
 
 forward-from-requires : tie.Need-forward-from-requires
@@ -44,9 +44,9 @@ returns-3 : tie.Need-returns-3
 returns-3 c =
     let forward-from = c .before .before .forward-from in
     let decode-point = c .before .decode-point in
-    let args = c .before .before .before .before .before .before .before .before .before .args in
-    let n = c .before .before .before .before .before .n in
-    let read-forward = c .before .before .before .before .before .before .before .read-forward in
+    let args = c .before .before .before .before .before .before .before .before .before .before .args in
+    let n = c .before .before .before .before .before .before .n in
+    let read-forward = c .before .before .before .before .before .before .before .before .read-forward in
     let if1 = c .before .before .before .if1 in
     rw (forward-from .ensures, decode-point .ensures) at (c .advance .ensures) ∙ sym (forward-move (now (args .file)) (args .base) (args .reader) (args .next) (args .end) (rw (n .given .1) at (read-forward .ensures)) (if1 .left))
 

@@ -20,13 +20,13 @@ use Rattle.border.specs.Told as R
 use Rattle.border.proofs.verdict.point_in_polygon.Tie as tie
 
 abbrev Inv-loop : tie.InvT-loop
-Inv-loop file version data-offset place asked least fix at reader₀ begun₀ last₀ tally₀ reader begun last tally =
-    (judge fix asked (lastOf begun (last .point)) tally (traceOf file version data-offset reader)
-    ≡ judge fix asked none (record { winding = pos 0; least = least }) (traceOf file version data-offset (borderAt place)))
+Inv-loop file encoding place asked least fix at reader₀ begun₀ last₀ tally₀ reader begun last tally =
+    (judge fix asked (lastOf begun (last .point)) tally (traceOf file encoding reader)
+    ≡ judge fix asked none (record { winding = pos 0; least = least }) (traceOf file encoding (borderAt place)))
     × (last ≡ seenFrom fix asked (last .point))
 
 abbrev μ-loop : tie.MeasureT-loop
-μ-loop file version data-offset place asked least fix at reader₀ begun₀ last₀ tally₀ reader begun last tally =
+μ-loop file encoding place asked least fix at reader₀ begun₀ last₀ tally₀ reader begun last tally =
     left file reader
 
 location-of-requires : tie.Need-location-of-requires Inv-loop μ-loop
@@ -59,12 +59,12 @@ returns c =
     let matched = c .before .match in
     let l = loop in
     let fix : Point = record { lat = a .lat; lon = a .lon } in
-    let rest = traceOf (now (a .file)) (a .version) (a .data-offset) in
+    let rest = traceOf (now (a .file)) (a .encoding) in
     let judged = judge fix (a .asked) (lastOf (l .begun) (l .last .point)) (l .tally) in
     c .ended .ensures
     ∙ judge-end fix (a .asked) (lastOf (l .begun) (l .last .point)) (l .tally) (next-point .result) rest (matched .keys2)
     ∙ ap (λ (n : Answer Given). judged (traceThen n rest)) (next-point .ensures)
-    ∙ ap judged (sym (trace-step (now (a .file)) (a .version) (a .data-offset) (l .reader)))
+    ∙ ap judged (sym (trace-step (now (a .file)) (a .encoding) (l .reader)))
     ∙ l .inv .0
 
 seen-from-requires-2 : tie.Need-seen-from-requires-2 Inv-loop μ-loop
@@ -89,8 +89,8 @@ stepped : (c : tie.After-judge-point Inv-loop μ-loop) →
     let a = c .before .before .before .before .before .before .before .before .before .before .before .args in
     let l = c .before .before .before .before .before .before .loop in
     let fix : Point = record { lat = a .lat; lon = a .lon } in
-    thenOn (a .asked) (l .tally .least) (told (c .judge-point .result)) (λ (later : Tally). judge fix (a .asked) (after (c .before .seen-from2 .result .point)) later (traceOf (now (a .file)) (a .version) (a .data-offset) (c .before .before .before .next .given .0 .0)))
-    ≡ judge fix (a .asked) none (record { winding = pos 0; least = a .least }) (traceOf (now (a .file)) (a .version) (a .data-offset) (borderAt (a .place)))
+    thenOn (a .asked) (l .tally .least) (told (c .judge-point .result)) (λ (later : Tally). judge fix (a .asked) (after (c .before .seen-from2 .result .point)) later (traceOf (now (a .file)) (a .encoding) (c .before .before .before .next .given .0 .0)))
+    ≡ judge fix (a .asked) none (record { winding = pos 0; least = a .least }) (traceOf (now (a .file)) (a .encoding) (borderAt (a .place)))
 unfolding judge traceThen
 stepped c =
     let a = c .before .before .before .before .before .before .before .before .before .before .before .args in
@@ -100,14 +100,14 @@ stepped c =
     let seen-from2 = c .before .seen-from2 in
     let l = loop in
     let fix : Point = record { lat = a .lat; lon = a .lon } in
-    let rest = traceOf (now (a .file)) (a .version) (a .data-offset) in
+    let rest = traceOf (now (a .file)) (a .encoding) in
     let last = lastOf (l .begun) (l .last .point) in
     let later = next .given .0 .0 in
     let said = ap R.told (sym (next .given .1)) ∙ next-point .ensures in
     ap (λ (s : Step Tally). thenOn (a .asked) (l .tally .least) s (λ (t : Tally). judge fix (a .asked) (after (seen-from2 .result .point)) t (rest later))) (c .judge-point .ensures)
     ∙ ap (λ (p : Point). judge fix (a .asked) last (l .tally) (point p (rest later))) (point-kept _ _ _ (seen-from2 .ensures))
     ∙ ap (λ (n : Answer Given). judge fix (a .asked) last (l .tally) (traceThen n rest)) said
-    ∙ ap (judge fix (a .asked) last (l .tally)) (sym (trace-step (now (a .file)) (a .version) (a .data-offset) (l .reader)))
+    ∙ ap (judge fix (a .asked) last (l .tally)) (sym (trace-step (now (a .file)) (a .encoding) (l .reader)))
     ∙ l .inv .0
 
 returns-2 : tie.Need-returns-2 Inv-loop μ-loop
@@ -125,7 +125,7 @@ loop-less c =
     let next-point = c .before .before .before .before .before .before .before .before .next-point in
     let l = loop in
     let said = ap R.told (sym (next .given .1)) ∙ next-point .ensures in
-    point-less (now (a .file)) (a .version) (a .data-offset) (l .reader) (next .given .0 .0) said
+    point-less (now (a .file)) (a .encoding) (l .reader) (next .given .0 .0) said
 
 loop-again : tie.Need-loop-again Inv-loop μ-loop
 unfolding thenOn

@@ -4,9 +4,11 @@ use mathlib.Core.Path.{_≡_}
 use mathlib.Core.List.{[], _∷_, _++_, flatMap}
 use lib.ListN.{length}
 use lib.Seq.{slice}
-use Rattle.border.specs.Moves.{varintOf, digitsOf, plainMoveBytes, movesOf}
+use Rattle.numbers.specs.Spelling.{varintOf}
+use Rattle.border.specs.Moves.{plainMoveBytes, movesOf}
 use Rattle.border.proofs.writer.Indexed.{border-length, all-moves}
-use Rattle.border.proofs.writer.Stores.{stored-then, varint-few}
+use Rattle.numbers.proofs.Spelling.{varint-few, varint-byte}
+use Rattle.border.proofs.writer.Stores.{stored-then}
 use Rattle.border.proofs.writer.Lengths.{plain-few}
 use Rattle.border.proofs.writer.write_plain.Statement.{statement}
 use Rattle.border.proofs.writer.write_plain.Tie as tie
@@ -29,8 +31,11 @@ put-two-requires c κs =
     let size = pre .1 in
     omega (arith, put-plain .ensures .place-after, put-varint .ensures .place-after, varint-few (length (a .lats .now)), plain-few (movesOf (a .lats .now) (a .lons .now)) 0 (length (a .lats .now)), border-length (a .lats .now) (a .lons .now))
 
+-- the guard bytes
+guard : varintOf 2 ++ varintOf 2 ≡ 2 ∷ 2 ∷ []
+guard = rw (varint-byte 2 (omega arith))
+
 returns : tie.Need-returns
-unfolding varintOf digitsOf
 returns c =
     let a = c .before .before .before .before .before .before .before .before .before .before .before .before .before .args in
     let pre = c .before .before .before .before .before .before .before .before .before .before .before .before .before .pre in
@@ -40,7 +45,7 @@ returns c =
     let ms = movesOf (a .lats .now) (a .lons .now) in
     let all : slice 0 (length (a .lats .now)) ms ≡ ms = all-moves (a .lats .now) (a .lons .now) (pre .0) in
     stored-then (varintOf (length (a .lats .now))) (flatMap plainMoveBytes ms ++ (2 ∷ 2 ∷ [])) (put-varint .ensures)
-    (stored-then (flatMap plainMoveBytes ms) (2 ∷ 2 ∷ []) (rw all at (put-plain .ensures)) (put-two .ensures))
+    (stored-then (flatMap plainMoveBytes ms) (2 ∷ 2 ∷ []) (rw all at (put-plain .ensures)) (rw guard at (put-two .ensures)))
 
 pub write-plain-spec : {M : Type 1} → statement M
 write-plain-spec =

@@ -5,10 +5,10 @@ use Rattle.vectors.proofs.borders.points_end.Statement.{statement}
 use Rattle.vectors.proofs.borders.points_end.Tie as tie
 
 abbrev Inv-loop : tie.InvT-loop
-Inv-loop line file place version data-offset reader₀ k₀ reader k = k ≤ 257
+Inv-loop line file place encoding reader₀ k₀ reader k = k ≤ 257
 
 abbrev μ-loop : tie.MeasureT-loop
-μ-loop line file place version data-offset reader₀ k₀ reader k = 256 - k
+μ-loop line file place encoding reader₀ k₀ reader k = 256 - k
 
 pub points-end-spec : {M : Type 1} → statement M
 points-end-spec =
@@ -16,7 +16,6 @@ points-end-spec =
     (tie.spec
     Inv-loop
     μ-loop
-    (λ c κs. search needs)
     (λ c κs. search needs)
     (λ c κs. search needs)
     (λ c. search needs)

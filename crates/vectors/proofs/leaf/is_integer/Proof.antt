@@ -7,8 +7,8 @@ use Rattle.numbers.proofs.Signed.{widens}
 use Rattle.vectors.proofs.leaf.is_integer.Statement.{statement}
 use Rattle.vectors.proofs.leaf.is_integer.Tie as tie
 
-cast-result : tie.Need-cast-result
-cast-result c =
+cast-wide : tie.Need-cast-wide
+cast-wide c =
     let args = c .before .args in
     let fits = c .before .fits in
     let args = args in
@@ -18,4 +18,4 @@ cast-result c =
     rw (toZ-ofZ w32 value held) (widens w32 w64 (lit≤ tt) value held)
 
 pub is-integer-spec : {M : Type 1} → statement M
-is-integer-spec = tie.close (tie.spec cast-result (λ c κs. search needs) (λ c κs. search needs) (λ c. search needs))
+is-integer-spec = tie.close (tie.spec cast-wide (λ c κs. search needs) (λ c κs. search needs) (λ c. search needs))

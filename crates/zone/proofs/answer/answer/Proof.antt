@@ -5,30 +5,32 @@ use lib.ListN.{length}
 use mathlib.Core.Path.{_∙_, ap}
 use native.Mathlib.Omega.{arith}
 use Rattle.zones.specs.Lookup.{toldLooked}
-use Rattle.zone.proofs.Asking.{too-long, too-short, asked}
+use Rattle.zone.proofs.Asking.{refused-long, refused-short, asked}
 use Rattle.zone.proofs.answer.answer.Statement.{statement}
 use Rattle.zone.proofs.answer.answer.Tie as tie
 
 returns : tie.Need-returns
 returns c =
-    let args = c .before .before .before .before .before .args in
-    let if1 = c .before .if1 in
-    too-long (args .input .now) _ _ _ (c .plain .ensures) (omega (arith, if1 .taken))
+    let args = c .before .before .before .before .before .before .before .before .before .before .before .before .args in
+    let zero-both = c .before .before .before .before .before .zero-both in
+    let if1 = c .before .before .before .before .before .before .before .before .if1 in
+    refused-long (args .input .now) _ _ _ _ (c .plain .ensures) (zero-both .ensures .0) (zero-both .ensures .1) (omega (arith, if1 .taken))
 
 returns-2 : tie.Need-returns-2
 returns-2 c =
-    let args = c .before .before .before .before .before .before .args in
-    let if1 = c .before .before .if1 in
-    let if2 = c .before .if2 in
-    too-short (args .input .now) _ _ _ (c .plain2 .ensures) (omega (arith, if1 .left)) (omega (arith, if2 .taken))
+    let args = c .before .before .before .before .before .before .before .before .before .before .before .before .before .args in
+    let zero-both2 = c .before .before .before .before .before .zero-both2 in
+    let if1 = c .before .before .before .before .before .before .before .before .before .if1 in
+    let if2 = c .before .before .before .before .before .before .before .before .if2 in
+    refused-short (args .input .now) _ _ _ _ (c .plain2 .ensures) (zero-both2 .ensures .0) (zero-both2 .ensures .1) (omega (arith, if1 .left)) (omega (arith, if2 .taken))
 
 returns-3 : tie.Need-returns-3
 returns-3 c =
     let args = c .before .before .before .before .before .before .before .before .before .before .before .before .before .before .before .before .before .args in
-    let of-bits = c .before .before .before .before .before .before .before .before .before .before .of-bits in
-    let of-bits2 = c .before .before .before .before .before .before .before .before .of-bits2 in
     let lookup = c .before .before .before .before .lookup in
+    let of-bits = c .before .before .before .before .before .before .before .before .before .before .of-bits in
     let word-at = c .before .before .before .before .before .before .before .before .before .before .before .word-at in
+    let of-bits2 = c .before .before .before .before .before .before .before .before .of-bits2 in
     let word-at2 = c .before .before .before .before .before .before .before .before .before .word-at2 in
     let if1 = c .before .before .before .before .before .before .before .before .before .before .before .before .before .if1 in
     let if2 = c .before .before .before .before .before .before .before .before .before .before .before .before .if2 in
@@ -41,8 +43,14 @@ answer-spec =
     tie.close
     (tie.spec
     (λ c κs. search needs)
+    (λ c κs. search needs)
+    (λ c. search needs)
+    (λ c. search needs)
     returns
     (λ c κs. search needs)
+    (λ c κs. search needs)
+    (λ c. search needs)
+    (λ c. search needs)
     returns-2
     (λ c κs. search needs)
     (λ c κs. search needs)

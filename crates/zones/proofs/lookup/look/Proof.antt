@@ -8,37 +8,51 @@ use Rattle.zones.proofs.find.Finding.{matches-room}
 use Rattle.zones.proofs.lookup.Looking.{no-match, no-fields, looked}
 use Rattle.zones.proofs.lookup.look.Statement.{statement}
 use Rattle.zones.specs.Fields.{toldFields}
-use Rattle.zones.specs.Find.{matchedIn, toldFound, Matching}
+use Rattle.zones.specs.Find.{matchedWith, toldFound, Matching}
 use Rattle.zones.specs.Hits.{width}
 use Rattle.zones.proofs.lookup.look.Tie as tie
 
-find-requires : tie.Need-find-requires
-find-requires c κs = c .before .before .before .before .pre .0
+matches-in-requires : tie.Need-matches-in-requires
+matches-in-requires c κs =
+    let pre = c .before .before .before .before .pre in
+    pre .0
 
 returns : tie.Need-returns
-returns c = no-match _ _ _ _ _ _ _ (refused-so _ _ (c .before .before .before .before .before .find .ensures) (ap toldFound (c .before .why .given .1)))
+returns c =
+    let matches-in = c .before .before .before .before .before .matches-in in
+    let why = c .before .why in
+    no-match _ _ _ _ _ _ _ _ (refused-so _ _ (matches-in .ensures) (ap toldFound (why .given .1)))
 
 -- where matches were found
 matched : (c : tie.After-found) → let args = c .before .before .before .before .before .before .before .before .before .args in
-    Gave (Matching (length (args .hits .now)) (c .before .before .before .before .find .last .1 .1 .1 .0)) (matchedIn (args .file .now) (args .location) (args .asked) (length (args .hits .now) / width)) (c .found .given .0 .0)
-matched c = gave _ _ (c .before .before .before .before .find .ensures) (ap toldFound (c .found .given .1))
+    Gave (Matching (length (args .hits .now)) (c .before .before .before .before .matches-in .last .1 .1 .1 .1 .0)) (matchedWith (args .file .now) (args .head) (args .location) (args .asked) (length (args .hits .now) / width)) (c .found .given .0 .0)
+matched c =
+    let matches-in = c .before .before .before .before .matches-in in
+    gave _ _ (matches-in .ensures) (ap toldFound (c .found .given .1))
 
 write-fields-requires : tie.Need-write-fields-requires
 write-fields-requires c κs =
-    let hits = c .before .before .before .before .before .before .before .before .hits in
-    (c .before .before .before .before .before .before .before .before .before .before .before .before .before .before .pre .1, matches-room (matched (c .before .before .before .before .before) .fits) (omega (arith, hits .given)))
+    let pre = c .before .before .before .before .before .before .before .before .before .before .before .before .before .pre in
+    let hits = c .before .before .before .before .before .before .before .hits in
+    (pre .1, matches-room (matched (c .before .before .before .before) .fits) (omega (arith, hits .given)))
 
 returns-2 : tie.Need-returns-2
-returns-2 c = no-fields _ _ _ _ _ (matched (c .before .before .before .before .before .before .before .before .before .before .before)) _ (c .before .before .before .before .before .write-fields .ensures) _ _ (ap toldFields (c .before .why2 .given .1))
+returns-2 c =
+    let write-fields = c .before .before .before .before .before .write-fields in
+    let why2 = c .before .why2 in
+    no-fields _ _ _ _ _ _ (matched (c .before .before .before .before .before .before .before .before .before .before)) _ (write-fields .ensures) _ _ (ap toldFields (why2 .given .1))
 
 returns-3 : tie.Need-returns-3
-returns-3 c = looked _ _ _ _ _ (matched (c .before .before .before .before .before .before .before .before .before .before .before .before)) _ (c .before .before .before .before .before .before .write-fields .ensures) (ap toldFields (c .before .before .used .given .1)) (c .safezone .ensures)
+returns-3 c =
+    let write-fields = c .before .before .before .before .before .before .write-fields in
+    let used = c .before .before .used in
+    looked _ _ _ _ _ _ (matched (c .before .before .before .before .before .before .before .before .before .before .before)) _ (write-fields .ensures) (ap toldFields (used .given .1)) (c .safezone .ensures)
 
 pub look-spec : {M : Type 1} → statement M
 look-spec =
     tie.close
     (tie.spec
-    find-requires
+    matches-in-requires
     (λ c. omega arith)
     (λ c. omega arith)
     (λ c. omega arith)

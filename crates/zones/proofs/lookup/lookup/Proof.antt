@@ -1,59 +1,40 @@
--- `zones::lookup::lookup` meets its contract: zeros, then the lookup, then zeros again where it refused. Assumes nothing.
+-- `zones::lookup::lookup` meets its contract: the file is opened, and looked up in with its header. Assumes nothing.
 use borrow.Author.Needs.{needs}
 use lib.ListN.{length}
-use mathlib.Core.Path.{ap, _∙_}
-use native.Mathlib.Omega.{arith}
-use Rattle.zones.proofs.Buffers.{of-length, all-zero}
-use Rattle.zones.proofs.Replying.{given-reply, refused-reply}
+use mathlib.Core.Path.{sym, ap, _∙_}
+use Rattle.zones.proofs.GivenHead.{not-looked, looked-with}
 use Rattle.zones.proofs.lookup.lookup.Statement.{statement}
-use Rattle.zones.specs.Lists.{zeros}
-use Rattle.zones.specs.Lookup.{zonesIn, lookedUp, toldLooked}
+use Rattle.zones.specs.Header.{toldHead}
 use Rattle.zones.proofs.lookup.lookup.Tie as tie
 
-look-requires : tie.Need-look-requires
-look-requires c κs =
-    let args = c .before .before .before .before .before .before .before .before .before .before .before .before .args in
-    let zero-both = c .before .before .before .before .before .before .zero-both in
-    (all-zero _ (length (args .hits .now)) (zero-both .ensures .0), all-zero _ (length (args .text .now)) (zero-both .ensures .1))
-
-same-length : tie.Need-same-length
-same-length c = search needs
-
-same-length-2 : tie.Need-same-length-2
-same-length-2 c = search needs
-
 returns : tie.Need-returns
-unfolding lookedUp
 returns c =
-    let args = c .before .before .before .before .before .before .before .before .before .before .before .before .before .before .before .before .before .before .before .before .before .before .before .before .before .before .before .args in
-    let look = c .before .before .before .before .before .before .before .before .before .before .before .before .before .before .look in
-    let zero-both = c .before .before .before .before .before .before .before .before .before .before .before .before .before .before .before .before .before .before .before .before .before .zero-both in
+    let args = c .before .before .before .before .before .before .before .before .before .before .before .before .before .before .args in
     let why = c .before .before .before .before .before .before .before .before .why in
-    let zero-both2 = c .before .before .before .before .zero-both2 in
-    refused-reply (zonesIn (args .file .now) (args .location) (args .asked)) (toldLooked (look .result)) _ _ (of-length _ (length (args .hits .now)) (zero-both .ensures .0)) (of-length _ (length (args .text .now)) (zero-both .ensures .1)) (look .ensures) (ap toldLooked (why .given .1))
-    (all-zero _ (length (look .last .1 .1 .1 .0)) (zero-both2 .ensures .0) ∙ ap zeros (same-length c)) (all-zero _ (length (look .last .1 .1 .1 .1 .0)) (zero-both2 .ensures .1) ∙ ap zeros (same-length-2 c))
+    let head-of = c .before .before .before .before .before .before .before .before .before .before .head-of in
+    let zero-both = c .before .before .before .before .zero-both in
+    not-looked (args .file .now) (args .location) (length (args .hits .now)) (length (args .text .now)) (sym (ap toldHead (why .given .1)) ∙ head-of .ensures) (zero-both .ensures .0) (zero-both .ensures .1) (args .asked)
 
 returns-2 : tie.Need-returns-2
-unfolding lookedUp
 returns-2 c =
-    let args = c .before .before .before .before .before .before .before .before .before .before .before .before .before .before .before .before .before .before .before .before .args in
-    let look = c .before .before .before .before .before .before .before .look in
-    let zero-both = c .before .before .before .before .before .before .before .before .before .before .before .before .before .before .zero-both in
-    let zones = c .before .zones in
-    given-reply (zonesIn (args .file .now) (args .location) (args .asked)) (toldLooked (look .result)) _ _ (of-length _ (length (args .hits .now)) (zero-both .ensures .0)) (of-length _ (length (args .text .now)) (zero-both .ensures .1)) (look .ensures) (ap toldLooked (zones .given .1))
+    let lookup-in = c .before .before .before .before .lookup-in in
+    let args = c .before .before .before .before .before .before .before .before .before .before .before .before .before .before .args in
+    let head = c .before .before .before .before .before .before .before .before .head in
+    let head-of = c .before .before .before .before .before .before .before .before .before .before .head-of in
+    lookup-in .ensures ∙ looked-with (args .file .now) (args .location) (length (args .hits .now)) (length (args .text .now)) (sym (ap toldHead (head .given .1)) ∙ head-of .ensures) (args .asked)
 
 pub lookup-spec : {M : Type 1} → statement M
 lookup-spec =
     tie.close
     (tie.spec
     (λ c κs. tt)
-    look-requires
-    (λ c. omega arith)
-    (λ c. omega arith)
+    (λ c. search needs)
+    (λ c. search needs)
     (λ c κs. tt)
-    same-length
-    same-length-2
+    (λ c. search needs)
+    (λ c. search needs)
     returns
-    (λ c. omega arith)
-    (λ c. omega arith)
+    (λ c κs. tt)
+    (λ c. search needs)
+    (λ c. search needs)
     returns-2)

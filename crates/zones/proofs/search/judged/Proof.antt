@@ -7,19 +7,19 @@ use Rattle.zones.proofs.search.judged.Tie as tie
 
 returns : tie.Need-returns
 returns c =
-    let judgement = c .before .before .before .before .before .judgement in
+    let judgement = c .before .before .before .judgement in
     let kind-of = c .before .kind-of in
-    let past = c .before .before .before .past in
-    let with-least = c .before .before .with-least in
-    outside _ _ (judgement .given .1) (kind-of .ensures) (past .ensures) (with-least .ensures) (c .if1 .taken)
+    let judgement = judgement in
+    let kind-of = kind-of in
+    outside _ (judgement .given .1) (kind-of .ensures) (c .if1 .taken)
 
 returns-2 : tie.Need-returns-2
 returns-2 c =
-    let judgement = c .before .before .before .before .before .judgement in
+    let judgement = c .before .before .before .judgement in
     let kind-of = c .before .kind-of in
-    let past = c .before .before .before .past in
-    let with-least = c .before .before .with-least in
-    met _ _ (judgement .given .1) (kind-of .ensures) (past .ensures) (with-least .ensures) (c .if1 .left)
+    let judgement = judgement in
+    let kind-of = kind-of in
+    met _ (judgement .given .1) (kind-of .ensures) (c .if1 .left)
 
 returns-3 : tie.Need-returns-3
 unfolding judgedTurn
@@ -34,8 +34,6 @@ judged-spec =
     tie.close
     (tie.spec
     (λ c. omega arith)
-    (λ c κs. tt)
-    (λ c κs. tt)
     (λ c κs. tt)
     returns
     (λ c. omega arith)

@@ -9,53 +9,68 @@ use Rattle.zones.proofs.Agreeing.{Gave, gave, refused-so}
 use Rattle.zones.proofs.find.Finding.{matches-room}
 use Rattle.zones.proofs.simple.Replies.{is-good, no-match, not-checked, not-described, described}
 use Rattle.zones.proofs.simple.look.Statement.{statement}
-use Rattle.zones.specs.Find.{matchedIn, toldFound, Matching}
+use Rattle.zones.specs.Find.{matchedWith, toldFound, Matching}
 use Rattle.zones.specs.Hits.{width}
 use Rattle.zones.specs.Simple.{toldChecked, toldWorded}
 use Rattle.zones.proofs.simple.look.Tie as tie
 
-find-requires : tie.Need-find-requires
-find-requires c κs = c .before .before .before .before .pre .0
+matches-in-requires : tie.Need-matches-in-requires
+matches-in-requires c κs =
+    let pre = c .before .before .before .before .pre in
+    pre .0
 
 returns : tie.Need-returns
-returns c = no-match _ _ _ _ _ _ (refused-so _ _ (c .before .before .before .before .before .find .ensures) (ap toldFound (c .before .why .given .1)))
+returns c =
+    let matches-in = c .before .before .before .before .before .matches-in in
+    let why = c .before .why in
+    no-match _ _ _ _ _ _ _ (refused-so _ _ (matches-in .ensures) (ap toldFound (why .given .1)))
 
 -- where matches were found
 matched : (c : tie.After-found) → let args = c .before .before .before .before .before .before .before .before .before .args in
-    Gave (Matching (length (args .hits .now)) (c .before .before .before .before .find .last .1 .1 .1 .0)) (matchedIn (args .file .now) (args .location) false (length (args .hits .now) / width)) (c .found .given .0 .0)
-matched c = gave _ _ (c .before .before .before .before .find .ensures) (ap toldFound (c .found .given .1))
+    Gave (Matching (length (args .hits .now)) (c .before .before .before .before .matches-in .last .1 .1 .1 .1 .0)) (matchedWith (args .file .now) (args .head) (args .location) false (length (args .hits .now) / width)) (c .found .given .0 .0)
+matched c =
+    let matches-in = c .before .before .before .before .matches-in in
+    gave _ _ (matches-in .ensures) (ap toldFound (c .found .given .1))
 
 check-requires : tie.Need-check-requires
 check-requires c κs =
-    let hits = c .before .before .before .before .before .before .hits in
-    matches-room (matched (c .before .before .before) .fits) (omega (arith, hits .given))
+    let hits = c .before .before .before .before .before .hits in
+    matches-room (matched (c .before .before) .fits) (omega (arith, hits .given))
 
 returns-2 : tie.Need-returns-2
-returns-2 c = not-checked _ _ _ _ (matched (c .before .before .before .before .before .before .before)) _ _ (sym (ap toldChecked (c .before .checked .given .1)) ∙ c .before .before .before .check .ensures)
+returns-2 c =
+    let checked = c .before .checked in
+    let check = c .before .before .before .check in
+    not-checked _ _ _ _ _ (matched (c .before .before .before .before .before .before)) _ _ (sym (ap toldChecked (checked .given .1)) ∙ check .ensures)
 
 enum-told : tie.Need-enum-told
 enum-told c = search needs
 
 describe-requires : tie.Need-describe-requires
 describe-requires c κs =
-    let hits = c .before .before .before .before .before .before .before .before .before .before .before .hits in
-    (c .before .before .before .before .before .before .before .before .before .before .before .before .before .before .before .before .before .pre .1, matches-room (matched (c .before .before .before .before .before .before .before .before) .fits) (omega (arith, hits .given)))
+    let pre = c .before .before .before .before .before .before .before .before .before .before .before .before .before .before .before .before .pre in
+    let hits = c .before .before .before .before .before .before .before .before .before .before .hits in
+    (pre .1, matches-room (matched (c .before .before .before .before .before .before .before) .fits) (omega (arith, hits .given)))
 
 returns-3 : tie.Need-returns-3
 returns-3 c =
     let check = c .before .before .before .before .before .before .before .before .before .before .check in
-    not-described _ _ _ _ (matched (c .before .before .before .before .before .before .before .before .before .before .before .before .before .before)) (is-good (check .result) (enum-told (c .before .before .before .before .before .before .before .before .before)) ∙ check .ensures) _ (c .before .before .before .before .before .describe .ensures) _ _ (ap toldWorded (c .before .why2 .given .1))
+    let describe = c .before .before .before .before .before .describe in
+    let why2 = c .before .why2 in
+    not-described _ _ _ _ _ (matched (c .before .before .before .before .before .before .before .before .before .before .before .before .before)) (is-good (check .result) (enum-told (c .before .before .before .before .before .before .before .before .before)) ∙ check .ensures) _ (describe .ensures) _ _ (ap toldWorded (why2 .given .1))
 
 returns-4 : tie.Need-returns-4
 returns-4 c =
     let check = c .before .before .before .before .before .before .before .before .before .before .check in
-    described _ _ _ _ (matched (c .before .before .before .before .before .before .before .before .before .before .before .before .before .before)) (is-good (check .result) (enum-told (c .before .before .before .before .before .before .before .before .before)) ∙ check .ensures) _ (c .before .before .before .before .before .describe .ensures) (ap toldWorded (c .before .description .given .1))
+    let describe = c .before .before .before .before .before .describe in
+    let description = c .before .description in
+    described _ _ _ _ _ (matched (c .before .before .before .before .before .before .before .before .before .before .before .before .before)) (is-good (check .result) (enum-told (c .before .before .before .before .before .before .before .before .before)) ∙ check .ensures) _ (describe .ensures) (ap toldWorded (description .given .1))
 
 pub look-spec : {M : Type 1} → statement M
 look-spec =
     tie.close
     (tie.spec
-    find-requires
+    matches-in-requires
     (λ c. omega arith)
     (λ c. omega arith)
     (λ c. omega arith)

@@ -1,7 +1,8 @@
 -- `border::writer::bytes::put_two` meets its contract. Assumes nothing.
 use native.Mathlib.Omega.{arith}
-use Rattle.border.specs.Moves.{varintOf}
-use Rattle.border.proofs.writer.Stores.{stored-then, varint-few}
+use Rattle.numbers.specs.Spelling.{varintOf}
+use Rattle.numbers.proofs.Spelling.{varint-few}
+use Rattle.border.proofs.writer.Stores.{stored-then}
 use Rattle.border.proofs.writer.bytes.put_two.Statement.{statement}
 use Rattle.border.proofs.writer.bytes.put_two.Tie as tie
 

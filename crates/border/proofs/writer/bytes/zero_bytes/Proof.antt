@@ -4,7 +4,7 @@ use native.Mathlib.Omega.{arith}
 use Prim.Native.Nat.{_-_, _≤_}
 use mathlib.Core.List.{[], _∷_}
 use lib.ListN.{length}
-use Rattle.border.specs.Writer.{zeros}
+use Rattle.numbers.specs.Lists.{zeros}
 use Rattle.border.proofs.writer.Stores.{Left, left-all, left-step, left-none, stored-one, stored-zeros, zeros-all, zeros-next, zeros-done}
 use Rattle.border.proofs.writer.bytes.zero_bytes.Statement.{statement}
 use Rattle.border.proofs.writer.bytes.zero_bytes.Tie as tie

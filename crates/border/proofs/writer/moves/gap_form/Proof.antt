@@ -3,7 +3,7 @@ use mathlib.Core.Path.{ap, _∙_}
 use lib.IntN.{ℤ, pos, _-ℤ_}
 use lib.ListN.{getD}
 use native.Mathlib.Omega.{arith}
-use Rattle.border.specs.Moves.{signedForm}
+use Rattle.numbers.specs.Spelling.{signedForm}
 use Rattle.border.specs.Stored.{gapAt}
 use Rattle.border.proofs.writer.Signs.{formed}
 use borrow.Author.Needs.{sfits-of}

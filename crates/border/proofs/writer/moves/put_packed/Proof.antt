@@ -4,7 +4,8 @@ use Prim.Native.Nat.{ℕ, _-_}
 use mathlib.Core.Path.{subst}
 use mathlib.Core.List.{flatMap}
 use lib.Seq.{slice}
-use Rattle.border.specs.Moves.{varintOf, packedMoveBytes, movesOf}
+use Rattle.numbers.specs.Spelling.{varintOf}
+use Rattle.border.specs.Moves.{packedMoveBytes, movesOf}
 use Rattle.border.specs.Stored.{Stored, moveAt}
 use Rattle.border.proofs.writer.Indexed.{each-next, each-done}
 use Rattle.border.proofs.writer.Stores.{Left, left-all, left-step, left-none}

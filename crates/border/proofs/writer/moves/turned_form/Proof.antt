@@ -4,7 +4,7 @@ use lib.IntN.{ℤ, pos, _-ℤ_}
 use lib.ListN.{getD}
 use mathlib.Core.List.{_∷_}
 use native.Mathlib.Omega.{arith}
-use Rattle.border.specs.Moves.{signedForm}
+use Rattle.numbers.specs.Spelling.{signedForm}
 use Rattle.border.specs.Stored.{gapAt}
 use Rattle.border.proofs.writer.Signs.{formed, turned}
 use borrow.Author.Needs.{sfits-of}

@@ -3,7 +3,7 @@ use native.Mathlib.Omega.{arith}
 use Prim.Native.Nat.{_+_, _*_}
 use mathlib.Core.List.{[], _∷_, _++_}
 use borrow.Author.Tests.{eq-eqb, ne-eqb}
-use Rattle.border.specs.Moves.{varintOf}
+use Rattle.numbers.specs.Spelling.{varintOf}
 use Rattle.border.specs.Pieces.{pieceBytes}
 use Rattle.border.proofs.writer.Stores.{stored-then, marked}
 use Rattle.border.proofs.writer.pieces.put_piece.Statement.{statement}

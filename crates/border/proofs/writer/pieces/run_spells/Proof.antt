@@ -26,30 +26,30 @@ returns c =
 
 returns-2 : tie.Need-returns-2 Inv-loop μ-loop
 returns-2 c =
-    let pre = c .before .before .before .before .before .before .before .before .before .pre in
-    cut-off _ _ _ (pre .0) (pre .1) _ _ _ (c .before .before .before .before .before .if1 .taken) _ (c .before .before .before .before .read-forward .ensures) _ _ (c .before .before .value .given .1) (c .if2 .taken) ∙ c .before .before .before .before .before .before .before .loop .inv .1
+    let pre = c .before .before .before .before .before .before .before .before .before .before .pre in
+    cut-off _ _ _ (pre .0) (pre .1) _ _ _ (c .before .before .before .before .before .before .if1 .taken) _ (c .before .before .before .before .before .read-forward .ensures) _ (c .before .before .before .number .given .1) (c .if2 .taken) ∙ c .before .before .before .before .before .before .before .before .loop .inv .1
 
 returns-3 : tie.Need-returns-3 Inv-loop μ-loop
 returns-3 c =
-    let pre = c .before .before .before .before .before .before .before .before .before .before .pre in
-    of-zero _ _ _ (pre .0) (pre .1) _ _ _ (c .before .before .before .before .before .before .if1 .taken) _ (c .before .before .before .before .before .read-forward .ensures) _ _ (c .before .before .before .value .given .1) (c .before .if2 .left) (c .if3 .taken)
-    ∙ c .before .before .before .before .before .before .before .before .loop .inv .1
+    let pre = c .before .before .before .before .before .before .before .before .before .before .before .before .pre in
+    of-zero _ _ _ (pre .0) (pre .1) _ _ _ (c .before .before .before .before .before .before .before .before .if1 .taken) _ (c .before .before .before .before .before .before .before .read-forward .ensures) _ (c .before .before .before .before .before .number .given .1) (c .before .before .if2 .left) (c .if3 .taken)
+    ∙ c .before .before .before .before .before .before .before .before .before .before .loop .inv .1
 
 index-of-requires : tie.Need-index-of-requires Inv-loop μ-loop
-index-of-requires c κs = c .before .before .before .before .before .before .if1 .taken
+index-of-requires c κs = c .before .before .before .before .before .before .before .before .if1 .taken
 
 is-lent-requires : tie.Need-is-lent-requires Inv-loop μ-loop
 is-lent-requires c κs =
-    let start = c .before .before .before .before .before .before .before .before .before .before .before in
-    let inside = index-inside (start .args .piece) in
-    let if1 = c .before .before .before .before .before .before .before .if1 in
-    (rw (c .index-of .ensures) (inside _ (start .pre .0) _ (if1 .taken)), rw (c .index-of .ensures) (inside _ (start .pre .1) _ (if1 .taken)))
+    let pre = c .before .before .before .before .before .before .before .before .before .before .before .before .before .pre in
+    let inside = index-inside (c .before .before .before .before .before .before .before .before .before .before .before .before .before .args .piece) in
+    let if1 = c .before .before .before .before .before .before .before .before .before .if1 in
+    (rw (c .index-of .ensures) (inside _ (pre .0) _ (if1 .taken)), rw (c .index-of .ensures) (inside _ (pre .1) _ (if1 .taken)))
 
 returns-4 : tie.Need-returns-4 Inv-loop μ-loop
 returns-4 c =
-    let pre = c .before .before .before .before .before .before .before .before .before .before .before .before .before .pre in
-    let loop = c .before .before .before .before .before .before .before .before .before .before .before .loop in
-    of-other _ _ _ (pre .0) (pre .1) _ _ _ (c .before .before .before .before .before .before .before .before .before .if1 .taken) _ (c .before .before .before .before .before .before .before .before .read-forward .ensures) _ _ (c .before .before .before .before .before .before .value .given .1) (c .before .before .before .before .if2 .left) (c .before .before .before .if3 .left)
+    let pre = c .before .before .before .before .before .before .before .before .before .before .before .before .before .before .before .pre in
+    let loop = c .before .before .before .before .before .before .before .before .before .before .before .before .before .loop in
+    of-other _ _ _ (pre .0) (pre .1) _ _ _ (c .before .before .before .before .before .before .before .before .before .before .before .if1 .taken) _ (c .before .before .before .before .before .before .before .before .before .before .read-forward .ensures) _ (c .before .before .before .before .before .before .before .before .number .given .1) (c .before .before .before .before .before .if2 .left) (c .before .before .before .if3 .left)
     (c .before .before .index-of .ensures) (c .before .is-lent .ensures) (not-true _ (c .if4 .taken)) ∙ loop .inv .1
 
 add-j : tie.Need-add-j Inv-loop μ-loop
@@ -60,10 +60,10 @@ loop-less c = omega arith
 
 loop-again : tie.Need-loop-again Inv-loop μ-loop
 loop-again c =
-    let pre = c .before .before .before .before .before .before .before .before .before .before .before .before .before .pre in
-    let loop = c .before .before .before .before .before .before .before .before .before .before .before .loop in (
+    let pre = c .before .before .before .before .before .before .before .before .before .before .before .before .before .before .before .pre in
+    let loop = c .before .before .before .before .before .before .before .before .before .before .before .before .before .loop in (
       omega arith,
-      of-same _ _ _ (pre .0) (pre .1) _ _ _ (c .before .before .before .before .before .before .before .before .before .if1 .taken) _ (c .before .before .before .before .before .before .before .before .read-forward .ensures) _ _ (c .before .before .before .before .before .before .value .given .1) (c .before .before .before .before .if2 .left) (c .before .before .before .if3 .left)
+      of-same _ _ _ (pre .0) (pre .1) _ _ _ (c .before .before .before .before .before .before .before .before .before .before .before .if1 .taken) _ (c .before .before .before .before .before .before .before .before .before .before .read-forward .ensures) _ (c .before .before .before .before .before .before .before .before .number .given .1) (c .before .before .before .before .before .if2 .left) (c .before .before .before .if3 .left)
           (c .before .before .index-of .ensures) (c .before .is-lent .ensures) (not-false _ (c .if4 .left)) ∙ loop .inv .1,
     )
 

@@ -1,0 +1,15 @@
+-- The encoding of a file's borders: their version, and the place that references count from.
+use Prim.Native.Nat.{ℕ}
+use lib.Dec.{eqb}
+use Rattle.numbers.specs.Answer.{if_then_else_}
+use Rattle.border.specs.declared.reader.{Encoding.Encoding, Version.Version, Version.the-variants.Plain, Version.the-variants.Packed}
+
+-- a version by its number
+abbrev pub versionOf : ℕ → Version
+versionOf number = if eqb number 0 then Plain else Packed
+
+abbrev pub encodedIn : Version → ℕ → Encoding
+encodedIn version base = record { version = version; «data» = base }
+
+abbrev pub encodingOf : ℕ → ℕ → Encoding
+encodingOf number base = encodedIn (versionOf number) base

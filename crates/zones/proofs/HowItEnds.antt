@@ -1,0 +1,223 @@
+-- An answered search went through every row up to where it ended, and its mark says why it ended there. Assumes nothing.
+use mathlib.Core.Path.{_≡_, refl, sym, ap, subst, _∙_}
+use mathlib.Core.Bool.{Bool, true, false}
+use mathlib.Core.List.{List, [], _∷_, _++_, append-assoc, append-nil}
+use Prim.Native.Nat.{ℕ, _/_}
+use native.Mathlib.Omega.{arith}
+use lib.Dec.{ltb, eqb}
+use lib.ListN.{length}
+use Rattle.numbers.proofs.Refusals.{Listed}
+use Rattle.numbers.specs.Answer.{if_then_else_}
+use Rattle.border.specs.Verdict.{Judgement, reached}
+use Rattle.border.specs.Verdict as J
+use Rattle.border.specs.declared.place.Point.{Point}
+use Rattle.border.specs.declared.verdict.Verdict.{Verdict}
+use Rattle.zones.specs.Ending.{hitsOf, Through, here, outside, judged, Ends, at-the-end, above, unread, broken, Ending, Behind, Answered}
+use Rattle.zones.specs.Fields.{fieldsOf}
+use Rattle.zones.specs.Find.{fixOf, isPrecision, Matched, matchedWith}
+use Rattle.zones.specs.Header.{headOf}
+use Rattle.zones.specs.Hits.{width, words, hitOf}
+use Rattle.zones.specs.Lent.{Outcome, repliedOf}
+use Rattle.numbers.specs.Lists.{padded}
+use Rattle.zones.specs.Lookup.{zonesWith, zonesIn, lookedUp}
+use Rattle.zones.specs.Merge.{merged}
+use Rattle.numbers.specs.Reply.{Reply, given, plain, demand, _>>=_, _>>_}
+use Rattle.numbers.specs.Reply as R
+use Rattle.zones.specs.Rows.{Rows, row, tableEnd, unreadable, rowsIn}
+use Rattle.zones.specs.Rows as T
+use Rattle.zones.specs.Search.{kindOf, judgedTurn, rowTurn, Found, ended, afterTurn, seek, judgeIn, farthest, searched}
+use Rattle.zones.specs.Simple.{checked, wordedOf, describedWith, describedIn, simplyLooked}
+use Rattle.zones.specs.Table.{isAbove, holds}
+use Rattle.zones.specs.declared.header.Head.{Head}
+use Rattle.zones.specs.declared.hits.Hit.{Hit}
+use Rattle.zones.specs.declared.location.Location.{Location}
+use Rattle.zones.specs.declared.lookup.Zones.{Zones}
+use Rattle.zones.specs.declared.rows.Row.{Row}
+use Rattle.zones.specs.declared.search.Turn.the-variants.{On, Met, Stopped, Refused}
+use Rattle.zones.specs.declared.simple.Described.{Described}
+use Rattle.numbers.proofs.Replies.{From, given-from}
+
+-- ---- the search of rows
+module _ (judge : ℕ → ℕ → Judgement) (fix : Point) (room : ℕ) where
+  -- the same after some hits
+  record After (rows : Rows) (least : ℕ) (before : List Hit) (f : Found) : Type 0 where
+    more : List Hit
+    left : Rows
+    last : ℕ
+    is : f .hits ≡ before ++ more
+    through : Through judge fix rows least more left last
+    ends : Ends judge fix left last (f .mark) (f .least)
+
+  -- it ends here
+  stop : (rows : Rows) (least : ℕ) (hits : List Hit) (mark last : ℕ) (f : Found) → Ends judge fix rows least mark last → ended hits mark last ≡ given f → After rows least hits f
+  stop rows least hits mark last f why e =
+      let is : record { hits = hits; mark = mark; least = last } ≡ f = cc in
+      subst (After rows least hits) is (record { more = []; left = rows; last = least; is = sym (append-nil hits); through = here; ends = why })
+
+  abbrev Sought : Rows → Type 0
+  Sought rows = (least : ℕ) (hits : List Hit) (f : Found) → seek judge fix room rows least hits ≡ given f → After rows least hits f
+
+  module _ (r : Row) (rows : Rows) (rest : Sought rows) (least : ℕ) (hits : List Hit) (f : Found) where
+    abbrev go : ℕ → List Hit → Reply Found
+    go = seek judge fix room rows
+
+    abbrev Goal : Type 0
+    Goal = After (row r rows) least hits f
+
+    module _ (low : isAbove (r .bounds) fix ≡ false) where
+      module _ (held : holds (r .bounds) fix ≡ true) where
+        module _ (verdict : Verdict) (closer : ℕ) (j : judge (r .polygon) least ≡ reached verdict closer) where
+          abbrev hit : Hit
+          hit = hitOf (r .id) (r .metadata) (kindOf verdict)
+
+          by-room : eqb (kindOf verdict) 0 ≡ false → (t : Bool) → (if t then go closer (hits ++ hit ∷ []) else R.refused (plain 17)) ≡ given f → Goal
+          by-room k true e =
+              let a = rest closer (hits ++ hit ∷ []) f e in
+              record { more = hitsOf r verdict ++ a .more; left = a .left; last = a .last; is = rw k (a .is ∙ append-assoc hits (hit ∷ []) (a .more)); through = judged low held j (a .through); ends = a .ends }
+          by-room k false e = let z : _≡_ {A = ℕ} 0 1 = cc in absurd (omega arith)
+
+          by-kind : (t : Bool) → eqb (kindOf verdict) 0 ≡ t → afterTurn (if t then On closer else Met hit closer) hits room go ≡ given f → Goal
+          by-kind true k e =
+              let a = rest closer hits f e in
+              record { more = hitsOf r verdict ++ a .more; left = a .left; last = a .last; is = rw k (a .is); through = judged low held j (a .through); ends = a .ends }
+          by-kind false k e = by-room k (ltb (length hits) room) e
+
+        by-judgement : (judgement : Judgement) → judge (r .polygon) least ≡ judgement → afterTurn (judgedTurn r judgement) hits room go ≡ given f → Goal
+        unfolding judgedTurn
+        by-judgement (reached verdict closer) j e = by-kind verdict closer j (eqb (kindOf verdict) 0) refl e
+        by-judgement (J.failed last) j e = stop (row r rows) least hits 3 last f (broken low held j) e
+        by-judgement (J.refused n) j e = let z : _≡_ {A = ℕ} 0 1 = cc in absurd (omega arith)
+
+      by-box : (t : Bool) → holds (r .bounds) fix ≡ t → afterTurn (if t then judgedTurn r (judge (r .polygon) least) else On least) hits room go ≡ given f → Goal
+      by-box true held e = by-judgement held (judge (r .polygon) least) refl e
+      by-box false held e =
+          let a = rest least hits f e in
+          record { more = a .more; left = a .left; last = a .last; is = a .is; through = outside low held (a .through); ends = a .ends }
+
+    by-above : (t : Bool) → isAbove (r .bounds) fix ≡ t
+        → afterTurn (if t then Stopped 1 least else (if holds (r .bounds) fix then judgedTurn r (judge (r .polygon) least) else On least)) hits room go ≡ given f → Goal
+    by-above true a e = stop (row r rows) least hits 1 least f (above a) e
+    by-above false a e = by-box a (holds (r .bounds) fix) refl e
+
+    by-row : afterTurn (rowTurn judge fix r least) hits room go ≡ given f → Goal
+    unfolding rowTurn
+    by-row e = by-above (isAbove (r .bounds) fix) refl e
+
+  sought : (rows : Rows) → Sought rows
+  unfolding seek
+  sought (row r rows) least hits f e = by-row r rows (sought rows) least hits f e
+  sought tableEnd least hits f e = stop tableEnd least hits 1 least f at-the-end e
+  sought unreadable least hits f e = stop unreadable least hits 2 least f unread e
+  sought (T.refused n) least hits f e = let z : _≡_ {A = ℕ} 0 1 = cc in absurd (omega arith)
+
+  -- A search of rows that is answered has exactly the hits of the rows up to where it ends, and ends there for one of the four reasons.
+  pub how-it-ends : (rows : Rows) (least : ℕ) (f : Found) → seek judge fix room rows least [] ≡ given f → Ending judge fix rows least f
+  how-it-ends rows least f e =
+      let a = sought rows least [] f e in
+      record { left = a .left; last = a .last; through = subst (λ (hits : List Hit). Through judge fix rows least hits (a .left) (a .last)) (sym (a .is)) (a .through); ends = a .ends }
+
+-- the marks that a search can end with
+abbrev pub endMarks : List ℕ
+endMarks = 1 ∷ 2 ∷ 3 ∷ []
+
+-- A search's mark is 1, 2 or 3.
+pub marks : {judge : ℕ → ℕ → Judgement} {fix : Point} {rows : Rows} {least mark last : ℕ} → Ends judge fix rows least mark last → Listed endMarks mark
+marks at-the-end = refl
+marks (above h) = refl
+marks unread = refl
+marks (broken low held j) = refl
+
+-- ---- lookups
+met-check : {A : Type 0} {a : A} (check : Reply (Unit {0})) (next : Reply A) → given a ≡ (check >> next) → given a ≡ next
+met-check (given u) next e = e
+met-check (R.refused why) next e = let z : _≡_ {A = ℕ} 0 1 = cc in absurd (omega arith)
+
+behind-marks : {file : List ℕ} {location : Location} {asked : Bool} {matches : List Hit} {mark : ℕ} → Behind file location asked matches mark → Listed endMarks mark
+behind-marks b = subst (Listed endMarks) (sym (b .marked)) (marks (b .ending .ends))
+
+matched-ends : (file : List ℕ) (head : Head) (location : Location) (asked : Bool) (room : ℕ) (m : Matched) → given head ≡ headOf file → given m ≡ matchedWith file head location asked room
+    → Behind file location asked (m .matches) (m .mark)
+unfolding matchedWith searched
+matched-ends file head location asked room m h e =
+    let fix = fixOf location (head .preamble .precision) in
+    let s = given-from (searched file head fix asked room) _ (met-check (demand (isPrecision (head .preamble .precision)) (plain 16)) _ e) in
+    let is : m ≡ record { matches = merged (s .it .hits); mark = s .it .mark; least = s .it .least } = cc in
+    record {
+      head = head;
+      opened = sym h;
+      found = s .it;
+      ending = how-it-ends (judgeIn file head fix asked) fix room (rowsIn file head) farthest (s .it) (sym (s .is));
+      marked = ap (λ (x : Matched). x .mark) is;
+      merges = ap (λ (x : Matched). x .matches) is;
+    }
+
+-- what a reply with its lent words was made of
+record Outcame {A : Type 0} (n room : ℕ) (reply : Reply (Outcome A)) (answer : A) : Type 0 where
+  outcome : Outcome A
+  is : given outcome ≡ reply
+  said : answer ≡ outcome .answer
+  kept : repliedOf n room reply .hits ≡ padded n (words (outcome .matches))
+
+outcame : {A : Type 0} (n room : ℕ) (reply : Reply (Outcome A)) (answer : A) → repliedOf n room reply .reply ≡ given answer → Outcame n room reply answer
+unfolding repliedOf
+outcame n room (given o) answer e = record { outcome = o; is = refl; said = cc; kept = refl }
+outcame n room (R.refused why) answer e = let z : _≡_ {A = ℕ} 0 1 = cc in absurd (omega arith)
+
+given-one : {A : Type 0} {a b : A} → given a ≡ given b → a ≡ b
+given-one e = cc
+
+-- an outcome tells of the matches that it was made of
+record Tells {A : Type 0} (marked counted : A → ℕ) (m : Matched) (o : Outcome A) : Type 0 where
+  mark : marked (o .answer) ≡ m .mark
+  count : counted (o .answer) ≡ length (m .matches)
+  matches : o .matches ≡ m .matches
+
+module _ {A : Type 0} (marked counted : A → ℕ) (file : List ℕ) (location : Location) (asked : Bool) (n room : ℕ) (next : Head → Matched → Reply (Outcome A))
+    (tells : (head : Head) (m : Matched) (o : Outcome A) → given o ≡ next head m → Tells marked counted m o) where
+  abbrev whole : Reply (Outcome A)
+  whole = headOf file >>= λ head. (matchedWith file head location asked (n / width) >>= next head)
+
+  answer-ends : (answer : A) → repliedOf n room whole .reply ≡ given answer → Answered file location asked n (counted answer) (marked answer) (repliedOf n room whole .hits)
+  answer-ends answer e =
+      let o = outcame n room whole answer e in
+      let h = given-from (headOf file) _ (o .is) in
+      let m = given-from (matchedWith file (h .it) location asked (n / width)) (next (h .it)) (h .onto) in
+      let t = tells (h .it) (m .it) (o .outcome) (m .onto) in
+      record {
+        list = m .it .matches;
+        behind = subst (Behind file location asked (m .it .matches)) (sym (ap marked (o .said) ∙ t .mark)) (matched-ends file (h .it) location asked (n / width) (m .it) (h .is) (m .is));
+        counted = ap counted (o .said) ∙ t .count;
+        kept = o .kept ∙ ap (λ (l : List Hit). padded n (words l)) (t .matches);
+      }
+
+-- An answered lookup comes from a search that went through every row up to where it ended, and its mark says why it ended there.
+pub lookup-ends : (file : List ℕ) (location : Location) (asked : Bool) (n room : ℕ) (zones : Zones) → lookedUp file location asked n room .reply ≡ given zones
+    → Answered file location asked n (zones .matches) (zones .mark) (lookedUp file location asked n room .hits)
+unfolding lookedUp zonesIn zonesWith
+lookup-ends file location asked n room =
+    answer-ends (λ (z : Zones). z .mark) (λ (z : Zones). z .matches) file location asked n room _
+    λ head m o e.
+    let is = given-one (given-from (fieldsOf file head room (m .matches) []) _ e .onto) in
+    record { mark = ap (λ (x : Outcome Zones). x .answer .mark) is; count = ap (λ (x : Outcome Zones). x .answer .matches) is; matches = ap (λ (x : Outcome Zones). x .matches) is }
+
+-- The same of a simple lookup, which does not ask for the distance.
+pub simple-lookup-ends : (file : List ℕ) (location : Location) (n room : ℕ) (described : Described) → simplyLooked file location n room .reply ≡ given described
+    → Answered file location false n (described .matches) (described .mark) (simplyLooked file location n room .hits)
+unfolding simplyLooked describedIn describedWith
+simple-lookup-ends file location n room =
+    answer-ends (λ (d : Described). d .mark) (λ (d : Described). d .matches) file location false n room _
+    λ head m o e.
+    let is = given-one (given-from (wordedOf file head room (m .matches)) _ (met-check (checked file head (m .matches)) _ e) .onto) in
+    record {
+      mark = ap (λ (x : Outcome Described). x .answer .mark) is;
+      count = ap (λ (x : Outcome Described). x .answer .matches) is;
+      matches = ap (λ (x : Outcome Described). x .matches) is;
+    }
+
+-- So a lookup's mark is 1, 2 or 3,
+pub lookup-marks : (file : List ℕ) (location : Location) (asked : Bool) (n room : ℕ) (zones : Zones) → lookedUp file location asked n room .reply ≡ given zones → Listed endMarks (zones .mark)
+lookup-marks file location asked n room zones e = behind-marks (lookup-ends file location asked n room zones e .behind)
+
+-- and a simple lookup's too.
+pub simple-lookup-marks : (file : List ℕ) (location : Location) (n room : ℕ) (described : Described) → simplyLooked file location n room .reply ≡ given described → Listed endMarks (described .mark)
+simple-lookup-marks file location n room described e = behind-marks (simple-lookup-ends file location n room described e .behind)

@@ -1,0 +1,43 @@
+-- A refusal of an entry point leaves every lent word and byte zero. Assumes nothing.
+use mathlib.Core.Path.{_≡_, refl}
+use mathlib.Core.Bool.{Bool}
+use mathlib.Core.List.{List}
+use Prim.Native.Nat.{ℕ}
+use native.Mathlib.Omega.{arith}
+use Rattle.zones.specs.Header.{Contents}
+use Rattle.zones.specs.Lent.{Outcome, repliedOf}
+use Rattle.numbers.specs.Lists.{zeros}
+use Rattle.zones.specs.Lookup.{zonesIn, lookedUp}
+use Rattle.zones.specs.Opening as O
+use Rattle.zones.specs.Opening.{fittingOf, openedOf}
+use Rattle.numbers.specs.Reply.{Reply, given, refused}
+use Rattle.zones.specs.Simple.{describedIn, simplyLooked}
+use Rattle.zones.specs.declared.location.Location.{Location}
+use Rattle.numbers.specs.declared.refusal.Refusal.{Refusal}
+
+both-zero : {A : Type 0} (n room : ℕ) (reply : Reply (Outcome A)) (why : Refusal) → repliedOf n room reply .reply ≡ refused why
+    → (repliedOf n room reply .hits ≡ zeros n) × (repliedOf n room reply .text ≡ zeros room)
+unfolding repliedOf
+both-zero n room (given o) why e = let z : _≡_ {A = ℕ} 0 1 = cc in absurd (omega arith)
+both-zero n room (refused why′) why e = (refl, refl)
+
+text-zero : (room : ℕ) (reply : Reply Contents) (why : Refusal) → O.repliedOf room reply .reply ≡ refused why → O.repliedOf room reply .text ≡ zeros room
+text-zero room (given contents) why e = let z : _≡_ {A = ℕ} 0 1 = cc in absurd (omega arith)
+text-zero room (refused why′) why e = refl
+
+-- A refused opening leaves the whole text zero.
+pub open-refusal-zeroes : (file : List ℕ) (room : ℕ) (why : Refusal) → openedOf file room .reply ≡ refused why → openedOf file room .text ≡ zeros room
+unfolding openedOf
+open-refusal-zeroes file room = text-zero room (fittingOf file room)
+
+-- A refused lookup leaves every word of the hit list and every byte of the text zero.
+pub lookup-refusal-zeroes : (file : List ℕ) (location : Location) (asked : Bool) (n room : ℕ) (why : Refusal) → lookedUp file location asked n room .reply ≡ refused why
+    → (lookedUp file location asked n room .hits ≡ zeros n) × (lookedUp file location asked n room .text ≡ zeros room)
+unfolding lookedUp
+lookup-refusal-zeroes file location asked n room = both-zero n room (zonesIn file location asked n room)
+
+-- A refused simple lookup does too.
+pub simple-lookup-refusal-zeroes : (file : List ℕ) (location : Location) (n room : ℕ) (why : Refusal) → simplyLooked file location n room .reply ≡ refused why
+    → (simplyLooked file location n room .hits ≡ zeros n) × (simplyLooked file location n room .text ≡ zeros room)
+unfolding simplyLooked
+simple-lookup-refusal-zeroes file location n room = both-zero n room (describedIn file location n room)

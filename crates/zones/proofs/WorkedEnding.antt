@@ -1,0 +1,54 @@
+-- A case that meets the theorems on endings: document 01's printed file, asked at (5, 5) on its grid, by computation. Assumes nothing.
+use mathlib.Core.Path.{_≡_, refl, ap}
+use mathlib.Core.Bool.{false}
+use mathlib.Core.List.{List, [], _∷_}
+use Prim.Native.Nat.{ℕ}
+use lib.IntN.{pos, negsuc}
+use lib.Ieee.{fin, ofInt, add, sub, mul, div, toSigned}
+use Rattle.numbers.specs.Varint.{forwardAt, valueOf, sizeOf, tooLong}
+use Rattle.numbers.specs.Point.{signedOf, evenBits, pointOf}
+use Rattle.numbers.specs.Float.{fixedPoint, oneShifted}
+use Rattle.numbers.specs.Answer.{checked}
+use Rattle.border.specs.Place.{movedBy}
+use Rattle.border.specs.Reader.{advanced, marker, packedTurn, turnOf}
+use Rattle.border.specs.Trace.{roundAgain, nextWithin, nextPoint, traceThen, traceWithin, traceOf}
+use Rattle.border.specs.Edge.{samePoint, between, inBox, quadrantOf, slopeOf, edgeOf, straight, closestOn}
+use Rattle.border.specs.Winding.{turned, quarterBy, halfTurn, turnAt, crossingOf, acrossBy, clearOf, woundBy}
+use Rattle.border.specs.Distance.{measured}
+use Rattle.border.specs.Step as S
+use Rattle.border.specs.Verdict.{along, passing, closedAt, thenOn, judge, judgedAt}
+use Rattle.zones.specs.Field.{fieldAt}
+use Rattle.zones.specs.Fields.{fieldsFrom, fieldsOf}
+use Rattle.zones.specs.Find.{fixOf, matchedWith}
+use Rattle.zones.specs.Header.{preambleOf, textsFrom, sectionsFrom, sectionsAt, contentsOf, headOf}
+use Rattle.zones.specs.Hits.{words}
+use Rattle.zones.specs.Ending.{Answered}
+use Rattle.zones.specs.Lent.{Replied, replied, repliedOf}
+use Rattle.zones.specs.Lookup.{safezoneBits, zonesWith, zonesIn, lookedUp}
+use Rattle.zones.specs.Merge.{summary, seen, mergedAfter, merged}
+use Rattle.numbers.specs.Reply.{given}
+use Rattle.zones.specs.Rows.{rowsThen, rowBy, rowsWithin, rowsFrom, rowsIn}
+use Rattle.zones.specs.Search.{judgedTurn, rowTurn, seek, searched}
+use Rattle.zones.specs.Table.{stepsBy, entryBy}
+use Rattle.zones.specs.Text.{within, remoteAt, stringAt, bytesOf, textAt}
+use Rattle.zones.specs.Utf8.{characters, startedBy, begunBy, followed, goesOn, isUtf8}
+use Rattle.zones.specs.declared.location.Location.{Location}
+use Rattle.zones.specs.declared.lookup.Zones.{Zones}
+use Rattle.zones.proofs.HowItEnds.{lookup-ends}
+
+abbrev printed : List ℕ
+printed =
+    0x50 ∷ 0x4C ∷ 0x42 ∷ 0x43 ∷ 0x01 ∷ 0x10 ∷ 0x01 ∷ 0x04 ∷ 0xCE ∷ 0xE1 ∷ 0xED ∷ 0xE5 ∷ 0x00 ∷ 0x06 ∷ 0x02 ∷ 0x09 ∷ 0x04 ∷ 0x04 ∷ 0x14
+    ∷ 0x14 ∷ 0x00 ∷ 0x00 ∷ 0x01 ∷ 0xC1 ∷ 0x30 ∷ 0x80 ∷ 0x02 ∷ 0x80 ∷ 0x04 ∷ 0x81 ∷ 0x02 ∷ 0x00 ∷ 0x00 ∷ []
+
+abbrev inTheZone : Location
+inTheZone = record { lat = fin false 225 (negsuc 13); lon = fin false 225 (negsuc 12) }
+
+pub answered : lookedUp printed inTheZone false 3 4
+    ≡ replied (given (record { matches = 1; mark = 1; safezone = 0; used = 4 })) (0 ∷ 0 ∷ 1 ∷ []) (0 ∷ 0 ∷ 1 ∷ 0x41 ∷ [])
+unfolding forwardAt valueOf sizeOf tooLong signedOf evenBits pointOf fixedPoint oneShifted checked movedBy advanced marker packedTurn turnOf roundAgain nextWithin nextPoint traceThen traceWithin traceOf along passing closedAt thenOn judge judgedAt fieldAt fieldsFrom fieldsOf fixOf matchedWith preambleOf textsFrom sectionsFrom sectionsAt contentsOf headOf words repliedOf safezoneBits zonesWith zonesIn lookedUp summary seen mergedAfter merged rowsThen rowBy rowsWithin rowsFrom rowsIn judgedTurn rowTurn seek searched stepsBy entryBy within remoteAt stringAt bytesOf textAt characters startedBy begunBy followed goesOn isUtf8 samePoint between inBox quadrantOf slopeOf edgeOf straight closestOn turned quarterBy halfTurn turnAt crossingOf acrossBy clearOf woundBy measured S.checked ofInt add sub mul div toSigned
+answered = refl
+
+-- so the search behind it went through the file's one row, and ended at the table's end
+pub answered-ends : Answered printed inTheZone false 3 1 1 (lookedUp printed inTheZone false 3 4 .hits)
+answered-ends = lookup-ends printed inTheZone false 3 4 _ (ap (λ (x : Replied Zones). x .reply) answered)
