@@ -11,7 +11,7 @@ use Rattle.zones.specs.Merge.{Summary, _⊕_, single, summary, tallied, 
 use Rattle.zones.specs.declared.hits.Hit.{Hit}
 use Rattle.zones.specs.declared.merge.Tally.{Tally}
 use Rattle.zones.proofs.hits.Words.{words-length, word-at, word-put}
-use Rattle.zones.proofs.merge.Summaries.{⊕-assoc, ⊕-idl, ⊕-idr}
+use Rattle.zones.proofs.merge.Summaries.{join-associative, join-empty-left, join-empty-right}
 
 -- ---- a slot in the middle of a list
 pub middle-at : (front back : List Hit) (hit : Hit) (j : ℕ) → length front ≡ j → hitAt (words (front ++ hit ∷ back)) j ≡ hit
@@ -51,7 +51,7 @@ begins all from id ws t w f z = record {
   inside = f;
   place = omega arith;
   kept = w ∙ ap words (sym (take-append-drop from all) ∙ ap (λ (l : List Hit). l ++ drop from all) (sym (append-nil (take from all))));
-  sum = ap (λ (u : Tally). tallied u ⊕ summary id (drop from all)) z ∙ ⊕-idl (summary id (drop from all));
+  sum = ap (λ (u : Tally). tallied u ⊕ summary id (drop from all)) z ∙ join-empty-left (summary id (drop from all));
   small = rw z (omega arith);
   small′ = rw z (omega arith);
 }
@@ -75,7 +75,7 @@ module _ {all : List Hit} {from id : ℕ} {ws : List ℕ} {t : Tally} {j : ℕ} 
       go : (left : List Hit) → drop from all ≡ g .passed ++ left → ws ≡ words ((take from all ++ cleared id (g .passed)) ++ left)
           → tallied t ⊕ summary id left ≡ summary id (drop from all) → length left ≡ 0 → (tallied t ≡ summary id (drop from all)) × (ws ≡ words (take from all ++ cleared id (drop from all)))
       go [] s k e z = (
-        sym (⊕-idr (tallied t)) ∙ e,
+        sym (join-empty-right (tallied t)) ∙ e,
         k ∙ ap words (append-nil (take from all ++ cleared id (g .passed)) ∙ ap (λ (l : List Hit). take from all ++ cleared id l) (sym (s ∙ append-nil (g .passed)))),
       )
       go (x ∷ xs) s k e z = absurd (omega arith)
@@ -152,7 +152,7 @@ module _ {all : List Hit} {from id : ℕ} {ws : List ℕ} {t : Tally} {j : ℕ} 
           (w ∙ ap (λ (v : List ℕ). putHit v j noHit) opened ∙ middle-put front rest hit noHit j front-length ∙ rw yes refl)
           (
           ap (λ (u : Summary). u ⊕ summary id rest) (s ∙ ap (λ (h : Hit). tallied t ⊕ single (h .kind)) same)
-          ∙ ⊕-assoc (tallied t) (single (hit .kind)) (summary id rest)
+          ∙ join-associative (tallied t) (single (hit .kind)) (summary id rest)
           ∙ (simp yes at sum-here)
           )
           (omega (arith, g .small)) (omega (arith, g .small′))

@@ -14,7 +14,7 @@ use Rattle.zones.specs.Hits.{width, hitOf, words, slots, Real, hitAt, pu
 use Rattle.zones.specs.Merge.{Summary, _⊕_, single, summary, groupKind, seen, matchOf, mergedAfter, merged, clear, cleared}
 use Rattle.zones.specs.declared.hits.Hit.{Hit}
 use Rattle.zones.proofs.hits.Words.{words-length, words-append, slots-words}
-use Rattle.zones.proofs.merge.Summaries.{⊕-idl}
+use Rattle.zones.proofs.merge.Summaries.{join-empty-left, seen-joined}
 use Rattle.zones.proofs.merge.Gathering.{middle-at, middle-put}
 
 -- ---- slots of hits whose group was taken out already
@@ -29,12 +29,7 @@ nones n = replicate n noHit
 
 seen-snoc : (id : ℕ) (before : List Hit) (hit : Hit) → seen id (before ++ hit ∷ []) ≡ (if seen id before then true else (if eqb (hit .metadata) id then true else false))
 unfolding seen
-seen-snoc id [] hit = refl
-seen-snoc id (x ∷ xs) hit = go (eqb (x .metadata) id) (seen-snoc id xs hit)
-  where
-    go : (b : Bool) → seen id (xs ++ hit ∷ []) ≡ (if seen id xs then true else (if eqb (hit .metadata) id then true else false)) → (if b then true else seen id (xs ++ hit ∷ [])) ≡ (if (if b then true else seen id xs) then true else (if eqb (hit .metadata) id then true else false))
-    go true e = refl
-    go false e = e
+seen-snoc id before hit = seen-joined id before (hit ∷ [])
 
 same-test : (a b : ℕ) → eqb a b ≡ eqb b a
 same-test a b = go (eqb a b) refl
@@ -90,7 +85,7 @@ summary-struck id before s [] = refl
 summary-struck id before s (x ∷ xs) = go (summary-struck id before s xs) (seen (x .metadata) before) refl
   where
     no-hit : summary id (struck before xs) ≡ summary id xs → (t : Bool) → (if t then single 0 ⊕ summary id (struck before xs) else summary id (struck before xs)) ≡ summary id xs
-    no-hit rest true = ⊕-idl (summary id (struck before xs)) ∙ rest
+    no-hit rest true = join-empty-left (summary id (struck before xs)) ∙ rest
     no-hit rest false = rest
 
     go : summary id (struck before xs) ≡ summary id xs → (t : Bool) → seen (x .metadata) before ≡ t → summary id (struck before (x ∷ xs)) ≡ summary id (x ∷ xs)
