@@ -3,6 +3,7 @@
 use Prim.Native.Nat.{ℕ, _+_, _-_, _%_, _^_, min}
 use mathlib.Core.Path.{_≡_, refl, sym, subst, ap, _∙_}
 use mathlib.Core.Bool.{Bool, true, false, _&&_}
+use mathlib.Core.List.{List}
 use mathlib.Core.Logic.{_⊎_, inl, inr}
 use lib.Dec.{ltb, eqb}
 use lib.IntN.{ℤ, pos, negsuc, _+ℤ_, _-ℤ_, _*ℤ_}
@@ -15,8 +16,9 @@ use Rattle.border.specs.Step.{Step, found, meets, _>>=_, checked}
 use Rattle.border.specs.Edge.{sameZ, samePoint, straight, inBox, quadrantOf, locationOf, edgeOf, closestOn, cutOf}
 use Rattle.border.specs.Winding.{turned, quarterBy, turnAt, crossingOf, acrossBy, clearOf, woundBy}
 use Rattle.border.specs.Distance.{squared, toSegment, toVertex, distanceOf, measured}
-use Rattle.border.specs.Verdict.{Judgement, reached, failed, refused, Last, none, after, along, passing, onBorder, closedAt, thenOn, judge}
-use Rattle.border.specs.declared.place.Point.{Point}
+use Rattle.border.specs.Verdict.{Judgement, reached, failed, refused, Last, none, after, along, passing, onBorder, closedAt, thenOn, judge, judgedAt}
+use Rattle.border.specs.declared.place.{Point.Point, FixedLat.FixedLat, FixedLon.FixedLon}
+use Rattle.border.specs.declared.reader.Encoding.{Encoding}
 use Rattle.border.specs.declared.edge.Edge.{Edge}
 use Rattle.border.specs.declared.edge.Edge.the-variants.{Sloped, EqualLongitude, EqualLatitude}
 use Rattle.border.specs.declared.verdict.Tally.{Tally}
@@ -175,3 +177,9 @@ module _ (d : ℕ) where
     asked-or-not last t closed = closed-agrees t
     asked-or-not last t T.failed = refl
     asked-or-not last t (T.refused n) = inr refl
+
+-- The same of the border at a place of a file, whatever the least distances so far.
+pub judged-asked-or-not : (file : List ℕ) (encoding : Encoding) (place : ℕ) (lat : FixedLat) (lon : FixedLon) (least least′ : ℕ)
+    → Agrees least′ (judgedAt file encoding place lat lon true least) (judgedAt file encoding place lat lon false least′)
+unfolding judgedAt
+judged-asked-or-not file encoding place lat lon least least′ = asked-or-not least′ (record { lat = lat; lon = lon }) none (record { winding = pos 0; least = least }) _

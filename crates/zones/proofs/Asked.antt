@@ -1,0 +1,196 @@
+-- The distance asked for or not (request Q-2): the search, and lookup over it. Assumes nothing.
+use Prim.Native.Nat.{ℕ, _/_}
+use lib.Dec.{ltb, eqb}
+use lib.IntN.{pos}
+use lib.ListN.{length}
+use mathlib.Core.Bool.{Bool, true, false}
+use mathlib.Core.List.{List, [], _∷_, _++_}
+use mathlib.Core.Logic.{_⊎_, inl, inr}
+use mathlib.Core.Path.{_≡_, refl, sym, ap, _∙_, subst}
+use native.Mathlib.Omega.{arith}
+use Rattle.border.proofs.Unasked.{Agrees, judged-asked-or-not}
+use Rattle.border.specs.Verdict.{Judgement, reached}
+use Rattle.border.specs.declared.place.Point.{Point}
+use Rattle.numbers.specs.Answer.{if_then_else_}
+use Rattle.zones.proofs.Unless.{shown, Unless, refuses, alike, unless-after, unless-demand, unless-then}
+use Rattle.zones.specs.Fields.{fieldsOf}
+use Rattle.zones.specs.Find.{Matched, isPrecision, fixOf, matchedWith}
+use Rattle.zones.specs.Header.{headOf}
+use Rattle.zones.specs.Hits.{width, hitOf}
+use Rattle.zones.specs.Lent.{Outcome, Replied, replied, repliedOf}
+use Rattle.zones.specs.Lookup.{safezoneBits, zonesWith, zonesIn, lookedWith, lookedUp}
+use Rattle.zones.specs.Merge.{merged}
+use Rattle.numbers.specs.Reply.{Reply, given, refused, plain, _>>=_}
+use Rattle.zones.specs.Rows.{Rows, row, tableEnd, unreadable, rowsIn}
+use Rattle.zones.specs.Search.{Found, kindOf, farthest, afterTurn, judgedTurn, rowTurn, seek, judgeIn, searched}
+use Rattle.zones.specs.Table.{isAbove, holds}
+use Rattle.zones.specs.declared.header.Head.{Head}
+use Rattle.zones.specs.declared.hits.Hit.{Hit}
+use Rattle.zones.specs.declared.location.Location.{Location}
+use Rattle.zones.specs.declared.lookup.Zones.{Zones}
+use Rattle.zones.specs.declared.rows.Row.{Row}
+use Rattle.zones.specs.declared.search.Turn.the-variants.{On, Met, Stopped}
+use Rattle.border.specs.Verdict as J
+use Rattle.zones.specs.Rows as T
+
+-- an answer without its safezone bits
+abbrev pub unmeasured : Zones → Zones
+unmeasured zones = record { matches = zones .matches; mark = zones .mark; safezone = 0; used = zones .used }
+
+-- all that a search finds but the distance
+abbrev unmeasuredFound : Found → Found
+unmeasuredFound found = record { hits = found .hits; mark = found .mark; least = 0 }
+
+-- ---- the search, over any rows and any two ways to judge a border that agree but for the distance and 13
+module _ (judge judge′ : ℕ → ℕ → Judgement) (agree : (polygon least least′ : ℕ) → Agrees least′ (judge polygon least) (judge′ polygon least′)) (fix : Point) (room : ℕ) where
+  abbrev Same : Reply Found → Reply Found → Type 0
+  Same = Unless 13 unmeasuredFound
+
+  module _ (hits : List Hit) (go go′ : ℕ → List Hit → Reply Found) (same : (least least′ : ℕ) (hits : List Hit) → Same (go least hits) (go′ least′ hits)) where
+    -- a border that is no hit, and one that is
+    reached-same : (missed : Bool) (hit : Hit) (least least′ : ℕ) → Same (afterTurn (if missed then On least else Met hit least) hits room go) (afterTurn (if missed then On least′ else Met hit least′) hits room go′)
+    reached-same true hit least least′ = same least least′ hits
+    reached-same false hit least least′ = slot (ltb (length hits) room)
+      where
+        slot : (test : Bool) → Same (if test then go least (hits ++ hit ∷ []) else refused (plain 17)) (if test then go′ least′ (hits ++ hit ∷ []) else refused (plain 17))
+        slot true = same least least′ (hits ++ hit ∷ [])
+        slot false = alike refl
+
+    judged-same : (r : Row) (j o : Judgement) (d : ℕ) → Agrees d j o → Same (afterTurn (judgedTurn r j) hits room go) (afterTurn (judgedTurn r o) hits room go′)
+    unfolding judgedTurn
+    judged-same r (reached verdict least) o d h = rw h (reached-same (eqb (kindOf verdict) 0) (hitOf (r .id) (r .metadata) (kindOf verdict)) least d)
+    judged-same r (J.failed least) o d h = rw h (alike refl)
+    judged-same r (J.refused n) o d (inl h) = refuses (ap (λ (m : ℕ). refused (plain m)) h)
+    judged-same r (J.refused n) o d (inr h) = rw h (alike refl)
+
+    row-same : (r : Row) (least least′ : ℕ) → Same (afterTurn (rowTurn judge fix r least) hits room go) (afterTurn (rowTurn judge′ fix r least′) hits room go′)
+    unfolding rowTurn
+    row-same r least least′ = by-tests (isAbove (r .bounds) fix) (holds (r .bounds) fix)
+      where
+        by-tests : (above held : Bool)
+            → Same (afterTurn (if above then Stopped 1 least else (if held then judgedTurn r (judge (r .polygon) least) else On least)) hits room go)
+            (afterTurn (if above then Stopped 1 least′ else (if held then judgedTurn r (judge′ (r .polygon) least′) else On least′)) hits room go′)
+        by-tests true held = alike refl
+        by-tests false true = judged-same r (judge (r .polygon) least) (judge′ (r .polygon) least′) least′ (agree (r .polygon) least least′)
+        by-tests false false = same least least′ hits
+
+  -- a search with the distance is refused by 13, or finds what the one without it finds, but for the distance
+  pub seek-unless : (rows : Rows) (least least′ : ℕ) (hits : List Hit) → Same (seek judge fix room rows least hits) (seek judge′ fix room rows least′ hits)
+  unfolding seek
+  seek-unless (row r rows) least least′ hits = row-same hits (seek judge fix room rows) (seek judge′ fix room rows) (seek-unless rows) r least least′
+  seek-unless tableEnd least least′ hits = alike refl
+  seek-unless unreadable least least′ hits = alike refl
+  seek-unless (T.refused n) least least′ hits = alike refl
+
+-- ---- in a file
+-- all that is known of the matches but the distance
+abbrev unmeasuredMatched : Matched → Matched
+unmeasuredMatched found = record { matches = found .matches; mark = found .mark; least = 0 }
+
+-- an outcome without its safezone bits
+abbrev unmeasuredOutcome : Outcome Zones → Outcome Zones
+unmeasuredOutcome o = record { answer = unmeasured (o .answer); matches = o .matches; text = o .text }
+
+module _ (file : List ℕ) (head : Head) (location : Location) where
+  abbrev fix : Point
+  fix = fixOf location (head .preamble .precision)
+
+  matched-unless : (room : ℕ) → Unless 13 unmeasuredMatched (matchedWith file head location true room) (matchedWith file head location false room)
+  unfolding matchedWith searched
+  matched-unless room =
+      unless-demand (isPrecision (head .preamble .precision)) (plain 16)
+      (unless-then (searched file head fix true room) (searched file head fix false room)
+      (seek-unless (judgeIn file head fix true) (judgeIn file head fix false) (λ polygon. judged-asked-or-not file _ _ (fix .lat) (fix .lon)) fix room (rowsIn file head) farthest farthest [])
+      (λ a b same. alike (ap (λ (f : Found). given (record { matches = merged (f .hits); mark = f .mark; least = 0 })) same)))
+
+  -- what lookup makes of the matches
+  abbrev finished : ℕ → Bool → Matched → ℕ → Reply (Outcome Zones)
+  finished room asked found least =
+      fieldsOf file head room (found .matches) []
+      >>= λ text. given (record {
+        answer = record { matches = length (found .matches); mark = found .mark; safezone = safezoneBits asked least (head .preamble .precision); used = length text };
+        matches = found .matches;
+        text = text;
+      })
+
+  zones-unless : (n room : ℕ) → Unless 13 unmeasuredOutcome (zonesWith file head location true n room) (zonesWith file head location false n room)
+  unfolding zonesWith
+  zones-unless n room =
+      unless-then (matchedWith file head location true (n / width)) (matchedWith file head location false (n / width)) (matched-unless (n / width))
+      λ a b same. subst (λ (found : Matched). Unless 13 unmeasuredOutcome (finished room true a (a .least)) (finished room false found (b .least))) same
+      (unless-after (fieldsOf file head room (a .matches) []) (λ text. alike refl))
+
+  -- without the distance there are no safezone bits to leave out
+  zones-unmeasured : (n room : ℕ) → shown unmeasuredOutcome (zonesWith file head location false n room) ≡ zonesWith file head location false n room
+  unfolding zonesWith safezoneBits
+  zones-unmeasured n room = through (matchedWith file head location false (n / width))
+    where
+      written : (found : Matched) (text : Reply (List ℕ)) → shown unmeasuredOutcome (text >>= λ t. given (record {
+        answer = record { matches = length (found .matches); mark = found .mark; safezone = 0; used = length t };
+        matches = found .matches;
+        text = t;
+      })) ≡ (text >>= λ t. given (record {
+        answer = record { matches = length (found .matches); mark = found .mark; safezone = 0; used = length t };
+        matches = found .matches;
+        text = t;
+      }))
+      written found (given t) = refl
+      written found (refused why) = refl
+
+      through : (r : Reply Matched) → shown unmeasuredOutcome (r >>= λ found. finished room false found (found .least)) ≡ (r >>= λ found. finished room false found (found .least))
+      through (given found) = written found (fieldsOf file head room (found .matches) [])
+      through (refused why) = refl
+
+-- ---- lookup
+-- a reply with its lent buffers, without the safezone bits
+abbrev pub unmeasuredReply : Replied Zones → Replied Zones
+unmeasuredReply r = replied (shown unmeasured (r .reply)) (r .hits) (r .text)
+
+replied-unmeasured : (n room : ℕ) (r : Reply (Outcome Zones)) → unmeasuredReply (repliedOf n room r) ≡ repliedOf n room (shown unmeasuredOutcome r)
+unfolding repliedOf
+replied-unmeasured n room (given o) = refl
+replied-unmeasured n room (refused why) = refl
+
+-- asking with the distance is refused by 13, or asking without it gives the same reply and the same lent output, but for the safezone bits
+abbrev pub AskedOrNot : ℕ → ℕ → Replied Zones → Replied Zones → Type 0
+AskedOrNot n room asked not = (asked ≡ repliedOf n room (refused (plain 13))) ⊎ (unmeasuredReply asked ≡ not)
+
+replies-so : (n room : ℕ) (asked not : Reply (Outcome Zones)) → Unless 13 unmeasuredOutcome asked not → shown unmeasuredOutcome not ≡ not → AskedOrNot n room (repliedOf n room asked) (repliedOf n room not)
+replies-so n room asked not (refuses e) same = inl (ap (repliedOf n room) e)
+replies-so n room asked not (alike e) same = inr (replied-unmeasured n room asked ∙ ap (repliedOf n room) (e ∙ same))
+
+-- in a file whose header was read,
+pub asked-or-not-with : (file : List ℕ) (head : Head) (location : Location) (n room : ℕ) → AskedOrNot n room (lookedWith file head location true n room) (lookedWith file head location false n room)
+unfolding lookedWith
+asked-or-not-with file head location n room = replies-so n room _ _ (zones-unless file head location n room) (zones-unmeasured file head location n room)
+
+module _ (file : List ℕ) (location : Location) (n room : ℕ) where
+  -- and in one that is opened first
+  pub asked-or-not-up : AskedOrNot n room (lookedUp file location true n room) (lookedUp file location false n room)
+  unfolding lookedUp zonesIn
+  asked-or-not-up =
+      replies-so n room _ _ (unless-after (headOf file) (λ head. zones-unless file head location n room)) (opened (headOf file))
+    where
+      opened : (r : Reply Head) → shown unmeasuredOutcome (r >>= λ head. zonesWith file head location false n room) ≡ (r >>= λ head. zonesWith file head location false n room)
+      opened (given head) = zones-unmeasured file head location n room
+      opened (refused why) = refl
+
+  -- where asking with the distance is answered, asking without it is answered too: the same matches, strings, bytes used and end mark
+  pub without-safezone : {zones : Zones} → lookedUp file location true n room .reply ≡ given zones
+      → lookedUp file location false n room ≡ replied (given (unmeasured zones)) (lookedUp file location true n room .hits) (lookedUp file location true n room .text)
+  unfolding repliedOf
+  without-safezone {zones} answered = go asked-or-not-up
+    where
+      go : AskedOrNot n room (lookedUp file location true n room) (lookedUp file location false n room)
+          → lookedUp file location false n room ≡ replied (given (unmeasured zones)) (lookedUp file location true n room .hits) (lookedUp file location true n room .text)
+      go (inl e) = let z : _≡_ {A = Reply Zones} (given zones) (refused (plain 13)) = sym answered ∙ ap (λ (r : Replied Zones). r .reply) e in let no : _≡_ {A = ℕ} 0 1 = cc in absurd (omega arith)
+      go (inr e) = sym e ∙ ap (λ (r : Reply Zones). replied (shown unmeasured r) (lookedUp file location true n room .hits) (lookedUp file location true n room .text)) answered
+
+  -- the other way round only 13 may differ: where asking with the distance is not refused by 13, it says what asking without it says
+  pub only-thirteen : (lookedUp file location true n room .reply ≡ refused (plain 13) → ⊥) → unmeasuredReply (lookedUp file location true n room) ≡ lookedUp file location false n room
+  unfolding repliedOf
+  only-thirteen not-so = go asked-or-not-up
+    where
+      go : AskedOrNot n room (lookedUp file location true n room) (lookedUp file location false n room) → unmeasuredReply (lookedUp file location true n room) ≡ lookedUp file location false n room
+      go (inl e) = absurd (not-so (ap (λ (r : Replied Zones). r .reply) e))
+      go (inr e) = e
