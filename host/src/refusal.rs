@@ -131,8 +131,8 @@ impl Number {
 
     /// The documents' words.
     pub fn words(self) -> &'static str {
-        let at = if self as usize > 24 { 16 } else { 1 };
-        TABLE[self as usize - at].1
+        let behind = if self as usize > 24 { 16 } else { 1 };
+        TABLE[self as usize - behind].1
     }
 
     /// What the detail is, where a refusal has one.
@@ -209,9 +209,11 @@ mod tests {
 
     #[test]
     fn the_table_is_in_order() {
-        for (index, (number, _)) in TABLE.iter().enumerate() {
-            assert_eq!(*number as usize, index + 1);
-            assert_eq!(Number::of(index as u8 + 1), *number);
+        let numbers: Vec<u8> = (1..=24).chain(40..=59).collect();
+        assert_eq!(TABLE.map(|(number, _)| number as u8).to_vec(), numbers);
+        for (number, words) in TABLE {
+            assert_eq!(Number::of(number as u8), number);
+            assert_eq!(number.words(), words);
         }
     }
 
@@ -223,5 +225,7 @@ mod tests {
         assert_eq!(magic.to_string(), "refusal 3: magic (bytes 504C44)");
         let room = Refusal::of(18, [0; 5]);
         assert_eq!(room.to_string(), "refusal 18: text doesn't fit");
+        let count = Refusal::of(45, [0, 36, 0, 0, 0]);
+        assert_eq!(count.to_string(), "refusal 45: typecnt is 0 (place 36)");
     }
 }
