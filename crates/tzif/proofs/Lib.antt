@@ -1,0 +1,17 @@
+pub mod Widths
+pub mod Laws
+pub mod Firsts
+pub mod Lasts
+pub mod Buffers
+pub mod Rises
+pub mod Blocks
+pub mod Zones
+pub mod Signs
+pub mod Offsets
+pub mod Goods
+pub mod Designations
+pub mod Locals
+pub mod Leaps
+pub mod Numbered
+pub mod Theorems
+pub mod Worked
