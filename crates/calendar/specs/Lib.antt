@@ -1,0 +1,5 @@
+pub mod Calendar
+pub mod Epoch
+pub mod Dates
+pub mod Rules
+pub mod Moments
