@@ -10,5 +10,6 @@ pub mod Within
 pub mod Sums
 pub mod Meant
 pub mod Unique
+pub mod SameCivil
 pub mod Theorems
 pub mod Worked

@@ -3,3 +3,4 @@ pub mod Epoch
 pub mod Dates
 pub mod Rules
 pub mod Moments
+pub mod Civil
