@@ -7,3 +7,4 @@ pub mod Numbers
 pub mod Times
 pub mod Signs
 pub mod Letters
+pub mod Laws

@@ -7,7 +7,6 @@ use mathlib.Core.Path.{_≡_, refl, ap, sym, subst, _∙_}
 use native.Mathlib.Omega.{arith}
 use Rattle.numbers.specs.Answer.{if_then_else_}
 use Rattle.tzrule.specs.Ask.{Ruled, corrected, inYears, since, clockAt, ask}
-use Rattle.tzrule.specs.String.{IsTz}
 use Rattle.tzrule.specs.Summer.{isSummer, IsRule, InYears}
 use Rattle.tzrule.specs.declared.ask.Asked.{Asked}
 use Rattle.tzrule.specs.declared.ask.Asked.the-variants.{Holds, Outside}
@@ -93,9 +92,3 @@ module _ {tz : Tz} (u : ℕ) where
 pub ruled-is : {tz : Tz} {rule : Rule} → tz ≡ Changing rule → Ruled tz → IsRule rule
 unfolding Ruled
 ruled-is e r = rw e at r
-
--- what was read is a rule
-pub is-ruled : (end : ℕ) (tz : Tz) → IsTz end tz → Ruled tz
-unfolding IsTz Ruled
-is-ruled end (Fixed clock) g = tt
-is-ruled end (Changing rule) g = g .good
