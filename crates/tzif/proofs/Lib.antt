@@ -1,0 +1,11 @@
+pub mod Widths
+pub mod Laws
+pub mod Firsts
+pub mod Lasts
+pub mod Buffers
+pub mod Rises
+pub mod Blocks
+pub mod Zones
+pub mod Signs
+pub mod Goods
+pub mod Locals

@@ -1,0 +1,35 @@
+-- Entries of a part of a data block, and the products that lay it out. Assumes nothing.
+use Prim.Native.Nat.{ℕ, _+_, _*_, _^_, _<_, _≤_}
+use mathlib.Core.Bool.{Bool, true, false}
+use native.Mathlib.Nat.{suc-mul, mul-le-mul, mul-le-mul-right}
+use native.Mathlib.Omega.{arith}
+use Rattle.tzif.specs.Block.{Within}
+use Rattle.tzif.specs.Number.{octets}
+use Rattle.tzif.specs.Times.{transitionsOf, occurrencesOf, Inside}
+use Rattle.tzif.specs.declared.block.Block.{Block}
+
+-- an entry of a part lies before the part's end
+pub row : (i n w : ℕ) → i < n → i * w + w ≤ n * w
+row i n w l = rw (← suc-mul i w) (mul-le-mul-right w l)
+
+pub four-at-least : (wide : Bool) → 4 ≤ octets wide
+unfolding octets
+four-at-least true = omega arith
+four-at-least false = omega arith
+
+eight-at-most : (wide : Bool) → octets wide ≤ 8
+unfolding octets
+eight-at-most true = omega arith
+eight-at-most false = omega arith
+
+-- a count of 32 bits, in entries of a time's width and a few octets more
+pub part-fits : (n more : ℕ) (wide : Bool) → n < 2 ^ 32 → n * (octets wide + more) ≤ 2 ^ 32 * (8 + more)
+part-fits n more wide l = mul-le-mul {n₂ = 2 ^ 32} (omega arith) (omega (arith, eight-at-most wide))
+
+-- ---- the times of a block that lies within the file
+module _ {size : ℕ} {block : Block} (w : Within size block) where
+  pub transitions-inside : Inside size (transitionsOf block)
+  transitions-inside = record { wide = w .wide; apart = omega arith; end = omega (arith, w .end) }
+
+  pub occurrences-inside : Inside size (occurrencesOf block)
+  occurrences-inside = record { wide = w .wide; apart = omega arith; end = omega (arith, w .end) }

@@ -1,0 +1,36 @@
+-- `tzif::local::type_behind` meets its contract. Assumes nothing.
+use borrow.Author.Needs.{needs}
+use borrow.Author.Tests.{eq-eqb, ne-eqb}
+use mathlib.Core.Path.{refl}
+use native.Mathlib.Omega.{arith}
+use Rattle.tzif.proofs.local.type_behind.Statement.{statement}
+use Rattle.tzif.specs.Local.{typeBehind}
+use Rattle.tzif.proofs.local.type_behind.Tie as tie
+
+returns : tie.Need-returns
+unfolding typeBehind
+returns c = rw (eq-eqb _ _ (c .if1 .taken)) refl
+
+indices-of-requires : tie.Need-indices-of-requires
+indices-of-requires c κs = omega (arith, c .before .before .pre .0 .within .end)
+
+add-octet : tie.Need-add-octet
+add-octet c = omega (arith, c .before .before .before .pre .0 .within .end, c .indices-of .ensures)
+
+octet-requires : tie.Need-octet-requires
+octet-requires c κs =
+    let pre = c .before .before .before .pre in
+    let if1 = c .before .if1 in
+    omega (arith, pre .0 .within .end, c .indices-of .ensures, if1 .left)
+
+returns-2 : tie.Need-returns-2
+unfolding typeBehind
+returns-2 c =
+    let if1 = c .before .before .if1 in
+    let indices-of = c .before .indices-of in
+    rw (ne-eqb _ _ (if1 .left), ← indices-of .ensures) (c .octet .ensures .same)
+
+pub type-behind-spec : {M : Type 1} → statement M
+type-behind-spec =
+    tie.close
+    (tie.spec returns indices-of-requires (λ c. search needs) add-octet octet-requires returns-2)

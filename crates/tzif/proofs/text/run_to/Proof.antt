@@ -1,0 +1,75 @@
+-- `tzif::text::run_to` meets its contract. Assumes nothing.
+use Prim.Native.Nat.{ℕ, _+_, _-_, _≤_}
+use borrow.Author.Needs.{needs}
+use mathlib.Core.Bool.{Bool}
+use mathlib.Core.List.{List}
+use mathlib.Core.Path.{_≡_, sym, ap, _∙_}
+use native.Mathlib.Omega.{arith}
+use Rattle.tzif.proofs.Firsts.{none-yet, not-here, here}
+use Rattle.tzif.proofs.text.run_to.Statement.{statement}
+use Rattle.tzif.specs.Number.{octet}
+use Rattle.tzif.specs.Text.{isStop, firstWith, runTo}
+use Rattle.tzif.proofs.text.run_to.Tie as tie
+
+abbrev stopAt : ℕ → List ℕ → ℕ → ℕ → Bool
+stopAt other file from k = isStop other (octet file (from + k))
+
+abbrev Inv-loop : tie.InvT-loop
+Inv-loop other file from most i₀ i = (i ≤ most) × (firstWith i (stopAt other file from) ≡ i)
+
+abbrev μ-loop : tie.MeasureT-loop
+μ-loop other file from most i₀ i = most - i
+
+loop-holds : tie.Need-loop-holds Inv-loop μ-loop
+loop-holds c = (omega arith, none-yet _)
+
+returns : tie.Need-returns Inv-loop μ-loop
+unfolding runTo
+returns c =
+    let args = c .before .before .before .before .before .before .args in
+    let loop = c .before .before .before .before .loop in
+    let octet = c .before .before .octet in
+    let is-stop = c .before .is-stop in
+    let loop-test = c .before .before .before .loop-test in
+    let args = args in
+    record { same = here _ _ (loop .inv .1) (sym (ap (isStop (args .other)) (octet .ensures .same)) ∙ sym (is-stop .ensures) ∙ c .if1 .taken) _ (loop-test .taken); within = loop .inv .0 }
+
+add-i : tie.Need-add-i Inv-loop μ-loop
+add-i c = omega (arith, c .before .before .before .loop-test .taken)
+
+loop-less : tie.Need-loop-less Inv-loop μ-loop
+loop-less c = omega (arith, c .before .before .before .loop-test .taken)
+
+loop-again : tie.Need-loop-again Inv-loop μ-loop
+loop-again c =
+    let args = c .before .before .before .before .before .before .args in
+    let loop-test = c .before .before .before .loop-test in
+    let loop = c .before .before .before .before .loop in
+    let octet = c .before .before .octet in
+    let is-stop = c .before .is-stop in
+    let args = args in
+    (omega (arith, loop-test .taken), not-here _ _ (loop .inv .1) (sym (ap (isStop (args .other)) (octet .ensures .same)) ∙ sym (is-stop .ensures) ∙ c .if1 .left))
+
+returns-2 : tie.Need-returns-2 Inv-loop μ-loop
+unfolding runTo
+returns-2 c =
+    let args = c .before .before .before .args in
+    let loop = c .before .loop in
+    let args = args in
+    record { same = sym (loop .inv .1) ∙ ap (λ (n : ℕ). firstWith n (stopAt (args .other) (args .file .now) (args .from))) (omega (arith, loop .inv .0, c .loop-test .left)); within = loop .inv .0 }
+
+pub run-to-spec : {M : Type 1} → statement M
+run-to-spec =
+    tie.close
+    (tie.spec
+    Inv-loop
+    μ-loop
+    loop-holds
+    (λ c. omega arith)
+    (λ c κs. omega arith)
+    (λ c κs. search needs)
+    returns
+    add-i
+    loop-less
+    loop-again
+    returns-2)

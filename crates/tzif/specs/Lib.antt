@@ -1,0 +1,11 @@
+pub mod Reply
+pub mod Told
+pub mod Number
+pub mod Block
+pub mod Times
+pub mod Check
+pub mod Part
+pub mod Header
+pub mod Text
+pub mod Zone
+pub mod Local

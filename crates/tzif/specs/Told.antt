@@ -1,0 +1,33 @@
+-- What the code's answers say.
+use Prim.Native.Nat.{ℕ}
+use Rattle.tzif.specs.Reply.{Reply, given, refused, _>>_}
+use Rattle.tzif.specs.declared.block.Block.{Block}
+use Rattle.tzif.specs.declared.header.Reading.{Reading}
+use Rattle.tzif.specs.declared.header.Reading.the-variants as R
+use Rattle.tzif.specs.declared.refusal.Checked.{Checked}
+use Rattle.tzif.specs.declared.refusal.Checked.the-variants as C
+use Rattle.tzif.specs.declared.zone.Footer.{Footer}
+use Rattle.tzif.specs.declared.zone.Footer.the-variants as F
+use Rattle.tzif.specs.declared.zone.Read.{Read}
+use Rattle.tzif.specs.declared.zone.Read.the-variants as Z
+use Rattle.tzif.specs.declared.zone.Zone.{Zone}
+
+unfoldable pub told : Checked → Reply (Unit {0})
+told C.Fine = given tt
+told (C.Refused why) = refused why
+
+-- the first fault of two answers
+abbrev pub firstOf : Checked → Checked → Reply (Unit {0})
+firstOf first second = told first >> told second
+
+unfoldable pub toldBlock : Reading → Reply Block
+toldBlock (R.Block block) = given block
+toldBlock (R.Refused why) = refused why
+
+unfoldable pub toldFooter : Footer → Reply ℕ
+toldFooter (F.Size size) = given size
+toldFooter (F.Refused why) = refused why
+
+unfoldable pub toldZone : Read → Reply Zone
+toldZone (Z.Zone zone) = given zone
+toldZone (Z.Refused why) = refused why

@@ -1,0 +1,92 @@
+// The rules for a leap-second record.
+ghost use mathlib.Core.Path.{_≡_};
+ghost use Prim.Native.Nat.{_+_, _^_, _<_};
+ghost use lib.Dec.{leb};
+ghost use lib.ListN.{length};
+ghost use Rattle.tzif.specs.Block.{Within};
+ghost use Rattle.tzif.specs.Told.{told};
+ghost use Rattle.tzif.specs.Number.{Word};
+ghost use Rattle.tzif.specs.Check.{leapPlace, correctionOf, occursLater, correctionBefore, oneApart, checkLeap};
+use crate::block::Block;
+use crate::number::be32;
+use crate::number::raised;
+use crate::place::leaps_of;
+use crate::refusal::Checked;
+use crate::refusal::both;
+use crate::refusal::demand;
+use crate::times::occurrences_of;
+use crate::times::time_in;
+
+fn leap_place(block: Block, i: usize) -> usize
+    requires { ⌜ (leapPlace block i < 2 ^ 64) × (block .width + 4 < 2 ^ 64) ⌝ }
+    ensures { λ r. ⌜ r ≡ leapPlace block i ⌝ }
+{
+    leaps_of(block) + i * (block.width + 4)
+}
+
+fn correction_of(file: &[u8], block: Block, i: usize) -> usize
+    requires { ⌜ Within (length (now file)) block ⌝ }
+    requires { ⌜ i < block .leapcnt ⌝ }
+    ensures { λ r. ⌜ Word r (correctionOf (now (file .entry)) block i) ⌝ }
+{
+    raised(be32(file, leap_place(block, i) + block.width))
+}
+
+// Whether a time is 28 days less a second, or more, above another.
+fn spaced(before: usize, time: usize) -> bool
+    ensures { λ r. ⌜ r ≡ leb (before + 2419199) time ⌝ }
+{
+    if time < 2_419_199 {
+        return false;
+    }
+    before <= time - 2_419_199
+}
+
+fn occurs_later(file: &[u8], block: Block, i: usize) -> bool
+    requires { ⌜ Within (length (now file)) block ⌝ }
+    requires { ⌜ i < block .leapcnt ⌝ }
+    ensures { λ r. ⌜ r ≡ occursLater (now (file .entry)) block i ⌝ }
+{
+    let occurrences = occurrences_of(block);
+    let occurrence = time_in(file, occurrences, i);
+    if i == 0 {
+        return 0x8000_0000_0000_0000 <= occurrence;
+    }
+    spaced(time_in(file, occurrences, i - 1), occurrence)
+}
+
+fn correction_before(file: &[u8], block: Block, i: usize) -> usize
+    requires { ⌜ Within (length (now file)) block ⌝ }
+    requires { ⌜ i < block .leapcnt ⌝ }
+    ensures { λ r. ⌜ Word r (correctionBefore (now (file .entry)) block i) ⌝ }
+{
+    if i == 0 {
+        return 0x8000_0000;
+    }
+    correction_of(file, block, i - 1)
+}
+
+fn one_apart(a: usize, b: usize) -> bool
+    requires { ⌜ (a < 2 ^ 32) × (b < 2 ^ 32) ⌝ }
+    ensures { λ r. ⌜ r ≡ oneApart a b ⌝ }
+{
+    if a == b + 1 {
+        return true;
+    }
+    b == a + 1
+}
+
+pub fn check_leap(file: &[u8], block: Block, i: usize) -> Checked
+    requires { ⌜ Within (length (now file)) block ⌝ }
+    requires { ⌜ i < block .leapcnt ⌝ }
+    ensures { λ r. ⌜ told r ≡ checkLeap (now (file .entry)) block i ⌝ }
+{
+    let place = leap_place(block, i);
+    let later = occurs_later(file, block, i);
+    let before = correction_before(file, block, i);
+    let correction = correction_of(file, block, i);
+    let apart = one_apart(before, correction);
+    let first = demand(later, 54, place);
+    let second = demand(apart, 55, place + block.width);
+    both(first, second)
+}
