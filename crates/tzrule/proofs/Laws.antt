@@ -45,7 +45,7 @@ unfolding IsTz clockAt
 clock-held end (Fixed clock) u g = g
 clock-held end (Changing rule) u g = go (isSummer rule (since u))
   where
-    go : (t : Bool) → IsClock end ((if t then record { clock = rule .daylight; daylight = 1 } else record { clock = rule .standard; daylight = 0 }) .clock)
+    go : (t : Bool) → IsClock end (if_then_else_ {A = Time} t (record { clock = rule .daylight; daylight = 1 }) (record { clock = rule .standard; daylight = 0 }) .clock)
     go true = g .daylight
     go false = g .standard
 
