@@ -1,6 +1,6 @@
 // The rules for a leap-second record.
 ghost use mathlib.Core.Path.{_≡_};
-ghost use Prim.Native.Nat.{_+_, _^_, _<_, _≤_};
+ghost use Prim.Native.Nat.{_+_, _^_, _<_};
 ghost use lib.Dec.{leb};
 ghost use lib.ListN.{length};
 ghost use Rattle.tzif.specs.Block.{Within};
@@ -55,10 +55,9 @@ fn occurs_later(file: &[u8], block: Block, i: usize) -> bool
     spaced(time_in(file, occurrences, i - 1), occurrence)
 }
 
-// The correction behind so many records, which is 0 behind none.
-pub fn correction_before(file: &[u8], block: Block, i: usize) -> usize
+fn correction_before(file: &[u8], block: Block, i: usize) -> usize
     requires { ⌜ Within (length (now file)) block ⌝ }
-    requires { ⌜ i ≤ block .leapcnt ⌝ }
+    requires { ⌜ i < block .leapcnt ⌝ }
     ensures { λ r. ⌜ Word r (correctionBefore (now (file .entry)) block i) ⌝ }
 {
     if i == 0 {
