@@ -94,3 +94,9 @@ module _ {times : ℕ → ℕ} {n instant low high : ℕ} (s : Narrowed times n 
   narrow l =
       last-is (λ i. leb (times i) instant) low n (omega (arith, s .order, s .top)) (λ k e. le-leb (times k) instant (s .before k e))
       (λ k a b. lt-leb (times k) instant (s .after k (omega (arith, s .order)) b))
+
+-- two tests that say the same
+pub last-same : (holds holds′ : ℕ → Bool) → ((k : ℕ) → holds k ≡ holds′ k) → (n : ℕ) → lastWith n holds ≡ lastWith n holds′
+unfolding lastWith
+last-same holds holds′ e zero = refl
+last-same holds holds′ e (suc m) = rw (e m, last-same holds holds′ e m) refl

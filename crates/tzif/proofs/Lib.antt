@@ -9,3 +9,7 @@ pub mod Zones
 pub mod Signs
 pub mod Goods
 pub mod Locals
+pub mod Leaps
+pub mod Numbered
+pub mod Theorems
+pub mod Worked

@@ -10,9 +10,9 @@ use mathlib.Core.List.{List}
 use mathlib.Core.Path.{_≡_, refl, ap, _∙_}
 use mir.Syntax.{w32, w64}
 use mir.Val.{SFits, toZ, ofZ}
-use mir.ValLaws.{toZ-ofZ}
+use mir.ValLaws.{toZ-ofZ, toZ-fits}
 use native.Mathlib.Omega.{arith}
-use Rattle.numbers.proofs.Signed.{complement, complement-fits}
+use Rattle.numbers.proofs.Signed.{complement, complement-fits, widens}
 use Rattle.tzif.specs.Number.{be32, raised, timeAt, signedAt, lift}
 use Rattle.tzif.specs.Reply.{if_then_else_}
 
@@ -114,3 +114,11 @@ read-high bits h l =
     toZ-ofZ w32 _ (complement-fits w32 (2 ^ 32 - 1 - bits) (omega arith))
     ∙ complement w32 (2 ^ 32 - 1 - bits) (omega arith)
     ∙ simp (le-ltb _ _ h) (ap negsuc (omega arith))
+
+pub signed-fits : (file : List ℕ) (width place : ℕ) → Octets file → SFits w64 (signedAt file width place)
+unfolding signedAt
+signed-fits file width place o = go (eqb width 8)
+  where
+    go : (t : Bool) → SFits w64 (if t then toZ w64 (be32 file place * 2 ^ 32 + be32 file (place + 4)) else toZ w32 (be32 file place))
+    go true = toZ-fits w64 (be32 file place * 2 ^ 32 + be32 file (place + 4)) (record { fits = omega (arith, be32-fits file place o, be32-fits file (place + 4) o) })
+    go false = widens w32 w64 (omega arith) (toZ w32 (be32 file place)) (toZ-fits w32 (be32 file place) (record { fits = be32-fits file place o }))

@@ -33,3 +33,6 @@ module _ {size : ℕ} {block : Block} (w : Within size block) where
 
   pub occurrences-inside : Inside size (occurrencesOf block)
   occurrences-inside = record { wide = w .wide; apart = omega arith; end = omega (arith, w .end) }
+
+  pub record-fits : 0 < block .leapcnt → block .width + 4 ≤ size
+  record-fits l = omega (arith, row 0 (block .leapcnt) (block .width + 4) l, w .end)

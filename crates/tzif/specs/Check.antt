@@ -6,7 +6,7 @@ use mathlib.Core.List.{List}
 use Rattle.tzif.specs.Block.{timePlace, indicesOf, typesOf, designationsOf, leapsOf, standardsOf, utsOf}
 use Rattle.tzif.specs.Number.{octet, be32, raised}
 use Rattle.tzif.specs.Reply.{Reply, given, refusal, demand, if_then_else_, _>>_}
-use Rattle.tzif.specs.Times.{timeIn, transitionsOf, occurrencesOf, lastWith}
+use Rattle.tzif.specs.Times.{timeIn, transitionsOf, occurrencesOf, lastWith, lastNotAfter}
 use Rattle.tzif.specs.declared.block.Block.{Block}
 
 -- ---- transition times
@@ -59,6 +59,10 @@ occursLater file block i =
 -- the correction before a record: none is 0
 unfoldable pub correctionBefore : List ℕ → Block → ℕ → ℕ
 correctionBefore file block i = if eqb i 0 then 2 ^ 31 else correctionOf file block (i - 1)
+
+-- the correction at an instant, which is given more 2 ^ 63: that of the last record not after it
+unfoldable pub correctionAt : List ℕ → Block → ℕ → ℕ
+correctionAt file block instant = correctionBefore file block (lastNotAfter file (occurrencesOf block) instant)
 
 -- exactly one apart
 unfoldable pub oneApart : ℕ → ℕ → Bool

@@ -1,12 +1,13 @@
 // The rules for a leap-second record.
 ghost use mathlib.Core.Path.{_≡_};
-ghost use Prim.Native.Nat.{_+_, _^_, _<_};
+ghost use Prim.Native.Nat.{_+_, _^_, _≤_, _<_};
 ghost use lib.Dec.{leb};
 ghost use lib.ListN.{length};
 ghost use Rattle.tzif.specs.Block.{Within};
 ghost use Rattle.tzif.specs.Told.{told};
 ghost use Rattle.tzif.specs.Number.{Word};
-ghost use Rattle.tzif.specs.Check.{leapPlace, correctionOf, occursLater, correctionBefore, oneApart, checkLeap};
+ghost use Rattle.tzif.specs.Times.{occurrencesOf, Rises};
+ghost use Rattle.tzif.specs.Check.{leapPlace, correctionOf, occursLater, correctionBefore, correctionAt, oneApart, checkLeap};
 use crate::block::Block;
 use crate::number::be32;
 use crate::number::raised;
@@ -14,6 +15,7 @@ use crate::place::leaps_of;
 use crate::refusal::Checked;
 use crate::refusal::both;
 use crate::refusal::demand;
+use crate::times::last_not_after;
 use crate::times::occurrences_of;
 use crate::times::time_in;
 
@@ -57,13 +59,26 @@ fn occurs_later(file: &[u8], block: Block, i: usize) -> bool
 
 fn correction_before(file: &[u8], block: Block, i: usize) -> usize
     requires { ⌜ Within (length (now file)) block ⌝ }
-    requires { ⌜ i < block .leapcnt ⌝ }
+    requires { ⌜ i ≤ block .leapcnt ⌝ }
     ensures { λ r. ⌜ Word r (correctionBefore (now (file .entry)) block i) ⌝ }
 {
     if i == 0 {
         return 0x8000_0000;
     }
     correction_of(file, block, i - 1)
+}
+
+// The correction, more 2^31, at an instant that is given more 2^63.
+pub fn correction_at(file: &[u8], block: Block, instant: usize) -> usize
+    requires { ⌜ Within (length (now file)) block ⌝ }
+    requires { ⌜ Rises (now file) (occurrencesOf block) ⌝ }
+    ensures { λ r. ⌜ Word r (correctionAt (now (file .entry)) block instant) ⌝ }
+{
+    if block.leapcnt == 0 {
+        return 0x8000_0000;
+    }
+    let behind = last_not_after(file, occurrences_of(block), instant);
+    correction_before(file, block, behind)
 }
 
 fn one_apart(a: usize, b: usize) -> bool

@@ -2,7 +2,7 @@
 pub mod block;
 mod check;
 pub mod header;
-mod leap;
+pub mod leap;
 pub mod local;
 pub mod number;
 mod part;

@@ -3,7 +3,7 @@ use Prim.Native.Nat.{_-_}
 use borrow.Author.Needs.{needs}
 use mathlib.Core.Path.{_≡_}
 use native.Mathlib.Omega.{arith}
-use Rattle.tzif.proofs.Laws.{next-index, first-fault, no-fault, Passed, starts}
+use Rattle.tzif.proofs.Laws.{next-index, fault-found, no-fault, Passed, starts}
 use Rattle.tzif.proofs.part.check_part.Statement.{statement}
 use Rattle.tzif.specs.Part.{countOf, checkOf, checkPart}
 use Rattle.tzif.proofs.part.check_part.Tie as tie
@@ -34,7 +34,7 @@ returns c =
     let loop = loop in
     let loop-test = loop-test in
     let check-of = check-of in
-    rw (← loop .inv .0) (first-fault (loop .inv .1) (loop-test .taken) (check-of .ensures) (c .enum-told2 .given .1))
+    rw (← loop .inv .0) (fault-found (loop .inv .1) (loop-test .taken) (check-of .ensures) (c .enum-told2 .given .1))
 
 add-i : tie.Need-add-i Inv-loop μ-loop
 add-i c = omega (arith, c .before .before .before .loop-test .taken)

@@ -1,0 +1,139 @@
+-- What the promise of `local_time` means. Assumes nothing.
+use Prim.Native.Nat.{ℕ, zero, suc, _+_, _-_, _^_, _<_, _≤_}
+use borrow.Author.Tests.{ltb-true, ltb-false, leb-true, leb-false, lt-ltb, le-ltb, lt-leb, le-leb, ne-eqb}
+use lib.Dec.{ltb, leb, eqb}
+use lib.IntN.{ℤ}
+use lib.ListN.{length}
+use lib.Signed.{ltZ}
+use mathlib.Core.Bool.{Bool, true, false, _&&_}
+use mathlib.Core.List.{List}
+use mathlib.Core.Logic.{_↔_}
+use mathlib.Core.Path.{_≡_, refl, sym, ap, subst, _∙_}
+use mir.Syntax.{w64}
+use mir.Val.{SFits}
+use native.Mathlib.Omega.{arith}
+use Rattle.tzif.proofs.Lasts.{last-within, last-holds, last-fails, last-same}
+use Rattle.tzif.proofs.Laws.{Least, least-fault, fault-of-least}
+use Rattle.tzif.proofs.Signs.{Octets, time-is-signed, signed-fits, lift-keeps}
+use Rattle.tzif.specs.Block.{timePlace, indicesOf}
+use Rattle.tzif.specs.Local.{typeIn, typeBehind, isAfterLast, byTable, Replied, replied, named, lent, localTime}
+use Rattle.tzif.specs.Number.{octet, signedAt, lift}
+use Rattle.tzif.specs.Reply.{Reply, given, refused, refusal, each, if_then_else_, _>>=_}
+use Rattle.tzif.specs.Text.{slice, zeros, padded}
+use Rattle.tzif.specs.Times.{timeIn, transitionsOf, lastWith, lastNotAfter}
+use Rattle.tzif.specs.Zone.{readZone}
+use Rattle.tzif.specs.declared.block.Block.{Block}
+use Rattle.tzif.specs.declared.local.Answer.{Answer}
+use Rattle.tzif.specs.declared.local.Answer.the-variants as A
+use Rattle.tzif.specs.declared.local.Found.{Found}
+use Rattle.tzif.specs.declared.local.Local.{Local}
+use Rattle.tzif.specs.declared.local.LocalTime.{LocalTime}
+use Rattle.tzif.specs.declared.local.LocalTime.the-variants as L
+use Rattle.tzif.specs.declared.refusal.Refusal.{Refusal}
+
+-- a transition time itself: that many octets in two's complement
+unfoldable pub transitionTime : List ℕ → Block → ℕ → ℤ
+transitionTime file block i = signedAt file (block .width) (timePlace block i)
+
+-- ---- last-not-after
+-- the type that answers: that of the greatest index whose time is not after the instant; type 0 where there is none
+pub data LastNotAfter (file : List ℕ) (block : Block) (instant : ℤ) : ℕ → Type 0 where
+  by-transition : (i : ℕ) → i < block .timecnt → ltZ instant (transitionTime file block i) ≡ false
+      → ((k : ℕ) → i < k → k < block .timecnt → ltZ instant (transitionTime file block k) ≡ true)
+      → LastNotAfter file block instant (octet file (indicesOf block + i))
+  by-type-0 : ((k : ℕ) → k < block .timecnt → ltZ instant (transitionTime file block k) ≡ true) → LastNotAfter file block instant 0
+
+module _ (file : List ℕ) (octets : Octets file) (block : Block) (instant : ℤ) (fits : SFits w64 instant) where
+  times : ℕ → ℕ
+  times = timeIn file (transitionsOf block)
+
+  -- times more 2 ^ 63 are ordered as the times
+  time-lifted : (i : ℕ) → times i ≡ lift (transitionTime file block i)
+  unfolding timeIn transitionTime times
+  time-lifted i = time-is-signed file (block .width) (timePlace block i) octets
+
+  time-fits : (i : ℕ) → SFits w64 (transitionTime file block i)
+  unfolding transitionTime
+  time-fits i = signed-fits file (block .width) (timePlace block i) octets
+
+  is-after : (i : ℕ) → ltb (lift instant) (times i) ≡ ltZ instant (transitionTime file block i)
+  is-after i = rw (time-lifted i) (lift-keeps instant (transitionTime file block i) fits (time-fits i))
+
+  is-before : (i : ℕ) → ltb (times i) (lift instant) ≡ ltZ (transitionTime file block i) instant
+  is-before i = rw (time-lifted i) (lift-keeps (transitionTime file block i) instant (time-fits i) fits)
+
+  after : (i : ℕ) → leb (times i) (lift instant) ≡ false → ltZ instant (transitionTime file block i) ≡ true
+  after i e = sym (is-after i) ∙ lt-ltb (lift instant) (times i) (leb-false (times i) (lift instant) e)
+
+  not-after : (i : ℕ) → leb (times i) (lift instant) ≡ true → ltZ instant (transitionTime file block i) ≡ false
+  not-after i e = sym (is-after i) ∙ le-ltb (lift instant) (times i) (leb-true (times i) (lift instant) e)
+
+  test : ℕ → Bool
+  test i = leb (times i) (lift instant)
+
+  pub last-not-after : LastNotAfter file block instant (typeBehind file block (lastNotAfter file (transitionsOf block) (lift instant)))
+  unfolding lastNotAfter typeBehind times test
+  last-not-after = go _ refl
+    where
+      go : (n : ℕ) → n ≡ lastNotAfter file (transitionsOf block) (lift instant) → LastNotAfter file block instant (if eqb n 0 then 0 else octet file (indicesOf block + (n - 1)))
+      go zero e = by-type-0 (λ k l. after k (last-fails test (block .timecnt) k (omega (arith, e)) l))
+      go (suc i) e =
+          let here : suc i - 1 ≡ i = omega arith in
+          rw (ne-eqb (suc i) 0 (λ z. omega (arith, z)), here)
+          (by-transition i (omega (arith, e, last-within test (block .timecnt))) (not-after i (last-holds test (block .timecnt) i e))
+          (λ k l h. after k (last-fails test (block .timecnt) k (omega (arith, e)) h)))
+
+  -- unknown exactly after the last of one or more transitions
+  pub after-last : isAfterLast file block (lift instant) ≡ (ltb 0 (block .timecnt) && ltZ (transitionTime file block (block .timecnt - 1)) instant)
+  unfolding isAfterLast times
+  after-last = ap (λ (t : Bool). ltb 0 (block .timecnt) && t) (is-before (block .timecnt - 1))
+
+-- ---- block-width
+-- two blocks of whatever widths that have the same times are searched alike
+pub block-width : (file file′ : List ℕ) → Octets file → Octets file′ → (block block′ : Block) → block .timecnt ≡ block′ .timecnt
+    → ((i : ℕ) → transitionTime file block i ≡ transitionTime file′ block′ i)
+    → (instant : ℕ) → lastNotAfter file (transitionsOf block) instant ≡ lastNotAfter file′ (transitionsOf block′) instant
+unfolding lastNotAfter timeIn transitionTime
+block-width file file′ o o′ block block′ n e instant =
+    last-same (λ i. leb (timeIn file (transitionsOf block) i) instant) (λ i. leb (timeIn file′ (transitionsOf block′) i) instant)
+    (λ i. ap (λ (t : ℕ). leb t instant) (time-is-signed file (block .width) (timePlace block i) o ∙ ap lift (e i) ∙ sym (time-is-signed file′ (block′ .width) (timePlace block′ i) o′)))
+    (block .timecnt)
+    ∙ ap (λ (m : ℕ). lastWith m (λ i. leb (timeIn file′ (transitionsOf block′) i) instant)) n
+
+-- ---- first-fault
+-- checks index by index are refused exactly with the fault of the least index that has one
+pub first-fault : (check : ℕ → Reply (Unit {0})) (n : ℕ) (why : Refusal) → (refused why ≡ each n check) ↔ Least check n why
+first-fault check n why = (least-fault check n why, fault-of-least)
+
+-- ---- same-local-time
+-- two replies that the promise permits are equal, with all of the lent text
+pub same-local-time : (file : List ℕ) (instant : ℤ) (room : ℕ) {r r′ : LocalTime} {text text′ : List ℕ}
+    → replied r text ≡ localTime file instant room → replied r′ text′ ≡ localTime file instant room → (r ≡ r′) × (text ≡ text′)
+same-local-time file instant room e e′ = let same = e ∙ sym e′ in (ap (λ (s : Replied). s .reply) same, ap (λ (s : Replied). s .text) same)
+
+-- ---- a refusal and unknown leave all lent text zero
+-- no local time in a reply
+pub data NoLocal : LocalTime → Type 0 where
+  refused-one : {why : Refusal} → NoLocal (L.Refused why)
+  unknown-one : NoLocal L.Unknown
+
+no-local : {r : LocalTime} → NoLocal r → {local : Local} → r ≡ L.Local local → ⊥
+no-local refused-one e = let z : _≡_ {A = ℕ} 0 1 = cc in omega arith
+no-local unknown-one e = let z : _≡_ {A = ℕ} 0 1 = cc in omega arith
+
+zeroed : (file : List ℕ) (room : ℕ) (answer : Reply Answer) → NoLocal (lent file room answer .reply) → lent file room answer .text ≡ zeros room
+unfolding lent
+zeroed file room (given (A.Found found)) n = go (leb (found .length) room) n
+  where
+    local : Replied
+    local = replied (L.Local (record { offset = found .offset; daylight = found .daylight; length = found .length })) (padded room (slice file (found .place) (found .length)))
+
+    go : (t : Bool) → NoLocal ((if t then local else replied (L.Refused (refusal 18 0)) (zeros room)) .reply) → (if t then local else replied (L.Refused (refusal 18 0)) (zeros room)) .text ≡ zeros room
+    go true n = absurd (no-local n refl)
+    go false n = refl
+zeroed file room (given A.Unknown) n = refl
+zeroed file room (refused why) n = refl
+
+pub zero-unless-local : (file : List ℕ) (instant : ℤ) (room : ℕ) → NoLocal (localTime file instant room .reply) → localTime file instant room .text ≡ zeros room
+unfolding localTime
+zero-unless-local file instant room = zeroed file room (readZone file >>= λ zone. given (byTable file (zone .block) (lift instant)))
