@@ -1,7 +1,7 @@
-/* uskelzar.h: which zone holds a fix, by a PLB border file; and a writer of borders.
+/* uskelzar.h: which zone holds a fix, by a PLB border file; a writer of borders; and local time, by a TZif file.
  *
  * For libuskelzar.a. What its functions answer, write and touch, and that they end, is proved for every input; what it calls
- * is seen to by a test of the archive. What holds for all four:
+ * is seen to by a test of the archive. What holds for all five:
  *
  * You bring    pointers that are not null, aligned for their type and good for their length: to read from, or where the
  *              buffer is lent (no const), to write to. Lent buffers and `reply` do not overlap each other or an input, and
@@ -52,7 +52,28 @@ enum uskelzar_refusal {
     USKELZAR_REPEATED_POINT = 21,     /* a point equal to the one before it (the last may equal the first) */
     USKELZAR_FIRST_POINT_ZERO = 22,   /* first point (0,0) */
     USKELZAR_PIECE = 23,              /* piece list; detail: the piece's index */
-    USKELZAR_OUTPUT_ROOM = 24         /* border doesn't fit the output */
+    USKELZAR_OUTPUT_ROOM = 24,        /* border doesn't fit the output */
+    /* of a TZif file: the rule of RFC 8536 that is broken; detail: a place in the file, that of .. */
+    USKELZAR_TZIF_MAGIC = 40,         /* a header does not begin with "TZif": the header */
+    USKELZAR_TZIF_VERSION = 41,       /* version missing, not 0, '2' or '3', or the second not the first: the octet */
+    USKELZAR_TZIF_HEADER = 42,        /* the file ends inside a header: the header */
+    USKELZAR_TZIF_ISUTCNT = 43,       /* neither 0 nor typecnt: the count */
+    USKELZAR_TZIF_ISSTDCNT = 44,      /* neither 0 nor typecnt: the count */
+    USKELZAR_TZIF_TYPECNT = 45,       /* is 0: the count */
+    USKELZAR_TZIF_CHARCNT = 46,       /* is 0: the count */
+    USKELZAR_TZIF_BLOCK = 47,         /* the file ends inside the data block, by its counts: the block */
+    USKELZAR_TZIF_TIME = 48,          /* a transition time not above the one before it: the later time */
+    USKELZAR_TZIF_TYPE = 49,          /* a transition type not below typecnt: the octet */
+    USKELZAR_TZIF_UTOFF = 50,         /* is -2^31: the utoff */
+    USKELZAR_TZIF_ISDST = 51,         /* neither 0 nor 1: the octet */
+    USKELZAR_TZIF_DESIGIDX = 52,      /* not below charcnt: the octet */
+    USKELZAR_TZIF_DESIGNATION = 53,   /* no NUL at or after desigidx: the desigidx */
+    USKELZAR_TZIF_OCCURRENCE = 54,    /* the first negative, a later one under 2,419,199 s above the last: the occurrence */
+    USKELZAR_TZIF_CORRECTION = 55,    /* not exactly 1 away from the one before it, 0 before the first: the correction */
+    USKELZAR_TZIF_STANDARD = 56,      /* a standard/wall indicator other than 0 and 1: the octet */
+    USKELZAR_TZIF_UT = 57,            /* a UT/local indicator other than 0 and 1, or 1 without the standard one: the octet */
+    USKELZAR_TZIF_FOOTER = 58,        /* no newline at its start, a NUL, no newline at its end: the octet met, or the end */
+    USKELZAR_TZIF_REST = 59           /* bytes behind the end: the first of them */
 };
 
 /* reply[0] of a refusal: which of the two causes, for 6, 7 and 15; otherwise none */
@@ -92,6 +113,12 @@ enum {
     USKELZAR_SIMPLE_LENGTH = 3        /* its bytes */
 };
 enum { USKELZAR_WRITE_LENGTH = 0 };
+enum {
+    USKELZAR_LOCAL_KNOWN = 0,         /* 1: local time is known; 0: it is not, and all words are 0 */
+    USKELZAR_LOCAL_OFFSET = 1,        /* seconds east of UT: the bits of an int32_t */
+    USKELZAR_LOCAL_DAYLIGHT = 2,      /* 1: daylight time; 0: standard time */
+    USKELZAR_LOCAL_LENGTH = 3         /* bytes of the abbreviation */
+};
 
 /* ---- a match in `hits`: three words. A list of n words has room for n / 3 hits. */
 enum { USKELZAR_HIT_POLYGON = 0, USKELZAR_HIT_METADATA = 1, USKELZAR_HIT_KIND = 2, USKELZAR_HIT_WORDS = 3 };
@@ -148,6 +175,16 @@ uint8_t uskelzar_write_border(uint8_t version, const int32_t *lats, size_t lats_
                               size_t lons_length, const uint32_t *pieces, size_t pieces_length, const uint8_t *earlier,
                               size_t earlier_length, uint8_t *out, size_t out_length,
                               uint64_t reply[USKELZAR_REPLY_WORDS]);
+
+/* Local time at an instant, by a TZif file (RFC 8536, versions 1 to 3), all of which is checked first. The instant is in
+ * seconds from 1970-01-01 00:00:00 UT, on the file's own scale.
+ * Answers: 1, the offset's bits, the daylight flag, the abbreviation's length: by the last transition that is not after the
+ *       instant; before the first, or where there are none, by type 0. After the last of one or more it is unknown: all
+ *       words are 0.
+ * text: the abbreviation, without a zero byte at its end (one stands behind it if there is room); zeros where it is unknown.
+ * Refuses: 1; 40 to 59, the first fault in file order; 18 last. */
+uint8_t uskelzar_local_time(const uint8_t *file, size_t file_length, int64_t instant, uint8_t *text, size_t text_length,
+                            uint64_t reply[USKELZAR_REPLY_WORDS]);
 
 #ifdef __cplusplus
 }

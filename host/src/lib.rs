@@ -10,15 +10,17 @@
 //! # }
 //! ```
 //!
-//! [`raw`] has the four functions as they are, over lent buffers; [`Map`] lends the buffers itself.
+//! [`raw`] has the five functions as they are, over lent buffers; [`Map`] and [`TimeZone`] lend the buffers themselves.
 
 #![deny(unsafe_op_in_unsafe_fn, missing_docs)]
 
 mod entries;
+mod local;
 mod map;
 pub mod raw;
 mod refusal;
 
+pub use local::{LocalTime, TimeZone};
 pub use map::{End, Error, Field, Header, Kind, Map, Match, Room, Simple, Table, Zones};
 pub use raw::Mapping;
 pub use refusal::{Cause, Number, Refusal};

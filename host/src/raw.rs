@@ -1,4 +1,4 @@
-//! The library's four functions over lent buffers (include/uskelzar.h has their contracts), and files mapped into memory.
+//! The library's five functions over lent buffers (include/uskelzar.h has their contracts), and files mapped into memory.
 //! All that is unsafe in this crate is here.
 
 use crate::refusal::Refusal;
@@ -54,6 +54,14 @@ mod library {
             earlier_length: usize,
             out: *mut u8,
             out_length: usize,
+            reply: *mut [u64; 5],
+        ) -> u8;
+        pub fn uskelzar_local_time(
+            file: *const u8,
+            file_length: usize,
+            instant: i64,
+            text: *mut u8,
+            text_length: usize,
             reply: *mut [u64; 5],
         ) -> u8;
     }
@@ -161,6 +169,21 @@ pub fn write_border(
             earlier.len(),
             out.as_mut_ptr(),
             out.len(),
+            reply,
+        )
+    })
+}
+
+/// 1, offset bits, daylight flag, the abbreviation's length; the abbreviation in the text. All zero where it is unknown.
+pub fn local_time(file: &[u8], instant: i64, text: &mut [u8]) -> Result<Reply, Refusal> {
+    // SAFETY: as in `open`.
+    answered(|reply| unsafe {
+        library::uskelzar_local_time(
+            file.as_ptr(),
+            file.len(),
+            instant,
+            text.as_mut_ptr(),
+            text.len(),
             reply,
         )
     })

@@ -2,7 +2,7 @@
 
 use std::fmt;
 
-/// What the library refuses, by document 01's numbers.
+/// What the library refuses, by the numbers of documents 01 and 02.
 #[derive(Clone, Copy, Debug, Eq, PartialEq)]
 #[repr(u8)]
 #[allow(missing_docs)] // `words` says each
@@ -31,12 +31,32 @@ pub enum Number {
     FirstPointZero = 22,
     Piece = 23,
     OutputRoom = 24,
+    TzifMagic = 40,
+    TzifVersion = 41,
+    TzifHeader = 42,
+    TzifIsutcnt = 43,
+    TzifIsstdcnt = 44,
+    TzifTypecnt = 45,
+    TzifCharcnt = 46,
+    TzifBlock = 47,
+    TzifTime = 48,
+    TzifType = 49,
+    TzifUtoff = 50,
+    TzifIsdst = 51,
+    TzifDesigidx = 52,
+    TzifDesignation = 53,
+    TzifOccurrence = 54,
+    TzifCorrection = 55,
+    TzifStandard = 56,
+    TzifUt = 57,
+    TzifFooter = 58,
+    TzifRest = 59,
 }
 
 use Number::*;
 
 /// Each number with document 01's words for it, in order.
-const TABLE: [(Number, &str); 24] = [
+const TABLE: [(Number, &str); 44] = [
     (
         TooLarge,
         "file, or the writer's earlier data, over 1,073,741,824 bytes",
@@ -73,17 +93,38 @@ const TABLE: [(Number, &str); 24] = [
     (FirstPointZero, "first point (0,0)"),
     (Piece, "piece list"),
     (OutputRoom, "border doesn't fit the output"),
+    (TzifMagic, "a header does not begin with TZif"),
+    (TzifVersion, "version missing, unknown, or the second header's not the first's"),
+    (TzifHeader, "the file ends inside a header"),
+    (TzifIsutcnt, "isutcnt is neither 0 nor typecnt"),
+    (TzifIsstdcnt, "isstdcnt is neither 0 nor typecnt"),
+    (TzifTypecnt, "typecnt is 0"),
+    (TzifCharcnt, "charcnt is 0"),
+    (TzifBlock, "the file ends inside the data block"),
+    (TzifTime, "a transition time not above the one before it"),
+    (TzifType, "a transition type not below typecnt"),
+    (TzifUtoff, "a utoff of -2^31"),
+    (TzifIsdst, "an isdst other than 0 and 1"),
+    (TzifDesigidx, "a desigidx not below charcnt"),
+    (TzifDesignation, "no NUL at or after desigidx"),
+    (TzifOccurrence, "a leap-second occurrence too early"),
+    (TzifCorrection, "a leap-second correction not 1 away from the one before it"),
+    (TzifStandard, "a standard/wall indicator other than 0 and 1"),
+    (TzifUt, "a UT/local indicator that is not allowed"),
+    (TzifFooter, "a footer that is not newline, string, newline"),
+    (TzifRest, "bytes behind the end"),
 ];
 
 impl Number {
     fn of(number: u8) -> Number {
         let known = TABLE.iter().find(|(known, _)| *known as u8 == number);
-        known.expect("the library's refusals are 1 to 24").0
+        known.expect("the library's refusals are 1 to 24 and 40 to 59").0
     }
 
-    /// Document 01's words.
+    /// The documents' words.
     pub fn words(self) -> &'static str {
-        TABLE[self as usize - 1].1
+        let at = if self as usize > 24 { 16 } else { 1 };
+        TABLE[self as usize - at].1
     }
 
     /// What the detail is, where a refusal has one.
@@ -94,6 +135,7 @@ impl Number {
             TableType | Version => Some("byte"),
             FieldName | Piece => Some("index"),
             LengthMismatch => Some("computed length"),
+            _ if self as u8 >= 40 => Some("place"),
             _ => None,
         }
     }

@@ -1,5 +1,6 @@
 // The calls that a record on a file can ask for, each with its reply in the record's words. What is lent is slots and text.
 use crate::record::byte_at;
+use crate::record::instant_at;
 use crate::record::size_at;
 use crate::record::word_at;
 use crate::reply::Reply;
@@ -7,12 +8,17 @@ use crate::reply::answered;
 use crate::reply::answered_none;
 use crate::reply::refused;
 use numbers::float::bits::of_bits;
+use tzif::local::Local;
+use tzif::local::LocalTime;
+use tzif::local::local_time;
+use tzif::local::offset_bits;
 use zones::location::Location;
 use zones::lookup::Looked;
 use zones::lookup::lookup;
 use zones::opening::Opened;
 use zones::opening::open;
 use zones::refusal::plain;
+use zones::refusal::refuse;
 use zones::simple::Described;
 use zones::simple::Description;
 use zones::simple::Simple;
@@ -102,13 +108,29 @@ fn run_utf8(file: &[u8]) -> Reply {
     }
 }
 
+fn local_of(local: Local) -> Reply {
+    let offset = offset_bits(local);
+    let daylight = local.daylight as u64;
+    let length = local.length as u64;
+    answered([offset, daylight, length, 0, 0])
+}
+
+fn run_local(record: &[u8], file: &[u8], text: &mut [u8]) -> Reply {
+    match local_time(file, instant_at(record, 5), text) {
+        LocalTime::Local(local) => local_of(local),
+        LocalTime::Unknown => answered_none([0; 5]),
+        LocalTime::Refused(why) => refused(refuse(why.number, 0, why.detail as u64)),
+    }
+}
+
 // 1 is open, 2 lookup and 3 simple lookup. Of this program's own, 5 is a string, with its place where a lookup has the latitude and the metadata offset where it has the
-// longitude, and 6 is UTF-8, over bytes that are stored XOR 0x80.
+// longitude, and 6 is UTF-8, over bytes that are stored XOR 0x80. 21 is local time, with an instant of eight bytes in the place of both.
 pub fn run(record: &[u8], file: &[u8], slots: &mut [u32], text: &mut [u8]) -> Reply {
     match byte_at(record, 0) {
         1 => run_open(file, text),
         2 => run_lookup(record, file, slots, text),
         3 => run_simple(record, file, slots, text),
+        21 => run_local(record, file, text),
         5 => run_string(file, word_at(record, 9), size_at(record, 5), text),
         _ => run_utf8(file),
     }

@@ -15,11 +15,11 @@ use record::byte_at;
 use record::size_at;
 
 // How many cases there were of each op, and then in all, wrong and skipped.
-const ALL: usize = 8;
+const ALL: usize = 22;
 
-const WRONG: usize = 9;
+const WRONG: usize = 23;
 
-const SKIPPED: usize = 10;
+const SKIPPED: usize = 24;
 
 fn count(tally: &mut [u64], which: usize) {
     if which < tally.len() {
@@ -110,6 +110,7 @@ fn report(tally: &[u64]) {
     print_op(b"write", counted(tally, 4));
     print_op(b"string", counted(tally, 5));
     print_op(b"utf8", counted(tally, 6));
+    print_op(b"local", counted(tally, 21));
     io::write_all(STDOUT_FILENO, b"replay: ");
     io::print_decimal(STDOUT_FILENO, counted(tally, ALL));
     io::write_all(STDOUT_FILENO, b" cases, ");
@@ -121,7 +122,7 @@ fn report(tally: &[u64]) {
 
 fn main() {
     let mut space = [0u8; 131072];
-    let mut tally = [0u64; 11];
+    let mut tally = [0u64; 25];
     run_all(&mut space, &mut tally);
     report(&tally);
 }

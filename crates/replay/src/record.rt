@@ -32,6 +32,21 @@ pub fn size_at(record: &[u8], at: usize) -> usize {
     word_at(record, at) as usize
 }
 
+// The i64 that has these bits.
+fn with_bits(bits: u64) -> i64 {
+    if bits < 0x8000_0000_0000_0000 {
+        bits as i64
+    } else {
+        -1 - (0xffff_ffff_ffff_ffff - bits) as i64
+    }
+}
+
+// The eight bytes at a place as a signed number.
+pub fn instant_at(record: &[u8], at: usize) -> i64 {
+    let next = std::num::wrapping_add_usize(at, 4);
+    with_bits(long_at(record, at) | long_at(record, next) << 32)
+}
+
 pub fn same_words(words: &[u32], bytes: &[u8]) -> bool {
     let mut i = 0;
     let mut at = 0;

@@ -6,7 +6,7 @@ use mathlib.Core.Path.{_≡_, refl}
 use native.Mathlib.Omega.{arith}
 use Rattle.tzif.proofs.Lasts.{last-within}
 use Rattle.tzif.specs.Check.{correctionBefore, correctionAt}
-use Rattle.tzif.specs.Times.{timeIn, occurrencesOf, lastWith, lastNotAfter}
+use Rattle.tzif.specs.Times.{occurrencesOf, lastNotAfter}
 use Rattle.tzif.specs.declared.block.Block.{Block}
 
 module _ (file : List ℕ) (block : Block) (instant : ℕ) where

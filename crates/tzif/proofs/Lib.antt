@@ -7,6 +7,7 @@ pub mod Rises
 pub mod Blocks
 pub mod Zones
 pub mod Signs
+pub mod Offsets
 pub mod Goods
 pub mod Locals
 pub mod Leaps

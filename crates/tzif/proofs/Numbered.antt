@@ -1,9 +1,9 @@
 -- Which numbers a call can be refused with. Assumes nothing.
-use Prim.Native.Nat.{ℕ, zero, suc, _+_, _^_}
-use lib.Dec.{ltb, leb, eqb}
+use Prim.Native.Nat.{ℕ, zero, suc}
+use lib.Dec.{leb, eqb}
 use lib.IntN.{ℤ}
 use lib.ListN.{length}
-use mathlib.Core.Bool.{Bool, true, false, not}
+use mathlib.Core.Bool.{Bool, true, false}
 use mathlib.Core.List.{List, [], _∷_}
 use mathlib.Core.Path.{_≡_, refl, subst}
 use native.Mathlib.Omega.{arith}
@@ -11,8 +11,8 @@ use Rattle.numbers.proofs.Refusals.{Listed}
 use Rattle.tzif.specs.Block.{endOf}
 use Rattle.tzif.specs.Check.{nulEnd, checkTime, checkIndex, checkType, checkLeap, checkStandard, checkUt}
 use Rattle.tzif.specs.Header.{checkHeader, blockAt, checkCounts, checkBlock, readBlock}
-use Rattle.tzif.specs.Local.{byTable, Replied, replied, lent, localTime}
-use Rattle.tzif.specs.Number.{octet, lift}
+use Rattle.tzif.specs.Local.{Replied, replied, lent, localTime}
+use Rattle.tzif.specs.Number.{octet}
 use Rattle.tzif.specs.Part.{countOf, checkOf, checkPart}
 use Rattle.tzif.specs.Reply.{Reply, given, refused, refusal, demand, each, if_then_else_, _>>=_, _>>_}
 use Rattle.tzif.specs.Text.{slice, zeros, padded}

@@ -1,6 +1,6 @@
 -- What the promise of `local_time` means. Assumes nothing.
-use Prim.Native.Nat.{ℕ, zero, suc, _+_, _-_, _^_, _<_, _≤_}
-use borrow.Author.Tests.{ltb-true, ltb-false, leb-true, leb-false, lt-ltb, le-ltb, lt-leb, le-leb, ne-eqb}
+use Prim.Native.Nat.{ℕ, zero, suc, _+_, _-_, _<_}
+use borrow.Author.Tests.{leb-true, leb-false, lt-ltb, le-ltb, ne-eqb}
 use lib.Dec.{ltb, leb, eqb}
 use lib.IntN.{ℤ}
 use lib.ListN.{length}
@@ -8,7 +8,7 @@ use lib.Signed.{ltZ}
 use mathlib.Core.Bool.{Bool, true, false, _&&_}
 use mathlib.Core.List.{List}
 use mathlib.Core.Logic.{_↔_}
-use mathlib.Core.Path.{_≡_, refl, sym, ap, subst, _∙_}
+use mathlib.Core.Path.{_≡_, refl, sym, ap, _∙_}
 use mir.Syntax.{w64}
 use mir.Val.{SFits}
 use native.Mathlib.Omega.{arith}
@@ -16,7 +16,7 @@ use Rattle.tzif.proofs.Lasts.{last-within, last-holds, last-fails, last
 use Rattle.tzif.proofs.Laws.{Least, least-fault, fault-of-least}
 use Rattle.tzif.proofs.Signs.{Octets, time-is-signed, signed-fits, lift-keeps}
 use Rattle.tzif.specs.Block.{timePlace, indicesOf}
-use Rattle.tzif.specs.Local.{typeIn, typeBehind, isAfterLast, byTable, Replied, replied, named, lent, localTime}
+use Rattle.tzif.specs.Local.{typeBehind, isAfterLast, byTable, Replied, replied, lent, localTime}
 use Rattle.tzif.specs.Number.{octet, signedAt, lift}
 use Rattle.tzif.specs.Reply.{Reply, given, refused, refusal, each, if_then_else_, _>>=_}
 use Rattle.tzif.specs.Text.{slice, zeros, padded}

@@ -1,11 +1,11 @@
 -- A small file, computed: what the theorems speak of is met. Assumes nothing.
-use Prim.Native.Nat.{ℕ, _+_, _*_}
+use Prim.Native.Nat.{ℕ}
 use lib.IntN.{pos, negsuc}
 use mathlib.Core.List.{List, [], _∷_}
 use mathlib.Core.Path.{_≡_, refl}
 use Rattle.tzif.specs.Check.{nulEnd, checkTime, checkIndex, checkType, checkLeap, checkStandard, isStandard, checkUt}
 use Rattle.tzif.specs.Header.{begins, isVersion, versionFits, checkHeader, blockAt, noneOrAll, checkCounts, checkBlock, readBlock}
-use Rattle.tzif.specs.Local.{typeIn, typeBehind, isAfterLast, byTable, Replied, replied, lent, localTime}
+use Rattle.tzif.specs.Local.{typeIn, typeBehind, isAfterLast, byTable, replied, lent, localTime}
 use Rattle.tzif.specs.Number.{octets, be32, raised, timeAt, lift}
 use Rattle.tzif.specs.Part.{countOf, checkOf, checkPart}
 use Rattle.tzif.specs.Reply.{demand, each, refusal, _>>=_, _>>_}

@@ -1,5 +1,5 @@
 -- Local time from a file: offset, daylight flag and abbreviation by its transitions.
-use Prim.Native.Nat.{ℕ, _+_, _-_, _^_, _<_, _≤_}
+use Prim.Native.Nat.{ℕ, _+_, _-_, _<_, _≤_}
 use lib.Dec.{ltb, leb, eqb}
 use lib.IntN.{ℤ}
 use lib.ListN.{length}
@@ -8,7 +8,7 @@ use mathlib.Core.List.{List}
 use mir.Syntax.{w32}
 use mir.Val.{toZ}
 use Rattle.tzif.specs.Block.{Within, indicesOf, designationsOf}
-use Rattle.tzif.specs.Check.{typePlace, nulEnd}
+use Rattle.tzif.specs.Check.{typePlace}
 use Rattle.tzif.specs.Number.{octet, be32, lift}
 use Rattle.tzif.specs.Reply.{Reply, given, refused, refusal, if_then_else_, _>>=_}
 use Rattle.tzif.specs.Text.{runTo, slice, zeros, padded}

@@ -2,6 +2,8 @@
 ghost use mathlib.Core.Path.{_≡_};
 ghost use Prim.Native.Nat.{_+_, _^_, _≤_, _<_};
 ghost use lib.ListN.{length};
+ghost use mir.Syntax.{w32};
+ghost use mir.Val.{ofZ};
 ghost use Rattle.tzif.specs.Text.{zeros};
 ghost use Rattle.tzif.specs.Local.{typeIn, typeBehind, isAfterLast, byTable, replied, named, lent, localTime, Good, Held};
 use crate::block::Block;
@@ -45,6 +47,17 @@ pub enum LocalTime {
     Local(Local),
     Unknown,
     Refused(Refusal),
+}
+
+// The offset's 32 bits.
+pub fn offset_bits(local: Local) -> u64
+    ensures { λ r. ⌜ r ≡ ofZ w32 (local .offset) ⌝ }
+{
+    let offset = local.offset;
+    if offset < 0 {
+        return 0xffff_ffff - (-1 - offset) as u64;
+    }
+    offset as u64
 }
 
 // What a local time type's record says.

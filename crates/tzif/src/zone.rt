@@ -1,6 +1,6 @@
 // A whole file: refusals 1 and 40 to 59, the first fault in file order.
 ghost use mathlib.Core.Path.{_≡_};
-ghost use Prim.Native.Nat.{_^_, _≤_, _<_};
+ghost use Prim.Native.Nat.{_<_};
 ghost use lib.ListN.{length};
 ghost use Rattle.tzif.specs.Block.{Within};
 ghost use Rattle.tzif.specs.Told.{toldFooter, toldZone};

@@ -1,5 +1,5 @@
 -- What a returned 0 means to firmware: the call was answered, whatever it was given. Each exported function's contract fixes what it returns,
--- the number said in `openingSpoken`, `foundSpoken` or `writtenSpoken`; here, that this number is 0 exactly where the definition gives an answer. Assumes nothing.
+-- the number said in `openingSpoken`, `foundSpoken`, `writtenSpoken` or `localSpoken`; here, that this number is 0 exactly where the definition gives an answer. Assumes nothing.
 use Prim.Native.Nat.{ℕ}
 use mathlib.Core.Bool.{Bool, true, false}
 use mathlib.Core.List.{List}
@@ -12,6 +12,11 @@ use Rattle.border.proofs.NumberedWriter.{writerNumbers, writer-refusals}
 use Rattle.border.specs.Writer.{borderOf, fitted}
 use Rattle.border.specs.Writer as W
 use Rattle.border.specs.declared.writer.Piece.{Piece}
+use Rattle.tzif.proofs.Numbered.{localNumbers, local-time-refusals}
+use Rattle.tzif.specs.Local.{localTime}
+use Rattle.tzif.specs.declared.local.LocalTime.{LocalTime}
+use Rattle.tzif.specs.declared.local.LocalTime.the-variants as L
+use Rattle.tzif.specs.declared.refusal.Refusal as T
 use Rattle.zones.proofs.Numbered.{openingNumbers, opening-refusals}
 use Rattle.zones.proofs.NumberedLookup.{lookupNumbers, lookup-refusals, simple-lookup-refusals}
 use Rattle.zones.specs.Lookup.{lookedUp}
@@ -20,7 +25,7 @@ use Rattle.zones.specs.Reply.{Reply, given, refused}
 use Rattle.zones.specs.Simple.{simplyLooked}
 use Rattle.zones.specs.declared.location.Location.{Location}
 use Rattle.zones.specs.declared.refusal.Refusal.{Refusal}
-use Rattle.uskelzar.specs.Spoken.{saidOf, openingValues, zonesValues, describedValues, lengthValue, causeless, openingSpoken, foundSpoken, writtenSpoken}
+use Rattle.uskelzar.specs.Spoken.{saidOf, openingValues, zonesValues, describedValues, lengthValue, localValues, causeless, localReply, openingSpoken, foundSpoken, writtenSpoken, localSpoken}
 
 -- the reply is an answer, and no refusal
 abbrev pub Answered : {A : Type 0} → Reply A → Type 0
@@ -71,3 +76,15 @@ pub write-border-zero : (room version : ℕ) (lats lons : List ℤ) (pieces : Li
 write-border-zero room version lats lons pieces earlier =
     zero-written (fitted room (borderOf version lats lons pieces earlier) .reply)
     (λ number detail is. never-zero writerNumbers (λ z. z) number (writer-refusals room version lats lons pieces earlier number detail is))
+
+-- `uskelzar_local_time`, answered with a local time or with unknown
+of-local : (time : LocalTime) (why : Refusal) → localReply time ≡ refused why → ((told : T.Refusal) → time ≡ L.Refused told → Listed localNumbers (told .number)) → Listed localNumbers (why .number)
+of-local (L.Local local) why e h = let z : _≡_ {A = ℕ} 0 1 = cc in absurd (omega arith)
+of-local L.Unknown why e h = let z : _≡_ {A = ℕ} 0 1 = cc in absurd (omega arith)
+of-local (L.Refused told) why e h = let same : told .number ≡ why .number = cc in subst (Listed localNumbers) same (h told refl)
+
+pub local-time-zero : (file : List ℕ) (instant : ℤ) (room : ℕ)
+    → (localSpoken (localTime file instant room) .said .number ≡ 0) ↔ Answered (localReply (localTime file instant room .reply))
+local-time-zero file instant room =
+    zero-said localValues (localReply (localTime file instant room .reply))
+    (λ why is. never-zero localNumbers (λ z. z) (why .number) (of-local (localTime file instant room .reply) why is (local-time-refusals file instant room)))

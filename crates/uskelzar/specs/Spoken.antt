@@ -1,7 +1,14 @@
 -- How a reply goes over to C: a number, five words, and all lent output.
 use mathlib.Core.List.{List, [], _∷_}
+use mathlib.Core.Option.{Option, none, some}
+use mir.Syntax.{w32}
+use mir.Val.{ofZ}
 use Prim.Native.Nat.{ℕ}
 use Rattle.border.specs.Writer as W
+use Rattle.tzif.specs.Local as T
+use Rattle.tzif.specs.declared.local.Local.{Local}
+use Rattle.tzif.specs.declared.local.LocalTime.{LocalTime}
+use Rattle.tzif.specs.declared.local.LocalTime.the-variants as L
 use Rattle.zones.specs.Lent.{Replied}
 use Rattle.zones.specs.Lists.{padded}
 use Rattle.zones.specs.Opening as O
@@ -46,6 +53,17 @@ abbrev pub causeless : W.Reply ℕ → Reply ℕ
 causeless (W.given length) = given length
 causeless (W.refused number detail) = refused (refusal number 0 detail)
 
+-- 1, the offset's 32 bits, the daylight flag and the abbreviation's length; nothing where local time is unknown
+abbrev pub localValues : Option Local → List ℕ
+localValues none = []
+localValues (some local) = 1 ∷ ofZ w32 (local .offset) ∷ local .daylight ∷ local .length ∷ []
+
+-- refusals of a TZif file have no cause
+abbrev pub localReply : LocalTime → Reply (Option Local)
+localReply (L.Local local) = given (some local)
+localReply L.Unknown = given none
+localReply (L.Refused why) = refused (refusal (why .number) 0 (why .detail))
+
 -- ---- what a call leaves
 pub record Spoken : Type 0 where
   pub said : Said
@@ -63,3 +81,6 @@ foundSpoken values left = record { said = saidOf values (left .reply); lent = le
 
 abbrev pub writtenSpoken : W.Replied → Spoken
 writtenSpoken left = record { said = saidOf lengthValue (causeless (left .reply)); lent = left .out ∷ [] }
+
+abbrev pub localSpoken : T.Replied → Spoken
+localSpoken left = record { said = saidOf localValues (localReply (left .reply)); lent = left .text ∷ [] }

@@ -5,13 +5,17 @@ ghost use mathlib.Core.List.{[], _∷_};
 ghost use lib.ListN.{length};
 ghost use Rattle.border.specs.Pieces.{piecesOf};
 ghost use Rattle.border.specs.Writer.{borderOf, fitted, told};
+ghost use Rattle.tzif.specs.Local.{localTime};
 ghost use Rattle.zones.specs.Lookup.{lookedUp, toldLooked};
 ghost use Rattle.zones.specs.Opening.{openedOf, toldOpened};
 ghost use Rattle.zones.specs.Reply.{Reply, given, refused};
 ghost use Rattle.zones.specs.Simple.{simplyLooked, toldSimple};
-ghost use Rattle.uskelzar.specs.Spoken.{saidOf, openingValues, zonesValues, describedValues, lengthValue, refusedSaid, causeless, spoken, openingSpoken, foundSpoken, writtenSpoken};
+ghost use Rattle.uskelzar.specs.Spoken.{saidOf, openingValues, zonesValues, describedValues, lengthValue, localValues, refusedSaid, causeless, localReply, spoken, openingSpoken, foundSpoken, writtenSpoken, localSpoken};
 use border::writer::Written;
 use border::writer::write_border_words;
+use tzif::local::LocalTime;
+use tzif::local::local_time;
+use tzif::local::offset_bits;
 use zones::location::Location;
 use zones::lookup::Looked;
 use zones::lookup::lookup;
@@ -103,6 +107,28 @@ fn say_written(written: Written) -> Said
     }
 }
 
+fn say_local(time: LocalTime) -> Said
+    ensures { λ r. ⌜ r ≡ saidOf localValues (localReply time) ⌝ }
+{
+    match time {
+        LocalTime::Local(local) => Said {
+            number: 0,
+            words: [
+                1,
+                offset_bits(local),
+                local.daylight as u64,
+                local.length as u64,
+                0,
+            ],
+        },
+        LocalTime::Unknown => Said {
+            number: 0,
+            words: [0; 5],
+        },
+        LocalTime::Refused(why) => say_refused(refuse(why.number, 0, why.detail as u64)),
+    }
+}
+
 fn speak(said: Said, reply: &mut [u64; 5]) -> u8
     ensures { λ r. ⌜ spoken r (now (reply .exit)) [] ≡ record { said = said; lent = [] } ⌝ }
 {
@@ -174,4 +200,18 @@ pub extern "C" fn uskelzar_write_border(
 {
     let written = write_border_words(version, lats, lons, pieces, earlier, out);
     speak(say_written(written), reply)
+}
+
+// Local time at an instant, by a TZif file. Values: 1, the offset's 32 bits, the daylight flag and the abbreviation's length; all 0 where it is unknown.
+#[no_mangle]
+pub extern "C" fn uskelzar_local_time(
+    file: &[u8],
+    instant: i64,
+    text: &mut [u8],
+    reply: &mut [u64; 5],
+) -> u8
+    ensures { λ r. ⌜ spoken r (now (reply .exit)) (now (text .exit) ∷ [])
+        ≡ localSpoken (localTime (now (file .entry)) instant (length (now (text .entry)))) ⌝ }
+{
+    speak(say_local(local_time(file, instant, text)), reply)
 }

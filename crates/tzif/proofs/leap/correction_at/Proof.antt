@@ -1,5 +1,4 @@
 -- `tzif::leap::correction_at` meets its contract. Assumes nothing.
-use borrow.Author.Needs.{needs}
 use native.Mathlib.Omega.{arith}
 use Rattle.tzif.proofs.Leaps.{no-records, records-within}
 use Rattle.tzif.proofs.Widths.{record-fits, occurrences-inside}

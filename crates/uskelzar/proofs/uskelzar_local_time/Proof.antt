@@ -1,0 +1,24 @@
+use lib.IntN.{ℤ}
+use lib.ListN.{length}
+use mathlib.Core.Path.{ap, _∙_}
+use mir.Syntax.{w64}
+use mir.ValLaws.{toZ-ofZ}
+use Rattle.tzif.specs.Local.{localTime}
+use Rattle.uskelzar.proofs.Saying.{beside}
+use Rattle.uskelzar.specs.Spoken.{localSpoken}
+use borrow.Author.Needs.{needs}
+use Rattle.uskelzar.proofs.uskelzar_local_time.Statement.{statement}
+use Rattle.uskelzar.proofs.uskelzar_local_time.Tie as tie
+
+returns : tie.Need-returns
+returns c =
+    let args = c .before .before .before .before .before .before .before .before .before .args in
+    let fits = c .before .before .before .before .before .before .before .before .before .fits in
+    beside _ (c .speak .ensures) (c .before .before .say-local .ensures)
+    ∙ ap localSpoken (c .before .before .before .before .before .local-time .ensures)
+    ∙ ap (λ (instant : ℤ). localSpoken (localTime (args .file .now) instant (length (args .text .now)))) (toZ-ofZ w64 (args .instant) (fits .instant))
+
+pub uskelzar-local-time-spec : {M : Type 1} → statement M
+uskelzar-local-time-spec =
+    tie.close
+    (tie.spec (λ c κs. search needs) (λ c κs. search needs) (λ c κs. search needs) (λ c. search needs) returns)
