@@ -115,22 +115,33 @@ fn local_of(local: Local) -> Reply {
     answered([offset, daylight, length, 0, 0])
 }
 
-fn run_local(record: &[u8], file: &[u8], text: &mut [u8]) -> Reply {
-    match local_time(file, instant_at(record, 5), text) {
+fn told_local(time: LocalTime) -> Reply {
+    match time {
         LocalTime::Local(local) => local_of(local),
         LocalTime::Unknown => answered_none([0; 5]),
         LocalTime::Refused(why) => refused(refuse(why.number, 0, why.detail as u64)),
     }
 }
 
+fn run_local(record: &[u8], file: &[u8], text: &mut [u8]) -> Reply {
+    told_local(footer::local::local_time(file, instant_at(record, 5), text))
+}
+
+// By the transitions alone.
+fn run_listed(record: &[u8], file: &[u8], text: &mut [u8]) -> Reply {
+    told_local(local_time(file, instant_at(record, 5), text))
+}
+
 // 1 is open, 2 lookup and 3 simple lookup. Of this program's own, 5 is a string, with its place where a lookup has the latitude and the metadata offset where it has the
-// longitude, and 6 is UTF-8, over bytes that are stored XOR 0x80. 21 is local time, with an instant of eight bytes in the place of both.
+// longitude, and 6 is UTF-8, over bytes that are stored XOR 0x80. 20 is local time, with an instant of eight bytes
+// in the place of both, and 21 local time by the transitions alone.
 pub fn run(record: &[u8], file: &[u8], slots: &mut [u32], text: &mut [u8]) -> Reply {
     match byte_at(record, 0) {
         1 => run_open(file, text),
         2 => run_lookup(record, file, slots, text),
         3 => run_simple(record, file, slots, text),
-        21 => run_local(record, file, text),
+        20 => run_local(record, file, text),
+        21 => run_listed(record, file, text),
         5 => run_string(file, word_at(record, 9), size_at(record, 5), text),
         _ => run_utf8(file),
     }
