@@ -118,12 +118,12 @@ def ask(path, data, args, rng, tally, out):
             answer, other = by_glibc(instant), by_zoneinfo(zone, instant)
             if other not in (None, answer):
                 tally.apart += 1
-                if instant == times[-1]:
-                    # glibc takes the last transition's own second from the TZ string, which is not asked here
-                    answer = other
                 if tally.shown < 10:
                     tally.shown += 1
                     print("apart:", path, instant, "glibc", answer, "zoneinfo", other, file=sys.stderr)
+                if instant == times[-1]:
+                    # glibc takes the last transition's own second from the TZ string, which is not asked here
+                    answer = other
         out.write(record(tally.asked, instant, data, answer))
 
 

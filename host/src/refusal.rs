@@ -96,7 +96,10 @@ const TABLE: [(Number, &str); 46] = [
     (Piece, "piece list"),
     (OutputRoom, "border doesn't fit the output"),
     (TzifMagic, "a header does not begin with TZif"),
-    (TzifVersion, "version missing, unknown, or the second header's not the first's"),
+    (
+        TzifVersion,
+        "version missing, unknown, or the second header's not the first's",
+    ),
     (TzifHeader, "the file ends inside a header"),
     (TzifIsutcnt, "isutcnt is neither 0 nor typecnt"),
     (TzifIsstdcnt, "isstdcnt is neither 0 nor typecnt"),
@@ -110,7 +113,10 @@ const TABLE: [(Number, &str); 46] = [
     (TzifDesigidx, "a desigidx not below charcnt"),
     (TzifDesignation, "no NUL at or after desigidx"),
     (TzifOccurrence, "a leap-second occurrence too early"),
-    (TzifCorrection, "a leap-second correction not 1 away from the one before it"),
+    (
+        TzifCorrection,
+        "a leap-second correction not 1 away from the one before it",
+    ),
     (TzifStandard, "a standard/wall indicator other than 0 and 1"),
     (TzifUt, "a UT/local indicator that is not allowed"),
     (TzifFooter, "a footer that is not newline, string, newline"),
@@ -122,7 +128,9 @@ const TABLE: [(Number, &str); 46] = [
 impl Number {
     fn of(number: u8) -> Number {
         let known = TABLE.iter().find(|(known, _)| *known as u8 == number);
-        known.expect("the library's refusals are 1 to 24 and 40 to 61").0
+        known
+            .expect("the library's refusals are 1 to 24 and 40 to 61")
+            .0
     }
 
     /// The documents' words.

@@ -6,7 +6,7 @@ use common::files::{header, sections, Zone, LAT_STEP, LON_STEP};
 use std::fs::File;
 use std::os::unix::fs::FileExt;
 use std::path::PathBuf;
-use uskelzar::{write_border, End, Map, Mapping, Number, Refusal};
+use uskelzar::{write_border, End, Map, Mapping, Number, Refusal, TimeZone};
 
 const LARGEST: usize = 1_073_741_824;
 const TOO_LARGE: Refusal = Refusal {
@@ -100,4 +100,14 @@ fn the_writers_earlier_data_has_the_same_limit() {
     let write = |earlier| write_border(1, &[(2, 2), (10, 2), (10, 10)], &[], earlier);
     assert_eq!(write(mapping.as_ref()), Err(TOO_LARGE));
     assert!(write(&mapping.as_ref()[..LARGEST]).is_ok());
+}
+
+/// 1 comes before what the bytes say: no header of a TZif file is there.
+#[test]
+fn a_time_zone_has_the_same_limit() {
+    let mapping = mapped("zone", LARGEST + 1);
+    let refusal = |bytes| TimeZone::new(bytes).err().unwrap();
+    assert_eq!(refusal(mapping.as_ref()), TOO_LARGE);
+    let largest = refusal(&mapping.as_ref()[..LARGEST]);
+    assert_eq!((largest.number, largest.detail), (Number::TzifMagic, 0));
 }

@@ -201,7 +201,10 @@ fn every_cut_and_change() {
             let file = held.hold(&whole[..length], edge);
             let got = call(file, 0, &mut lent, 8, edge);
             let why = got.reply.expect_err("a cut file is refused");
-            assert!(why.number as u8 >= 40 && why.detail as usize <= length, "{why:?}");
+            assert!(
+                why.number as u8 >= 40 && why.detail as usize <= length,
+                "{why:?}"
+            );
             assert_zero_behind(&got);
         }
         for at in 0..whole.len() {

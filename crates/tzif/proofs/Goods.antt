@@ -101,6 +101,10 @@ module _ {file : List ℕ} {block : Block} (read : ReadBlock file block) where
   unfolding checkPart countOf checkOf
   type-passed i l = designated file block i (each-passed (checkType file block (nulEnd file block)) (block .typecnt) (read .passed .types) i l)
 
+  -- 53 found no fault
+  pub type-ended : (i : ℕ) → i < block .typecnt → octet file (typePlace block i + 5) < nulEnd file block
+  type-ended i l = type-passed i l .ended
+
   index-passed : (i : ℕ) → i < block .timecnt → octet file (indicesOf block + i) < block .typecnt
   unfolding checkPart countOf checkOf
   index-passed i l = index-below file block i (each-passed (checkIndex file block) (block .timecnt) (read .passed .indices) i l)

@@ -9,6 +9,7 @@ pub mod Zones
 pub mod Signs
 pub mod Offsets
 pub mod Goods
+pub mod Designations
 pub mod Locals
 pub mod Leaps
 pub mod Numbered

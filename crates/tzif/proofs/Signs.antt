@@ -1,12 +1,12 @@
 -- Signed numbers and their form more 2 ^ 63, which keeps the order. Assumes nothing.
-use Prim.Native.Nat.{ℕ, suc, _+_, _-_, _*_, _^_, _<_, _≤_}
+use Prim.Native.Nat.{ℕ, zero, suc, _+_, _-_, _*_, _^_, _<_, _≤_}
 use borrow.Author.Tests.{ltb-true, ltb-false, lt-ltb, le-ltb}
 use lib.Dec.{T, ltb, eqb}
 use lib.IntN.{ℤ, pos, negsuc, natAbs, _-ℤ_}
 use lib.ListN.{getD}
 use lib.Signed.{mag, ltZ, nonNeg}
-use mathlib.Core.Bool.{Bool, true, false}
-use mathlib.Core.List.{List}
+use mathlib.Core.Bool.{Bool, true, false, _&&_}
+use mathlib.Core.List.{List, [], _∷_}
 use mathlib.Core.Path.{_≡_, refl, ap, _∙_}
 use mir.Syntax.{w32, w64}
 use mir.Val.{SFits, toZ, ofZ}
@@ -63,6 +63,25 @@ module _ (z : ℤ) (h : SFits w64 z) where
 -- ---- a time of the file: the form of its signed value, where octets are below 256
 pub Octets : List ℕ → Type 0
 Octets file = (k : ℕ) → getD file k 0 < 256
+
+first-of : (a b : Bool) → (a && b) ≡ true → a ≡ true
+first-of true b e = refl
+first-of false b e = e
+
+rest-of : (a b : Bool) → (a && b) ≡ true → b ≡ true
+rest-of true b e = e
+rest-of false b e = let z : _≡_ {A = ℕ} 0 1 = cc in absurd (omega arith)
+
+-- the octets of a file that is written out
+unfoldable pub allOctets : List ℕ → Bool
+allOctets [] = true
+allOctets (x ∷ xs) = ltb x 256 && allOctets xs
+
+pub octets-of : (file : List ℕ) → allOctets file ≡ true → Octets file
+unfolding Octets allOctets
+octets-of [] e k = omega arith
+octets-of (x ∷ xs) e zero = ltb-true x 256 (first-of (ltb x 256) (allOctets xs) e)
+octets-of (x ∷ xs) e (suc k) = octets-of xs (rest-of (ltb x 256) (allOctets xs) e) k
 
 be32-fits : (file : List ℕ) (place : ℕ) → Octets file → be32 file place < 2 ^ 32
 unfolding be32 Octets

@@ -20,7 +20,7 @@ use Rattle.tzif.specs.Local.{typeBehind, isAfterLast, byTable, Replied, 
 use Rattle.tzif.specs.Number.{octet, signedAt, lift}
 use Rattle.tzif.specs.Reply.{Reply, given, refused, refusal, each, if_then_else_, _>>=_}
 use Rattle.tzif.specs.Text.{slice, zeros, padded}
-use Rattle.tzif.specs.Times.{timeIn, transitionsOf, lastWith, lastNotAfter}
+use Rattle.tzif.specs.Times.{timeIn, transitionsOf, lastWith, lastNotAfter, Rises}
 use Rattle.tzif.specs.Zone.{readZone}
 use Rattle.tzif.specs.declared.block.Block.{Block}
 use Rattle.tzif.specs.declared.local.Answer.{Answer}
@@ -89,16 +89,23 @@ module _ (file : List ℕ) (octets : Octets file) (block : Block) (instant : ℤ
   after-last = ap (λ (t : Bool). ltb 0 (block .timecnt) && t) (is-before (block .timecnt - 1))
 
 -- ---- block-width
--- two blocks of whatever widths that have the same times are searched alike
+-- two blocks of whatever widths that have the same times: 48 finds fault with both or neither, and they are searched alike
+pub record BlockWidth (file file′ : List ℕ) (block block′ : Block) : Type 0 where
+  pub check : Rises file (transitionsOf block) → Rises file′ (transitionsOf block′)
+  pub search : (instant : ℕ) → lastNotAfter file (transitionsOf block) instant ≡ lastNotAfter file′ (transitionsOf block′) instant
+
 pub block-width : (file file′ : List ℕ) → Octets file → Octets file′ → (block block′ : Block) → block .timecnt ≡ block′ .timecnt
-    → ((i : ℕ) → transitionTime file block i ≡ transitionTime file′ block′ i)
-    → (instant : ℕ) → lastNotAfter file (transitionsOf block) instant ≡ lastNotAfter file′ (transitionsOf block′) instant
+    → ((i : ℕ) → transitionTime file block i ≡ transitionTime file′ block′ i) → BlockWidth file file′ block block′
 unfolding lastNotAfter timeIn transitionTime
-block-width file file′ o o′ block block′ n e instant =
-    last-same (λ i. leb (timeIn file (transitionsOf block) i) instant) (λ i. leb (timeIn file′ (transitionsOf block′) i) instant)
-    (λ i. ap (λ (t : ℕ). leb t instant) (time-is-signed file (block .width) (timePlace block i) o ∙ ap lift (e i) ∙ sym (time-is-signed file′ (block′ .width) (timePlace block′ i) o′)))
-    (block .timecnt)
-    ∙ ap (λ (m : ℕ). lastWith m (λ i. leb (timeIn file′ (transitionsOf block′) i) instant)) n
+block-width file file′ o o′ block block′ n e = record {
+  check = λ r. record { next = λ i l. rw (← same i, ← same (suc i)) (r .next i (omega arith)) };
+  search = λ instant.
+      last-same (λ i. leb (timeIn file (transitionsOf block) i) instant) (λ i. leb (timeIn file′ (transitionsOf block′) i) instant) (λ i. ap (λ (t : ℕ). leb t instant) (same i)) (block .timecnt)
+      ∙ ap (λ (m : ℕ). lastWith m (λ i. leb (timeIn file′ (transitionsOf block′) i) instant)) n;
+}
+  where
+    same : (i : ℕ) → timeIn file (transitionsOf block) i ≡ timeIn file′ (transitionsOf block′) i
+    same i = time-is-signed file (block .width) (timePlace block i) o ∙ ap lift (e i) ∙ sym (time-is-signed file′ (block′ .width) (timePlace block′ i) o′)
 
 -- ---- first-fault
 -- checks index by index are refused exactly with the fault of the least index that has one

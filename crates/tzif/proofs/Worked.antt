@@ -3,15 +3,19 @@ use Prim.Native.Nat.{ℕ}
 use lib.IntN.{pos, negsuc}
 use mathlib.Core.List.{List, [], _∷_}
 use mathlib.Core.Path.{_≡_, refl}
+use native.Mathlib.Omega.{arith}
+use Rattle.tzif.proofs.Signs.{allOctets, octets-of}
+use Rattle.tzif.proofs.Theorems.{LastNotAfter, last-not-after}
 use Rattle.tzif.specs.Check.{nulEnd, checkTime, checkIndex, checkType, checkLeap, checkStandard, isStandard, checkUt}
 use Rattle.tzif.specs.Header.{begins, isVersion, versionFits, checkHeader, blockAt, noneOrAll, checkCounts, checkBlock, readBlock}
 use Rattle.tzif.specs.Local.{typeIn, typeBehind, isAfterLast, byTable, replied, lent, localTime}
 use Rattle.tzif.specs.Number.{octets, be32, raised, timeAt, lift}
 use Rattle.tzif.specs.Part.{countOf, checkOf, checkPart}
-use Rattle.tzif.specs.Reply.{demand, each, refusal, _>>=_, _>>_}
+use Rattle.tzif.specs.Reply.{given, demand, each, refusal, _>>=_, _>>_}
 use Rattle.tzif.specs.Text.{firstWith, isStop, runTo}
-use Rattle.tzif.specs.Times.{timeIn, lastWith, lastNotAfter}
+use Rattle.tzif.specs.Times.{timeIn, transitionsOf, lastWith, lastNotAfter}
 use Rattle.tzif.specs.Zone.{readShort, readZone}
+use Rattle.tzif.specs.declared.block.Block.{Block}
 use Rattle.tzif.specs.declared.local.LocalTime.the-variants as L
 
 -- version 1: `A` at UT, and from instant 0 on `B`, an hour east of it, daylight time
@@ -19,13 +23,23 @@ abbrev small : List ℕ
 small =
     84 ∷ 90 ∷ 105 ∷ 102 ∷ 0 ∷ 0 ∷ 0 ∷ 0 ∷ 0 ∷ 0 ∷ 0 ∷ 0 ∷ 0 ∷ 0 ∷ 0 ∷ 0 ∷ 0 ∷ 0 ∷ 0 ∷ 0 ∷ 0 ∷ 0 ∷ 0 ∷ 0 ∷ 0 ∷ 0 ∷ 0 ∷ 0 ∷ 0 ∷ 0 ∷ 0 ∷ 0 ∷ 0 ∷ 0 ∷ 0 ∷ 1 ∷ 0 ∷ 0 ∷ 0 ∷ 2 ∷ 0 ∷ 0 ∷ 0 ∷ 4 ∷ 0 ∷ 0 ∷ 0 ∷ 0 ∷ 1 ∷ 0 ∷ 0 ∷ 0 ∷ 0 ∷ 0 ∷ 0 ∷ 0 ∷ 0 ∷ 14 ∷ 16 ∷ 1 ∷ 2 ∷ 65 ∷ 0 ∷ 66 ∷ 0 ∷ []
 
+-- its block
+abbrev table : Block
+table = record { width = 4; isutcnt = 0; isstdcnt = 0; leapcnt = 0; timecnt = 1; typecnt = 2; charcnt = 4; begin = 44 }
+
 -- before the first transition, at it, after it; and where the abbreviation has no room
 pub record Worked : Type 0 where
   pub before : localTime small (negsuc 0) 2 ≡ replied (L.Local (record { offset = pos 0; daylight = 0; length = 1 })) (65 ∷ 0 ∷ [])
   pub there : localTime small (pos 0) 2 ≡ replied (L.Local (record { offset = pos 3600; daylight = 1; length = 1 })) (66 ∷ 0 ∷ [])
   pub behind : localTime small (pos 1) 2 ≡ replied L.Unknown (0 ∷ 0 ∷ [])
+  pub read : readZone small ≡ given (record { version = 0; block = table; string = 65; size = 0 })
   pub no-room : localTime small (pos 0) 0 ≡ replied (L.Refused (refusal 18 0)) []
 
 pub worked : Worked
 unfolding localTime lent readZone readShort readBlock begins isVersion versionFits checkHeader blockAt noneOrAll checkCounts checkBlock checkPart countOf checkOf checkTime checkIndex checkType checkLeap checkStandard isStandard checkUt nulEnd typeIn typeBehind isAfterLast byTable octets be32 raised timeAt lift demand each _>>=_ _>>_ firstWith isStop runTo timeIn lastWith lastNotAfter
-worked = record { before = refl; there = refl; behind = refl; no-room = refl }
+worked = record { before = refl; there = refl; behind = refl; read = refl; no-room = refl }
+
+-- what `last-not-after` asks is met
+pub small-last : LastNotAfter small table (pos 0) (typeBehind small table (lastNotAfter small (transitionsOf table) (lift (pos 0))))
+unfolding allOctets
+small-last = last-not-after small (octets-of small refl) table (pos 0) (record { sfits = omega arith })

@@ -30,6 +30,7 @@ standardsOf block = leapsOf block + block .leapcnt * (block .width + 4)
 abbrev pub utsOf : Block → ℕ
 utsOf block = standardsOf block + block .isstdcnt
 
+-- behind all of them
 abbrev pub endOf : Block → ℕ
 endOf block = utsOf block + block .isutcnt
 

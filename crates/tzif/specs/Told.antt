@@ -1,4 +1,4 @@
--- What the code's answers say.
+-- What the code's answers say: what was asked for, or the refusal.
 use Prim.Native.Nat.{ℕ}
 use Rattle.tzif.specs.Reply.{Reply, given, refused, _>>_}
 use Rattle.tzif.specs.declared.block.Block.{Block}

@@ -16,6 +16,7 @@ use Rattle.tzif.specs.declared.zone.Zone.{Zone}
 abbrev pub stringSize : List ℕ → ℕ → ℕ
 stringSize file place = runTo 10 file place (length file - place)
 
+-- a newline stands at a place
 unfoldable pub newlineAt : List ℕ → ℕ → Bool
 newlineAt file at = ltb at (length file) && eqb (octet file at) 10
 

@@ -33,10 +33,10 @@ unfolding changeOf
 change-low change west year c = omega (arith, day-from (change .when) year (c .when), mean-low year)
 
 module _ (rule : Rule) (good : IsRule rule) where
-  -- two years before the guess have begun
-  pub begun : (instant : ℕ) → InYears instant → startOf rule (instant / 31556952 - 2) ≤ instant
+  -- two years before the guess have begun, and those before them
+  pub begun : (year instant : ℕ) → year + 2 ≤ instant / 31556952 → startOf rule year ≤ instant
   unfolding startOf
-  begun instant y = omega (arith, change-high (rule .start) (rule .standard .west) (instant / 31556952 - 2) (good .start) (good .standard), y .from)
+  begun year instant h = omega (arith, change-high (rule .start) (rule .standard .west) year (good .start) (good .standard))
 
   -- years go on beginning
   pub start-low : (year : ℕ) → 31556952 * year ≤ startOf rule year + 150984

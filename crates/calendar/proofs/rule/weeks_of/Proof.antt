@@ -1,5 +1,6 @@
 -- `calendar::rule::weeks_of` meets its contract. Assumes nothing.
 use borrow.Author.Needs.{needs}
+use native.Mathlib.Omega.{arith}
 use Rattle.calendar.proofs.Sums.{weeks-all, weeks-cut}
 use Rattle.calendar.proofs.rule.weeks_of.Statement.{statement}
 use Rattle.calendar.proofs.rule.weeks_of.Tie as tie
@@ -24,14 +25,14 @@ returns c =
     let is-leap = c .before .before .is-leap in
     let args = c .before .before .before .args in
     let month-length = c .before .month-length in
-    weeks-all _ (is-leap .ensures) (args .month) _ (month-length .ensures) (c .if1 .taken)
+    weeks-all _ (is-leap .ensures) (args .month) _ (month-length .ensures) (omega (arith, c .if1 .taken))
 
 returns-2 : tie.Need-returns-2
 returns-2 c =
     let is-leap = c .before .before .is-leap in
     let args = c .before .before .before .args in
     let month-length = c .before .month-length in
-    weeks-cut _ (is-leap .ensures) (args .month) _ (month-length .ensures) (c .if1 .left)
+    weeks-cut _ (is-leap .ensures) (args .month) _ (month-length .ensures) (omega (arith, c .if1 .left))
 
 pub weeks-of-spec : {M : Type 1} → statement M
 weeks-of-spec =

@@ -17,7 +17,7 @@ sub-year : tie.Need-sub-year Inv-loop μ-loop
 sub-year c = omega (arith, c .pre .1 .from)
 
 loop-holds : tie.Need-loop-holds Inv-loop μ-loop
-loop-holds c = (begun (c .args .rule) (c .pre .0) (c .args .instant) (c .pre .1), omega arith)
+loop-holds c = (begun (c .args .rule) (c .pre .0) _ (c .args .instant) (omega (arith, c .pre .1 .from)), omega arith)
 
 add-start-of : tie.Need-add-start-of Inv-loop μ-loop
 add-start-of c = omega (arith, c .before .pre .1 .to)
