@@ -8,3 +8,4 @@ pub mod Times
 pub mod Signs
 pub mod Letters
 pub mod Laws
+pub mod Worked
