@@ -1,7 +1,7 @@
-/* uskelzar.h: which zone holds a fix, by a PLB border file; a writer of borders; and local time, by a TZif file.
+/* uskelzar.h: which zone holds a fix, by a PLB border file; a writer of borders; local time, by a TZif file; and dates.
  *
  * For libuskelzar.a. What its functions answer, write and touch, and that they end, is proved for every input; what it calls
- * is seen to by a test of the archive. What holds for all five:
+ * is seen to by a test of the archive. What holds for all six:
  *
  * You bring    pointers that are not null, aligned for their type and good for their length: to read from, or where the
  *              buffer is lent (no const), to write to. Lent buffers and `reply` do not overlap each other or an input, and
@@ -73,7 +73,9 @@ enum uskelzar_refusal {
     USKELZAR_TZIF_STANDARD = 56,      /* a standard/wall indicator other than 0 and 1: the octet */
     USKELZAR_TZIF_UT = 57,            /* a UT/local indicator other than 0 and 1, or 1 without the standard one: the octet */
     USKELZAR_TZIF_FOOTER = 58,        /* no newline at its start, a NUL, no newline at its end: the octet met, or the end */
-    USKELZAR_TZIF_REST = 59           /* bytes behind the end: the first of them */
+    USKELZAR_TZIF_REST = 59,          /* bytes behind the end: the first of them */
+    USKELZAR_TZIF_STRING = 60,        /* no TZ string: its fault; or it contradicts the last transition: the newline before it */
+    USKELZAR_TZIF_YEAR = 61           /* an instant outside the years 1 to 9999; detail: 0 */
 };
 
 /* reply[0] of a refusal: which of the two causes, for 6, 7 and 15; otherwise none */
@@ -118,6 +120,16 @@ enum {
     USKELZAR_SIMPLE_LENGTH = 3        /* its bytes */
 };
 enum { USKELZAR_WRITE_LENGTH = 0 };
+enum {
+    USKELZAR_CIVIL_YEAR = 0,
+    USKELZAR_CIVIL_MONTH = 1,         /* 1 to 12 */
+    USKELZAR_CIVIL_DAY = 2,           /* 1 to 31 */
+    USKELZAR_CIVIL_HOUR = 3,
+    USKELZAR_CIVIL_MINUTE = 4,
+    USKELZAR_CIVIL_SECOND = 5,
+    USKELZAR_CIVIL_WEEKDAY = 6,       /* 0 is Sunday */
+    USKELZAR_CIVIL_WORDS = 7
+};
 enum {
     USKELZAR_LOCAL_KNOWN = 0,         /* 1: local time is known; 0: it is not, and all words are 0 */
     USKELZAR_LOCAL_OFFSET = 1,        /* seconds east of UT: the bits of an int32_t */
@@ -181,15 +193,21 @@ uint8_t uskelzar_write_border(uint8_t version, const int32_t *lats, size_t lats_
                               size_t earlier_length, uint8_t *out, size_t out_length,
                               uint64_t reply[USKELZAR_REPLY_WORDS]);
 
-/* Local time at an instant, by a TZif file (RFC 8536, versions 1 to 3), all of which is checked first. The instant is in
- * seconds from 1970-01-01 00:00:00 UT, on the file's own scale.
+/* Local time at an instant, by a TZif file (RFC 8536, versions 1 to 3) and the TZ string of its footer, all of which is checked
+ * first. The instant is in seconds from 1970-01-01 00:00:00 UT, on the file's own scale.
  * Answers: 1, the offset's bits, the daylight flag, the abbreviation's length: by the last transition that is not after the
- *       instant; before the first, or where there are none, by type 0. After the last of one or more it is unknown: all
- *       words are 0.
+ *       instant; before the first by type 0. After the last, and throughout where there are none, by the TZ string, where
+ *       the file has one; where it has none, by type 0 if there are no transitions, and else unknown: all words are 0.
  * text: the abbreviation, without a zero byte at its end (one stands behind it if there is room); zeros where it is unknown.
- * Refuses: 1; 40 to 59, the first fault in file order; 18 last. */
+ * Refuses: 1; 40 to 60, the first fault in file order; 61 where the string would answer; 18 last. */
 uint8_t uskelzar_local_time(const uint8_t *file, size_t file_length, int64_t instant, uint8_t *text, size_t text_length,
                             uint64_t reply[USKELZAR_REPLY_WORDS]);
+
+/* The date and the time of day that a clock shows at an instant, so many seconds east of UT: with local time's offset, local
+ * time. `reply` has seven words of its own.
+ * Answers: year (1 to 9999), month, day, hour, minute, second, weekday (0 is Sunday, 6 Saturday).
+ * Refuses: 61, with seven zeros, where the clock is outside the years 1 to 9999. */
+uint8_t uskelzar_civil_time(int64_t instant, int32_t offset, uint64_t reply[USKELZAR_CIVIL_WORDS]);
 
 #ifdef __cplusplus
 }

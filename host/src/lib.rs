@@ -10,7 +10,7 @@
 //! # }
 //! ```
 //!
-//! [`raw`] has the five functions as they are, over lent buffers; [`Map`] and [`TimeZone`] lend the buffers themselves.
+//! [`raw`] has the six functions as they are, over lent buffers; [`Map`] and [`TimeZone`] lend the buffers themselves.
 
 #![deny(unsafe_op_in_unsafe_fn, missing_docs)]
 
@@ -21,7 +21,7 @@ mod map;
 pub mod raw;
 mod refusal;
 
-pub use local::{LocalTime, TimeZone};
+pub use local::{CivilTime, LocalTime, TimeZone};
 pub use map::{End, Error, Field, Header, Kind, Map, Match, Room, Simple, Table, Unknown, Zones};
 pub use raw::Mapping;
 pub use refusal::{Cause, Number, Refusal};

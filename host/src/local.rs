@@ -16,6 +16,41 @@ pub struct LocalTime {
     pub abbreviation: Vec<u8>,
 }
 
+/// A date and a time of day.
+#[derive(Clone, Copy, Debug, Eq, PartialEq)]
+pub struct CivilTime {
+    /// 1 to 9999.
+    pub year: u16,
+    /// 1 to 12.
+    pub month: u8,
+    /// 1 to 31.
+    pub day: u8,
+    /// 0 to 23.
+    pub hour: u8,
+    /// 0 to 59.
+    pub minute: u8,
+    /// 0 to 59.
+    pub second: u8,
+    /// 0 is Sunday.
+    pub weekday: u8,
+}
+
+impl CivilTime {
+    /// What a clock shows at an instant, so many seconds east of UT; refused outside the years 1 to 9999.
+    pub fn at(instant: i64, offset: i32) -> Result<CivilTime, Refusal> {
+        let [year, month, day, hour, minute, second, weekday] = raw::civil_time(instant, offset)?;
+        Ok(CivilTime {
+            year: year as u16,
+            month: month as u8,
+            day: day as u8,
+            hour: hour as u8,
+            minute: minute as u8,
+            second: second as u8,
+            weekday: weekday as u8,
+        })
+    }
+}
+
 /// A TZif file that the library has checked. `B` holds its bytes.
 pub struct TimeZone<B> {
     bytes: B,

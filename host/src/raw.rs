@@ -1,4 +1,4 @@
-//! The library's five functions over lent buffers (include/uskelzar.h has their contracts), and files mapped into memory.
+//! The library's six functions over lent buffers (include/uskelzar.h has their contracts), and files mapped into memory.
 //! All that is unsafe in this crate is here.
 
 pub use crate::hit::HIT_WORDS;
@@ -57,6 +57,7 @@ mod library {
             out_length: usize,
             reply: *mut [u64; 5],
         ) -> u8;
+        pub fn uskelzar_civil_time(instant: i64, offset: i32, reply: *mut [u64; 7]) -> u8;
         pub fn uskelzar_local_time(
             file: *const u8,
             file_length: usize,
@@ -173,6 +174,18 @@ pub fn write_border(
             reply,
         )
     })
+}
+
+/// Year, month, day, hour, minute, second, weekday (0 is Sunday) of an instant, so many seconds east of UT.
+pub fn civil_time(instant: i64, offset: i32) -> Result<[u64; 7], Refusal> {
+    let mut reply = [u64::MAX; 7];
+    // SAFETY: the reply is a local of seven words.
+    let number = unsafe { library::uskelzar_civil_time(instant, offset, &mut reply) };
+    if number == 0 {
+        return Ok(reply);
+    }
+    debug_assert_eq!(reply, [0; 7], "a refusal leaves zeros");
+    Err(Refusal::of(number, [0; 5]))
 }
 
 /// 1, offset bits, daylight flag, the abbreviation's length; the abbreviation in the text. All zero where it is unknown.

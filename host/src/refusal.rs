@@ -51,12 +51,14 @@ pub enum Number {
     TzifUt = 57,
     TzifFooter = 58,
     TzifRest = 59,
+    TzifString = 60,
+    TzifYear = 61,
 }
 
 use Number::*;
 
 /// Each number with document 01's words for it, in order.
-const TABLE: [(Number, &str); 44] = [
+const TABLE: [(Number, &str); 46] = [
     (
         TooLarge,
         "file, or the writer's earlier data, over 1,073,741,824 bytes",
@@ -119,13 +121,15 @@ const TABLE: [(Number, &str); 44] = [
     (TzifUt, "a UT/local indicator that is not allowed"),
     (TzifFooter, "a footer that is not newline, string, newline"),
     (TzifRest, "bytes behind the end"),
+    (TzifString, "no TZ string, or one that contradicts the last transition"),
+    (TzifYear, "an instant outside the years 1 to 9999"),
 ];
 
 impl Number {
     fn of(number: u8) -> Number {
         let known = TABLE.iter().find(|(known, _)| *known as u8 == number);
         known
-            .expect("the library's refusals are 1 to 24 and 40 to 59")
+            .expect("the library's refusals are 1 to 24 and 40 to 61")
             .0
     }
 
@@ -143,6 +147,7 @@ impl Number {
             TableType | Version => Some("byte"),
             FieldName | Piece => Some("index"),
             LengthMismatch => Some("computed length"),
+            TzifYear => None,
             _ if self as u8 >= 40 => Some("place"),
             _ => None,
         }

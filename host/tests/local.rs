@@ -5,7 +5,7 @@ mod common;
 
 use common::fence::{Edge, Fence, EDGES};
 use uskelzar::raw::{self, Reply};
-use uskelzar::{LocalTime, Number, Refusal, TimeZone};
+use uskelzar::{CivilTime, LocalTime, Number, Refusal, TimeZone};
 
 const MOST: usize = 64;
 
@@ -17,17 +17,17 @@ fn header(version: u8, counts: [u32; 6]) -> Vec<u8> {
     out
 }
 
-/// `A` at UT; from instant 0 on `BCD`, an hour east, daylight time; from 2^33 on `A` again.
+/// `AAA` at UT; from instant 0 on `BCD`, an hour east, daylight time; from 2^33 on, in March 2242, `AAA` again, and then by the string.
 fn small() -> Vec<u8> {
-    let types = [0, 0, 0, 0, 0, 0, 0, 0, 0x0E, 0x10, 1, 2];
-    let mut out = header(b'2', [0, 0, 0, 0, 1, 2]);
+    let types = [0, 0, 0, 0, 0, 0, 0, 0, 0x0E, 0x10, 1, 4];
+    let mut out = header(b'2', [0, 0, 0, 0, 1, 4]);
     out.extend(&types[..6]);
-    out.extend(b"A\0");
-    out.extend(header(b'2', [0, 0, 0, 2, 2, 6]));
+    out.extend(b"AAA\0");
+    out.extend(header(b'2', [0, 0, 0, 2, 2, 8]));
     out.extend([0i64, 1 << 33].iter().flat_map(|time| time.to_be_bytes()));
     out.extend([1, 0]);
     out.extend(types);
-    out.extend(b"A\0BCD\0\nA0\n");
+    out.extend(b"AAA\0BCD\0\nAAA0BCD,M3.5.0,M10.5.0\n");
     out
 }
 
@@ -42,7 +42,7 @@ fn local(offset: i32, daylight: bool, name: &[u8]) -> Option<LocalTime> {
 #[test]
 fn answers() {
     let zone = TimeZone::new(small()).unwrap();
-    let before = local(0, false, b"A");
+    let before = local(0, false, b"AAA");
     let summer = local(3600, true, b"BCD");
     for (instant, wanted) in [
         (i64::MIN, &before),
@@ -50,10 +50,77 @@ fn answers() {
         (0, &summer),
         ((1 << 33) - 1, &summer),
         (1 << 33, &before),
-        ((1 << 33) + 1, &None),
-        (i64::MAX, &None),
+        ((1 << 33) + 1, &before),
+        ((1 << 33) + 30 * 86_400, &summer),
+        ((1 << 33) + 300 * 86_400, &before),
     ] {
         assert_eq!(zone.local_time(instant).unwrap(), *wanted, "{instant}");
+    }
+}
+
+/// Outside the years 1 to 9999 the string is not asked; the transitions are.
+#[test]
+fn years() {
+    let zone = TimeZone::new(small()).unwrap();
+    for instant in [253_402_300_800, i64::MAX] {
+        let why = zone.local_time(instant).unwrap_err();
+        assert_eq!((why.number, why.detail), (Number::TzifYear, 0));
+    }
+    assert!(zone.local_time(253_402_300_799).is_ok());
+    assert!(zone.local_time(i64::MIN).is_ok());
+}
+
+/// A string that is none, and one that contradicts the last transition.
+#[test]
+fn strings() {
+    let file = small();
+    let newline = file.len() - b"\nAAA0BCD,M3.5.0,M10.5.0\n".len();
+    for (string, place) in [
+        (&b"AA0"[..], newline + 3),
+        (b"AAA0BCD", newline + 8),
+        (b"AAA0BCD,M3.6.0,M10.5.0", newline + 12),
+        (b"AAA0BCD,M3.5.0/25,M10.5.0", newline + 16),
+        (b"AAA1", newline),
+        (b"AAB0", newline),
+    ] {
+        let mut changed = file[..=newline].to_vec();
+        changed.extend(string);
+        changed.push(b'\n');
+        let why = TimeZone::new(changed).err().unwrap();
+        assert_eq!((why.number, why.detail as usize), (Number::TzifString, place));
+    }
+}
+
+fn civil(year: u16, date: [u8; 2], time: [u8; 3], weekday: u8) -> CivilTime {
+    let ([month, day], [hour, minute, second]) = (date, time);
+    CivilTime {
+        year,
+        month,
+        day,
+        hour,
+        minute,
+        second,
+        weekday,
+    }
+}
+
+#[test]
+fn dates() {
+    const FIRST: i64 = -62_135_596_800;
+    const LAST: i64 = 253_402_300_799;
+    for (instant, offset, wanted) in [
+        (0, 0, civil(1970, [1, 1], [0, 0, 0], 4)),
+        (951_782_400, 3600, civil(2000, [2, 29], [1, 0, 0], 2)),
+        (-1, -1, civil(1969, [12, 31], [23, 59, 58], 3)),
+        (FIRST, 0, civil(1, [1, 1], [0, 0, 0], 1)),
+        (LAST, 0, civil(9999, [12, 31], [23, 59, 59], 5)),
+        (LAST + 2_147_483_648, i32::MIN, civil(9999, [12, 31], [23, 59, 59], 5)),
+    ] {
+        assert_eq!(CivilTime::at(instant, offset), Ok(wanted), "{instant} {offset}");
+    }
+    for (instant, offset) in [(FIRST, -1), (LAST, 1), (i64::MIN, i32::MIN), (i64::MAX, i32::MAX)] {
+        let why = CivilTime::at(instant, offset).unwrap_err();
+        assert_eq!((why.number, why.detail), (Number::TzifYear, 0));
     }
 }
 
@@ -104,7 +171,7 @@ fn every_room() {
     for edge in EDGES {
         let file = held.hold(&file, edge);
         for room in 0..=MOST {
-            for (instant, name) in [(-1, &b"A"[..]), (0, b"BCD"), (1 << 34, b"")] {
+            for (instant, name) in [(-1, &b"AAA"[..]), (0, b"BCD"), (1 << 34, b"BCD")] {
                 let got = call(file, instant, &mut lent, room, edge);
                 assert_zero_behind(&got);
                 match got.reply {

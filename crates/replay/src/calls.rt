@@ -1,5 +1,5 @@
 // The calls that a record on a file can ask for, each with its reply in the record's words. What is lent is slots and text.
-// Open and both lookups are those that firmware calls.
+// Open, both lookups and local time are those that firmware calls.
 use crate::record::byte_at;
 use crate::record::instant_at;
 use crate::record::size_at;
@@ -8,6 +8,7 @@ use crate::reply::Reply;
 use crate::reply::answered;
 use crate::reply::answered_none;
 use crate::reply::described;
+use crate::reply::known;
 use crate::reply::refused;
 use crate::reply::spoken;
 use crate::reply::unspoken;
@@ -16,6 +17,7 @@ use tzif::local::Local;
 use tzif::local::LocalTime;
 use tzif::local::local_time;
 use tzif::local::offset_bits;
+use uskelzar::uskelzar_local_time;
 use uskelzar::uskelzar_lookup;
 use uskelzar::uskelzar_open;
 use uskelzar::uskelzar_simple_lookup;
@@ -88,22 +90,35 @@ fn local_of(local: Local) -> Reply {
     answered([offset, daylight, length, 0, 0])
 }
 
-fn run_local(record: &[u8], file: &[u8], text: &mut [u8]) -> Reply {
-    match local_time(file, instant_at(record, 5), text) {
+fn told_local(time: LocalTime) -> Reply {
+    match time {
         LocalTime::Local(local) => local_of(local),
         LocalTime::Unknown => answered_none([0; 5]),
         LocalTime::Refused(why) => refused(why.number, [0, why.detail as u64, 0, 0, 0]),
     }
 }
 
+fn run_local(record: &[u8], file: &[u8], text: &mut [u8]) -> Reply {
+    let mut words = unspoken();
+    let number = uskelzar_local_time(file, instant_at(record, 5), text, &mut words);
+    known(number, words)
+}
+
+// By the transitions alone.
+fn run_listed(record: &[u8], file: &[u8], text: &mut [u8]) -> Reply {
+    told_local(local_time(file, instant_at(record, 5), text))
+}
+
 // 1 is open, 2 lookup and 3 simple lookup. Of this program's own, 5 is a string, with its place where a lookup has the latitude and the metadata offset where it has the
-// longitude, and 6 is UTF-8, over bytes that are stored XOR 0x80. 21 is local time, with an instant of eight bytes in the place of both.
+// longitude, and 6 is UTF-8, over bytes that are stored XOR 0x80. 20 is local time, with an instant of eight bytes
+// in the place of both, and 21 local time by the transitions alone.
 pub fn run(record: &[u8], file: &[u8], slots: &mut [u32], text: &mut [u8]) -> Reply {
     match byte_at(record, 0) {
         1 => run_open(file, text),
         2 => run_lookup(record, file, slots, text),
         3 => run_simple(record, file, slots, text),
-        21 => run_local(record, file, text),
+        20 => run_local(record, file, text),
+        21 => run_listed(record, file, text),
         5 => run_string(file, word_at(record, 9), size_at(record, 5), text),
         _ => run_utf8(file),
     }

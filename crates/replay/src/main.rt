@@ -110,7 +110,8 @@ fn report(tally: &[u64]) {
     print_op(b"write", counted(tally, 4));
     print_op(b"string", counted(tally, 5));
     print_op(b"utf8", counted(tally, 6));
-    print_op(b"local", counted(tally, 21));
+    print_op(b"local", counted(tally, 20));
+    print_op(b"listed", counted(tally, 21));
     io::write_all(STDOUT_FILENO, b"replay: ");
     io::print_decimal(STDOUT_FILENO, counted(tally, ALL));
     io::write_all(STDOUT_FILENO, b" cases, ");

@@ -68,6 +68,17 @@ pub fn described(number: u8, words: [u64; 5]) -> Reply {
     answered_none([words[0], words[1], words[3], words[4], words[2]])
 }
 
+// The same of local time, whose first word says whether it is known.
+pub fn known(number: u8, words: [u64; 5]) -> Reply {
+    if number != 0 {
+        return refused(number, words);
+    }
+    if words[0] == 1 {
+        return answered([words[1], words[2], words[3], words[4], 0]);
+    }
+    answered_none([words[1], words[2], words[3], words[4], words[0]])
+}
+
 // The reply that 34 bytes of a record hold.
 pub fn recorded(bytes: &[u8]) -> Reply {
     Reply {

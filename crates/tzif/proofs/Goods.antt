@@ -1,5 +1,5 @@
 -- What the checks leave behind: a block that was read is good, and its abbreviations lie within the file. Assumes nothing.
-use Prim.Native.Nat.{ℕ, _+_, _-_, _<_, _≤_}
+use Prim.Native.Nat.{ℕ, _+_, _-_, _^_, _<_, _≤_}
 use borrow.Author.Tests.{ltb-true, leb-true, eqb-false, not-true}
 use lib.Dec.{eqb}
 use lib.ListN.{length}
@@ -133,6 +133,11 @@ module _ (file : List ℕ) {zone : Zone} (e : readZone file ≡ given zone) wher
   -- its leap-second occurrences rise
   pub zone-leaps-rise : Rises file (occurrencesOf (zone .block))
   zone-leaps-rise = occurrences-rise file (zone .block) (zone-read .passed .leaps)
+
+  -- it is no longer than 1 GiB
+  pub zone-short : length file ≤ 2 ^ 30
+  unfolding readZone
+  zone-short = leb-true _ _ (held _ _ (both-given _ _ e .0))
 
   -- its TZ string lies within it
   pub zone-string : zone .string + zone .size ≤ length file

@@ -115,7 +115,7 @@ pub fn by_table(file: &[u8], block: Block, instant: usize) -> Answer
     Answer::Found(type_in(file, block, type_behind(file, block, behind)))
 }
 
-fn clear(text: &mut [u8])
+pub fn clear(text: &mut [u8])
     ensures { λ _. ⌜ now (text .exit) ≡ zeros (length (now (text .entry))) ⌝ }
 {
     lend(b"", text);

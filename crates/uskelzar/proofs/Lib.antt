@@ -1,3 +1,4 @@
 pub mod Saying
 pub mod Numbered
 pub mod Same
+pub mod SameCivil

@@ -11,8 +11,8 @@ use Rattle.numbers.proofs.Refusals.{Listed}
 use Rattle.border.proofs.NumberedWriter.{writerNumbers, writer-refusals}
 use Rattle.border.specs.Writer.{borderOf, fitted}
 use Rattle.border.specs.declared.writer.Piece.{Piece}
-use Rattle.tzif.proofs.Numbered.{localNumbers, local-time-refusals}
-use Rattle.tzif.specs.Local.{localTime}
+use Rattle.footer.proofs.Numbered.{footerNumbers, local-time-refusals}
+use Rattle.footer.specs.Local.{localTime}
 use Rattle.tzif.specs.declared.local.LocalTime.{LocalTime}
 use Rattle.tzif.specs.declared.local.LocalTime.the-variants as L
 use Rattle.tzif.specs.declared.refusal.Refusal as T
@@ -69,13 +69,13 @@ write-border-zero room version lats lons pieces earlier =
     (λ why is. never-zero writerNumbers (λ z. z) (why .number) (writer-refusals room version lats lons pieces earlier why is))
 
 -- `uskelzar_local_time`, answered with a local time or with unknown
-of-local : (time : LocalTime) (why : Refusal) → localReply time ≡ refused why → ((told : T.Refusal) → time ≡ L.Refused told → Listed localNumbers (told .number)) → Listed localNumbers (why .number)
+of-local : (time : LocalTime) (why : Refusal) → localReply time ≡ refused why → ((told : T.Refusal) → time ≡ L.Refused told → Listed footerNumbers (told .number)) → Listed footerNumbers (why .number)
 of-local (L.Local local) why e h = let z : _≡_ {A = ℕ} 0 1 = cc in absurd (omega arith)
 of-local L.Unknown why e h = let z : _≡_ {A = ℕ} 0 1 = cc in absurd (omega arith)
-of-local (L.Refused told) why e h = let same : told .number ≡ why .number = cc in subst (Listed localNumbers) same (h told refl)
+of-local (L.Refused told) why e h = let same : told .number ≡ why .number = cc in subst (Listed footerNumbers) same (h told refl)
 
 pub local-time-zero : (file : List ℕ) (instant : ℤ) (room : ℕ)
     → (localSpoken (localTime file instant room) .said .number ≡ 0) ↔ Answered (localReply (localTime file instant room .reply))
 local-time-zero file instant room =
     zero-said localValues (localReply (localTime file instant room .reply))
-    (λ why is. never-zero localNumbers (λ z. z) (why .number) (of-local (localTime file instant room .reply) why is (local-time-refusals file instant room)))
+    (λ why is. never-zero footerNumbers (λ z. z) (why .number) (of-local (localTime file instant room .reply) why is (local-time-refusals file instant room)))

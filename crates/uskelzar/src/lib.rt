@@ -1,11 +1,13 @@
 // The form in which firmware takes the library: functions of plain names over numbers and slices; include/uskelzar.h has them for C.
 // Each returns 0 where it answers, with the answer's values in `reply`, or a refusal's number, with its cause and detail there.
+pub mod civil;
+
 ghost use mathlib.Core.Path.{_≡_};
 ghost use mathlib.Core.List.{[], _∷_};
 ghost use lib.ListN.{length};
 ghost use Rattle.border.specs.Pieces.{piecesOf};
 ghost use Rattle.border.specs.Writer.{borderOf, fitted, told};
-ghost use Rattle.tzif.specs.Local.{localTime};
+ghost use Rattle.footer.specs.Local.{localTime};
 ghost use Rattle.zones.specs.Lookup.{lookedUp, toldLooked};
 ghost use Rattle.zones.specs.Opening.{openedOf, toldOpened};
 ghost use Rattle.numbers.specs.Reply.{Reply, given, refused};
@@ -13,10 +15,10 @@ ghost use Rattle.zones.specs.Simple.{simplyLooked, toldSimple};
 ghost use Rattle.uskelzar.specs.Spoken.{saidOf, openingValues, zonesValues, describedValues, lengthValue, localValues, refusedSaid, localReply, spoken, openingSpoken, foundSpoken, writtenSpoken, localSpoken};
 use border::writer::Written;
 use border::writer::write_border_words;
+use footer::local::local_time;
 use numbers::refusal::Refusal;
 use numbers::refusal::refuse;
 use tzif::local::LocalTime;
-use tzif::local::local_time;
 use tzif::local::offset_bits;
 use zones::location::Location;
 use zones::lookup::Looked;
@@ -202,7 +204,7 @@ pub extern "C" fn uskelzar_write_border(
     speak(say_written(written), reply)
 }
 
-// Local time at an instant, by a TZif file. Values: 1, the offset's 32 bits, the daylight flag and the abbreviation's length; all 0 where it is unknown.
+// Local time at an instant, by a TZif file and its TZ string. Values: 1, the offset's 32 bits, the daylight flag and the abbreviation's length; all 0 where it is unknown.
 #[no_mangle]
 pub extern "C" fn uskelzar_local_time(
     file: &[u8],

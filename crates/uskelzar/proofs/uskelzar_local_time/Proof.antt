@@ -3,7 +3,7 @@ use lib.ListN.{length}
 use mathlib.Core.Path.{ap, _∙_}
 use mir.Syntax.{w64}
 use mir.ValLaws.{toZ-ofZ}
-use Rattle.tzif.specs.Local.{localTime}
+use Rattle.footer.specs.Local.{localTime}
 use Rattle.uskelzar.proofs.Saying.{beside}
 use Rattle.uskelzar.specs.Spoken.{localSpoken}
 use borrow.Author.Needs.{needs}

@@ -1,0 +1,31 @@
+-- `calendar::civil::civil_time` meets its contract: each way out is a case of `CivilOf`.
+-- Assumes nothing.
+use borrow.Author.Needs.{needs}
+use mir.Syntax.{w32, w64}
+use mir.ValLaws.{toZ-ofZ}
+use Rattle.calendar.proofs.civil.Clock.{at-days, civil-at, civil-outside}
+use Rattle.calendar.proofs.civil.civil_time.Statement.{statement}
+use Rattle.calendar.proofs.civil.civil_time.Tie as tie
+
+local-moment-requires : tie.Need-local-moment-requires
+local-moment-requires c κs = search needs
+
+enum-known-moment : tie.Need-enum-known-moment
+enum-known-moment c = search needs
+
+shown-requires : tie.Need-shown-requires
+shown-requires c κs = at-days _ _ _ _ (toZ-ofZ w64 _ (c .before .before .before .before .fits .instant)) (toZ-ofZ w32 _ (c .before .before .before .before .fits .offset)) _ (c .before .before .before .local-moment .ensures) (c .before .moment .given .1) .0
+
+enum-told : tie.Need-enum-told
+enum-told c = search needs
+
+returns : tie.Need-returns
+returns c = civil-at _ _ _ _ (toZ-ofZ w64 _ (c .before .before .before .before .before .fits .instant)) (toZ-ofZ w32 _ (c .before .before .before .before .before .fits .offset)) _ (c .before .before .before .before .local-moment .ensures) (c .before .before .moment .given .1) (c .shown .ensures)
+
+returns-2 : tie.Need-returns-2
+returns-2 c = civil-outside _ _ _ _ (toZ-ofZ w64 _ (c .before .before .before .fits .instant)) (toZ-ofZ w32 _ (c .before .before .before .fits .offset)) _ (c .before .before .local-moment .ensures) (c .enum-told .given .1)
+
+pub civil-time-spec : {M : Type 1} → statement M
+civil-time-spec =
+    tie.close
+    (tie.spec local-moment-requires enum-known-moment shown-requires enum-told returns returns-2)

@@ -1,0 +1,18 @@
+-- `calendar::civil::shown` meets its contract: the date of the day, and the second of the day in hours, minutes and seconds.
+-- Assumes nothing.
+use borrow.Author.Needs.{needs}
+use Rattle.calendar.proofs.civil.Clock.{day-short, shows}
+use Rattle.calendar.proofs.civil.shown.Statement.{statement}
+use Rattle.calendar.proofs.civil.shown.Tie as tie
+
+date-at-requires : tie.Need-date-at-requires
+date-at-requires c κs = day-short _ _ (c .pre)
+
+weekday-of-requires : tie.Need-weekday-of-requires
+weekday-of-requires c κs = search needs
+
+returns : tie.Need-returns
+returns c = shows _ _ (c .before .before .pre) (c .before .date-at .ensures) (c .weekday-of .ensures)
+
+pub shown-spec : {M : Type 1} → statement M
+shown-spec = tie.close (tie.spec date-at-requires weekday-of-requires returns)

@@ -1,0 +1,29 @@
+-- `calendar::rule::leap_day` meets its contract. Assumes nothing.
+use borrow.Author.Needs.{needs}
+use Rattle.calendar.proofs.Sums.{leap-early, leap-late, leap-never}
+use Rattle.calendar.proofs.rule.leap_day.Statement.{statement}
+use Rattle.calendar.proofs.rule.leap_day.Tie as tie
+
+add-is-leap : tie.Need-add-is-leap
+add-is-leap c = search needs
+
+is-leap-requires : tie.Need-is-leap-requires
+is-leap-requires c κs = search needs
+
+returns : tie.Need-returns
+returns c =
+    let is-leap = c .before .before .is-leap in
+    let if1 = c .before .if1 in
+    leap-early _ (is-leap .ensures) _ (if1 .taken) (c .if2 .taken)
+
+returns-2 : tie.Need-returns-2
+returns-2 c =
+    let is-leap = c .before .before .is-leap in
+    let if1 = c .before .if1 in
+    leap-late _ (is-leap .ensures) _ (if1 .taken) (c .if2 .left)
+
+returns-3 : tie.Need-returns-3
+returns-3 c = leap-never _ (c .before .is-leap .ensures) _ (c .if1 .left)
+
+pub leap-day-spec : {M : Type 1} → statement M
+leap-day-spec = tie.close (tie.spec add-is-leap is-leap-requires returns returns-2 returns-3)

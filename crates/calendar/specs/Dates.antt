@@ -1,0 +1,15 @@
+-- Dates of days, counted from 0.
+use Prim.Native.Nat.{ℕ, _+_, _-_}
+use mathlib.Core.Bool.{Bool}
+use mathlib.Core.Path.{_≡_}
+use Rattle.calendar.specs.Calendar.{daysOfMonths, dayNumber, InMonths, IsDate}
+
+-- the month and the day of the month, for a day of the year
+pub record PlaceOf (leap : Bool) (place month day : ℕ) : Type 0 where
+  pub months : InMonths leap month day
+  pub there : daysOfMonths leap (month - 1) + (day - 1) ≡ place
+
+-- the date that has this day number
+pub record DateOf (number year month day : ℕ) : Type 0 where
+  pub is : IsDate year month day
+  pub numbered : dayNumber year month day ≡ number

@@ -1,0 +1,3 @@
+-- What callers of this crate go by.
+pub mod Theorems
+pub mod Numbered

@@ -1,0 +1,88 @@
+-- Which numbers a call can be refused with. Assumes nothing.
+use Prim.Native.Nat.{ℕ}
+use lib.Dec.{ltb, leb, eqb}
+use lib.IntN.{ℤ}
+use mathlib.Core.Bool.{Bool, true, false}
+use mathlib.Core.List.{List, [], _∷_, _++_}
+use mathlib.Core.Path.{_≡_, refl, subst}
+use native.Mathlib.Omega.{arith}
+use Rattle.footer.specs.Local.{askIn, agrees, orSixty, stringIn, rulesIn, isRuled, byRule, answerBy, answerAt, localTime}
+use Rattle.footer.specs.declared.rule.Rules.{Rules}
+use Rattle.footer.specs.declared.rule.Rules.the-variants as R
+use Rattle.numbers.proofs.Refusals.{Listed, still-listed}
+use Rattle.tzif.proofs.Numbered.{NumberedReply, answers, refuses, then-reply, and-then, demands, either, zone-numbered, localNumbers}
+use Rattle.tzif.specs.Local.{byTable, Replied, replied, lent}
+use Rattle.tzif.specs.Number.{lift}
+use Rattle.tzif.specs.Reply.{Reply, given, refused, refusal, if_then_else_}
+use Rattle.tzif.specs.Text.{slice, zeros, padded}
+use Rattle.tzif.specs.declared.block.Block.{Block}
+use Rattle.tzif.specs.declared.local.Answer.{Answer}
+use Rattle.tzif.specs.declared.local.Answer.the-variants as A
+use Rattle.tzif.specs.declared.local.LocalTime.{LocalTime}
+use Rattle.tzif.specs.declared.local.LocalTime.the-variants as L
+use Rattle.tzif.specs.declared.refusal.Refusal.{Refusal}
+use Rattle.tzif.specs.declared.zone.Zone.{Zone}
+use Rattle.tzrule.specs.Answer as T
+use Rattle.tzrule.specs.String.{stringOf}
+use Rattle.tzrule.specs.declared.ask.Asked.{Asked}
+use Rattle.tzrule.specs.declared.ask.Asked.the-variants as K
+use Rattle.tzrule.specs.declared.rule.Tz.{Tz}
+
+-- those of Q-9, and 60 for the string, 61 for the year
+abbrev pub footerNumbers : List ℕ
+footerNumbers = localNumbers ++ (60 ∷ 61 ∷ [])
+
+abbrev Mine : {A : Type 0} → Reply A → Type 0
+Mine reply = NumberedReply (Listed footerNumbers) reply
+
+wider : {A : Type 0} {reply : Reply A} → NumberedReply (Listed localNumbers) reply → Mine reply
+wider answers = answers
+wider (refuses {why = why} h) = refuses (still-listed localNumbers (60 ∷ 61 ∷ []) (why .number) h)
+
+string-numbered : (file : List ℕ) (zone : Zone) → Mine (stringIn file zone)
+unfolding stringIn orSixty
+string-numbered file zone = go (stringOf (ltb 50 (zone .version)) file (zone .string))
+  where
+    go : (a : T.Answer Tz) → Mine (orSixty a)
+    go (T.read tz next) = answers
+    go (T.fault place) = refuses refl
+
+rules-numbered : (file : List ℕ) (zone : Zone) → Mine (rulesIn file zone)
+unfolding rulesIn
+rules-numbered file zone = either (eqb (zone .size) 0) answers (then-reply (string-numbered file zone) (λ tz. and-then (demands _ _ refl) answers))
+
+asked-numbered : (asked : Asked) → Mine (byRule asked)
+unfolding byRule
+asked-numbered (K.Holds time) = answers
+asked-numbered K.Outside = refuses refl
+
+by-numbered : (file : List ℕ) (block : Block) (rules : Rules) (instant : ℕ) → Mine (answerBy file block rules instant)
+unfolding answerBy
+by-numbered file block R.Without instant = answers
+by-numbered file block (R.By tz) instant = either (isRuled file block instant) (asked-numbered (askIn file block tz instant)) answers
+
+at-numbered : (file : List ℕ) (instant : ℤ) → Mine (answerAt file instant)
+unfolding answerAt
+at-numbered file instant = then-reply (wider (zone-numbered file)) (λ zone. then-reply (rules-numbered file zone) (λ rules. by-numbered file (zone .block) rules (lift instant)))
+
+-- ---- the whole call
+number-of : {why : Refusal} {r : LocalTime} → r ≡ L.Refused why → {why′ : Refusal} → r ≡ L.Refused why′ → Listed footerNumbers (why′ .number) → Listed footerNumbers (why .number)
+number-of {why} {r} e {why′} e′ h = let same : why′ ≡ why = cc in subst (λ (w : Refusal). Listed footerNumbers (w .number)) same h
+
+of-lent : (file : List ℕ) (room : ℕ) {answer : Reply Answer} → Mine answer → (why : Refusal) → lent file room answer .reply ≡ L.Refused why → Listed footerNumbers (why .number)
+unfolding lent
+of-lent file room (answers {a = A.Found found}) why e = go (leb (found .length) room) e
+  where
+    local : Replied
+    local = replied (L.Local (record { offset = found .offset; daylight = found .daylight; length = found .length })) (padded room (slice file (found .place) (found .length)))
+
+    go : (t : Bool) → (if t then local else replied (L.Refused (refusal 18 0)) (zeros room)) .reply ≡ L.Refused why → Listed footerNumbers (why .number)
+    go true e = let z : _≡_ {A = ℕ} 0 1 = cc in absurd (omega arith)
+    go false e = number-of e refl refl
+of-lent file room (answers {a = A.Unknown}) why e = let z : _≡_ {A = ℕ} 0 1 = cc in absurd (omega arith)
+of-lent file room (refuses h) why e = number-of e refl h
+
+-- a call that is refused is refused with one of these
+pub local-time-refusals : (file : List ℕ) (instant : ℤ) (room : ℕ) (why : Refusal) → localTime file instant room .reply ≡ L.Refused why → Listed footerNumbers (why .number)
+unfolding localTime
+local-time-refusals file instant room = of-lent file room (at-numbered file instant)

@@ -1,0 +1,23 @@
+-- `footer::found::east_of` meets its contract. Assumes nothing.
+use borrow.Author.Needs.{needs}
+use Rattle.footer.proofs.found.Ways.{difference-fits, east-fits, east-is}
+use Rattle.footer.proofs.found.east_of.Statement.{statement}
+use Rattle.footer.proofs.found.east_of.Tie as tie
+
+sub-east : tie.Need-sub-east
+sub-east c = difference-fits _ (c .pre)
+
+cast-result : tie.Need-cast-result
+cast-result c = east-fits _ (c .pre)
+
+returns : tie.Need-returns
+returns c = east-is _ (c .pre)
+
+pub east-of-spec : {M : Type 1} → statement M
+east-of-spec =
+    tie.close
+    (tie.spec
+    (λ c. search needs)
+    sub-east
+    cast-result
+    returns)

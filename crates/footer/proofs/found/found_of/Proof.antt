@@ -1,0 +1,20 @@
+-- `footer::found::found_of` meets its contract. Assumes nothing.
+use borrow.Author.Needs.{needs}
+use borrow.Author.Needs.{sfits-of}
+use mathlib.Core.Path.{_∙_}
+use mir.Syntax.{w32}
+use mir.ValLaws.{toZ-ofZ}
+use Rattle.footer.proofs.found.Ways.{found-is}
+use Rattle.footer.proofs.found.found_of.Statement.{statement}
+use Rattle.footer.proofs.found.found_of.Tie as tie
+
+returns : tie.Need-returns
+returns c = found-is _ (toZ-ofZ w32 _ (sfits-of (c .before .east-of .ok)) ∙ c .before .east-of .ensures)
+
+pub found-of-spec : {M : Type 1} → statement M
+found-of-spec =
+    tie.close
+    (tie.spec
+    (λ c κs. search needs)
+    (λ c. search needs)
+    returns)

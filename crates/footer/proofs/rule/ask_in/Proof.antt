@@ -1,0 +1,20 @@
+-- `footer::rule::ask_in` meets its contract. Assumes nothing.
+use borrow.Author.Needs.{needs}
+use Rattle.footer.proofs.rule.Ways.{ask-is, asked-held}
+use Rattle.tzrule.proofs.Laws.{is-ruled}
+use Rattle.footer.proofs.rule.ask_in.Statement.{statement}
+use Rattle.footer.proofs.rule.ask_in.Tie as tie
+
+ask-at-requires : tie.Need-ask-at-requires
+ask-at-requires c κs = (is-ruled _ _ (c .before .before .pre .1), c .correction-at .ensures .fits)
+
+returns : tie.Need-returns
+returns c = (ask-is _ _ _ _ (c .before .correction-at .ensures .same) (c .ask-at .ensures), asked-held _ _ _ _ (c .before .before .before .pre .1) (c .ask-at .ensures))
+
+pub ask-in-spec : {M : Type 1} → statement M
+ask-in-spec =
+    tie.close
+    (tie.spec
+    (λ c κs. search needs)
+    ask-at-requires
+    returns)

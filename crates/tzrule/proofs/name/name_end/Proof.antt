@@ -1,0 +1,69 @@
+-- `tzrule::name::name_end` meets its contract. Assumes nothing.
+use Prim.Native.Nat.{_-_, _≤_}
+use borrow.Author.Needs.{needs}
+use lib.ListN.{length}
+use mathlib.Core.Path.{_≡_, refl, _∙_}
+use native.Mathlib.Omega.{arith}
+use Rattle.tzrule.proofs.Letters.{name-more, name-stop, name-out}
+use Rattle.tzrule.proofs.name.name_end.Statement.{statement}
+use Rattle.tzrule.specs.Names.{endOf}
+use Rattle.tzrule.proofs.name.name_end.Tie as tie
+
+abbrev Inv-loop : tie.InvT-loop
+Inv-loop quoted text at next₀ next = (endOf quoted text next ≡ endOf quoted text at) × (next ≤ length text)
+
+abbrev μ-loop : tie.MeasureT-loop
+μ-loop quoted text at next₀ next = length text - next
+
+loop-holds : tie.Need-loop-holds Inv-loop μ-loop
+loop-holds c = (refl, c .before .pre)
+
+byte-at-requires : tie.Need-byte-at-requires Inv-loop μ-loop
+byte-at-requires c κs = search needs
+
+wide-requires : tie.Need-wide-requires Inv-loop μ-loop
+wide-requires c κs = search needs
+
+in-name-requires : tie.Need-in-name-requires Inv-loop μ-loop
+in-name-requires c κs = search needs
+
+add-next : tie.Need-add-next Inv-loop μ-loop
+add-next c = search needs
+
+loop-less : tie.Need-loop-less Inv-loop μ-loop
+loop-less c = search needs
+
+loop-again : tie.Need-loop-again Inv-loop μ-loop
+loop-again c =
+    let wide = c .before .before .wide in
+    let byte-at = c .before .before .before .byte-at in
+    let in-name = c .before .in-name in
+    let loop = c .before .before .before .before .before .loop in
+    (name-more _ _ _ (omega arith) (wide .ensures ∙ byte-at .ensures) (in-name .ensures) (c .if1 .taken) ∙ loop .inv .0, omega arith)
+
+returns : tie.Need-returns Inv-loop μ-loop
+returns c =
+    let wide = c .before .before .wide in
+    let byte-at = c .before .before .before .byte-at in
+    let in-name = c .before .in-name in
+    let loop = c .before .before .before .before .before .loop in
+    (name-stop _ _ _ (omega arith) (wide .ensures ∙ byte-at .ensures) (in-name .ensures) (c .if1 .left) ∙ loop .inv .0, loop .inv .1)
+
+returns-2 : tie.Need-returns-2 Inv-loop μ-loop
+returns-2 c = (name-out _ _ _ (omega arith) ∙ c .before .loop .inv .0, c .before .loop .inv .1)
+
+pub name-end-spec : {M : Type 1} → statement M
+name-end-spec =
+    tie.close
+    (tie.spec
+    Inv-loop
+    μ-loop
+    loop-holds
+    byte-at-requires
+    wide-requires
+    in-name-requires
+    add-next
+    loop-less
+    loop-again
+    returns
+    returns-2)

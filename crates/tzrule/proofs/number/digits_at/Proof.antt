@@ -1,0 +1,93 @@
+-- `tzrule::number::digits_at` meets its contract. Assumes nothing.
+use Prim.Native.Nat.{_+_, _-_}
+use borrow.Author.Needs.{needs}
+use mathlib.Core.Path.{sym, _∙_}
+use native.Mathlib.Omega.{arith}
+use Rattle.tzrule.proofs.Numbers.{was-false, was-true, Taken, digit-range, few, taken-first, taken-end, taken-stop, taken-more}
+use Rattle.tzrule.proofs.number.digits_at.Statement.{statement}
+use Rattle.tzrule.proofs.number.digits_at.Tie as tie
+
+abbrev Inv-loop : tie.InvT-loop
+Inv-loop text at most value₀ next₀ end value next = Taken text at most value next
+
+abbrev μ-loop : tie.MeasureT-loop
+μ-loop text at most value₀ next₀ end value next = at + most - next
+
+add-end : tie.Need-add-end Inv-loop μ-loop
+add-end c = omega (arith, c .before .pre)
+
+loop-holds : tie.Need-loop-holds Inv-loop μ-loop
+loop-holds c = taken-first _ _ _ (c .before .pre .1)
+
+byte-at-requires : tie.Need-byte-at-requires Inv-loop μ-loop
+byte-at-requires c κs = search needs
+
+wide-requires : tie.Need-wide-requires Inv-loop μ-loop
+wide-requires c κs = search needs
+
+is-digit-requires : tie.Need-is-digit-requires Inv-loop μ-loop
+is-digit-requires c κs = search needs
+
+returns : tie.Need-returns Inv-loop μ-loop
+returns c =
+    let loop = c .before .before .before .before .before .loop in
+    let wide = c .before .before .wide in
+    let byte-at = c .before .before .before .byte-at in
+    let is-digit = c .before .is-digit in
+    (taken-stop (loop .inv) (omega arith) (wide .ensures ∙ byte-at .ensures) (sym (is-digit .ensures) ∙ was-false _ (c .if1 .taken)), loop .inv .inside)
+
+mul-value : tie.Need-mul-value Inv-loop μ-loop
+mul-value c =
+    let loop = c .before .before .before .before .before .loop in
+    let pre = c .before .before .before .before .before .before .before .pre in
+    omega (arith, few (loop .inv) (pre .2))
+
+sub-value : tie.Need-sub-value Inv-loop μ-loop
+sub-value c = omega (arith, digit-range _ (sym (c .before .is-digit .ensures) ∙ was-true _ (c .if1 .left)))
+
+add-value : tie.Need-add-value Inv-loop μ-loop
+add-value c =
+    let loop = c .before .before .before .before .before .loop in
+    let pre = c .before .before .before .before .before .before .before .pre in
+    let is-digit = c .before .is-digit in
+    omega (arith, few (loop .inv) (pre .2), digit-range _ (sym (is-digit .ensures) ∙ was-true _ (c .if1 .left)))
+
+add-next : tie.Need-add-next Inv-loop μ-loop
+add-next c =
+    let loop = c .before .before .before .before .before .loop in
+    let pre = c .before .before .before .before .before .before .before .pre in
+    omega (arith, loop .inv .inside, pre)
+
+loop-less : tie.Need-loop-less Inv-loop μ-loop
+loop-less c = omega arith
+
+loop-again : tie.Need-loop-again Inv-loop μ-loop
+loop-again c =
+    let loop = c .before .before .before .before .before .loop in
+    let wide = c .before .before .wide in
+    let byte-at = c .before .before .before .byte-at in
+    let is-digit = c .before .is-digit in
+    taken-more (loop .inv) (omega arith) (wide .ensures ∙ byte-at .ensures) (sym (is-digit .ensures) ∙ was-true _ (c .if1 .left))
+
+returns-2 : tie.Need-returns-2 Inv-loop μ-loop
+returns-2 c = (taken-end (c .before .loop .inv) (omega arith), c .before .loop .inv .inside)
+
+pub digits-at-spec : {M : Type 1} → statement M
+digits-at-spec =
+    tie.close
+    (tie.spec
+    Inv-loop
+    μ-loop
+    add-end
+    loop-holds
+    byte-at-requires
+    wide-requires
+    is-digit-requires
+    returns
+    mul-value
+    sub-value
+    add-value
+    add-next
+    loop-less
+    loop-again
+    returns-2)

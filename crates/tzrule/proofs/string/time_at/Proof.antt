@@ -1,0 +1,35 @@
+-- `tzrule::string::time_at` meets its contract. Assumes nothing.
+use borrow.Author.Needs.{needs}
+use mathlib.Core.Path.{_∙_}
+use native.Mathlib.Omega.{arith}
+use Rattle.tzrule.proofs.Times.{byte-inside}
+use Rattle.tzrule.proofs.string.Ways.{time-written, time-default}
+use Rattle.tzrule.specs.Answer.{Within}
+use Rattle.tzrule.proofs.string.time_at.Statement.{statement}
+use Rattle.tzrule.proofs.string.time_at.Tie as tie
+
+byte-at-requires : tie.Need-byte-at-requires
+byte-at-requires c κs = search needs
+
+add-hours-at : tie.Need-add-hours-at
+add-hours-at c = search needs
+
+hours-at-requires : tie.Need-hours-at-requires
+hours-at-requires c κs = (c .before .before .before .pre .0, byte-inside _ _ (c .before .byte-at .ensures) (c .if1 .taken))
+
+returns : tie.Need-returns
+returns c = (c .hours-at .ensures .0 ∙ time-written _ _ (c .before .before .byte-at .ensures) _ (c .before .if1 .taken), c .hours-at .ensures .1)
+
+returns-2 : tie.Need-returns-2
+unfolding Within
+returns-2 c = (time-default _ _ (c .before .byte-at .ensures) _ (c .if1 .left), (omega arith, c .before .before .before .pre .1))
+
+pub time-at-spec : {M : Type 1} → statement M
+time-at-spec =
+    tie.close
+    (tie.spec
+    byte-at-requires
+    add-hours-at
+    hours-at-requires
+    returns
+    returns-2)

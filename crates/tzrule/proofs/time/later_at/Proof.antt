@@ -1,0 +1,44 @@
+-- `tzrule::time::later_at` meets its contract. Assumes nothing.
+use borrow.Author.Needs.{needs}
+use native.Mathlib.Omega.{arith}
+use Rattle.tzrule.proofs.Signs.{later-read, later-fault}
+use Rattle.tzrule.proofs.Times.{read-is, read-within, fault-is, fault-within}
+use Rattle.tzrule.proofs.time.later_at.Statement.{statement}
+use Rattle.tzrule.specs.Answer.{Around}
+use Rattle.tzrule.proofs.time.later_at.Tie as tie
+
+clock-at-requires : tie.Need-clock-at-requires
+clock-at-requires c κs = search needs
+
+enum-known-part : tie.Need-enum-known-part
+enum-known-part c = search needs
+
+add-total : tie.Need-add-total
+add-total c =
+    let part = c .before .part in
+    let clock-at = c .before .before .before .clock-at in
+    let pre = c .before .before .before .before .before .pre in
+    omega (arith, read-within (part .given .1) (clock-at .ensures .1), pre .3)
+
+enum-known-part-2 : tie.Need-enum-known-part-2
+enum-known-part-2 c = search needs
+
+returns : tie.Need-returns
+unfolding Around
+returns c =
+    let part = c .before .part in
+    let clock-at = c .before .before .before .clock-at in
+    let pre = c .before .before .before .before .before .pre in
+    (later-read _ _ _ (read-is (part .given .1) (clock-at .ensures .0)), omega (arith, read-within (part .given .1) (clock-at .ensures .1), pre .3))
+
+returns-2 : tie.Need-returns-2
+unfolding Around
+returns-2 c =
+    let part2 = c .before .part2 in
+    let clock-at = c .before .before .before .clock-at in
+    (later-fault _ _ _ (fault-is (part2 .given .1) (clock-at .ensures .0)), fault-within (part2 .given .1) _ (clock-at .ensures .1))
+
+pub later-at-spec : {M : Type 1} → statement M
+later-at-spec =
+    tie.close
+    (tie.spec clock-at-requires enum-known-part add-total enum-known-part-2 returns returns-2)
