@@ -1,6 +1,6 @@
 //! What is given to the leaves and to the verdict, the same to both programs.
 
-use crate::{read_cities, Checksum};
+use crate::{read_cities, watched, Checksum};
 use std::hint::black_box;
 use std::{env, fs};
 
@@ -23,13 +23,15 @@ pub trait Leaves {
     fn verdict(&self, place: usize, lat: i32, lon: i32, asked: bool) -> (u8, u64);
 }
 
-/// Words: `LEAF ROUNDS`, or `all|held with|without MAP CITIES ROUNDS` for the verdict.
+/// Words: `LEAF ROUNDS`, or `all|held with|without MAP CITIES ROUNDS` for the verdict. In 0 rounds what is read is watched: `LEAF` is then the
+/// number of bytes of a number that is read backward, and each border is judged once.
 pub fn run<L: Leaves>() {
     let words: Vec<String> = env::args().skip(1).collect();
     let words: Vec<&str> = words.iter().map(|word| &word[..]).collect();
     let (rounds, words) = words.split_last().expect("rounds");
     let rounds = rounds.parse().expect("rounds");
     let sum = match words {
+        [bytes] if rounds == 0 => watch_backward::<L>(bytes.parse().expect("bytes")),
         [leaf] => run_leaf::<L>(leaf, rounds),
         [which, how, map, cities] => {
             run_verdict::<L>(*which == "held", *how == "with", map, cities, rounds)
@@ -41,6 +43,17 @@ pub fn run<L: Leaves>() {
 
 fn repeat(rounds: u32, mut round: impl FnMut() -> u64) -> u64 {
     (0..rounds).fold(0, |_, _| black_box(round()))
+}
+
+/// A number of so many bytes behind a byte 0, read backward.
+fn watch_backward<L: Leaves>(bytes: usize) -> u64 {
+    let mut file = vec![0xff; bytes + 1];
+    (file[0], file[bytes]) = (0, 1);
+    let place = file.as_ptr();
+    let leaves = L::of(file, &Map::default());
+    // SAFETY: the bytes were handed on to `leaves`, which keeps them where they are.
+    let file = unsafe { std::slice::from_raw_parts(place, bytes + 1) };
+    watched(file, || leaves.backward(bytes, 1))
 }
 
 fn run_leaf<L: Leaves>(leaf: &str, rounds: u32) -> u64 {
@@ -113,7 +126,16 @@ fn run_verdict<L: Leaves>(held: bool, asked: bool, map: &str, cities: &str, roun
             .map(|(border, &(lat, lon))| (border.place, lat, lon))
             .collect()
     };
+    let (place, length) = (file.as_ptr(), file.len());
     let leaves = L::of(file, &map);
+    if rounds == 0 {
+        // SAFETY: the bytes were handed on to `leaves`, which keeps them where they are.
+        let file = unsafe { std::slice::from_raw_parts(place, length) };
+        for &(place, lat, lon) in &asked_of {
+            watched(file, || leaves.verdict(place, lat, lon, asked));
+        }
+        return 0;
+    }
     repeat(rounds, || {
         let mut sum = Checksum::new();
         for &(place, lat, lon) in &asked_of {

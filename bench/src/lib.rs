@@ -14,12 +14,26 @@ pub enum Question {
     Simple,
 }
 
-/// The words `MAP CITIES QUESTION ROUNDS`.
+/// The words `MAP CITIES QUESTION ROUNDS`. In 0 rounds each city is looked up once, with what is read of the map watched.
 pub struct Task {
     pub map: String,
     pub question: Question,
     cities: Vec<(f32, f32)>,
     rounds: u32,
+}
+
+extern "C" {
+    fn write(file: i32, bytes: *const u8, length: usize) -> isize;
+}
+
+/// Makes a call and has `reads.so` count what it reads of a file; without that plugin it is a plain call.
+pub fn watched<T>(file: &[u8], call: impl FnOnce() -> T) -> T {
+    // SAFETY: no file has these numbers, so that nothing is written.
+    let tell = |number| unsafe { write(number, file.as_ptr(), file.len()) };
+    tell(1000);
+    let answer = call();
+    tell(1001);
+    answer
 }
 
 impl Task {
@@ -44,7 +58,13 @@ impl Task {
 
     /// Looks every city up in each round and prints the checksum. Only the first round has the answers folded into it: a count is
     /// taken of the others, so that no program's way of handing out its answer is in it.
-    pub fn run(&self, mut ask: impl FnMut(f32, f32, Option<&mut Checksum>)) {
+    pub fn run(&self, file: &[u8], mut ask: impl FnMut(f32, f32, Option<&mut Checksum>)) {
+        if self.rounds == 0 {
+            for &(lat, lon) in &self.cities {
+                watched(file, || ask(lat, lon, None));
+            }
+            return;
+        }
         let mut sum = Checksum::new();
         for &(lat, lon) in &self.cities {
             ask(lat, lon, Some(&mut sum));

@@ -34,15 +34,15 @@ extern "C" {
     ) -> u8;
 }
 
-struct Ours {
-    file: Vec<u8>,
+struct Ours<'a> {
+    file: &'a [u8],
     question: Question,
     hits: [u32; WORDS],
     text: [u8; BYTES],
     reply: [u64; 5],
 }
 
-impl Ours {
+impl Ours<'_> {
     fn ask(&mut self, lat: f32, lon: f32) {
         let (file, len) = (self.file.as_ptr(), self.file.len());
         let (hits, text) = (self.hits.as_mut_ptr(), self.text.as_mut_ptr());
@@ -114,14 +114,15 @@ impl Ours {
 
 fn main() {
     let task = Task::from_args();
+    let file = fs::read(&task.map).expect("map");
     let mut ours = Ours {
-        file: fs::read(&task.map).expect("map"),
+        file: &file,
         question: task.question,
         hits: [0; WORDS],
         text: [0; BYTES],
         reply: [0; 5],
     };
-    task.run(|lat, lon, sum| {
+    task.run(&file, |lat, lon, sum| {
         ours.ask(lat, lon);
         if let Some(sum) = sum {
             ours.fold(sum);
