@@ -57,6 +57,7 @@ static const char *end_words(uint64_t end)
     case USKELZAR_END_WHOLE: return "whole";
     case USKELZAR_END_TABLE: return "stopped at a table entry";
     case USKELZAR_END_BORDER: return "stopped at a border";
+    case USKELZAR_END_ORDER: return "stopped early in a table out of order";
     default: return NULL;
     }
 }

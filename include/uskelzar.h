@@ -82,13 +82,15 @@ enum uskelzar_refusal {
 enum uskelzar_cause { USKELZAR_CAUSE_NONE = 0, USKELZAR_CAUSE_ENCODING = 1, USKELZAR_CAUSE_UTF8 = 2 };
 
 /* ---- how a search ended. Print a zone only where it was whole.
- * A search is over at the table's end or at an entry whose lower latitude is above the fix: in a table that is in order, by
- * rising lower latitude, no later entry can hold the fix. The order is not checked: in a table that is not in order a search
- * can be whole and an entry that holds the fix, an excluded one too, not looked at. */
+ * A search stops at the table's end, or early, at an entry whose lower latitude is above the fix: in a table that is in order,
+ * by rising lower latitude, no later entry can hold the fix. After an early stop the rest of the table is read for the mark:
+ * a search is whole only where no entry behind the stop holds the fix, all can be read and none, the stopping one too, runs
+ * past the metadata start. Then its whole answer is that of a search that never stops early. */
 enum uskelzar_end {
-    USKELZAR_END_WHOLE = 1,           /* in a table in order, every entry that can hold the fix was looked at */
-    USKELZAR_END_TABLE = 2,           /* stopped at a table entry that could not be read */
-    USKELZAR_END_BORDER = 3           /* stopped at a border that failed */
+    USKELZAR_END_WHOLE = 1,           /* no entry that holds the fix was passed over */
+    USKELZAR_END_TABLE = 2,           /* an entry could not be read, or behind an early stop one runs past the table */
+    USKELZAR_END_BORDER = 3,          /* stopped at a border that failed */
+    USKELZAR_END_ORDER = 4            /* the table is not in order: an entry behind the stop holds the fix and was not looked at */
 };
 
 /* ---- what a match is, of all hits with its metadata id: the last of their verdicts on a border; with none, 1 where those inside

@@ -19,6 +19,7 @@ mod writings;
 
 use ours::Program;
 use phases::Run;
+use std::collections::HashMap;
 
 struct Options {
     seed: u64,
@@ -29,11 +30,13 @@ struct Options {
     replay: Vec<String>,
     vectors: Vec<String>,
     recorded: Vec<String>,
+    marks: HashMap<u32, u32>,
 }
 
 fn options() -> Result<Options, String> {
     let mut o = Options {
         seed: 1, files: 20_000, borders: 10_000, leaves: 10_000, writes: 10_000, replay: Vec::new(), vectors: Vec::new(), recorded: Vec::new(),
+        marks: HashMap::new(),
     };
     let mut words = std::env::args().skip(1);
     while let Some(word) = words.next() {
@@ -49,6 +52,10 @@ fn options() -> Result<Options, String> {
             "--replay" => o.replay = command(),
             "--vectors" => o.vectors = command(),
             "--recorded" => o.recorded.push(value),
+            "--marks" => {
+                let lines = std::fs::read_to_string(&value).map_err(|e| format!("{value}: {e}"))?;
+                o.marks = recorded::marks(&lines).ok_or_else(|| format!("{value}: no list of marks"))?;
+            }
             _ => return Err(format!("{word}: not known")),
         }
     }
@@ -59,7 +66,7 @@ fn run(o: Options) -> Result<bool, String> {
     let mut run = Run::new(o.seed, Program { command: o.replay }, Program { command: o.vectors })?;
     println!("seed {}: {} files, {} borders, {} writings, {} leaves of each kind", o.seed, o.files, o.borders, o.writes, o.leaves);
     for path in &o.recorded {
-        run.recorded(path)?;
+        run.recorded(path, &o.marks)?;
     }
     run.files(o.files)?;
     run.writes(o.writes)?;

@@ -141,6 +141,8 @@ pub type Zone = (u32, u32, u8);
 pub struct Looked {
     pub hits: Vec<Zone>,
     pub mark: u32,
+    /// Where the entry ends at which the scan stopped early.
+    stop: Option<u32>,
     /// What ended the scan, where a border or an entry was at fault; the hits are those before it.
     pub fault: Option<Refusal>,
     pub matches: Vec<Zone>,
@@ -148,6 +150,27 @@ pub struct Looked {
     pub fields: Vec<(usize, usize, Vec<u8>)>,
     pub field_fault: Option<Refusal>,
     pub safezone: u32,
+}
+
+fn holds(bounds: &[i32], fix: (i32, i32)) -> bool {
+    bounds[0] <= fix.0 && fix.0 <= bounds[2] && bounds[1] <= fix.1 && fix.1 <= bounds[3]
+}
+
+/// The mark of a scan that stopped early at an entry which ends at this place: the first of the table's rest that decides.
+fn rest_mark(raw: &hooked::Database, opened: &Opening, fix: (i32, i32), mut at: u32) -> u32 {
+    while at < opened.metadata {
+        let mut entry = [0i32; 6];
+        for number in &mut entry {
+            match caught(|| hooks::forward(raw, at)) {
+                Ok(Some((value, next))) => (*number, at) = (hooks::signed(value), next),
+                _ => return 2,
+            }
+        }
+        if at <= opened.metadata && holds(&entry, fix) {
+            return 4;
+        }
+    }
+    if at == opened.metadata { 1 } else { 2 }
 }
 
 /// The scan of `lookup` in steps of the Rust's own functions, so that the hits before a fault are known.
@@ -169,9 +192,10 @@ fn scan(raw: &hooked::Database, opened: &Opening, fix: (i32, i32), ask: bool, lo
         meta = meta.wrapping_add(signed[4] as u32);
         border = border.wrapping_add(entry[5] as u32);
         if fix.0 < signed[0] {
+            looked.stop = Some(at);
             return Ok(());
         }
-        if fix.0 <= signed[2] && fix.1 >= signed[1] && fix.1 <= signed[3] {
+        if holds(&signed, fix) {
             let place = opened.data.wrapping_add(border);
             let (verdict, distance) = caught(|| hooks::verdict(raw, place, fix.0, fix.1, ask, least))?;
             least = distance;
@@ -329,6 +353,10 @@ fn looked(file: &[u8], opened: &Opening, lat: f32, lon: f32, ask: bool) -> Looke
             }
             looked.safezone = safezone;
         }
+    }
+    // the marked copy knows nothing of the rest of the table
+    if let Some(at) = looked.stop {
+        looked.mark = rest_mark(&raw, opened, fix, at);
     }
     looked
 }

@@ -9,6 +9,7 @@ fn end_words(end: End) -> &'static str {
         End::Whole => "whole",
         End::TableUnreadable => "stopped at a table entry",
         End::BorderFailed => "stopped at a border",
+        End::OutOfOrder => "stopped early in a table out of order",
     }
 }
 

@@ -108,12 +108,14 @@ pub struct Header {
 /// How a search ended.
 #[derive(Clone, Copy, Debug, Eq, PartialEq)]
 pub enum End {
-    /// It was whole.
+    /// It was whole: no table entry that holds the fix was passed over.
     Whole,
-    /// It stopped at a table entry that could not be read.
+    /// A table entry could not be read, or behind an early stop one runs past the table.
     TableUnreadable,
     /// It stopped at a border that failed.
     BorderFailed,
+    /// The table is not in order: an entry behind the one that stopped the search holds the fix and was not looked at.
+    OutOfOrder,
 }
 
 impl End {
@@ -122,6 +124,7 @@ impl End {
             1 => Ok(End::Whole),
             2 => Ok(End::TableUnreadable),
             3 => Ok(End::BorderFailed),
+            4 => Ok(End::OutOfOrder),
             _ => Err(Unknown::End(mark)),
         }
     }
@@ -327,10 +330,10 @@ mod tests {
 
     #[test]
     fn what_is_not_known_is_an_error() {
-        assert_eq!(End::of(3), Ok(End::BorderFailed));
+        assert_eq!(End::of(4), Ok(End::OutOfOrder));
         assert_eq!(
-            [0, 4].map(End::of),
-            [0, 4].map(|mark| Err(Unknown::End(mark)))
+            [0, 5].map(End::of),
+            [0, 5].map(|mark| Err(Unknown::End(mark)))
         );
         assert_eq!(Kind::of(1), Ok(Kind::InZone));
         assert_eq!(
@@ -340,8 +343,8 @@ mod tests {
         assert_eq!(Table::of(u64::from(b'C')), Ok(Table::Countries));
         assert_eq!(Table::of(0x143), Err(Unknown::Table(0x143)));
         assert_eq!(
-            Error::from(Unknown::End(4)).to_string(),
-            "unknown end mark 4"
+            Error::from(Unknown::End(5)).to_string(),
+            "unknown end mark 5"
         );
     }
 }

@@ -3,6 +3,7 @@
 mod common;
 
 use common::files::{overlap, LAT_STEP, LON_STEP, SQUARE, SQUARE_LAT, SQUARE_LON};
+use common::files::{OUT_OF_ORDER, OUT_OF_ORDER_LAT, OUT_OF_ORDER_LON};
 use common::files::{TABLE_CUT, TABLE_CUT_LAT, TABLE_CUT_LON};
 use common::WORLD;
 use std::fs::{self, File};
@@ -148,6 +149,22 @@ fn no_slip_behind_an_entry_that_could_not_be_read() {
     assert_eq!(
         (found.description.as_deref(), found.end),
         (Some("A"), End::TableUnreadable)
+    );
+    assert_eq!(map.zone_for_slip(lat, lon).unwrap(), None);
+}
+
+#[test]
+fn no_slip_from_a_table_out_of_order() {
+    let map = Map::open(OUT_OF_ORDER).unwrap();
+    let (lat, lon) = (
+        f32::from_bits(OUT_OF_ORDER_LAT),
+        f32::from_bits(OUT_OF_ORDER_LON),
+    );
+    assert_eq!(map.lookup(lat, lon).unwrap().end, End::OutOfOrder);
+    let found = map.simple_lookup(lat, lon).unwrap();
+    assert_eq!(
+        (found.description.as_deref(), found.end),
+        (Some("A"), End::OutOfOrder)
     );
     assert_eq!(map.zone_for_slip(lat, lon).unwrap(), None);
 }

@@ -21,8 +21,9 @@ use Rattle.zones.specs.Lent.{Outcome, Replied, replied, repliedOf}
 use Rattle.zones.specs.Lookup.{safezoneBits, zonesWith, zonesIn, lookedWith, lookedUp}
 use Rattle.zones.specs.Merge.{merged}
 use Rattle.numbers.specs.Reply.{Reply, given, refused, plain, _>>=_}
+use Rattle.zones.specs.Rest.{restMark}
 use Rattle.zones.specs.Rows.{Rows, row, tableEnd, unreadable, rowsIn}
-use Rattle.zones.specs.Search.{Found, kindOf, farthest, afterTurn, judgedTurn, rowTurn, seek, judgeIn, searched}
+use Rattle.zones.specs.Search.{Found, ended, kindOf, farthest, afterTurn, judgedTurn, rowTurn, seek, judgeIn, searched}
 use Rattle.zones.specs.Table.{isAbove, holds}
 use Rattle.zones.specs.declared.header.Head.{Head}
 use Rattle.zones.specs.declared.hits.Hit.{Hit}
@@ -65,22 +66,26 @@ module _ (judge judge′ : ℕ → ℕ → Judgement) (agree : (polygon least le
 
     row-same : (r : Row) (least least′ : ℕ) → Same (afterTurn (rowTurn judge fix r least) hits room go) (afterTurn (rowTurn judge′ fix r least′) hits room go′)
     unfolding rowTurn
-    row-same r least least′ = by-tests (isAbove (r .bounds) fix) (holds (r .bounds) fix)
+    row-same r least least′ = by-box (holds (r .bounds) fix)
       where
-        by-tests : (above held : Bool)
-            → Same (afterTurn (if above then Stopped 1 least else (if held then judgedTurn r (judge (r .polygon) least) else On least)) hits room go)
-            (afterTurn (if above then Stopped 1 least′ else (if held then judgedTurn r (judge′ (r .polygon) least′) else On least′)) hits room go′)
-        by-tests true held = alike refl
-        by-tests false true = judged-same r (judge (r .polygon) least) (judge′ (r .polygon) least′) least′ (agree (r .polygon) least least′)
-        by-tests false false = same least least′ hits
+        by-box : (held : Bool)
+            → Same (afterTurn (if held then judgedTurn r (judge (r .polygon) least) else On least) hits room go)
+            (afterTurn (if held then judgedTurn r (judge′ (r .polygon) least′) else On least′) hits room go′)
+        by-box true = judged-same r (judge (r .polygon) least) (judge′ (r .polygon) least′) least′ (agree (r .polygon) least least′)
+        by-box false = same least least′ hits
 
   -- a search with the distance is refused by 13, or finds what the one without it finds, but for the distance
-  pub seek-unless : (rows : Rows) (least least′ : ℕ) (hits : List Hit) → Same (seek judge fix room rows least hits) (seek judge′ fix room rows least′ hits)
+  pub seek-unless : (end : ℕ) (rows : Rows) (least least′ : ℕ) (hits : List Hit) → Same (seek judge fix end room rows least hits) (seek judge′ fix end room rows least′ hits)
   unfolding seek
-  seek-unless (row r rows) least least′ hits = row-same hits (seek judge fix room rows) (seek judge′ fix room rows) (seek-unless rows) r least least′
-  seek-unless tableEnd least least′ hits = alike refl
-  seek-unless unreadable least least′ hits = alike refl
-  seek-unless (T.refused n) least least′ hits = alike refl
+  seek-unless end (row r rows) least least′ hits = by-above (isAbove (r .bounds) fix) (row-same hits (seek judge fix end room rows) (seek judge′ fix end room rows) (seek-unless end rows) r least least′)
+    where
+      by-above : (above : Bool) {on on′ : Reply Found} → Same on on′
+          → Same (if above then ended hits (restMark end fix (row r rows)) least else on) (if above then ended hits (restMark end fix (row r rows)) least′ else on′)
+      by-above true h = alike refl
+      by-above false h = h
+  seek-unless end tableEnd least least′ hits = alike refl
+  seek-unless end unreadable least least′ hits = alike refl
+  seek-unless end (T.refused n) least least′ hits = alike refl
 
 -- ---- in a file
 -- all that is known of the matches but the distance
@@ -100,7 +105,7 @@ module _ (file : List ℕ) (head : Head) (location : Location) where
   matched-unless room =
       unless-demand (isPrecision (head .preamble .precision)) (plain 16)
       (unless-then (searched file head fix true room) (searched file head fix false room)
-      (seek-unless (judgeIn file head fix true) (judgeIn file head fix false) (λ polygon. judged-asked-or-not file _ _ (fix .lat) (fix .lon)) fix room (rowsIn file head) farthest farthest [])
+      (seek-unless (judgeIn file head fix true) (judgeIn file head fix false) (λ polygon. judged-asked-or-not file _ _ (fix .lat) (fix .lon)) fix room (head .sections .metadata) (rowsIn file head) farthest farthest [])
       (λ a b same. alike (ap (λ (f : Found). given (record { matches = merged (f .hits); mark = f .mark; least = 0 })) same)))
 
   -- what lookup makes of the matches

@@ -19,26 +19,27 @@ use Rattle.zones.specs.Header.{headOf}
 use Rattle.zones.specs.Hits.{width, words, hitOf}
 use Rattle.zones.specs.Lent.{Outcome, repliedOf}
 use Rattle.numbers.specs.Lists.{padded}
-use Rattle.zones.specs.Lookup.{zonesWith, zonesIn, lookedUp}
+use Rattle.zones.specs.Lookup.{zonesFrom, zonesWith, zonesIn, lookedUp}
 use Rattle.zones.specs.Merge.{merged}
 use Rattle.numbers.specs.Reply.{Reply, given, plain, demand, _>>=_, _>>_}
 use Rattle.numbers.specs.Reply as R
 use Rattle.zones.specs.Rows.{Rows, row, tableEnd, unreadable, rowsIn}
 use Rattle.zones.specs.Rows as T
 use Rattle.zones.specs.Search.{kindOf, judgedTurn, rowTurn, Found, ended, afterTurn, seek, judgeIn, farthest, searched}
-use Rattle.zones.specs.Simple.{checked, wordedOf, describedWith, describedIn, simplyLooked}
+use Rattle.zones.specs.Simple.{checked, wordedOf, describedFrom, describedWith, describedIn, simplyLooked}
 use Rattle.zones.specs.Table.{isAbove, holds}
 use Rattle.zones.specs.declared.header.Head.{Head}
 use Rattle.zones.specs.declared.hits.Hit.{Hit}
 use Rattle.zones.specs.declared.location.Location.{Location}
 use Rattle.zones.specs.declared.lookup.Zones.{Zones}
 use Rattle.zones.specs.declared.rows.Row.{Row}
-use Rattle.zones.specs.declared.search.Turn.the-variants.{On, Met, Stopped, Refused}
+use Rattle.zones.specs.declared.search.Turn.the-variants.{On, Met}
 use Rattle.zones.specs.declared.simple.Described.{Described}
-use Rattle.numbers.proofs.Replies.{From, given-from}
+use Rattle.numbers.proofs.Replies.{given-from}
+use Rattle.zones.specs.Rest.{restMark}
 
 -- ---- the search of rows
-module _ (judge : ℕ → ℕ → Judgement) (fix : Point) (room : ℕ) where
+module _ (judge : ℕ → ℕ → Judgement) (fix : Point) (end room : ℕ) where
   -- the same after some hits
   record After (rows : Rows) (least : ℕ) (before : List Hit) (f : Found) : Type 0 where
     more : List Hit
@@ -46,20 +47,20 @@ module _ (judge : ℕ → ℕ → Judgement) (fix : Point) (room : ℕ) where
     last : ℕ
     is : f .hits ≡ before ++ more
     through : Through judge fix rows least more left last
-    ends : Ends judge fix left last (f .mark) (f .least)
+    ends : Ends judge fix end left last (f .mark) (f .least)
 
   -- it ends here
-  stop : (rows : Rows) (least : ℕ) (hits : List Hit) (mark last : ℕ) (f : Found) → Ends judge fix rows least mark last → ended hits mark last ≡ given f → After rows least hits f
+  stop : (rows : Rows) (least : ℕ) (hits : List Hit) (mark last : ℕ) (f : Found) → Ends judge fix end rows least mark last → ended hits mark last ≡ given f → After rows least hits f
   stop rows least hits mark last f why e =
       let is : record { hits = hits; mark = mark; least = last } ≡ f = cc in
       subst (After rows least hits) is (record { more = []; left = rows; last = least; is = sym (append-nil hits); through = here; ends = why })
 
   abbrev Sought : Rows → Type 0
-  Sought rows = (least : ℕ) (hits : List Hit) (f : Found) → seek judge fix room rows least hits ≡ given f → After rows least hits f
+  Sought rows = (least : ℕ) (hits : List Hit) (f : Found) → seek judge fix end room rows least hits ≡ given f → After rows least hits f
 
   module _ (r : Row) (rows : Rows) (rest : Sought rows) (least : ℕ) (hits : List Hit) (f : Found) where
     abbrev go : ℕ → List Hit → Reply Found
-    go = seek judge fix room rows
+    go = seek judge fix end room rows
 
     abbrev Goal : Type 0
     Goal = After (row r rows) least hits f
@@ -94,41 +95,52 @@ module _ (judge : ℕ → ℕ → Judgement) (fix : Point) (room : ℕ) where
           let a = rest least hits f e in
           record { more = a .more; left = a .left; last = a .last; is = a .is; through = outside low held (a .through); ends = a .ends }
 
-    by-above : (t : Bool) → isAbove (r .bounds) fix ≡ t
-        → afterTurn (if t then Stopped 1 least else (if holds (r .bounds) fix then judgedTurn r (judge (r .polygon) least) else On least)) hits room go ≡ given f → Goal
-    by-above true a e = stop (row r rows) least hits 1 least f (above a) e
-    by-above false a e = by-box a (holds (r .bounds) fix) refl e
+      by-row : afterTurn (rowTurn judge fix r least) hits room go ≡ given f → Goal
+      unfolding rowTurn
+      by-row e = by-box (holds (r .bounds) fix) refl e
 
-    by-row : afterTurn (rowTurn judge fix r least) hits room go ≡ given f → Goal
-    unfolding rowTurn
-    by-row e = by-above (isAbove (r .bounds) fix) refl e
+    by-above : (t : Bool) → isAbove (r .bounds) fix ≡ t
+        → (if t then ended hits (restMark end fix (row r rows)) least else afterTurn (rowTurn judge fix r least) hits room go) ≡ given f → Goal
+    by-above true a e = stop (row r rows) least hits (restMark end fix (row r rows)) least f (above a refl) e
+    by-above false a e = by-row a e
 
   sought : (rows : Rows) → Sought rows
   unfolding seek
-  sought (row r rows) least hits f e = by-row r rows (sought rows) least hits f e
+  sought (row r rows) least hits f e = by-above r rows (sought rows) least hits f (isAbove (r .bounds) fix) refl e
   sought tableEnd least hits f e = stop tableEnd least hits 1 least f at-the-end e
   sought unreadable least hits f e = stop unreadable least hits 2 least f unread e
   sought (T.refused n) least hits f e = let z : _≡_ {A = ℕ} 0 1 = cc in absurd (omega arith)
 
   -- A search of rows that is answered has exactly the hits of the rows up to where it ends, and ends there for one of the four reasons.
-  pub how-it-ends : (rows : Rows) (least : ℕ) (f : Found) → seek judge fix room rows least [] ≡ given f → Ending judge fix rows least f
+  pub how-it-ends : (rows : Rows) (least : ℕ) (f : Found) → seek judge fix end room rows least [] ≡ given f → Ending judge fix end rows least f
   how-it-ends rows least f e =
       let a = sought rows least [] f e in
       record { left = a .left; last = a .last; through = subst (λ (hits : List Hit). Through judge fix rows least hits (a .left) (a .last)) (sym (a .is)) (a .through); ends = a .ends }
 
 -- the marks that a search can end with
 abbrev pub endMarks : List ℕ
-endMarks = 1 ∷ 2 ∷ 3 ∷ []
+endMarks = 1 ∷ 2 ∷ 3 ∷ 4 ∷ []
 
--- A search's mark is 1, 2 or 3.
-pub marks : {judge : ℕ → ℕ → Judgement} {fix : Point} {rows : Rows} {least mark last : ℕ} → Ends judge fix rows least mark last → Listed endMarks mark
+rest-listed : (end : ℕ) (fix : Point) (rows : Rows) → Listed endMarks (restMark end fix rows)
+unfolding restMark
+rest-listed end fix (row r rows) = either (ltb end (r .next)) 2 _ refl (either (holds (r .bounds) fix) 4 (restMark end fix rows) refl (rest-listed end fix rows))
+  where
+    either : (test : Bool) (m n : ℕ) → Listed endMarks m → Listed endMarks n → Listed endMarks (if test then m else n)
+    either true m n h k = h
+    either false m n h k = k
+rest-listed end fix tableEnd = refl
+rest-listed end fix unreadable = refl
+rest-listed end fix (T.refused n) = refl
+
+-- A search's mark is 1, 2, 3 or 4.
+pub marks : {judge : ℕ → ℕ → Judgement} {fix : Point} {end : ℕ} {rows : Rows} {least mark last : ℕ} → Ends judge fix end rows least mark last → Listed endMarks mark
 marks at-the-end = refl
-marks (above h) = refl
+marks (above {r} {rows} h m) = subst (Listed endMarks) (sym m) (rest-listed _ _ (row r rows))
 marks unread = refl
 marks (broken low held j) = refl
 
 -- ---- lookups
-met-check : {A : Type 0} {a : A} (check : Reply (Unit {0})) (next : Reply A) → given a ≡ (check >> next) → given a ≡ next
+pub met-check : {A : Type 0} {a : A} (check : Reply (Unit {0})) (next : Reply A) → given a ≡ (check >> next) → given a ≡ next
 met-check (given u) next e = e
 met-check (R.refused why) next e = let z : _≡_ {A = ℕ} 0 1 = cc in absurd (omega arith)
 
@@ -146,19 +158,19 @@ matched-ends file head location asked room m h e =
       head = head;
       opened = sym h;
       found = s .it;
-      ending = how-it-ends (judgeIn file head fix asked) fix room (rowsIn file head) farthest (s .it) (sym (s .is));
+      ending = how-it-ends (judgeIn file head fix asked) fix (head .sections .metadata) room (rowsIn file head) farthest (s .it) (sym (s .is));
       marked = ap (λ (x : Matched). x .mark) is;
       merges = ap (λ (x : Matched). x .matches) is;
     }
 
 -- what a reply with its lent words was made of
-record Outcame {A : Type 0} (n room : ℕ) (reply : Reply (Outcome A)) (answer : A) : Type 0 where
-  outcome : Outcome A
-  is : given outcome ≡ reply
-  said : answer ≡ outcome .answer
-  kept : repliedOf n room reply .hits ≡ padded n (words (outcome .matches))
+pub record Outcame {A : Type 0} (n room : ℕ) (reply : Reply (Outcome A)) (answer : A) : Type 0 where
+  pub outcome : Outcome A
+  pub is : given outcome ≡ reply
+  pub said : answer ≡ outcome .answer
+  pub kept : repliedOf n room reply .hits ≡ padded n (words (outcome .matches))
 
-outcame : {A : Type 0} (n room : ℕ) (reply : Reply (Outcome A)) (answer : A) → repliedOf n room reply .reply ≡ given answer → Outcame n room reply answer
+pub outcame : {A : Type 0} (n room : ℕ) (reply : Reply (Outcome A)) (answer : A) → repliedOf n room reply .reply ≡ given answer → Outcame n room reply answer
 unfolding repliedOf
 outcame n room (given o) answer e = record { outcome = o; is = refl; said = cc; kept = refl }
 outcame n room (R.refused why) answer e = let z : _≡_ {A = ℕ} 0 1 = cc in absurd (omega arith)
@@ -167,10 +179,10 @@ given-one : {A : Type 0} {a b : A} → given a ≡ given b → a ≡ b
 given-one e = cc
 
 -- an outcome tells of the matches that it was made of
-record Tells {A : Type 0} (marked counted : A → ℕ) (m : Matched) (o : Outcome A) : Type 0 where
-  mark : marked (o .answer) ≡ m .mark
-  count : counted (o .answer) ≡ length (m .matches)
-  matches : o .matches ≡ m .matches
+pub record Tells {A : Type 0} (marked counted : A → ℕ) (m : Matched) (o : Outcome A) : Type 0 where
+  pub mark : marked (o .answer) ≡ m .mark
+  pub count : counted (o .answer) ≡ length (m .matches)
+  pub matches : o .matches ≡ m .matches
 
 module _ {A : Type 0} (marked counted : A → ℕ) (file : List ℕ) (location : Location) (asked : Bool) (n room : ℕ) (next : Head → Matched → Reply (Outcome A))
     (tells : (head : Head) (m : Matched) (o : Outcome A) → given o ≡ next head m → Tells marked counted m o) where
@@ -190,23 +202,16 @@ module _ {A : Type 0} (marked counted : A → ℕ) (file : List ℕ) (location :
         kept = o .kept ∙ ap (λ (l : List Hit). padded n (words l)) (t .matches);
       }
 
--- An answered lookup comes from a search that went through every row up to where it ended, and its mark says why it ended there.
-pub lookup-ends : (file : List ℕ) (location : Location) (asked : Bool) (n room : ℕ) (zones : Zones) → lookedUp file location asked n room .reply ≡ given zones
-    → Answered file location asked n (zones .matches) (zones .mark) (lookedUp file location asked n room .hits)
-unfolding lookedUp zonesIn zonesWith
-lookup-ends file location asked n room =
-    answer-ends (λ (z : Zones). z .mark) (λ (z : Zones). z .matches) file location asked n room _
-    λ head m o e.
+-- what both lookups make of the matches
+pub lookup-tells : (file : List ℕ) (room : ℕ) (asked : Bool) (head : Head) (m : Matched) (o : Outcome Zones) → given o ≡ zonesFrom file head asked room (given m)
+    → Tells (λ (z : Zones). z .mark) (λ (z : Zones). z .matches) m o
+lookup-tells file room asked head m o e =
     let is = given-one (given-from (fieldsOf file head room (m .matches) []) _ e .onto) in
     record { mark = ap (λ (x : Outcome Zones). x .answer .mark) is; count = ap (λ (x : Outcome Zones). x .answer .matches) is; matches = ap (λ (x : Outcome Zones). x .matches) is }
 
--- The same of a simple lookup, which does not ask for the distance.
-pub simple-lookup-ends : (file : List ℕ) (location : Location) (n room : ℕ) (described : Described) → simplyLooked file location n room .reply ≡ given described
-    → Answered file location false n (described .matches) (described .mark) (simplyLooked file location n room .hits)
-unfolding simplyLooked describedIn describedWith
-simple-lookup-ends file location n room =
-    answer-ends (λ (d : Described). d .mark) (λ (d : Described). d .matches) file location false n room _
-    λ head m o e.
+pub simple-tells : (file : List ℕ) (room : ℕ) (head : Head) (m : Matched) (o : Outcome Described) → given o ≡ describedFrom file head room (given m)
+    → Tells (λ (d : Described). d .mark) (λ (d : Described). d .matches) m o
+simple-tells file room head m o e =
     let is = given-one (given-from (wordedOf file head room (m .matches)) _ (met-check (checked file head (m .matches)) _ e) .onto) in
     record {
       mark = ap (λ (x : Outcome Described). x .answer .mark) is;
@@ -214,7 +219,21 @@ simple-lookup-ends file location n room =
       matches = ap (λ (x : Outcome Described). x .matches) is;
     }
 
--- So a lookup's mark is 1, 2 or 3,
+-- An answered lookup comes from a search that went through every row up to where it ended, and its mark says why it ended there.
+pub lookup-ends : (file : List ℕ) (location : Location) (asked : Bool) (n room : ℕ) (zones : Zones) → lookedUp file location asked n room .reply ≡ given zones
+    → Answered file location asked n (zones .matches) (zones .mark) (lookedUp file location asked n room .hits)
+unfolding lookedUp zonesIn zonesWith
+lookup-ends file location asked n room =
+    answer-ends (λ (z : Zones). z .mark) (λ (z : Zones). z .matches) file location asked n room _ (lookup-tells file room asked)
+
+-- The same of a simple lookup, which does not ask for the distance.
+pub simple-lookup-ends : (file : List ℕ) (location : Location) (n room : ℕ) (described : Described) → simplyLooked file location n room .reply ≡ given described
+    → Answered file location false n (described .matches) (described .mark) (simplyLooked file location n room .hits)
+unfolding simplyLooked describedIn describedWith
+simple-lookup-ends file location n room =
+    answer-ends (λ (d : Described). d .mark) (λ (d : Described). d .matches) file location false n room _ (simple-tells file room)
+
+-- So a lookup's mark is 1, 2, 3 or 4,
 pub lookup-marks : (file : List ℕ) (location : Location) (asked : Bool) (n room : ℕ) (zones : Zones) → lookedUp file location asked n room .reply ≡ given zones → Listed endMarks (zones .mark)
 lookup-marks file location asked n room zones e = behind-marks (lookup-ends file location asked n room zones e .behind)
 

@@ -106,20 +106,19 @@ after-turn hits room (stops h) k = refuses h
 module _ (judge : ℕ → ℕ → Judgement) (fix : Point) (judges : (place least : ℕ) → NumberedJudgement Known (judge place least)) where
   row-turn : (r : Row) (least : ℕ) → NumberedTurn (rowTurn judge fix r least)
   unfolding rowTurn
-  row-turn r least =
-      either NumberedTurn (isAbove (r .bounds) fix) ends (either NumberedTurn (holds (r .bounds) fix) (judged-turn r (judges (r .polygon) least)) on)
+  row-turn r least = either NumberedTurn (holds (r .bounds) fix) (judged-turn r (judges (r .polygon) least)) on
 
-  seeks : (room : ℕ) (rows : Rows) → NumberedRows rows → (least : ℕ) (hits : List Hit) → NumberedReply Known (seek judge fix room rows least hits)
+  seeks : (end room : ℕ) (rows : Rows) → NumberedRows rows → (least : ℕ) (hits : List Hit) → NumberedReply Known (seek judge fix end room rows least hits)
   unfolding seek
-  seeks room (row r rows) h least hits = after-turn hits room (row-turn r least) (seeks room rows h)
-  seeks room tableEnd h least hits = answers
-  seeks room unreadable h least hits = answers
-  seeks room (T.refused n) h least hits = refuses h
+  seeks end room (row r rows) h least hits = either (NumberedReply Known) (isAbove (r .bounds) fix) answers (after-turn hits room (row-turn r least) (seeks end room rows h))
+  seeks end room tableEnd h least hits = answers
+  seeks end room unreadable h least hits = answers
+  seeks end room (T.refused n) h least hits = refuses h
 
 searches : (file : List ℕ) (head : Head) (fix : Point) (asked : Bool) (room : ℕ) → NumberedReply Known (searched file head fix asked room)
 unfolding searched rowsIn
 searches file head fix asked room =
-    seeks (judgeIn file head fix asked) fix (λ place least. judged-numbered refl refl file _ _ _ _ asked least) room _ (rows-read file (head .sections .metadata) _) farthest []
+    seeks (judgeIn file head fix asked) fix (λ place least. judged-numbered refl refl file _ _ _ _ asked least) _ room _ (rows-read file (head .sections .metadata) _) farthest []
 
 -- ---- what both lookups begin with
 matched-numbered : (file : List ℕ) (head : Head) (location : Location) (asked : Bool) (room : ℕ) → NumberedReply Known (matchedWith file head location asked room)

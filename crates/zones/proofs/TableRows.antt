@@ -52,7 +52,7 @@ module _ (read : ℕ → Answer Numeral) (grows : Grows read) where
   number-past : {B : Type 0} (Q : B → Type 0) (start place : ℕ) (next : Numeral → Answer B) → start ≤ place → ((number : Numeral) → start < number .place → All Q (next number)) → All Q (read place >>= next)
   number-past Q start place next h k = then-all _ Q (read place) next (grows place) (λ number l. k number (omega arith))
 
-  entry-past : (place : ℕ) → All (λ (entry : Entry). place < entry .next) (entryBy read place)
+  pub entry-past : (place : ℕ) → All (λ (entry : Entry). place < entry .next) (entryBy read place)
   unfolding entryBy stepsBy
   entry-past place =
       let Q : Entry → Type 0 = λ entry. place < entry .next in

@@ -1,9 +1,9 @@
--- A case that meets the theorems on endings: document 01's printed file, asked at (5, 5) on its grid, by computation. Assumes nothing.
+-- Cases that meet the theorems on endings, asked at (5, 5) on their grid, by computation: document 01's printed file, and a table out of order. Assumes nothing.
 use mathlib.Core.Path.{_≡_, refl, ap}
 use mathlib.Core.Bool.{false}
 use mathlib.Core.List.{List, [], _∷_}
 use Prim.Native.Nat.{ℕ}
-use lib.IntN.{pos, negsuc}
+use lib.IntN.{negsuc}
 use lib.Ieee.{fin, ofInt, add, sub, mul, div, toSigned}
 use Rattle.numbers.specs.Varint.{forwardAt, valueOf, sizeOf, tooLong}
 use Rattle.numbers.specs.Point.{signedOf, evenBits, pointOf}
@@ -35,6 +35,9 @@ use Rattle.zones.specs.Utf8.{characters, startedBy, begunBy, followed, g
 use Rattle.zones.specs.declared.location.Location.{Location}
 use Rattle.zones.specs.declared.lookup.Zones.{Zones}
 use Rattle.zones.proofs.HowItEnds.{lookup-ends}
+use Rattle.zones.proofs.WholeMeansWhole.{whole-means-whole, mark-four}
+use Rattle.zones.specs.Rest.{restMark}
+use Rattle.zones.specs.Unstopped.{lookedThroughAll, PassedOver}
 
 abbrev printed : List ℕ
 printed =
@@ -52,3 +55,26 @@ answered = refl
 -- so the search behind it went through the file's one row, and ended at the table's end
 pub answered-ends : Answered printed inTheZone false 3 1 1 (lookedUp printed inTheZone false 3 4 .hits)
 answered-ends = lookup-ends printed inTheZone false 3 4 _ (ap (λ (x : Replied Zones). x .reply) answered)
+
+-- and nothing was missed
+pub answered-whole : lookedUp printed inTheZone false 3 4 ≡ lookedThroughAll printed inTheZone false 3 4
+answered-whole = whole-means-whole printed inTheZone false 3 4 _ (ap (λ (x : Replied Zones). x .reply) answered) refl
+
+-- ---- three entries: one that holds the location, one above it, and one behind that which holds it too
+abbrev outOfOrder : List ℕ
+outOfOrder =
+    0x50 ∷ 0x4C ∷ 0x42 ∷ 0x43 ∷ 0x01 ∷ 0x10 ∷ 0x01 ∷ 0x04 ∷ 0xCE ∷ 0xE1 ∷ 0xED ∷ 0xE5 ∷ 0x00 ∷ 0x12 ∷ 0x02 ∷ 0x12 ∷ 0x04 ∷ 0x04 ∷ 0x14
+    ∷ 0x14 ∷ 0x00 ∷ 0x00 ∷ 0x28 ∷ 0x28 ∷ 0x28 ∷ 0x28 ∷ 0x00 ∷ 0x00 ∷ 0x04 ∷ 0x04 ∷ 0x14 ∷ 0x14 ∷ 0x00 ∷ 0x09 ∷ 0x01 ∷ 0xC1 ∷ 0x30 ∷ 0x80 ∷ 0x02
+    ∷ 0x80 ∷ 0x04 ∷ 0x81 ∷ 0x02 ∷ 0x00 ∷ 0x00 ∷ 0x30 ∷ 0x80 ∷ 0x04 ∷ 0x80 ∷ 0x02 ∷ 0x82 ∷ 0x04 ∷ 0x00 ∷ 0x00 ∷ []
+
+pub stopped-early : lookedUp outOfOrder inTheZone false 3 4
+    ≡ replied (given (record { matches = 1; mark = 4; safezone = 0; used = 4 })) (0 ∷ 0 ∷ 1 ∷ []) (0 ∷ 0 ∷ 1 ∷ 0x41 ∷ [])
+unfolding restMark forwardAt valueOf sizeOf tooLong signedOf evenBits pointOf fixedPoint oneShifted checked movedBy advanced marker packedTurn turnOf roundAgain nextWithin nextPoint traceThen traceWithin traceOf along passing closedAt thenOn judge judgedAt fieldAt fieldsFrom fieldsOf fixOf matchedWith preambleOf textsFrom sectionsFrom sectionsAt contentsOf headOf words repliedOf safezoneBits zonesWith zonesIn lookedUp summary seen mergedAfter merged rowsThen rowBy rowsWithin rowsFrom rowsIn judgedTurn rowTurn seek searched stepsBy entryBy within remoteAt stringAt bytesOf textAt characters startedBy begunBy followed goesOn isUtf8 samePoint between inBox quadrantOf slopeOf edgeOf straight closestOn turned quarterBy halfTurn turnAt crossingOf acrossBy clearOf woundBy measured S.checked ofInt add sub mul div toSigned
+stopped-early = refl
+
+-- so a row behind the second holds the location
+abbrev early-ends : Answered outOfOrder inTheZone false 3 1 4 (lookedUp outOfOrder inTheZone false 3 4 .hits)
+early-ends = lookup-ends outOfOrder inTheZone false 3 4 _ (ap (λ (x : Replied Zones). x .reply) stopped-early)
+
+pub stopped-early-misses : PassedOver (fixOf inTheZone (early-ends .behind .head .preamble .precision)) (early-ends .behind .ending .left)
+stopped-early-misses = mark-four outOfOrder inTheZone false 3 4 _ (ap (λ (x : Replied Zones). x .reply) stopped-early) refl

@@ -23,6 +23,7 @@ use Rattle.zones.specs.declared.header.Head.{Head}
 use Rattle.zones.specs.declared.hits.Hit.{Hit}
 use Rattle.zones.specs.declared.location.Location.{Location}
 use Rattle.zones.specs.declared.rows.Row.{Row}
+use Rattle.zones.specs.Rest.{restMark}
 
 -- the hit of a row by its border's verdict; none where the location is not in the zone
 abbrev pub hitsOf : Row → Verdict → List Hit
@@ -37,28 +38,28 @@ pub data Through (judge : ℕ → ℕ → Judgement) (fix : Point) : Rows → �
   judged : {r : Row} {rows left : Rows} {least closer last : ℕ} {hits : List Hit} {verdict : Verdict} → isAbove (r .bounds) fix ≡ false → holds (r .bounds) fix ≡ true
       → judge (r .polygon) least ≡ reached verdict closer → Through judge fix rows closer hits left last → Through judge fix (row r rows) least (hitsOf r verdict ++ hits) left last
 
--- Why the search ends at the rows that are left, by its mark and least distance: 1 at the table's end or at a row above the location, 2 at an entry that can't
--- be read, 3 at a border that failed.
-pub data Ends (judge : ℕ → ℕ → Judgement) (fix : Point) : Rows → ℕ → ℕ → ℕ → Type 0 where
-  at-the-end : {least : ℕ} → Ends judge fix tableEnd least 1 least
-  above : {r : Row} {rows : Rows} {least : ℕ} → isAbove (r .bounds) fix ≡ true → Ends judge fix (row r rows) least 1 least
-  unread : {least : ℕ} → Ends judge fix unreadable least 2 least
+-- Why the search ends at the rows that are left, by its mark and least distance: 1 at the table's end, the mark of the rest at a row above the location, 2 at an
+-- entry that can't be read, 3 at a border that failed. The table has this end.
+pub data Ends (judge : ℕ → ℕ → Judgement) (fix : Point) (end : ℕ) : Rows → ℕ → ℕ → ℕ → Type 0 where
+  at-the-end : {least : ℕ} → Ends judge fix end tableEnd least 1 least
+  above : {r : Row} {rows : Rows} {least mark : ℕ} → isAbove (r .bounds) fix ≡ true → mark ≡ restMark end fix (row r rows) → Ends judge fix end (row r rows) least mark least
+  unread : {least : ℕ} → Ends judge fix end unreadable least 2 least
   broken : {r : Row} {rows : Rows} {least last : ℕ} → isAbove (r .bounds) fix ≡ false → holds (r .bounds) fix ≡ true → judge (r .polygon) least ≡ J.failed last
-      → Ends judge fix (row r rows) least 3 last
+      → Ends judge fix end (row r rows) least 3 last
 
 -- a search that found: exactly the hits of the rows that it went through, and why it ended where it did
-pub record Ending (judge : ℕ → ℕ → Judgement) (fix : Point) (rows : Rows) (least : ℕ) (found : Found) : Type 0 where
+pub record Ending (judge : ℕ → ℕ → Judgement) (fix : Point) (end : ℕ) (rows : Rows) (least : ℕ) (found : Found) : Type 0 where
   pub left : Rows
   pub last : ℕ
   pub through : Through judge fix rows least (found .hits) left last
-  pub ends : Ends judge fix left last (found .mark) (found .least)
+  pub ends : Ends judge fix end left last (found .mark) (found .least)
 
 -- the search behind a lookup's answer: the file's rows were searched so, the mark is the search's, and the matches are its hits merged
 pub record Behind (file : List ℕ) (location : Location) (asked : Bool) (matches : List Hit) (mark : ℕ) : Type 0 where
   pub head : Head
   pub opened : headOf file ≡ given head
   pub found : Found
-  pub ending : Ending (judgeIn file head (fixOf location (head .preamble .precision)) asked) (fixOf location (head .preamble .precision)) (rowsIn file head) farthest found
+  pub ending : Ending (judgeIn file head (fixOf location (head .preamble .precision)) asked) (fixOf location (head .preamble .precision)) (head .sections .metadata) (rowsIn file head) farthest found
   pub marked : mark ≡ found .mark
   pub merges : matches ≡ merged (found .hits)
 

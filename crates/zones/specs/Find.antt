@@ -20,6 +20,7 @@ use Rattle.zones.specs.declared.location.Location.{Location}
 use Rattle.zones.specs.declared.find.Matches.{Matches}
 use Rattle.zones.specs.declared.find.Found.{Found}
 use Rattle.zones.specs.declared.find.Found.the-variants as F
+use Rattle.zones.specs.Search as S
 
 -- 90 and 180 as floats
 abbrev pub ninety : Float
@@ -45,12 +46,16 @@ pub record Matched : Type 0 where
   pub mark : ℕ
   pub least : ℕ
 
--- in a file with this header, with room for so many hits before merging
-unfoldable pub matchedWith : List ℕ → Head → Location → Bool → ℕ → Reply Matched
-matchedWith file head location asked room = do
+-- in a file with this header, by a search at the location's fixed coordinates
+abbrev pub matchedBy : Head → Location → (Point → Reply S.Found) → Reply Matched
+matchedBy head location search = do
   demand (isPrecision (head .preamble .precision)) (plain 16)
-  found ← searched file head (fixOf location (head .preamble .precision)) asked room
+  found ← search (fixOf location (head .preamble .precision))
   given (record { matches = merged (found .hits); mark = found .mark; least = found .least })
+
+-- with room for so many hits before merging
+unfoldable pub matchedWith : List ℕ → Head → Location → Bool → ℕ → Reply Matched
+matchedWith file head location asked room = matchedBy head location (λ fix. searched file head fix asked room)
 
 -- the reply, and all lent words: the matches, and zeros behind them; on a refusal zeros alone
 pub record Finding : Type 0 where

@@ -12,7 +12,7 @@ use Rattle.numbers.specs.Reply.{Reply, given, refused, _>>=_}
 use Rattle.zones.specs.Header.{headOf}
 use Rattle.zones.specs.Hits.{width}
 use Rattle.zones.specs.declared.header.Head.{Head}
-use Rattle.zones.specs.Find.{ninety, matchedWith}
+use Rattle.zones.specs.Find.{ninety, Matched, matchedWith}
 use Rattle.zones.specs.Fields.{fieldsOf}
 use Rattle.zones.specs.Lent.{Outcome, Replied, repliedOf}
 use Rattle.zones.specs.declared.location.Location.{Location}
@@ -24,10 +24,10 @@ use Rattle.zones.specs.declared.lookup.Looked.the-variants as L
 unfoldable pub safezoneBits : Bool → ℕ → ℕ → ℕ
 safezoneBits asked least precision = if asked then toBits binary32 (root (toF32 (pos least)) ⊠ ninety ⊘ toF32 (oneShifted precision)) else 0
 
--- the matches and their fields, in a file with this header, with so many words for hits and so many bytes for text
-unfoldable pub zonesWith : List ℕ → Head → Location → Bool → ℕ → ℕ → Reply (Outcome Zones)
-zonesWith file head location asked n room = do
-  found ← matchedWith file head location asked (n / width)
+-- the matches and their fields, in a file with this header, with so many bytes for text
+abbrev pub zonesFrom : List ℕ → Head → Bool → ℕ → Reply Matched → Reply (Outcome Zones)
+zonesFrom file head asked room matched = do
+  found ← matched
   text ← fieldsOf file head room (found .matches) []
   given (record {
     answer = record {
@@ -39,6 +39,10 @@ zonesWith file head location asked n room = do
     matches = found .matches;
     text = text;
   })
+
+-- with so many words for hits
+unfoldable pub zonesWith : List ℕ → Head → Location → Bool → ℕ → ℕ → Reply (Outcome Zones)
+zonesWith file head location asked n room = zonesFrom file head asked room (matchedWith file head location asked (n / width))
 
 -- the file is opened first
 unfoldable pub zonesIn : List ℕ → Location → Bool → ℕ → ℕ → Reply (Outcome Zones)

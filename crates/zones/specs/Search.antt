@@ -14,6 +14,7 @@ use Rattle.numbers.specs.Answer.{if_then_else_}
 use Rattle.zones.specs.Hits.{hitOf, words, Real}
 use Rattle.numbers.specs.Lists.{padded}
 use Rattle.numbers.specs.Reply.{Reply, given, plain}
+use Rattle.zones.specs.Rest.{restMark}
 use Rattle.zones.specs.Rows.{Rows, row, tableEnd, unreadable, rowsIn}
 use Rattle.zones.specs.Table.{isAbove, holds}
 use Rattle.zones.specs.declared.header.Head.{Head}
@@ -60,16 +61,18 @@ afterTurn (Refused n) hits room go = R.refused (plain n)
 
 -- over the judging of a border at a place of the data with the least distance so far
 module _ (judge : ℕ → ℕ → Judgement) (fix : Point) where
-  -- a lower latitude above the location stops the search with mark 1; where the box holds the location the border is judged
+  -- where a row's box holds the location its border is judged
   unfoldable pub rowTurn : Row → ℕ → Turn
-  rowTurn r least = if isAbove (r .bounds) fix then Stopped 1 least else (if holds (r .bounds) fix then judgedTurn r (judge (r .polygon) least) else On least)
+  rowTurn r least = if holds (r .bounds) fix then judgedTurn r (judge (r .polygon) least) else On least
 
-  -- the search of rows, after these hits and with room for so many: mark 1 at the table's end, mark 2 at an entry that can't be read
-  unfoldable pub seek : ℕ → Rows → ℕ → List Hit → Reply Found
-  seek room (row r rows) least hits = afterTurn (rowTurn r least) hits room (seek room rows)
-  seek room tableEnd least hits = ended hits 1 least
-  seek room unreadable least hits = ended hits 2 least
-  seek room (T.refused n) least hits = R.refused (plain n)
+  -- the search of the rows of a table with this end, after these hits and with room for so many: mark 1 at the table's end, mark 2 at an entry that
+  -- can't be read; a row whose lower latitude is above the location stops it, with the mark that the rest of the table gives
+  unfoldable pub seek : ℕ → ℕ → Rows → ℕ → List Hit → Reply Found
+  seek end room (row r rows) least hits =
+      if isAbove (r .bounds) fix then ended hits (restMark end fix (row r rows)) least else afterTurn (rowTurn r least) hits room (seek end room rows)
+  seek end room tableEnd least hits = ended hits 1 least
+  seek end room unreadable least hits = ended hits 2 least
+  seek end room (T.refused n) least hits = R.refused (plain n)
 
 -- no distance yet
 abbrev pub farthest : ℕ
@@ -84,7 +87,7 @@ judgeIn file head fix asked polygon least =
 
 -- the search of some rows, with so many slots for hits
 abbrev pub searchedRows : List ℕ → Head → Point → Bool → ℕ → Rows → Reply Found
-searchedRows file head fix asked room rows = seek (judgeIn file head fix asked) fix room rows farthest []
+searchedRows file head fix asked room rows = seek (judgeIn file head fix asked) fix (head .sections .metadata) room rows farthest []
 
 -- of the file's table
 unfoldable pub searched : List ℕ → Head → Point → Bool → ℕ → Reply Found

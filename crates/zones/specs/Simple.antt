@@ -12,7 +12,7 @@ use Rattle.numbers.specs.Reply.{Reply, given, refused, plain, demand, _>>=_, _>
 use Rattle.zones.specs.Text.{textAt, bytesOf}
 use Rattle.zones.specs.Header.{blameOf, headOf}
 use Rattle.zones.specs.Hits.{width}
-use Rattle.zones.specs.Find.{matchedWith}
+use Rattle.zones.specs.Find.{Matched, matchedWith}
 use Rattle.zones.specs.Fields.{fieldsPlace}
 use Rattle.zones.specs.Lent.{Outcome, Replied, repliedOf}
 use Rattle.zones.specs.declared.header.Head.{Head}
@@ -120,10 +120,10 @@ wordedOf file head room matches = do
   bytes ← fitting room (bytesIn description)
   given description
 
--- in a file with this header
-unfoldable pub describedWith : List ℕ → Head → Location → ℕ → ℕ → Reply (Outcome Described)
-describedWith file head location n room = do
-  found ← matchedWith file head location false (n / width)
+-- the matches and the description, in a file with this header, with so many bytes for text
+abbrev pub describedFrom : List ℕ → Head → ℕ → Reply Matched → Reply (Outcome Described)
+describedFrom file head room matched = do
+  found ← matched
   checked file head (found .matches)
   description ← wordedOf file head room (found .matches)
   given (record {
@@ -131,6 +131,10 @@ describedWith file head location n room = do
     matches = found .matches;
     text = bytesIn description;
   })
+
+-- with so many words for hits
+unfoldable pub describedWith : List ℕ → Head → Location → ℕ → ℕ → Reply (Outcome Described)
+describedWith file head location n room = describedFrom file head room (matchedWith file head location false (n / width))
 
 -- the file is opened first
 unfoldable pub describedIn : List ℕ → Location → ℕ → ℕ → Reply (Outcome Described)

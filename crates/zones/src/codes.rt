@@ -49,6 +49,8 @@ pub const UNREADABLE: u8 = 2;
 
 pub const BROKEN: u8 = 3;
 
+pub const OUT_OF_ORDER: u8 = 4;
+
 // Kinds of hits; none is no hit.
 pub const NO_KIND: u32 = 0;
 

@@ -21,6 +21,7 @@ use crate::header::Head;
 use crate::hits::Hit;
 use crate::hits::put_hit;
 use crate::hits::room;
+use crate::rest::rest_mark;
 use crate::rows::Row;
 use crate::rows::after;
 use crate::rows::row_of;
@@ -124,11 +125,7 @@ fn judge(file: &[u8], head: Head, fix: Point, asked: bool, polygon: u32, least: 
 pub fn on_row(file: &[u8], head: Head, fix: Point, asked: bool, row: Row, least: u64) -> Turn
     ensures { λ r. ⌜ r ≡ rowTurn (judgeIn (now (file .entry)) head fix asked) fix row least ⌝ }
 {
-    let bounds = row.bounds;
-    if is_above(bounds, fix) {
-        return Turn::Stopped { mark: WHOLE, least };
-    }
-    if holds(bounds, fix) {
+    if holds(row.bounds, fix) {
         let judgement = judge(file, head, fix, asked, row.polygon, least);
         return judged(row, judgement);
     }
@@ -159,6 +156,9 @@ pub(crate) fn search(file: &[u8], head: Head, fix: Point, asked: bool, hits: &mu
             Entered::Failed => return end_with(count, UNREADABLE, least),
             Entered::Refused(number) => return Searched::Refused(plain(number)),
         };
+        if is_above(entry.bounds, fix) {
+            return end_with(count, rest_mark(file, end, fix, entry.next), least);
+        }
         let row = row_of(at, entry);
         at = after(row);
         let turn = on_row(file, head, fix, asked, row, least);

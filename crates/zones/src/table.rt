@@ -87,7 +87,7 @@ pub fn entry_at(file: &[u8], place: usize) -> Entered
     steps_at(file, max_lon.place, bounds)
 }
 
-fn bounds_of(min_lat: u64, min_lon: u64, max_lat: u64, max_lon: u64) -> Bounds
+pub fn bounds_of(min_lat: u64, min_lon: u64, max_lat: u64, max_lon: u64) -> Bounds
     ensures { λ r. ⌜ r ≡ boundsOf «min_lat» «min_lon» «max_lat» «max_lon» ⌝ }
 {
     Bounds {
@@ -110,7 +110,7 @@ fn lon_upto(a: FixedLon, b: FixedLon) -> bool
     a.0 <= b.0
 }
 
-fn lat_below(a: FixedLat, b: FixedLat) -> bool
+pub fn lat_below(a: FixedLat, b: FixedLat) -> bool
     ensures { λ r. ⌜ r ≡ ltZ (a .0) (b .0) ⌝ }
 {
     a.0 < b.0

@@ -23,22 +23,26 @@ use Rattle.zones.specs.declared.search.Turn.the-variants.{On, Met, Stopp
 use Rattle.zones.specs.declared.search.Turn.{Turn}
 use Rattle.numbers.specs.Reply as R
 use Rattle.zones.specs.Rows as T
+use mathlib.Core.Bool.{true, false}
+use Rattle.numbers.proofs.Answers.{chosen, other}
+use Rattle.zones.specs.Rest.{restMark}
+use Rattle.zones.specs.Table.{isAbove}
 
 -- the hits so far stand at the front of words that are zero beyond them, and the search of the rows that are left gives the whole
-pub record Going (judge : ℕ → ℕ → Judgement) (fix : Point) (n : ℕ) (whole : Reply Found) (rows : Rows) (ws : List ℕ) (count least : ℕ) : Type 0 where
+pub record Going (judge : ℕ → ℕ → Judgement) (fix : Point) (end n : ℕ) (whole : Reply Found) (rows : Rows) (ws : List ℕ) (count least : ℕ) : Type 0 where
   pub hits : List Hit
   pub counted : length hits ≡ count
   pub fits : count ≤ n / width
   pub kept : ws ≡ padded n (words hits)
   pub real : Real hits
-  pub so-far : seek judge fix (n / width) rows least hits ≡ whole
+  pub so-far : seek judge fix end (n / width) rows least hits ≡ whole
 
-module _ (judge : ℕ → ℕ → Judgement) (fix : Point) (n : ℕ) where
-  pub starts : {rows all : Rows} (ws : List ℕ) (least : ℕ) → ws ≡ zeros n → rows ≡ all → Going judge fix n (seek judge fix (n / width) all least []) rows ws 0 least
+module _ (judge : ℕ → ℕ → Judgement) (fix : Point) (end n : ℕ) where
+  pub starts : {rows all : Rows} (ws : List ℕ) (least : ℕ) → ws ≡ zeros n → rows ≡ all → Going judge fix end n (seek judge fix end (n / width) all least []) rows ws 0 least
   unfolding words Real
-  starts ws least z e = record { hits = []; counted = refl; fits = omega arith; kept = simp sub-zero z; real = tt; so-far = ap (λ (r : Rows). seek judge fix (n / width) r least []) e }
+  starts ws least z e = record { hits = []; counted = refl; fits = omega arith; kept = simp sub-zero z; real = tt; so-far = ap (λ (r : Rows). seek judge fix end (n / width) r least []) e }
 
-  module _ {whole : Reply Found} {rows : Rows} {ws : List ℕ} {count least : ℕ} (g : Going judge fix n whole rows ws count least) where
+  module _ {whole : Reply Found} {rows : Rows} {ws : List ℕ} {count least : ℕ} (g : Going judge fix end n whole rows ws count least) where
     pub kept-length : length ws ≡ n
     kept-length = ap length (g .kept) ∙ length-append (words (g .hits)) _ ∙ rw length-replicate (omega (arith, words-length (g .hits), g .counted, g .fits))
 
@@ -46,8 +50,8 @@ module _ (judge : ℕ → ℕ → Judgement) (fix : Point) (n : ℕ) where
     how mark last = record { count = count; mark = mark; least = last }
 
     -- the search of these rows is the whole
-    of-rows : {rows′ : Rows} → rows ≡ rows′ → seek judge fix (n / width) rows′ least (g .hits) ≡ whole
-    of-rows e = ap (λ (r : Rows). seek judge fix (n / width) r least (g .hits)) (sym e) ∙ g .so-far
+    of-rows : {rows′ : Rows} → rows ≡ rows′ → seek judge fix end (n / width) rows′ least (g .hits) ≡ whole
+    of-rows e = ap (λ (r : Rows). seek judge fix end (n / width) r least (g .hits)) (sym e) ∙ g .so-far
 
     sought-ended : (mark last : ℕ) → ended (g .hits) mark last ≡ whole → Agrees (Sought n ws) whole (given (how mark last))
     sought-ended mark last e = agree-given (Sought n ws) e (record { said = rw (g .counted) refl; kept = g .kept; real = g .real })
@@ -65,32 +69,39 @@ module _ (judge : ℕ → ℕ → Judgement) (fix : Point) (n : ℕ) where
     at-refused ws′ e = agree-refused (Sought n ws′) (of-rows e)
 
     module _ {r : Row} {rest : Rows} (is : rows ≡ row r rest) where
-      -- what the turn gives is the whole
-      turned : {t : Turn} → t ≡ rowTurn judge fix r least → afterTurn t (g .hits) (n / width) (seek judge fix (n / width) rest) ≡ whole
+      -- a row above the location stops it, with the mark that the rest of the table gives
+      pub early : {mark : ℕ} → isAbove (r .bounds) fix ≡ true → mark ≡ restMark end fix (row r rest) → Agrees (Sought n ws) whole (given (how mark least))
       unfolding seek
-      turned {t} e = ap (λ (u : Turn). afterTurn u (g .hits) (n / width) (seek judge fix (n / width) rest)) e ∙ of-rows is
+      early {mark} up m = sought-ended mark least (ap (λ (k : ℕ). ended (g .hits) k least) m ∙ chosen up (ended (g .hits) (restMark end fix (row r rest)) least) _ ∙ of-rows is)
 
-      pub stops : {mark last : ℕ} → Stopped mark last ≡ rowTurn judge fix r least → Agrees (Sought n ws) whole (given (how mark last))
-      stops e = sought-ended _ _ (turned e)
+      -- what the turn gives is the whole
+      turned : {t : Turn} → isAbove (r .bounds) fix ≡ false → t ≡ rowTurn judge fix r least → afterTurn t (g .hits) (n / width) (seek judge fix end (n / width) rest) ≡ whole
+      unfolding seek
+      turned {t} low e =
+          ap (λ (u : Turn). afterTurn u (g .hits) (n / width) (seek judge fix end (n / width) rest)) e ∙ other low _ (afterTurn (rowTurn judge fix r least) (g .hits) (n / width) (seek judge fix end (n / width) rest)) ∙ of-rows is
 
-      pub refuses : (ws′ : List ℕ) {k : ℕ} → Refused k ≡ rowTurn judge fix r least → Agrees (Sought n ws′) whole (R.refused (plain k))
-      refuses ws′ e = agree-refused (Sought n ws′) (turned e)
+      module _ (low : isAbove (r .bounds) fix ≡ false) where
+        pub stops : {mark last : ℕ} → Stopped mark last ≡ rowTurn judge fix r least → Agrees (Sought n ws) whole (given (how mark last))
+        stops e = sought-ended _ _ (turned low e)
 
-      pub on : {closer : ℕ} → On closer ≡ rowTurn judge fix r least → Going judge fix n whole rest ws count closer
-      on e = record { hits = g .hits; counted = g .counted; fits = g .fits; kept = g .kept; real = g .real; so-far = turned e }
+        pub refuses : (ws′ : List ℕ) {k : ℕ} → Refused k ≡ rowTurn judge fix r least → Agrees (Sought n ws′) whole (R.refused (plain k))
+        refuses ws′ e = agree-refused (Sought n ws′) (turned low e)
 
-      module _ {hit : Hit} {closer : ℕ} (e : Met hit closer ≡ rowTurn judge fix r least) where
-        pub full : (ws′ : List ℕ) → n / width ≤ count → Agrees (Sought n ws′) whole (R.refused (plain 17))
-        full ws′ h = agree-refused (Sought n ws′) (simp (le-ltb (length (g .hits)) (n / width) (omega (arith, g .counted))) at (turned e))
+        pub on : {closer : ℕ} → On closer ≡ rowTurn judge fix r least → Going judge fix end n whole rest ws count closer
+        on e = record { hits = g .hits; counted = g .counted; fits = g .fits; kept = g .kept; real = g .real; so-far = turned low e }
 
-        pub met : count < n / width → (hit .kind ≡ 0 → ⊥) → Going judge fix n whole rest (putHit ws count hit) (count + 1) closer
-        met room kind =
-            let slot : length (g .hits) < n / width = omega (arith, g .counted) in
-            record {
-              hits = g .hits ++ hit ∷ [];
-              counted = length-append (g .hits) (hit ∷ []) ∙ ap (λ (k : ℕ). k + 1) (g .counted);
-              fits = omega arith;
-              kept = rw (g .kept, ← g .counted) (put-padded n (g .hits) hit slot);
-              real = real-append (g .hits) hit (g .real) kind;
-              so-far = simp (lt-ltb (length (g .hits)) (n / width) slot) at (turned e);
-            }
+        module _ {hit : Hit} {closer : ℕ} (e : Met hit closer ≡ rowTurn judge fix r least) where
+          pub full : (ws′ : List ℕ) → n / width ≤ count → Agrees (Sought n ws′) whole (R.refused (plain 17))
+          full ws′ h = agree-refused (Sought n ws′) (simp (le-ltb (length (g .hits)) (n / width) (omega (arith, g .counted))) at (turned low e))
+
+          pub met : count < n / width → (hit .kind ≡ 0 → ⊥) → Going judge fix end n whole rest (putHit ws count hit) (count + 1) closer
+          met room kind =
+              let slot : length (g .hits) < n / width = omega (arith, g .counted) in
+              record {
+                hits = g .hits ++ hit ∷ [];
+                counted = length-append (g .hits) (hit ∷ []) ∙ ap (λ (k : ℕ). k + 1) (g .counted);
+                fits = omega arith;
+                kept = rw (g .kept, ← g .counted) (put-padded n (g .hits) hit slot);
+                real = real-append (g .hits) hit (g .real) kind;
+                so-far = simp (lt-ltb (length (g .hits)) (n / width) slot) at (turned low e);
+              }

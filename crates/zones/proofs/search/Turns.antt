@@ -14,7 +14,7 @@ use Rattle.border.specs.declared.verdict.Verdict.{Verdict}
 use Rattle.numbers.specs.Answer.{if_then_else_}
 use Rattle.zones.specs.Hits.{hitOf}
 use Rattle.zones.specs.Search.{kindOf, judgedTurn, rowTurn, judgeIn}
-use Rattle.zones.specs.Table.{isAbove, holds}
+use Rattle.zones.specs.Table.{holds}
 use Rattle.zones.specs.declared.header.Head.{Head}
 use Rattle.zones.specs.declared.hits.Hit.{Hit}
 use Rattle.zones.specs.declared.rows.Row.{Row}
@@ -40,18 +40,13 @@ module _ (r : Row) {judgement : Judged} {verdict : Verdict} {least kind : ℕ} (
 
 -- ---- a row
 module _ (judge : ℕ → ℕ → Judgement) (fix : Point) (r : Row) (least : ℕ) where
-  pub stops-above : isAbove (r .bounds) fix ≡ true → Stopped 1 least ≡ rowTurn judge fix r least
+  pub not-held : holds (r .bounds) fix ≡ false → On least ≡ rowTurn judge fix r least
   unfolding rowTurn
-  stops-above e = rw e
+  not-held f = rw f
 
-  module _ (below : isAbove (r .bounds) fix ≡ false) where
-    pub not-held : holds (r .bounds) fix ≡ false → On least ≡ rowTurn judge fix r least
-    unfolding rowTurn
-    not-held f = rw (below, f)
-
-    pub held : holds (r .bounds) fix ≡ true → judgedTurn r (judge (r .polygon) least) ≡ rowTurn judge fix r least
-    unfolding rowTurn
-    held f = rw (below, f)
+  pub held : holds (r .bounds) fix ≡ true → judgedTurn r (judge (r .polygon) least) ≡ rowTurn judge fix r least
+  unfolding rowTurn
+  held f = rw f
 
 -- ---- a hit's kind is not 0
 unfoldable Kinded : Turn → Type 0
@@ -73,8 +68,7 @@ judged-kinded r (B.refused n) = tt
 row-kinded : (judge : ℕ → ℕ → Judgement) (fix : Point) (r : Row) (least : ℕ) → Kinded (rowTurn judge fix r least)
 unfolding Kinded rowTurn
 row-kinded judge fix r least =
-    either (isAbove (r .bounds) fix) (Stopped 1 least) _ (λ e. tt)
-    (λ e. either (holds (r .bounds) fix) (judgedTurn r (judge (r .polygon) least)) (On least) (λ f. judged-kinded r (judge (r .polygon) least)) (λ f. tt))
+    either (holds (r .bounds) fix) (judgedTurn r (judge (r .polygon) least)) (On least) (λ f. judged-kinded r (judge (r .polygon) least)) (λ f. tt)
 
 pub met-kind : (judge : ℕ → ℕ → Judgement) (fix : Point) (r : Row) (least : ℕ) {hit : Hit} {closer : ℕ} → Met hit closer ≡ rowTurn judge fix r least → hit .kind ≡ 0 → ⊥
 unfolding Kinded
