@@ -5,7 +5,6 @@ Writes the records of `replay`'s op 20 to a file: random strings in files withou
 """
 
 import argparse
-import ctypes
 import datetime
 import io
 import os
@@ -14,39 +13,14 @@ import struct
 import time
 import zoneinfo
 
-UTC = datetime.timezone.utc
-EPOCH = datetime.datetime(1970, 1, 1, tzinfo=UTC)
+from peers import EPOCH, ROOM, by_glibc, by_zoneinfo
+
 FIRST, LAST = -62135596800, 253402300799
-ROOM = 24
-
-
-class Tm(ctypes.Structure):
-    _fields_ = [(n, ctypes.c_int) for n in "sec min hour mday mon year wday yday isdst".split()] + [
-        ("gmtoff", ctypes.c_long),
-        ("zone", ctypes.c_char_p),
-    ]
-
-
-LIBC = ctypes.CDLL("libc.so.6")
-LIBC.localtime_r.argtypes = [ctypes.POINTER(ctypes.c_longlong), ctypes.POINTER(Tm)]
-LIBC.localtime_r.restype = ctypes.POINTER(Tm)
 
 
 def set_zone(text):
     os.environ["TZ"] = text
     time.tzset()
-
-
-def by_glibc(instant):
-    tm = Tm()
-    LIBC.localtime_r(ctypes.byref(ctypes.c_longlong(instant)), ctypes.byref(tm))
-    return tm.gmtoff, int(tm.isdst > 0), tm.zone
-
-
-def by_zoneinfo(zone, instant):
-    at = (EPOCH + datetime.timedelta(seconds=instant)).astimezone(zone)
-    offset = at.utcoffset()
-    return offset.days * 86400 + offset.seconds, int(bool(at.dst())), at.tzname().encode()
 
 
 # ---- a string and its meaning, by the calendar of `datetime`

@@ -6,8 +6,6 @@ transition zoneinfo's. compare/tzif says how it is run.
 
 import argparse
 import bisect
-import ctypes
-import datetime
 import io
 import os
 import random
@@ -17,38 +15,14 @@ import sys
 import tempfile
 import zoneinfo
 
-UTC = datetime.timezone.utc
-EPOCH = datetime.datetime(1970, 1, 1, tzinfo=UTC)
+import peers
+from peers import LIBC, ROOM, by_glibc
+
 FIRST, LAST = -62135596800 + 86400, 253402300799 - 86400  # the years that zoneinfo knows, less a day
-ROOM = 24
-
-
-class Tm(ctypes.Structure):
-    _fields_ = [(n, ctypes.c_int) for n in "sec min hour mday mon year wday yday isdst".split()] + [
-        ("gmtoff", ctypes.c_long),
-        ("zone", ctypes.c_char_p),
-    ]
-
-
-LIBC = ctypes.CDLL("libc.so.6")
-LIBC.localtime_r.argtypes = [ctypes.POINTER(ctypes.c_longlong), ctypes.POINTER(Tm)]
-LIBC.localtime_r.restype = ctypes.POINTER(Tm)
-
-
-def by_glibc(instant):
-    """Offset, flag, abbreviation in the zone that tzset has read."""
-    tm = Tm()
-    if not LIBC.localtime_r(ctypes.byref(ctypes.c_longlong(instant)), ctypes.byref(tm)):
-        return None
-    return tm.gmtoff, int(tm.isdst > 0), tm.zone
 
 
 def by_zoneinfo(zone, instant):
-    if not FIRST <= instant <= LAST:
-        return None
-    at = (EPOCH + datetime.timedelta(seconds=instant)).astimezone(zone)
-    offset = at.utcoffset()
-    return offset.days * 86400 + offset.seconds, int(bool(at.dst())), at.tzname().encode()
+    return peers.by_zoneinfo(zone, instant) if FIRST <= instant <= LAST else None
 
 
 def table(data):
