@@ -1,4 +1,5 @@
 pub mod Place
+pub mod Box
 pub mod Reader
 pub mod Encoding
 pub mod Trace

@@ -69,7 +69,7 @@ held-row end fix (T.refused n) e = absurd (omega (arith, e))
 -- ---- the search
 module _ (judge : ℕ → ℕ → Judgement) (fix : Point) (end room : ℕ) where
   -- a rest with mark 1 changes nothing
-  unchanged : (rows : Rows) (least : ℕ) (hits : List Hit) → restMark end fix rows ≡ 1 → seekAll judge fix room rows least hits ≡ ended hits 1 least
+  pub unchanged : (rows : Rows) (least : ℕ) (hits : List Hit) → restMark end fix rows ≡ 1 → seekAll judge fix room rows least hits ≡ ended hits 1 least
   unfolding seekAll restMark
   unchanged (row r rows) least hits e =
       let c = clear-row end fix r rows e in
