@@ -90,13 +90,23 @@ fn leave_out(words: &[u32], slots: &mut [u32]) {
     }
 }
 
+fn run_without_places(
+    record: &[u8],
+    file: &[u8],
+    words: &mut [u32],
+    slots: &mut [u32],
+    text: &mut [u8],
+) -> Reply {
+    let reply = run_either(record, file, words, text);
+    leave_out(words, slots);
+    reply
+}
+
 // Both lookups with three words a hit, as document 01 has them.
 fn run_in_three(record: &[u8], file: &[u8], slots: &mut [u32], text: &mut [u8]) -> Reply {
-    let mut words = filled_words();
     let size = in_four(slots.len());
-    let reply = run_either(record, file, &mut words[..size], text);
-    leave_out(&words[..size], slots);
-    reply
+    let mut words = filled_words();
+    run_without_places(record, file, &mut words[..size], slots, text)
 }
 
 // As many bytes as the text has, from a place of the file on, each XOR 0x80.

@@ -21,6 +21,9 @@ wrapping-add-usize-requires c κs = tt
 word-in-requires : tie.Need-word-in-requires Inv-loop μ-loop
 word-in-requires c κs = tt
 
+mul-slots : tie.Need-mul-slots Inv-loop μ-loop
+mul-slots c = omega arith
+
 slice-write-slots : tie.Need-slice-write-slots Inv-loop μ-loop
 slice-write-slots c = omega arith
 
@@ -48,6 +51,7 @@ leave-out-spec =
     loop-holds
     wrapping-add-usize-requires
     word-in-requires
+    mul-slots
     slice-write-slots
     add-i
     loop-less
