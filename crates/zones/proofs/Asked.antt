@@ -16,14 +16,14 @@ use Rattle.zones.proofs.Unless.{shown, Unless, refuses, alike, unless-a
 use Rattle.zones.specs.Fields.{fieldsOf}
 use Rattle.zones.specs.Find.{Matched, isPrecision, fixOf, matchedWith}
 use Rattle.zones.specs.Header.{headOf}
-use Rattle.zones.specs.Hits.{width, hitOf}
+use Rattle.zones.specs.Hits.{width}
 use Rattle.zones.specs.Lent.{Outcome, Replied, replied, repliedOf}
 use Rattle.zones.specs.Lookup.{safezoneBits, zonesWith, zonesIn, lookedWith, lookedUp}
 use Rattle.zones.specs.Merge.{merged}
 use Rattle.numbers.specs.Reply.{Reply, given, refused, plain, _>>=_}
 use Rattle.zones.specs.Rest.{restMark}
 use Rattle.zones.specs.Rows.{Rows, row, tableEnd, unreadable, rowsIn}
-use Rattle.zones.specs.Search.{Found, ended, kindOf, farthest, afterTurn, judgedTurn, rowTurn, seek, judgeIn, searched}
+use Rattle.zones.specs.Search.{Found, ended, kindOf, rowHit, farthest, afterTurn, judgedTurn, rowTurn, seek, judgeIn, searched}
 use Rattle.zones.specs.Table.{isAbove, holds}
 use Rattle.zones.specs.declared.header.Head.{Head}
 use Rattle.zones.specs.declared.hits.Hit.{Hit}
@@ -59,7 +59,7 @@ module _ (judge judge′ : ℕ → ℕ → Judgement) (agree : (polygon least le
 
     judged-same : (r : Row) (j o : Judgement) (d : ℕ) → Agrees d j o → Same (afterTurn (judgedTurn r j) hits room go) (afterTurn (judgedTurn r o) hits room go′)
     unfolding judgedTurn
-    judged-same r (reached verdict least) o d h = rw h (reached-same (eqb (kindOf verdict) 0) (hitOf (r .id) (r .metadata) (kindOf verdict)) least d)
+    judged-same r (reached verdict least) o d h = rw h (reached-same (eqb (kindOf verdict) 0) (rowHit r (kindOf verdict)) least d)
     judged-same r (J.failed least) o d h = rw h (alike refl)
     judged-same r (J.refused n) o d (inl h) = refuses (ap (λ (m : ℕ). refused (plain m)) h)
     judged-same r (J.refused n) o d (inr h) = rw h (alike refl)
