@@ -6,6 +6,7 @@ use mathlib.Core.Bool.{Bool, false}
 use mathlib.Core.List.{List, [], _∷_, _++_}
 use mathlib.Core.Path.{_≡_, refl}
 use native.Mathlib.Omega.{arith}
+use Rattle.border.proofs.Signs.{differ}
 use Rattle.border.proofs.Numbered.{NumberedJudgement, judged, unjudged, not-judged, judged-numbered}
 use Rattle.border.specs.Verdict.{Judgement}
 use Rattle.border.specs.declared.place.Point.{Point}
@@ -118,7 +119,7 @@ module _ (judge : ℕ → ℕ → Judgement) (fix : Point) (judges : (place leas
 searches : (file : List ℕ) (head : Head) (fix : Point) (asked : Bool) (room : ℕ) → NumberedReply Known (searched file head fix asked room)
 unfolding searched rowsIn
 searches file head fix asked room =
-    seeks (judgeIn file head fix asked) fix (λ place least. judged-numbered refl refl file _ _ _ _ asked least) _ room _ (rows-read file (head .sections .metadata) _) farthest []
+    seeks (judgeIn file head fix asked) fix (λ place least. judged-numbered refl refl file _ (λ e. differ e) _ _ _ asked least) _ room _ (rows-read file (head .sections .metadata) _) farthest []
 
 -- ---- what both lookups begin with
 matched-numbered : (file : List ℕ) (head : Head) (location : Location) (asked : Bool) (room : ℕ) → NumberedReply Known (matchedWith file head location asked room)

@@ -118,6 +118,7 @@ fn judge(file: &[u8], head: Head, fix: Point, asked: bool, polygon: u32, least: 
     let encoding = Encoding {
         version: version_of(preamble.version),
         data: start,
+        strict: false,
     };
     point_in_polygon(file, encoding, place, fix.lat, fix.lon, asked, least)
 }
