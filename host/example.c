@@ -119,7 +119,8 @@ static int print_zones(const struct map *map, uint64_t fields, float lat, float 
         uint32_t kind = hits[USKELZAR_HIT_WORDS * i + USKELZAR_HIT_KIND];
         if (kind_words(kind) == NULL)
             return unknown("kind", kind);
-        printf("zone: %s\n", kind_words(kind));
+        uint32_t place = hits[USKELZAR_HIT_WORDS * i + USKELZAR_HIT_PLACE];
+        printf("zone: %s, entry at byte %lu\n", kind_words(kind), (unsigned long)place);
         for (uint64_t j = 0; j < fields; j++) {
             printf("  ");
             print_string(name_of(at[0]));

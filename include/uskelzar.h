@@ -139,8 +139,14 @@ enum {
     USKELZAR_LOCAL_LENGTH = 3         /* bytes of the abbreviation */
 };
 
-/* ---- a match in `hits`: three words. A list of n words has room for n / 3 hits. */
-enum { USKELZAR_HIT_POLYGON = 0, USKELZAR_HIT_METADATA = 1, USKELZAR_HIT_KIND = 2, USKELZAR_HIT_WORDS = 3 };
+/* ---- a match in `hits`: four words. A list of n words has room for n / 4 hits. */
+enum {
+    USKELZAR_HIT_POLYGON = 0,         /* the number of the first hit's table entry, from 0 */
+    USKELZAR_HIT_METADATA = 1,        /* which zone it is in the file */
+    USKELZAR_HIT_KIND = 2,            /* enum uskelzar_kind */
+    USKELZAR_HIT_PLACE = 3,           /* where that entry begins: its first byte, counted from the file's first */
+    USKELZAR_HIT_WORDS = 4
+};
 
 /* ---- a piece of the writer: five words; words left over are no piece */
 enum {
@@ -164,7 +170,7 @@ uint8_t uskelzar_open(const uint8_t *file, size_t file_length, uint8_t *text, si
  * Answers: matches, end mark, safezone bits, bytes of text used. The safezone is the distance in degrees, those of longitude
  *       counted like those of latitude, to the nearest border among those whose box holds the fix: 0 on a border, very large
  *       where there is none; at precision 32 it is negative.
- * hits: the matches, three words each. While it searches the list must hold every hit, and several hits with one metadata id
+ * hits: the matches, four words each. While it searches the list must hold every hit, and several hits with one metadata id
  *       become one match: so room for the matches alone may be too little.
  * text: the fields of the first match in file order, then those of the second, and so on; each is one byte with the field's
  *       index, its length in two bytes, the high one first, and its bytes, which are UTF-8.

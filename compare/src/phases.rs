@@ -1,7 +1,6 @@
 //! The comparisons, each over as many cases as asked.
 use crate::border_lines::{self, Border};
 use crate::files::{self, Case};
-use crate::hit::HIT_WORDS;
 use crate::leaves::{self, hex, Leaf};
 use crate::ours::{replay, vectors, Program};
 use crate::random::Random;
@@ -89,7 +88,7 @@ fn text_need(looked: &Option<Looked>) -> usize {
 }
 
 fn slots_need(looked: &Option<Looked>) -> usize {
-    looked.as_ref().map_or(0, |l| HIT_WORDS * l.hits.len())
+    looked.as_ref().map_or(0, |l| ZONE_WORDS * l.hits.len())
 }
 
 /// The four calls on one file, within what replay has room for.
@@ -168,7 +167,7 @@ impl Run {
         if matches!(call.op, LOOKUP | SIMPLE) && reply.outcome != 1 {
             self.tally.add(group, format!("end mark {}", reply.words[1]));
             self.tally.add(group, format!("matches {}", if reply.words[0] > 3 { "4 or more".into() } else { reply.words[0].to_string() }));
-            for zone in reply.slots.chunks(HIT_WORDS).take(reply.words[0] as usize) {
+            for zone in reply.slots.chunks(ZONE_WORDS).take(reply.words[0] as usize) {
                 self.tally.add(group, format!("kind {}", zone[2]));
             }
         }

@@ -9,6 +9,9 @@ pub const WRITE: u8 = 4;
 pub const STRING: u8 = 5;
 pub const UTF8: u8 = 6;
 
+/// The words of a hit with its place left out: the Rust has none, and `replay` leaves it out of ops 2 and 3.
+pub const ZONE_WORDS: usize = HIT_WORDS - 1;
+
 /// A call on a file. For a string, `lat` is the place and `lon` the metadata offset.
 #[derive(Clone)]
 pub struct Call {
@@ -79,7 +82,7 @@ fn reply_open(facts: &Facts, room: usize) -> Result<Reply, Refusal> {
 fn scanned<'a>(facts: &'a Facts, looked: &'a Option<Looked>, slots: usize) -> Result<&'a Looked, Refusal> {
     facts.opened.as_ref().map_err(Clone::clone)?;
     let looked = looked.as_ref().ok_or_else(|| refused(16, 0, 0))?;
-    if looked.hits.len() > slots / HIT_WORDS {
+    if looked.hits.len() > slots / ZONE_WORDS {
         return Err(refused(17, 0, 0));
     }
     match &looked.fault {

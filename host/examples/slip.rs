@@ -31,7 +31,11 @@ fn print(map: &Map<Vec<u8>>, lat: f32, lon: f32) -> Result<(), Error> {
         zones.safezone
     );
     for zone in &zones.matches {
-        println!("zone: {}", kind_words(zone.kind));
+        println!(
+            "zone: {}, entry at byte {}",
+            kind_words(zone.kind),
+            zone.entry
+        );
         for field in &zone.fields {
             println!("  {}: {}", field.name, field.value);
         }

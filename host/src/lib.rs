@@ -15,12 +15,14 @@
 #![deny(unsafe_op_in_unsafe_fn, missing_docs)]
 
 mod entries;
+mod entry;
 mod hit;
 mod local;
 mod map;
 pub mod raw;
 mod refusal;
 
+pub use entry::Entry;
 pub use local::{CivilTime, LocalTime, TimeZone};
 pub use map::{End, Error, Field, Header, Kind, Map, Match, Room, Simple, Table, Unknown, Zones};
 pub use raw::Mapping;

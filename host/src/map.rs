@@ -1,6 +1,7 @@
 //! A map: the bytes of a PLB file, opened, and what it answers.
 
 use crate::entries::{text_of, Entries};
+use crate::entry::{entry_at, Entry};
 use crate::raw::{self, HIT_WORDS};
 use crate::refusal::Refusal;
 use std::fmt;
@@ -171,6 +172,8 @@ pub struct Match {
     pub metadata: u32,
     /// Where in it the fix is.
     pub kind: Kind,
+    /// Where the table entry of that border begins in the file; [`Map::entry`] says what stands there.
+    pub entry: u32,
     /// All its fields, in file order.
     pub fields: Vec<Field>,
 }
@@ -292,6 +295,12 @@ impl<B: AsRef<[u8]>> Map<B> {
         Ok(found.description.filter(|_| found.end == End::Whole))
     }
 
+    /// The table entry that begins at a place of the file, as a match has it; none where no entry does.
+    pub fn entry(&self, place: u32) -> Option<Entry> {
+        let Header { version, precision, names, .. } = &self.header;
+        entry_at(self.bytes(), *version, *precision, names.len(), place)
+    }
+
     fn buffers(&self) -> (Vec<u32>, Vec<u8>) {
         (vec![0; HIT_WORDS * self.room.hits], vec![0; self.room.text])
     }
@@ -306,6 +315,7 @@ impl<B: AsRef<[u8]>> Map<B> {
             polygon: hit[0],
             metadata: hit[1],
             kind: Kind::of(hit[2])?,
+            entry: hit[3],
             fields: (0..names.len()).map(field).collect(),
         })
     }

@@ -61,9 +61,14 @@ fn document_01s_example() {
         panic!("{zones:?}")
     };
     assert_eq!(
-        (zone.polygon, zone.metadata, zone.kind),
-        (0, 0, Kind::InZone)
+        (zone.polygon, zone.metadata, zone.kind, zone.entry),
+        (0, 0, Kind::InZone, 16)
     );
+    assert_eq!(
+        map.entry(zone.entry).unwrap().to_string(),
+        "entry 0 at 16: box 0.0055 0.0110 to 0.0275 0.0549, border at 24, 4 points"
+    );
+    assert_eq!([15, 17].map(|place| map.entry(place)), [None, None]);
     assert_eq!(
         (zone.fields[0].name.as_str(), zone.fields[0].value.as_str()),
         ("Name", "A")

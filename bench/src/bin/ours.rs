@@ -98,8 +98,11 @@ impl Ours<'_> {
 
     fn fold_matches(&self, sum: &mut Checksum) {
         sum.number(self.reply[0]);
-        for &word in &self.hits[..HIT_WORDS * self.reply[0] as usize] {
-            sum.number(u64::from(word));
+        for hit in self.hits.chunks_exact(HIT_WORDS).take(self.reply[0] as usize) {
+            // the Rust has no place
+            for &word in &hit[..HIT_WORDS - 1] {
+                sum.number(u64::from(word));
+            }
         }
         // a field: tag, length in two bytes, bytes
         let mut text = &self.text[..self.reply[3] as usize];

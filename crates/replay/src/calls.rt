@@ -1,5 +1,8 @@
 // The calls that a record on a file can ask for, each with its reply in the record's words. What is lent is slots and text.
 // Open, both lookups and local time are those that firmware calls.
+ghost use mathlib.Core.Path.{_≡_};
+ghost use Prim.Native.Nat.{_≤_};
+ghost use lib.ListN.{length};
 use crate::record::byte_at;
 use crate::record::instant_at;
 use crate::record::size_at;
@@ -51,6 +54,59 @@ fn run_simple(record: &[u8], file: &[u8], slots: &mut [u32], text: &mut [u8]) ->
     let mut words = unspoken();
     let number = uskelzar_simple_lookup(file, lat, lon, slots, text, &mut words);
     described(number, words)
+}
+
+fn run_either(record: &[u8], file: &[u8], slots: &mut [u32], text: &mut [u8]) -> Reply {
+    match byte_at(record, 0) {
+        2 | 14 => run_lookup(record, file, slots, text),
+        _ => run_simple(record, file, slots, text),
+    }
+}
+
+// How many words as many hits take with four words each as they take with three; none of so long a list that no record has it.
+fn in_four(size: usize) -> usize
+    ensures { λ r. ⌜ r ≤ 5464 ⌝ }
+{
+    if size <= 4096 { size / 3 * 4 } else { 0 }
+}
+
+fn filled_words() -> [u32; 5464]
+    ensures { λ r. ⌜ 5464 ≡ length r ⌝ }
+{
+    [0xAAAA_AAAA; 5464]
+}
+
+// A word of a list; 0 past the end.
+fn word_in(words: &[u32], at: usize) -> u32 {
+    if at < words.len() { words[at] } else { 0 }
+}
+
+// The list with three words a hit: the place is left out.
+fn leave_out(words: &[u32], slots: &mut [u32]) {
+    let mut i = 0;
+    while i < slots.len() {
+        slots[i] = word_in(words, std::num::wrapping_add_usize(i, i / 3));
+        i += 1;
+    }
+}
+
+fn run_without_places(
+    record: &[u8],
+    file: &[u8],
+    words: &mut [u32],
+    slots: &mut [u32],
+    text: &mut [u8],
+) -> Reply {
+    let reply = run_either(record, file, words, text);
+    leave_out(words, slots);
+    reply
+}
+
+// Both lookups with three words a hit, as document 01 has them.
+fn run_in_three(record: &[u8], file: &[u8], slots: &mut [u32], text: &mut [u8]) -> Reply {
+    let size = in_four(slots.len());
+    let mut words = filled_words();
+    run_without_places(record, file, &mut words[..size], slots, text)
 }
 
 // As many bytes as the text has, from a place of the file on, each XOR 0x80.
@@ -109,14 +165,14 @@ fn run_listed(record: &[u8], file: &[u8], text: &mut [u8]) -> Reply {
     told_local(local_time(file, instant_at(record, 5), text))
 }
 
-// 1 is open, 2 lookup and 3 simple lookup. Of this program's own, 5 is a string, with its place where a lookup has the latitude and the metadata offset where it has the
+// 1 is open, 14 lookup and 15 simple lookup; 2 and 3 are both with three words a hit. Of this program's own, 5 is a string, with its place where a lookup has the latitude and the metadata offset where it has the
 // longitude, and 6 is UTF-8, over bytes that are stored XOR 0x80. 20 is local time, with an instant of eight bytes
 // in the place of both, and 21 local time by the transitions alone.
 pub fn run(record: &[u8], file: &[u8], slots: &mut [u32], text: &mut [u8]) -> Reply {
     match byte_at(record, 0) {
         1 => run_open(file, text),
-        2 => run_lookup(record, file, slots, text),
-        3 => run_simple(record, file, slots, text),
+        2 | 3 => run_in_three(record, file, slots, text),
+        14 | 15 => run_either(record, file, slots, text),
         20 => run_local(record, file, text),
         21 => run_listed(record, file, text),
         5 => run_string(file, word_at(record, 9), size_at(record, 5), text),

@@ -105,8 +105,10 @@ fn print_op(name: &[u8], cases: u64) {
 
 fn report(tally: &[u64]) {
     print_op(b"open", counted(tally, 1));
-    print_op(b"lookup", counted(tally, 2));
-    print_op(b"simple", counted(tally, 3));
+    print_op(b"lookup", counted(tally, 14));
+    print_op(b"simple", counted(tally, 15));
+    print_op(b"lookup in three words", counted(tally, 2));
+    print_op(b"simple in three words", counted(tally, 3));
     print_op(b"write", counted(tally, 4));
     print_op(b"string", counted(tally, 5));
     print_op(b"utf8", counted(tally, 6));

@@ -106,13 +106,14 @@ fn word(hits: &[u32], at: usize) -> u32 {
     if at < hits.len() { hits[at] } else { 0 }
 }
 
-// Polygon id, metadata id, kind.
+// Polygon id, metadata id, kind, the place of the entry.
 fn put_match(out: &mut [u8], at: usize, hits: &[u32], slot: usize) -> usize {
     let name = put_all(out, at, b"match");
     let polygon = put_number(out, name, word(hits, slot) as u64);
     let metadata = put_number(out, polygon, word(hits, after(slot, 1)) as u64);
     let kind = put_number(out, metadata, word(hits, after(slot, 2)) as u64);
-    put(out, kind, b'\n')
+    let place = put_number(out, kind, word(hits, after(slot, 3)) as u64);
+    put(out, place, b'\n')
 }
 
 // Each match and its fields.

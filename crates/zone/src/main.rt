@@ -39,7 +39,7 @@ fn text_space() -> [u8; 16384]
     [0; 16384]
 }
 
-// More than the lines of 1,024 matches (30 bytes each) and of 16,384 bytes of fields (10 for each three at most) can take.
+// More than the lines of 1,024 matches (41 bytes each) and of 16,384 bytes of fields (10 for each three at most) can take.
 fn line_space() -> [u8; 131072]
     ensures { λ r. ⌜ 131072 ≡ length r ⌝ }
 {

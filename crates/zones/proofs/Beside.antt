@@ -95,6 +95,17 @@ module _ (file : List ℕ) where
       (λ b h. past Q (b .place) _ h))
       (λ a h. past Q (a .place) _ h)
 
+  -- an entry that either reading finds is the plain one's
+  pub entry-plain : (strict : Bool) (place : ℕ) {entry : Entry} → entryBy (readingOf strict file) place ≡ found entry → entryBy (forwardAt file) place ≡ found entry
+  unfolding readingOf
+  entry-plain false place e = e
+  entry-plain true place {entry} e = go (entry-beside place) e
+    where
+      go : {strict plain : Answer Entry} → Beside file (λ (entry : Entry). entry .next) strict plain → strict ≡ found entry → plain ≡ found entry
+      go (held h) e = e
+      go (gone h) e = let z : _≡_ {A = ℕ} 0 1 = cc in absurd (omega arith)
+      go none e = let z : _≡_ {A = ℕ} 0 1 = cc in absurd (omega arith)
+
   -- ---- where the fifth of five numbers ends, in either reading
   module _ (place : ℕ) {end : ℕ} (is : end ≡ endOf (fiveBy (forwardAt file) place)) where
     pub five-cut : (strict : Bool) → strict ≡ true → length file < end → nowhere ≡ endOf (fiveBy (readingOf strict file) place)

@@ -16,7 +16,7 @@ use Rattle.zones.specs.Ending.{hitsOf, Through, here, outside, judged, E
 use Rattle.zones.specs.Fields.{fieldsOf}
 use Rattle.zones.specs.Find.{fixOf, isPrecision, Matched, matchedWith}
 use Rattle.zones.specs.Header.{headOf}
-use Rattle.zones.specs.Hits.{width, words, hitOf}
+use Rattle.zones.specs.Hits.{width, words}
 use Rattle.zones.specs.Lent.{Outcome, repliedOf}
 use Rattle.numbers.specs.Lists.{padded}
 use Rattle.zones.specs.Lookup.{zonesFrom, zonesWith, zonesIn, lookedUp}
@@ -25,7 +25,7 @@ use Rattle.numbers.specs.Reply.{Reply, given, plain, demand, _>>=_, _>>_}
 use Rattle.numbers.specs.Reply as R
 use Rattle.zones.specs.Rows.{Rows, row, tableEnd, unreadable, rowsIn}
 use Rattle.zones.specs.Rows as T
-use Rattle.zones.specs.Search.{kindOf, judgedTurn, rowTurn, Found, ended, afterTurn, seek, judgeIn, farthest, searched}
+use Rattle.zones.specs.Search.{kindOf, rowHit, judgedTurn, rowTurn, Found, ended, afterTurn, seek, judgeIn, farthest, searched}
 use Rattle.zones.specs.Simple.{checked, wordedOf, describedFrom, describedWith, describedIn, simplyLooked}
 use Rattle.zones.specs.Table.{isAbove, holds}
 use Rattle.zones.specs.declared.header.Head.{Head}
@@ -69,7 +69,7 @@ module _ (judge : ℕ → ℕ → Judgement) (fix : Point) (end room : ℕ) wher
       module _ (held : holds (r .bounds) fix ≡ true) where
         module _ (verdict : Verdict) (closer : ℕ) (j : judge (r .polygon) least ≡ reached verdict closer) where
           abbrev hit : Hit
-          hit = hitOf (r .id) (r .metadata) (kindOf verdict)
+          hit = rowHit r (kindOf verdict)
 
           by-room : eqb (kindOf verdict) 0 ≡ false → (t : Bool) → (if t then go closer (hits ++ hit ∷ []) else R.refused (plain 17)) ≡ given f → Goal
           by-room k true e =

@@ -162,8 +162,8 @@ boards-associative xs ys zs =
 
 -- a group that cancels on the left board looks empty, and is still a group: its first hit is the left board's
 pub cancelled-is-a-group :
-    (sumFor 7 (groupsOf (hitOf 0 7 1 ∷ hitOf 1 7 2 ∷ [])) ≡ sumFor 7 (groupsOf []))
-    × (matchesOf (groupsOf (hitOf 0 7 1 ∷ hitOf 1 7 2 ∷ []) ⋈ groupsOf (hitOf 2 7 1 ∷ [])) ≡ hitOf 0 7 1 ∷ [])
-    × (matchesOf (groupsOf [] ⋈ groupsOf (hitOf 2 7 1 ∷ [])) ≡ hitOf 2 7 1 ∷ [])
+    (sumFor 7 (groupsOf (hitOf 0 7 1 16 ∷ hitOf 1 7 2 22 ∷ [])) ≡ sumFor 7 (groupsOf []))
+    × (matchesOf (groupsOf (hitOf 0 7 1 16 ∷ hitOf 1 7 2 22 ∷ []) ⋈ groupsOf (hitOf 2 7 1 28 ∷ [])) ≡ hitOf 0 7 1 16 ∷ [])
+    × (matchesOf (groupsOf [] ⋈ groupsOf (hitOf 2 7 1 28 ∷ [])) ≡ hitOf 2 7 1 28 ∷ [])
 unfolding groupsAfter groupFor summary seen onlyRight matchesOf
 cancelled-is-a-group = (refl, refl, refl)

@@ -13,7 +13,7 @@ use Rattle.border.specs.declared.place.Point.{Point}
 use Rattle.border.specs.declared.verdict.Verdict.{Verdict}
 use Rattle.border.specs.declared.verdict.Verdict.the-variants.{NotInZone, InZone, InExcludedZone, OnBorderVertex, OnBorderSegment}
 use Rattle.zones.specs.Ending.{hitsOf, Through, here, outside, judged, Answered}
-use Rattle.zones.specs.Hits.{width, words, hitOf, noHit, hitAt}
+use Rattle.zones.specs.Hits.{noHit, hitAt}
 use Rattle.numbers.specs.Lists.{zeros, padded}
 use Rattle.zones.specs.Lookup.{lookedUp}
 use Rattle.zones.specs.Merge.{Summary, summed, later, _⊕_, single, summary, differs, groupKind, seen, matchOf, mergedAfter, merged}
@@ -43,28 +43,35 @@ data Bordering : ℕ → Type 0 where
 abbrev pub matchKinds : List ℕ
 matchKinds = 1 ∷ 3 ∷ 4 ∷ []
 
--- each of the list
-data Each (P : ℕ → Type 0) : List Hit → Type 0 where
+-- each hit of a list
+pub data Each (P : Hit → Type 0) : List Hit → Type 0 where
   end : Each P []
-  next : {hit : Hit} {hits : List Hit} → P (hit .kind) → Each P hits → Each P (hit ∷ hits)
+  next : {hit : Hit} {hits : List Hit} → P hit → Each P hits → Each P (hit ∷ hits)
 
-both : {P : ℕ → Type 0} {xs ys : List Hit} → Each P xs → Each P ys → Each P (xs ++ ys)
+pub both : {P : Hit → Type 0} {xs ys : List Hit} → Each P xs → Each P ys → Each P (xs ++ ys)
 both end k = k
 both (next h hs) k = next h (both hs k)
 
-either : {A : Type 0} (Q : A → Type 0) (test : Bool) {a b : A} → (test ≡ true → Q a) → (test ≡ false → Q b) → Q (if test then a else b)
+pub either : {A : Type 0} (Q : A → Type 0) (test : Bool) {a b : A} → (test ≡ true → Q a) → (test ≡ false → Q b) → Q (if test then a else b)
 either Q true h k = h refl
 either Q false h k = k refl
 
+-- a hit's kind
+abbrev Hits : Hit → Type 0
+Hits hit = HitKind (hit .kind)
+
+abbrev Matches : Hit → Type 0
+Matches hit = Listed matchKinds (hit .kind)
+
 -- ---- the hits of a search
-verdict-kind : (r : Row) (verdict : Verdict) → Each HitKind (hitsOf r verdict)
+verdict-kind : (r : Row) (verdict : Verdict) → Each Hits (hitsOf r verdict)
 verdict-kind r NotInZone = end
 verdict-kind r InZone = next inside end
 verdict-kind r InExcludedZone = next excluded end
 verdict-kind r OnBorderVertex = next vertex end
 verdict-kind r OnBorderSegment = next segment end
 
-through-kinds : {judge : ℕ → ℕ → Judgement} {fix : Point} {rows left : Rows} {least last : ℕ} {hits : List Hit} → Through judge fix rows least hits left last → Each HitKind hits
+through-kinds : {judge : ℕ → ℕ → Judgement} {fix : Point} {rows left : Rows} {least last : ℕ} {hits : List Hit} → Through judge fix rows least hits left last → Each Hits hits
 through-kinds here = end
 through-kinds (outside a h t) = through-kinds t
 through-kinds (judged {r = r} {verdict = verdict} a h j t) = both (verdict-kind r verdict) (through-kinds t)
@@ -79,7 +86,7 @@ single-border segment = on-segment
 later-border : (first second : ℕ) → Bordering first → Bordering second → Bordering (later first second)
 later-border first second h k = either Bordering (eqb second 0) (λ e. h) (λ e. k)
 
-summary-border : (id : ℕ) {hits : List Hit} → Each HitKind hits → Bordering (summary id hits .border)
+summary-border : (id : ℕ) {hits : List Hit} → Each Hits hits → Bordering (summary id hits .border)
 unfolding summary
 summary-border id end = none
 summary-border id (next {hit} {hits} h hs) =
@@ -100,30 +107,33 @@ kind-of-group s h = by-border (s .border) h
     by-border _ on-vertex e = refl
     by-border _ on-segment e = refl
 
-merged-kinds : (before : List Hit) {hits : List Hit} → Each HitKind hits → Each (Listed matchKinds) (mergedAfter before hits)
+merged-kinds : (before : List Hit) {hits : List Hit} → Each Hits hits → Each Matches (mergedAfter before hits)
 unfolding mergedAfter
 merged-kinds before end = end
 merged-kinds before (next {hit} {hits} h hs) =
     let s = summary (hit .metadata) (hit ∷ hits) in
     both
-    (either (Each (Listed matchKinds)) (seen (hit .metadata) before) (λ e. end)
-    (λ e. either (Each (Listed matchKinds)) (eqb (groupKind s) 0) (λ f. end) (λ f. next (kind-of-group s (summary-border (hit .metadata) (next h hs)) f) end)))
+    (either (Each Matches) (seen (hit .metadata) before) (λ e. end)
+    (λ e. either (Each Matches) (eqb (groupKind s) 0) (λ f. end) (λ f. next (kind-of-group s (summary-border (hit .metadata) (next h hs)) f) end)))
     (merged-kinds (before ++ hit ∷ []) hs)
 
 -- ---- in the lent words
-each-at : {P : ℕ → Type 0} (hits : List Hit) → Each P hits → (i : ℕ) → i < length hits → P (getD hits i noHit .kind)
+each-at : {P : Hit → Type 0} (hits : List Hit) → Each P hits → (i : ℕ) → i < length hits → P (getD hits i noHit)
 each-at [] end i h = absurd (omega arith)
 each-at (hit ∷ hits) (next p ps) zero h = p
 each-at (hit ∷ hits) (next p ps) (suc i) h = each-at hits ps i (omega arith)
 
+pub answered-each : {P : Hit → Type 0} {file : List ℕ} {location : Location} {asked : Bool} {n matches mark : ℕ} {hits : List ℕ} (a : Answered file location asked n matches mark hits) → Each P (a .list)
+    → (i : ℕ) → i < matches → P (hitAt hits i)
+answered-each {P = P} {hits = hits} a each i h =
+    let inside : i < length (a .list) = omega (arith, a .counted) in
+    let is : hitAt hits i ≡ getD (a .list) i noHit = ap (λ (ws : List ℕ). hitAt ws i) (a .kept) ∙ word-at (a .list) _ i inside in
+    subst P (sym is) (each-at (a .list) each i inside)
+
 answered-kinds : {file : List ℕ} {location : Location} {asked : Bool} {n matches mark : ℕ} {hits : List ℕ} → Answered file location asked n matches mark hits
     → (i : ℕ) → i < matches → Listed matchKinds (hitAt hits i .kind)
 unfolding merged
-answered-kinds {n = n} {hits = hits} a i h =
-    let kinds : Each (Listed matchKinds) (a .list) = subst (Each (Listed matchKinds)) (sym (a .behind .merges)) (merged-kinds [] (through-kinds (a .behind .ending .through))) in
-    let inside : i < length (a .list) = omega (arith, a .counted) in
-    let is : hitAt hits i ≡ getD (a .list) i noHit = ap (λ (ws : List ℕ). hitAt ws i) (a .kept) ∙ word-at (a .list) _ i inside in
-    subst (λ (hit : Hit). Listed matchKinds (hit .kind)) (sym is) (each-at (a .list) kinds i inside)
+answered-kinds a = answered-each {P = Matches} a (subst (Each Matches) (sym (a .behind .merges)) (merged-kinds [] (through-kinds (a .behind .ending .through))))
 
 -- Every match of an answered lookup has kind 1, 3 or 4,
 pub match-kinds : (file : List ℕ) (location : Location) (asked : Bool) (n room : ℕ) (zones : Zones) → lookedUp file location asked n room .reply ≡ given zones

@@ -12,12 +12,12 @@ use Rattle.border.specs.declared.place.Point.{Point}
 use Rattle.border.specs.declared.verdict.Verdict.{Verdict}
 use Rattle.zones.specs.Find.{fixOf}
 use Rattle.zones.specs.Header.{headOf}
-use Rattle.zones.specs.Hits.{hitOf, words}
+use Rattle.zones.specs.Hits.{words}
 use Rattle.numbers.specs.Lists.{padded}
 use Rattle.zones.specs.Merge.{merged}
 use Rattle.numbers.specs.Reply.{given}
 use Rattle.zones.specs.Rows.{Rows, row, tableEnd, unreadable, rowsIn}
-use Rattle.zones.specs.Search.{kindOf, Found, judgeIn, farthest}
+use Rattle.zones.specs.Search.{kindOf, rowHit, Found, judgeIn, farthest}
 use Rattle.zones.specs.Table.{isAbove, holds}
 use Rattle.zones.specs.declared.header.Head.{Head}
 use Rattle.zones.specs.declared.hits.Hit.{Hit}
@@ -27,7 +27,7 @@ use Rattle.zones.specs.Rest.{restMark}
 
 -- the hit of a row by its border's verdict; none where the location is not in the zone
 abbrev pub hitsOf : Row → Verdict → List Hit
-hitsOf r verdict = if eqb (kindOf verdict) 0 then [] else (hitOf (r .id) (r .metadata) (kindOf verdict) ∷ [])
+hitsOf r verdict = if eqb (kindOf verdict) 0 then [] else (rowHit r (kindOf verdict) ∷ [])
 
 -- From rows and a least distance, with these hits, to the rows that are left and the least distance there: no row between has its lower latitude above the
 -- location, and each border whose box holds the location came to a verdict.

@@ -37,9 +37,13 @@ kindOf InExcludedZone = 2
 kindOf OnBorderVertex = 3
 kindOf OnBorderSegment = 4
 
+-- the hit of a row: the row's number, its metadata id, the kind, and where its entry begins; a place of a table is below 2 ^ 32 (`place-is-the-entry`)
+abbrev pub rowHit : Row → ℕ → Hit
+rowHit r kind = hitOf (r .id) (r .metadata) kind (r .place % 2 ^ 32)
+
 -- what a row whose border was judged does to the search: a border that failed stops it with mark 3
 unfoldable pub judgedTurn : Row → Judgement → Turn
-judgedTurn r (reached verdict least) = if eqb (kindOf verdict) 0 then On least else Met (hitOf (r .id) (r .metadata) (kindOf verdict)) least
+judgedTurn r (reached verdict least) = if eqb (kindOf verdict) 0 then On least else Met (rowHit r (kindOf verdict)) least
 judgedTurn r (J.failed least) = Stopped 3 least
 judgedTurn r (J.refused n) = Refused n
 

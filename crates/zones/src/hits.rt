@@ -1,16 +1,17 @@
-// Hits in the lent words: the polygon id, the metadata id and the kind of each.
+// Hits in the lent words: the polygon id, the metadata id and the kind of each, and where its entry begins in the file.
 ghost use mathlib.Core.Path.{_≡_};
 ghost use Prim.Native.Nat.{_+_, _*_, _/_, _<_};
 ghost use lib.ListN.{length};
 ghost use Rattle.zones.specs.Hits.{width, hitAt, putHit, noHit};
 
 // How many words a hit takes.
-pub const WIDTH: usize = 3;
+pub const WIDTH: usize = 4;
 
 pub struct Hit {
     pub polygon: u32,
     pub metadata: u32,
     pub kind: u32,
+    pub place: u32,
 }
 
 // A slot with kind 0 holds no hit.
@@ -21,6 +22,7 @@ pub fn none() -> Hit
         polygon: 0,
         metadata: 0,
         kind: 0,
+        place: 0,
     }
 }
 
@@ -40,6 +42,7 @@ pub(crate) fn hit_at(hits: &[u32], i: usize) -> Hit
         polygon: hits[at],
         metadata: hits[at + 1],
         kind: hits[at + 2],
+        place: hits[at + 3],
     }
 }
 
@@ -51,4 +54,5 @@ pub(crate) fn put_hit(hits: &mut [u32], i: usize, hit: Hit)
     hits[at] = hit.polygon;
     hits[at + 1] = hit.metadata;
     hits[at + 2] = hit.kind;
+    hits[at + 3] = hit.place;
 }

@@ -120,6 +120,7 @@ fn merge(hits: &mut [u32]) -> usize
                         polygon: hit.polygon,
                         metadata: hit.metadata,
                         kind,
+                        place: hit.place,
                     },
                 );
                 out += 1;

@@ -96,6 +96,7 @@ fn judged(row: Row, judgement: Judged) -> Turn
                 polygon: row.id,
                 metadata: row.metadata,
                 kind,
+                place: (row.place % 0x1_0000_0000) as u32,
             };
             Turn::Met { hit, least }
         }

@@ -104,7 +104,7 @@ nones-snoc (suc gap) xs = ap (λ (l : List Hit). noHit ∷ l) (nones-snoc gap xs
 words-nones : (gap : ℕ) → words (nones gap) ≡ zeros (width * gap)
 unfolding words
 words-nones zero = refl
-words-nones (suc gap) = let e : width * suc gap ≡ suc (suc (suc (width * gap))) = omega arith in rw e (ap (λ (l : List ℕ). 0 ∷ 0 ∷ 0 ∷ l) (words-nones gap))
+words-nones (suc gap) = let e : width * suc gap ≡ suc (suc (suc (suc (width * gap)))) = omega arith in rw e (ap (λ (l : List ℕ). 0 ∷ 0 ∷ 0 ∷ 0 ∷ l) (words-nones gap))
 
 -- ---- before each turn: matches, empty slots, and the hits whose group is still to come
 pub record Merging (all : List Hit) (ws : List ℕ) (out i : ℕ) : Type 0 where
@@ -299,9 +299,9 @@ module _ {all : List Hit} {ws : List ℕ} {out i : ℕ} (g : Merging all ws out 
           pub drops : k ≡ 0 → Merging all ws′ out (i + 1)
           drops z = empties ws′ (out-taken w) (simp (eq-eqb k 0 z) at came)
 
-          pub keeps : (ws″ : List ℕ) → (k ≡ 0 → ⊥) → ws″ ≡ putHit ws′ out (hitOf (got .polygon) (got .metadata) k) → Merging all ws″ (out + 1) (i + 1)
+          pub keeps : (ws″ : List ℕ) → (k ≡ 0 → ⊥) → ws″ ≡ putHit ws′ out (hitOf (got .polygon) (got .metadata) k (got .place)) → Merging all ws″ (out + 1) (i + 1)
           keeps ws″ z p =
-              matches ws′ ws″ (hitOf (hit .polygon) (hit .metadata) k) (out-taken w) (p ∙ ap (λ (h : Hit). putHit ws′ out (hitOf (h .polygon) (h .metadata) k)) same)
+              matches ws′ ws″ (hitOf (hit .polygon) (hit .metadata) k (hit .place)) (out-taken w) (p ∙ ap (λ (h : Hit). putHit ws′ out (hitOf (h .polygon) (h .metadata) k (h .place))) same)
               (simp (ne-eqb k 0 z) at came)
 
   -- the words are those of their slots

@@ -12,8 +12,7 @@ use Rattle.border.specs.declared.reader.Version.{Version}
 use Rattle.border.specs.declared.verdict.Judged.{Judged}
 use Rattle.border.specs.declared.verdict.Verdict.{Verdict}
 use Rattle.numbers.specs.Answer.{if_then_else_}
-use Rattle.zones.specs.Hits.{hitOf}
-use Rattle.zones.specs.Search.{kindOf, judgedTurn, rowTurn, judgeIn}
+use Rattle.zones.specs.Search.{kindOf, rowHit, judgedTurn, rowTurn, judgeIn}
 use Rattle.zones.specs.Table.{holds}
 use Rattle.zones.specs.declared.header.Head.{Head}
 use Rattle.zones.specs.declared.hits.Hit.{Hit}
@@ -34,9 +33,9 @@ module _ (r : Row) {judgement : Judged} {verdict : Verdict} {least kind : ℕ} (
   unfolding judgedTurn
   outside z = rw is (simp (eq-eqb _ _ (sym k ∙ z)))
 
-  pub met : (kind ≡ 0 → ⊥) → Met (hitOf (r .id) (r .metadata) kind) least ≡ judgedTurn r (told judgement)
+  pub met : (kind ≡ 0 → ⊥) → Met (rowHit r kind) least ≡ judgedTurn r (told judgement)
   unfolding judgedTurn
-  met z = ap (λ (n : ℕ). Met (hitOf (r .id) (r .metadata) n) least) k ∙ rw is (simp (ne-eqb _ _ (λ e. z (k ∙ e))))
+  met z = ap (λ (n : ℕ). Met (rowHit r n) least) k ∙ rw is (simp (ne-eqb _ _ (λ e. z (k ∙ e))))
 
 -- ---- a row
 module _ (judge : ℕ → ℕ → Judgement) (fix : Point) (r : Row) (least : ℕ) where
@@ -61,7 +60,7 @@ either false t u h k = k refl
 
 judged-kinded : (r : Row) (judgement : Judgement) → Kinded (judgedTurn r judgement)
 unfolding Kinded judgedTurn
-judged-kinded r (B.reached verdict least) = either (eqb (kindOf verdict) 0) (On least) (Met (hitOf (r .id) (r .metadata) (kindOf verdict)) least) (λ e. tt) (λ e. eqb-false _ _ e)
+judged-kinded r (B.reached verdict least) = either (eqb (kindOf verdict) 0) (On least) (Met (rowHit r (kindOf verdict)) least) (λ e. tt) (λ e. eqb-false _ _ e)
 judged-kinded r (B.failed least) = tt
 judged-kinded r (B.refused n) = tt
 

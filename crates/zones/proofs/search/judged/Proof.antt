@@ -14,12 +14,7 @@ returns c =
     outside _ (judgement .given .1) (kind-of .ensures) (c .if1 .taken)
 
 returns-2 : tie.Need-returns-2
-returns-2 c =
-    let judgement = c .before .before .before .judgement in
-    let kind-of = c .before .kind-of in
-    let judgement = judgement in
-    let kind-of = kind-of in
-    met _ (judgement .given .1) (kind-of .ensures) (c .if1 .left)
+returns-2 c = met _ (c .before .before .before .before .judgement .given .1) (c .before .before .kind-of .ensures) (c .before .if1 .left)
 
 returns-3 : tie.Need-returns-3
 unfolding judgedTurn
@@ -36,6 +31,7 @@ judged-spec =
     (λ c. omega arith)
     (λ c κs. tt)
     returns
+    (λ c. omega arith)
     (λ c. omega arith)
     (λ c. omega arith)
     returns-2
