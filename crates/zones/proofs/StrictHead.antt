@@ -116,6 +116,13 @@ module _ (file : List ℕ) where
       go {r = r} {s = s} (alike e) = inr (replied-unstrict room r ∙ ap (repliedOf room) e ∙ sym (replied-unstrict room s))
 
 -- ---- a file that opens holds its whole table
+abbrev metadataIn : Reply Sections → ℕ
+metadataIn (given sections) = sections .metadata
+metadataIn (refused why) = 0
+
+within-whole : {metadata length : ℕ} (rest end start more : ℕ) → metadata ≡ end + start → rest + (end + (start + more)) ≡ length → metadata ≤ length
+within-whole rest end start more at exact = omega arith
+
 pub table-within : (strict : Bool) (file : List ℕ) {head : Head} → headBy strict file ≡ given head → head .sections .metadata ≤ length file
 unfolding headBy contentsBy sectionsAt sectionsFrom
 table-within strict file {head} e =
@@ -136,6 +143,7 @@ table-within strict file {head} e =
     let one = demanded (ltb (end + sum) (2 ^ 32)) (plain 13) (third .onto) in
     let two = demanded (ltb whole (2 ^ 64)) (plain 13) (one .1) in
     let three = demanded (eqb whole (length file)) (refusal 11 0 whole) (two .1) in
-    let is : s .it ≡ record { table = end; metadata = end + start; «data» = end + sum } = cc (three .1) in
-    let at : s .it .metadata ≡ end + start = ap (λ (x : Sections). x .metadata) is in
-    rw (← head-is, ← made) (omega (arith, at, eqb-true whole (length file) (three .0)))
+    let at : s .it .metadata ≡ end + start = ap metadataIn (three .1) in
+    let exact : whole ≡ length file = eqb-true whole (length file) (three .0) in
+    let within : s .it .metadata ≤ length file = within-whole (third .it .value) end start (second .it .value % 2 ^ 32) at exact in
+    rw (← head-is, ← made) within

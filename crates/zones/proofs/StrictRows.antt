@@ -55,14 +55,14 @@ module _ (file : List ℕ) (end : ℕ) (inside : end ≤ length file) (fix : Poi
   entry-marked more at rest (gone {plain = A.refused n} h) = refl
   entry-marked more at rest none = refl
 
-  either-marked : (test : Bool) {strict plain : Rows} → restMark end fix strict ≡ restMark end fix plain → restMark end fix (if test then strict else tableEnd) ≡ restMark end fix (if test then plain else tableEnd)
-  either-marked true h = h
-  either-marked false h = refl
+  either-marked : (test : Bool) (strict plain : Rows) → restMark end fix strict ≡ restMark end fix plain → restMark end fix (if test then strict else tableEnd) ≡ restMark end fix (if test then plain else tableEnd)
+  either-marked true strict plain h = h
+  either-marked false strict plain h = refl
 
   marked : (more : ℕ) → Marked more
   unfolding rowsWithin rowBy readingOf
   marked zero at = refl
-  marked (suc more) at = either-marked (ltb (at .place) end) (entry-marked more at (marked more) (entry-beside file (at .place)))
+  marked (suc more) at = either-marked (ltb (at .place) end) _ _ (entry-marked more at (marked more) (entry-beside file (at .place)))
 
   abbrev Same : ℕ → Type 0
   Same more = (at : Cursor) → StrictRows (restMark end fix) (rowsBy true more at) (rowsBy false more at)
