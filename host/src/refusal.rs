@@ -31,6 +31,7 @@ pub enum Number {
     FirstPointZero = 22,
     Piece = 23,
     OutputRoom = 24,
+    Incomplete = 31,
     TzifMagic = 40,
     TzifVersion = 41,
     TzifHeader = 42,
@@ -58,7 +59,7 @@ pub enum Number {
 use Number::*;
 
 /// Each number with document 01's words for it, in order.
-const TABLE: [(Number, &str); 46] = [
+const TABLE: [(Number, &str); 47] = [
     (
         TooLarge,
         "file, or the writer's earlier data, over 1,073,741,824 bytes",
@@ -95,6 +96,7 @@ const TABLE: [(Number, &str); 46] = [
     (FirstPointZero, "first point (0,0)"),
     (Piece, "piece list"),
     (OutputRoom, "border doesn't fit the output"),
+    (Incomplete, "a number that the file's end cuts"),
     (TzifMagic, "a header does not begin with TZif"),
     (
         TzifVersion,
