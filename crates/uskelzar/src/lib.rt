@@ -211,13 +211,7 @@ pub extern "C" fn uskelzar_lookup_strict(
         ≡ foundSpoken zonesValues (lookedStrictly (now (file .entry)) (record { lat = lat; lon = lon }) asked (length (now (hits .entry))) (length (now (text .entry)))) ⌝ }
 {
     speak(
-        say_looked(lookup_strict(
-            file,
-            Location { lat, lon },
-            asked,
-            hits,
-            text,
-        )),
+        say_looked(lookup_strict(file, Location { lat, lon }, asked, hits, text)),
         reply,
     )
 }

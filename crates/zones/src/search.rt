@@ -159,7 +159,11 @@ pub(crate) fn search(file: &[u8], head: Head, fix: Point, asked: bool, hits: &mu
             Entered::Refused(number) => return Searched::Refused(plain(number)),
         };
         if is_above(entry.bounds, fix) {
-            return end_with(count, rest_mark(file, head.strict, end, fix, entry.next), least);
+            return end_with(
+                count,
+                rest_mark(file, head.strict, end, fix, entry.next),
+                least,
+            );
         }
         let row = row_of(at, entry);
         at = after(row);
