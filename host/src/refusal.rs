@@ -131,14 +131,14 @@ impl Number {
     fn of(number: u8) -> Number {
         let known = TABLE.iter().find(|(known, _)| *known as u8 == number);
         known
-            .expect("the library's refusals are 1 to 24 and 40 to 61")
+            .expect("the library's refusals are 1 to 24, 31 and 40 to 61")
             .0
     }
 
     /// The documents' words.
     pub fn words(self) -> &'static str {
-        let behind = if self as usize > 24 { 16 } else { 1 };
-        TABLE[self as usize - behind].1
+        let known = TABLE.iter().find(|(known, _)| *known == self);
+        known.expect("the table has every number").1
     }
 
     /// What the detail is, where a refusal has one.
@@ -216,7 +216,7 @@ mod tests {
 
     #[test]
     fn the_table_is_in_order() {
-        let numbers: Vec<u8> = (1..=24).chain(40..=61).collect();
+        let numbers: Vec<u8> = (1..=24).chain([31]).chain(40..=61).collect();
         assert_eq!(TABLE.map(|(number, _)| number as u8).to_vec(), numbers);
         for (number, words) in TABLE {
             assert_eq!(Number::of(number as u8), number);
