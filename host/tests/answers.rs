@@ -87,6 +87,45 @@ fn some_cities_of_the_small_world() {
 }
 
 #[test]
+fn the_entry_behind_each_match() {
+    let map = world();
+    let places = places(concat!(env!("CARGO_MANIFEST_DIR"), "/../examples/cities"));
+    let mut seen = 0;
+    for (lat, lon, _) in places {
+        for zone in map.lookup(lat, lon).unwrap().matches {
+            let entry = map.entry(zone.entry).unwrap();
+            assert_eq!(
+                (entry.number, entry.metadata),
+                (zone.polygon, zone.metadata)
+            );
+            // a fix is cut to the grid, so that its box holds it but for a step of the grid
+            let (lat, lon, step) = (f64::from(lat), f64::from(lon), 90.0 / 256.0);
+            assert!(entry.lower.0 - step <= lat && lat <= entry.upper.0 + step);
+            assert!(entry.lower.1 - 2.0 * step <= lon && lon <= entry.upper.1 + 2.0 * step);
+            assert!(entry.points.unwrap() > 2, "{entry}");
+            seen += 1;
+        }
+    }
+    assert!(seen > 20);
+}
+
+#[test]
+fn an_entry_of_a_damaged_file_is_one_or_none() {
+    for whole in [SQUARE.to_vec(), overlap(0), overlap(1)] {
+        for at in 0..whole.len() {
+            for byte in 0..=255 {
+                let mut file = whole.clone();
+                file[at] = byte;
+                let places = 0..file.len() as u32 + 2;
+                if let Ok(map) = Map::open(file) {
+                    assert!(places.filter_map(|place| map.entry(place)).count() < 32);
+                }
+            }
+        }
+    }
+}
+
+#[test]
 fn a_place_on_three_borders() {
     let chicago = world().lookup(41.88, -87.63).unwrap();
     let ids: Vec<&str> = chicago

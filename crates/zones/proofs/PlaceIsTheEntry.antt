@@ -9,11 +9,10 @@ use lib.Dec.{eqb, leb}
 use lib.ListN.{length}
 use Rattle.border.specs.Verdict.{Judgement}
 use Rattle.border.specs.declared.place.Point.{Point}
-use Rattle.border.specs.declared.verdict.Verdict.{Verdict}
 use Rattle.numbers.proofs.Laws.{Read, forward-read}
-use Rattle.numbers.proofs.Answers.{All, then-all}
+use Rattle.numbers.proofs.Answers.{All}
 use Rattle.numbers.proofs.Replies.{given-from, demanded}
-use Rattle.numbers.specs.Answer.{Answer, found, if_then_else_, _>>=_}
+use Rattle.numbers.specs.Answer.{Answer, found, _>>=_}
 use Rattle.numbers.specs.Answer as A
 use Rattle.numbers.specs.Reply.{given, plain}
 use Rattle.numbers.specs.Varint.{Numeral, forwardAt, readingOf}
@@ -21,17 +20,17 @@ use Rattle.zones.proofs.HowItEnds.{lookup-ends, simple-lookup-ends}
 use Rattle.zones.proofs.MatchKinds.{Each, end, next, both, either, answered-each}
 use Rattle.zones.proofs.Beside.{entry-plain}
 use Rattle.zones.proofs.TableRows.{rows-so}
-use Rattle.zones.specs.Ending.{hitsOf, Through, here, outside, judged, Answered}
+use Rattle.zones.specs.Ending.{Through, here, outside, judged, Answered}
 use Rattle.zones.specs.Find.{fixOf}
 use Rattle.zones.specs.Header.{preambleOf, contentsBy, headBy, headOf}
 use Rattle.zones.specs.Hits.{hitOf, hitAt}
 use Rattle.zones.specs.Lookup.{lookedUp}
-use Rattle.zones.specs.Merge.{summary, groupKind, seen, matchOf, mergedAfter, merged}
+use Rattle.zones.specs.Merge.{summary, groupKind, seen, mergedAfter, merged}
 use Rattle.zones.specs.Places.{Listed, later, EntryOf}
 use Rattle.zones.specs.Places as P
 use Rattle.zones.specs.Rows.{Rows, row, tableEnd, unreadable, rowOf, rowBy, rowsIn}
 use Rattle.zones.specs.Rows as T
-use Rattle.zones.specs.Search.{kindOf, rowHit}
+use Rattle.zones.specs.Search.{kindOf}
 use Rattle.zones.specs.Simple.{simplyLooked}
 use Rattle.zones.specs.Table.{entryBy, holds}
 use Rattle.zones.specs.declared.header.Head.{Head}

@@ -1,12 +1,12 @@
 -- Nothing but the fourth word of a hit goes by a row's place: for the same room in hits document 01's three-word lookups reply and leave what these do, with the place
 -- left out. Assumes nothing.
-use Prim.Native.Nat.{ℕ, zero, suc, _+_, _-_, _*_, _/_}
+use Prim.Native.Nat.{ℕ, zero, suc, _-_, _*_, _/_}
 use lib.Dec.{ltb, eqb}
-use lib.ListN.{length, length-append, length-map, replicate}
+use lib.ListN.{length, length-map}
 use mathlib.Core.Bool.{Bool, true, false}
 use mathlib.Core.List.{List, [], _∷_, _++_, map}
 use mathlib.Core.Option.{Option}
-use mathlib.Core.Path.{_≡_, refl, sym, ap, _∙_}
+use mathlib.Core.Path.{_≡_, refl, ap, _∙_}
 use native.Mathlib.Omega.{arith}
 use Rattle.border.specs.Verdict.{Judgement, reached}
 use Rattle.border.specs.Verdict as J
@@ -21,7 +21,7 @@ use Rattle.zones.specs.Fields.{fieldsFrom, fieldsOf, fieldsPlace}
 use Rattle.zones.specs.Find.{fixOf, isPrecision, Matched, matchedWith}
 use Rattle.zones.specs.Header.{headOf}
 use Rattle.zones.specs.Hits.{width, hitOf, words}
-use Rattle.zones.specs.Lent.{Outcome, Replied, replied, repliedOf}
+use Rattle.zones.specs.Lent.{Outcome, replied, repliedOf}
 use Rattle.zones.specs.Lookup.{safezoneBits, zonesFrom, zonesWith, zonesIn, lookedUp}
 use Rattle.zones.specs.Merge.{Summary, _⊕_, single, summary, groupKind, seen, matchOf, mergedAfter, merged}
 use Rattle.zones.specs.Places.{placelessRow, placeless, threeWords, matchedPlaceless, repliedInThree, lookedUpInThree, simplyLookedInThree, leaveOut, withoutPlaces}

@@ -3,7 +3,6 @@ use mathlib.Core.Path.{_≡_}
 use mathlib.Core.Bool.{Bool, true, false}
 use mathlib.Core.List.{List, [], _∷_}
 use Prim.Native.Nat.{ℕ, _/_}
-use Rattle.border.specs.declared.place.Point.{Point}
 use Rattle.numbers.specs.Answer.{found}
 use Rattle.numbers.specs.Lists.{zeros, padded}
 use Rattle.numbers.specs.Reply.{Reply, given, refused, _>>=_}
