@@ -53,6 +53,7 @@ enum uskelzar_refusal {
     USKELZAR_FIRST_POINT_ZERO = 22,   /* first point (0,0) */
     USKELZAR_PIECE = 23,              /* piece list; detail: the piece's index */
     USKELZAR_OUTPUT_ROOM = 24,        /* border doesn't fit the output */
+    USKELZAR_INCOMPLETE = 31,         /* a number that the file's end cuts; of the two strict functions alone */
     /* of a TZif file: the rule of RFC 8536 that is broken; detail: a place in the file, that of .. */
     USKELZAR_TZIF_MAGIC = 40,         /* a header does not begin with "TZif": the header */
     USKELZAR_TZIF_VERSION = 41,       /* version missing, not 0, '2' or '3', or the second not the first: the octet */
@@ -178,6 +179,15 @@ uint8_t uskelzar_open(const uint8_t *file, size_t file_length, uint8_t *text, si
  *       in the fields. */
 uint8_t uskelzar_lookup(const uint8_t *file, size_t file_length, float lat, float lon, bool asked, uint32_t *hits,
                         size_t hits_length, uint8_t *text, size_t text_length, uint64_t reply[USKELZAR_REPLY_WORDS]);
+
+/* The same two, but a number that the file's end cuts is refused, with 31: where it is read, behind 12 and before its value is used. What they
+ * take, answer, write and refuse is otherwise that of the plain ones. So each is refused 31, or replies and writes what its plain one does.
+ * uskelzar_lookup_strict opens strictly, then 16, then searches; behind an early stop a cut number is end mark 2, as in the plain lookup. A string
+ * or an entry that is not there at all fails as before. */
+uint8_t uskelzar_open_strict(const uint8_t *file, size_t file_length, uint8_t *text, size_t text_length,
+                             uint64_t reply[USKELZAR_REPLY_WORDS]);
+uint8_t uskelzar_lookup_strict(const uint8_t *file, size_t file_length, float lat, float lon, bool asked, uint32_t *hits,
+                               size_t hits_length, uint8_t *text, size_t text_length, uint64_t reply[USKELZAR_REPLY_WORDS]);
 
 /* The zone that holds a fix, as one text: of time zones TimezoneIdPrefix and TimezoneId joined ("Europe/" "Berlin"), of
  * countries Name; of the first match, and of fields with one name the last.

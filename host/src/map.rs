@@ -2,7 +2,7 @@
 
 use crate::entries::{text_of, Entries};
 use crate::entry::{entry_at, Entry};
-use crate::raw::{self, HIT_WORDS};
+use crate::raw::{self, Reply, HIT_WORDS};
 use crate::refusal::Refusal;
 use std::fmt;
 use std::io;
@@ -238,7 +238,17 @@ impl Map<Vec<u8>> {
 impl<B: AsRef<[u8]>> Map<B> {
     /// Opens a file's bytes.
     pub fn open(bytes: B) -> Result<Map<B>, Error> {
-        let header = header_of(bytes.as_ref())?;
+        let header = header_by(raw::open, bytes.as_ref())?;
+        Ok(Map {
+            bytes,
+            header,
+            room: Room::default(),
+        })
+    }
+
+    /// Opens a file's bytes, and refuses a number that their end cuts. Lookups in the map stay plain; [`Map::lookup_strict`] is the strict one.
+    pub fn open_strict(bytes: B) -> Result<Map<B>, Error> {
+        let header = header_by(raw::open_strict, bytes.as_ref())?;
         Ok(Map {
             bytes,
             header,
@@ -263,8 +273,17 @@ impl<B: AsRef<[u8]>> Map<B> {
 
     /// The zones that hold a fix, in degrees.
     pub fn lookup(&self, lat: f32, lon: f32) -> Result<Zones, Error> {
+        self.lookup_by(raw::lookup, lat, lon)
+    }
+
+    /// The same, but a number that the file's end cuts is refused where the search or a field meets it.
+    pub fn lookup_strict(&self, lat: f32, lon: f32) -> Result<Zones, Error> {
+        self.lookup_by(raw::lookup_strict, lat, lon)
+    }
+
+    fn lookup_by(&self, call: Lookup, lat: f32, lon: f32) -> Result<Zones, Error> {
         let (mut hits, mut text) = self.buffers();
-        let reply = raw::lookup(self.bytes(), lat, lon, true, &mut hits, &mut text)?;
+        let reply = call(self.bytes(), lat, lon, true, &mut hits, &mut text)?;
         let [matches, mark, safezone, used, _] = reply;
         let mut fields = Entries(&text[..used as usize]);
         let hits = hits.chunks_exact(HIT_WORDS).take(matches as usize);
@@ -321,9 +340,13 @@ impl<B: AsRef<[u8]>> Map<B> {
     }
 }
 
-fn header_of(file: &[u8]) -> Result<Header, Error> {
+/// Opening and lookup over lent buffers, plain or strict.
+type Open = fn(&[u8], &mut [u8]) -> Result<Reply, Refusal>;
+type Lookup = fn(&[u8], f32, f32, bool, &mut [u32], &mut [u8]) -> Result<Reply, Refusal>;
+
+fn header_by(call: Open, file: &[u8]) -> Result<Header, Error> {
     let mut text = vec![0; HEADER_TEXT];
-    let [kind, version, precision, count, used] = raw::open(file, &mut text)?;
+    let [kind, version, precision, count, used] = call(file, &mut text)?;
     let mut strings = Entries(&text[..used as usize]);
     Ok(Header {
         table: Table::of(kind)?,

@@ -1,4 +1,4 @@
-//! The library's six functions over lent buffers (include/uskelzar.h has their contracts), and files mapped into memory.
+//! The library's eight functions over lent buffers (include/uskelzar.h has their contracts), and files mapped into memory.
 //! All that is unsafe in this crate is here.
 
 pub use crate::hit::HIT_WORDS;
@@ -21,6 +21,25 @@ mod library {
             reply: *mut [u64; 5],
         ) -> u8;
         pub fn uskelzar_lookup(
+            file: *const u8,
+            file_length: usize,
+            lat: f32,
+            lon: f32,
+            asked: bool,
+            hits: *mut u32,
+            hits_length: usize,
+            text: *mut u8,
+            text_length: usize,
+            reply: *mut [u64; 5],
+        ) -> u8;
+        pub fn uskelzar_open_strict(
+            file: *const u8,
+            file_length: usize,
+            text: *mut u8,
+            text_length: usize,
+            reply: *mut [u64; 5],
+        ) -> u8;
+        pub fn uskelzar_lookup_strict(
             file: *const u8,
             file_length: usize,
             lat: f32,
@@ -110,6 +129,46 @@ pub fn lookup(
     // SAFETY: as in `open`.
     answered(|reply| unsafe {
         library::uskelzar_lookup(
+            file.as_ptr(),
+            file.len(),
+            lat,
+            lon,
+            asked,
+            hits.as_mut_ptr(),
+            hits.len(),
+            text.as_mut_ptr(),
+            text.len(),
+            reply,
+        )
+    })
+}
+
+/// As `open`, but a number that the file's end cuts is refused.
+pub fn open_strict(file: &[u8], text: &mut [u8]) -> Result<Reply, Refusal> {
+    // SAFETY: as in `open`.
+    answered(|reply| unsafe {
+        library::uskelzar_open_strict(
+            file.as_ptr(),
+            file.len(),
+            text.as_mut_ptr(),
+            text.len(),
+            reply,
+        )
+    })
+}
+
+/// As `lookup`, but a number that the file's end cuts is refused.
+pub fn lookup_strict(
+    file: &[u8],
+    lat: f32,
+    lon: f32,
+    asked: bool,
+    hits: &mut [u32],
+    text: &mut [u8],
+) -> Result<Reply, Refusal> {
+    // SAFETY: as in `open`.
+    answered(|reply| unsafe {
+        library::uskelzar_lookup_strict(
             file.as_ptr(),
             file.len(),
             lat,

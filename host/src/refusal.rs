@@ -31,6 +31,7 @@ pub enum Number {
     FirstPointZero = 22,
     Piece = 23,
     OutputRoom = 24,
+    Incomplete = 31,
     TzifMagic = 40,
     TzifVersion = 41,
     TzifHeader = 42,
@@ -58,7 +59,7 @@ pub enum Number {
 use Number::*;
 
 /// Each number with document 01's words for it, in order.
-const TABLE: [(Number, &str); 46] = [
+const TABLE: [(Number, &str); 47] = [
     (
         TooLarge,
         "file, or the writer's earlier data, over 1,073,741,824 bytes",
@@ -95,6 +96,7 @@ const TABLE: [(Number, &str); 46] = [
     (FirstPointZero, "first point (0,0)"),
     (Piece, "piece list"),
     (OutputRoom, "border doesn't fit the output"),
+    (Incomplete, "a number that the file's end cuts"),
     (TzifMagic, "a header does not begin with TZif"),
     (
         TzifVersion,
@@ -129,14 +131,14 @@ impl Number {
     fn of(number: u8) -> Number {
         let known = TABLE.iter().find(|(known, _)| *known as u8 == number);
         known
-            .expect("the library's refusals are 1 to 24 and 40 to 61")
+            .expect("the library's refusals are 1 to 24, 31 and 40 to 61")
             .0
     }
 
     /// The documents' words.
     pub fn words(self) -> &'static str {
-        let behind = if self as usize > 24 { 16 } else { 1 };
-        TABLE[self as usize - behind].1
+        let known = TABLE.iter().find(|(known, _)| *known == self);
+        known.expect("the table has every number").1
     }
 
     /// What the detail is, where a refusal has one.
@@ -214,7 +216,7 @@ mod tests {
 
     #[test]
     fn the_table_is_in_order() {
-        let numbers: Vec<u8> = (1..=24).chain(40..=61).collect();
+        let numbers: Vec<u8> = (1..=24).chain([31]).chain(40..=61).collect();
         assert_eq!(TABLE.map(|(number, _)| number as u8).to_vec(), numbers);
         for (number, words) in TABLE {
             assert_eq!(Number::of(number as u8), number);

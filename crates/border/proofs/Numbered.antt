@@ -1,14 +1,16 @@
--- Which numbers a border can be refused with where it is read and judged: 12 and 13. Assumes nothing.
-use mathlib.Core.Bool.{Bool, _&&_}
+-- Which numbers a border can be refused with where it is read and judged: 12 and 13, and 31 where it is read strictly. Assumes nothing.
+use mathlib.Core.Bool.{Bool, true, _&&_}
+use mathlib.Core.Path.{_≡_}
 use mathlib.Core.List.{List}
 use Prim.Native.Nat.{ℕ, zero, suc, _+_, _-_, _%_, _^_}
 use lib.Dec.{ltb, eqb}
 use lib.IntN.{ℤ, pos, negsuc}
 use lib.Signed.{mag, ltZ}
-use Rattle.numbers.proofs.Refusals.{Numbered, as-found, as-failed, as-refused, either, then-numbered, forward-numbered, backward-numbered}
+use Rattle.numbers.proofs.Refusals.{Numbered, as-found, as-failed, as-refused, either, then-numbered, backward-numbered}
+use Rattle.numbers.proofs.Readings.{reading-numbered}
 use Rattle.numbers.specs.Answer.{Answer, found}
 use Rattle.numbers.specs.Answer as A
-use Rattle.numbers.specs.Varint.{forwardAt}
+use Rattle.numbers.specs.Varint.{readingOf}
 use Rattle.numbers.specs.declared.point.{RawPoint.RawPoint}
 use Rattle.border.specs.Distance.{squared, toSegment, toVertex, distanceOf, measured}
 use Rattle.border.specs.Edge.{samePoint, sameZ, inBox, straight, quadrantOf, locationOf, edgeOf, closestOn, cutOf}
@@ -58,9 +60,6 @@ then-step (stops h) k = stops h
 
 module _ {P : ℕ → Type 0} (twelve : P 12) (thirteen : P 13) where
   -- ---- the reader
-  forward : (f : List ℕ) (place : ℕ) → Numbered P (forwardAt f place)
-  forward = forward-numbered twelve
-
   fits : (bits : ℕ) (z : ℤ) → Numbered P (A.checked bits z)
   unfolding A.checked
   fits bits z = either (Numbered P) (ltb (mag z) (2 ^ bits)) as-found (as-refused thirteen)
@@ -81,52 +80,57 @@ module _ {P : ℕ → Type 0} (twelve : P 12) (thirteen : P 13) where
   unfolding plainMove
   plain-move s by = either (Numbered P) (eqb (s .moves) 0) as-found (then-numbered (moved (s .point) by) (λ p. as-found))
 
-  plain-pair : (f : List ℕ) (s : Reader) → Numbered P (plainPair f s)
-  unfolding plainPair
-  plain-pair f s = then-numbered (forward f (s .place)) (λ lat. then-numbered (forward f (lat .place)) (λ lon. plain-move _ _))
-
-  plain-turn : (f : List ℕ) (s : Reader) → Numbered P (plainTurn f s)
-  unfolding plainTurn
-  plain-turn f s =
-      either (Numbered P) (s .begun) (plain-pair f s)
-      (then-numbered (forward f (s .place)) (λ count. either (Numbered P) (eqb (count .value) 0) as-failed (plain-pair f _)))
-
   opens : (base : ℕ) (start length : ℤ) → Numbered P (opened base start length)
   unfolding opened
   opens base start (pos zero) = as-found
   opens base start (pos (suc n)) = then-numbered (fits 63 _) (λ end. as-found)
   opens base start (negsuc n) = then-numbered (fits 63 _) (λ end. as-found)
 
-  refers : (f : List ℕ) (base : ℕ) (s : Reader) → Numbered P (reference f base s)
-  unfolding reference
-  refers f base s =
-      then-numbered (forward f (s .place))
-      (λ start. then-numbered (forward f (start .place)) (λ length. then-numbered (opens base _ _) (λ run. as-found)))
-
-  marks : (f : List ℕ) (base : ℕ) (s : Reader) → Numbered P (marker f base s)
-  unfolding marker
-  marks f base s =
-      then-numbered (forward f (s .place))
-      (λ mark. either (Numbered P) (eqb (mark .value) 0) as-found (either (Numbered P) (eqb (mark .value) 1) (refers f base _) as-found))
-
   lends : (value : ℕ) → Numbered P (lent value)
   unfolding lent
   lends value = either (Numbered P) (eqb value 0) as-failed as-found
 
-  packed-turn : (run : Run) (f : List ℕ) (base : ℕ) (s : Reader) → Numbered P (packedTurn run f base s)
-  unfolding packedTurn
-  packed-turn Idle f base s =
-      then-numbered (forward f (s .place)) (λ number. either (Numbered P) (eqb (number .value) 0) (marks f base _) (advance _ _))
-  packed-turn (Forward next end) f base s =
-      then-numbered (forward f next) (λ number. then-numbered (lends (number .value)) (λ by. advance _ by))
-  packed-turn (Backward next end) f base s =
-      then-numbered (backward-numbered twelve f next)
-      (λ number. then-numbered (lends (number .value)) (λ by. then-numbered (turned-back by) (λ back. advance _ back)))
+  -- a strict reading can also be refused with 31
+  module _ (strict : Bool) (cut : strict ≡ true → P 31) (f : List ℕ) where
+    forward : (place : ℕ) → Numbered P (readingOf strict f place)
+    forward = reading-numbered strict twelve cut f
 
-  turn : (f : List ℕ) (version : Version) (base : ℕ) (s : Reader) → Numbered P (turnOf f version base s)
-  unfolding turnOf
-  turn f Plain base s = either (Numbered P) (s .closed) as-found (plain-turn f s)
-  turn f Packed base s = either (Numbered P) (s .closed) as-found (packed-turn (s .run) f base s)
+    plain-pair : (s : Reader) → Numbered P (plainPair (readingOf strict f) s)
+    unfolding plainPair
+    plain-pair s = then-numbered (forward (s .place)) (λ lat. then-numbered (forward (lat .place)) (λ lon. plain-move _ _))
+
+    plain-turn : (s : Reader) → Numbered P (plainTurn (readingOf strict f) s)
+    unfolding plainTurn
+    plain-turn s =
+        either (Numbered P) (s .begun) (plain-pair s)
+        (then-numbered (forward (s .place)) (λ count. either (Numbered P) (eqb (count .value) 0) as-failed (plain-pair _)))
+
+    refers : (base : ℕ) (s : Reader) → Numbered P (reference (readingOf strict f) base s)
+    unfolding reference
+    refers base s =
+        then-numbered (forward (s .place))
+        (λ start. then-numbered (forward (start .place)) (λ length. then-numbered (opens base _ _) (λ run. as-found)))
+
+    marks : (base : ℕ) (s : Reader) → Numbered P (marker (readingOf strict f) base s)
+    unfolding marker
+    marks base s =
+        then-numbered (forward (s .place))
+        (λ mark. either (Numbered P) (eqb (mark .value) 0) as-found (either (Numbered P) (eqb (mark .value) 1) (refers base _) as-found))
+
+    packed-turn : (run : Run) (base : ℕ) (s : Reader) → Numbered P (packedTurn run (readingOf strict f) f base s)
+    unfolding packedTurn
+    packed-turn Idle base s =
+        then-numbered (forward (s .place)) (λ number. either (Numbered P) (eqb (number .value) 0) (marks base _) (advance _ _))
+    packed-turn (Forward next end) base s =
+        then-numbered (forward next) (λ number. then-numbered (lends (number .value)) (λ by. advance _ by))
+    packed-turn (Backward next end) base s =
+        then-numbered (backward-numbered twelve f next)
+        (λ number. then-numbered (lends (number .value)) (λ by. then-numbered (turned-back by) (λ back. advance _ back)))
+
+    turn : (version : Version) (base : ℕ) (s : Reader) → Numbered P (turnOf strict f version base s)
+    unfolding turnOf
+    turn Plain base s = either (Numbered P) (s .closed) as-found (plain-turn s)
+    turn Packed base s = either (Numbered P) (s .closed) as-found (packed-turn (s .run) base s)
 
   rounds : {rest : Reader → Answer Given} → ((s : Reader) → Numbered P (rest s)) → (t : Turn) → Numbered P (roundAgain rest t)
   unfolding roundAgain
@@ -134,14 +138,14 @@ module _ {P : ℕ → Type 0} (twelve : P 12) (thirteen : P 13) where
   rounds k (again s) = k s
   rounds k ends = as-found
 
-  within : (more : ℕ) (f : List ℕ) (encoding : Encoding) (s : Reader) → Numbered P (nextWithin more f encoding s)
+  within : (more : ℕ) (f : List ℕ) (encoding : Encoding) → (encoding .strict ≡ true → P 31) → (s : Reader) → Numbered P (nextWithin more f encoding s)
   unfolding nextWithin
-  within zero f encoding s = as-failed
-  within (suc more) f encoding s = then-numbered (turn f (encoding .version) (encoding .«data») s) (rounds (within more f encoding))
+  within zero f encoding cut s = as-failed
+  within (suc more) f encoding cut s = then-numbered (turn (encoding .strict) cut f (encoding .version) (encoding .«data») s) (rounds (within more f encoding cut))
 
-  pub next-numbered : (f : List ℕ) (encoding : Encoding) (s : Reader) → Numbered P (nextPoint f encoding s)
+  pub next-numbered : (f : List ℕ) (encoding : Encoding) → (encoding .strict ≡ true → P 31) → (s : Reader) → Numbered P (nextPoint f encoding s)
   unfolding nextPoint
-  next-numbered f encoding s = within (turns f) f encoding s
+  next-numbered f encoding cut s = within (turns f) f encoding cut s
 
   -- ---- the trace
   traces : (answer : Answer Given) {rest : Reader → Trace} → Numbered P answer → ((s : Reader) → NumberedTrace P (rest s)) → NumberedTrace P (traceThen answer rest)
@@ -151,14 +155,14 @@ module _ {P : ℕ → Type 0} (twelve : P 12) (thirteen : P 13) where
   traces A.failed h k = failed
   traces (A.refused n) (as-refused h) k = stopped h
 
-  trace-within : (more : ℕ) (f : List ℕ) (encoding : Encoding) (s : Reader) → NumberedTrace P (traceWithin more f encoding s)
+  trace-within : (more : ℕ) (f : List ℕ) (encoding : Encoding) → (encoding .strict ≡ true → P 31) → (s : Reader) → NumberedTrace P (traceWithin more f encoding s)
   unfolding traceWithin
-  trace-within zero f encoding s = failed
-  trace-within (suc more) f encoding s = traces (nextPoint f encoding s) (next-numbered f encoding s) (trace-within more f encoding)
+  trace-within zero f encoding cut s = failed
+  trace-within (suc more) f encoding cut s = traces (nextPoint f encoding s) (next-numbered f encoding cut s) (trace-within more f encoding cut)
 
-  pub trace-numbered : (f : List ℕ) (encoding : Encoding) (s : Reader) → NumberedTrace P (traceOf f encoding s)
+  pub trace-numbered : (f : List ℕ) (encoding : Encoding) → (encoding .strict ≡ true → P 31) → (s : Reader) → NumberedTrace P (traceOf f encoding s)
   unfolding traceOf
-  trace-numbered f encoding s = trace-within (turns f) f encoding s
+  trace-numbered f encoding cut s = trace-within (turns f) f encoding cut s
 
   -- ---- along an edge
   step-fits : (bits : ℕ) (z : ℤ) → NumberedStep P (S.checked bits z)
@@ -252,7 +256,7 @@ module _ {P : ℕ → Type 0} (twelve : P 12) (thirteen : P 13) where
   judges fix asked last tally failed = unjudged
   judges fix asked last tally (stopped h) = not-judged h
 
-  pub judged-numbered : (file : List ℕ) (encoding : Encoding) (place : ℕ) (lat : FixedLat) (lon : FixedLon) (asked : Bool) (least : ℕ)
+  pub judged-numbered : (file : List ℕ) (encoding : Encoding) → (encoding .strict ≡ true → P 31) → (place : ℕ) (lat : FixedLat) (lon : FixedLon) (asked : Bool) (least : ℕ)
       → NumberedJudgement P (judgedAt file encoding place lat lon asked least)
   unfolding judgedAt
-  judged-numbered file encoding place lat lon asked least = judges _ asked none _ (trace-numbered file encoding _)
+  judged-numbered file encoding cut place lat lon asked least = judges _ asked none _ (trace-numbered file encoding cut _)

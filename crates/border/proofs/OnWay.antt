@@ -11,6 +11,7 @@ use Rattle.numbers.specs.declared.point.{RawPoint.RawPoint}
 use Rattle.border.specs.declared.place.{Point.Point}
 use Rattle.border.specs.declared.reader.{Reader.Reader, Run.Run, Version.Version}
 use Rattle.numbers.proofs.Wholes.{whole-forward, whole-clear, whole-backward, whole-some}
+use Rattle.numbers.proofs.Readings.{plain-reading}
 use Rattle.border.proofs.Trace.{gives-trace, again-trace, ends-trace}
 use Rattle.border.proofs.reader.Turns.{closed-ends}
 use Rattle.border.specs.Encoding.{encodedIn}
@@ -21,7 +22,7 @@ use Rattle.border.specs.Written.{Leads, pointsThen}
 use Rattle.border.specs.declared.reader.Run.the-variants.{Idle}
 use Rattle.numbers.specs.Answer.{found, if_then_else_}
 use Rattle.numbers.specs.Spelling.{Whole}
-use Rattle.numbers.specs.Varint.{numeral, forwardAt, backwardAt}
+use Rattle.numbers.specs.Varint.{numeral, readingOf, backwardAt}
 use Rattle.border.specs.Written as W
 
 -- ---- bytes at a place
@@ -50,8 +51,8 @@ module _ {w : List ℕ} {value : ℕ} (h : Whole w value) where
   some-bytes = whole-some w (h .complete)
 
 module _ {f w : List ℕ} {place value : ℕ} (h : Whole w value) where
-  pub reads : At f place w → numeral value (place + length w) ≡ forwardAt f place
-  reads here = rw (← h .reads) (whole-forward f w (here .rest) place (h .complete) (here .here) (h .short))
+  pub reads : At f place w → numeral value (place + length w) ≡ readingOf false f place
+  reads here = rw (← h .reads) (whole-forward f w (here .rest) place (h .complete) (here .here) (h .short)) ∙ sym (plain-reading f place)
 
   pub reads-back : getD f place 0 < 128 → At f (suc place) w → numeral value place ≡ backwardAt f (place + length w)
   reads-back clear here = rw (← h .reads) (whole-backward f w (here .rest) place (h .complete) (here .here) (h .short) clear)
@@ -79,7 +80,7 @@ module _ (f : List ℕ) (version : Version) (base : ℕ) (begun : Bool) (place l
 
   -- a turn that gives the next point
   pub steps : (place′ left′ : ℕ) (run′ : Run) (by : RawPoint) (moves : List RawPoint)
-      → ((first p q : Point) → found q ≡ movedBy p by → turnOf f version base (state first p) ≡ found (gives (onWay true place′ left′ run′ (if begun then first else q) q)))
+      → ((first p q : Point) → found q ≡ movedBy p by → turnOf false f version base (state first p) ≡ found (gives (onWay true place′ left′ run′ (if begun then first else q) q)))
       → Reads f version base true place′ left′ run′ moves → Reads f version base begun place left run (by ∷ moves)
   unfolding pointsThen
   steps place′ left′ run′ by moves turn rest first p (q ∷ qs) (W.step m l) =
@@ -87,19 +88,19 @@ module _ (f : List ℕ) (version : Version) (base : ℕ) (begun : Bool) (place l
 
   -- a turn that reads on
   pub reads-on : (place′ left′ : ℕ) (run′ : Run) (moves : List RawPoint)
-      → ((first p : Point) → turnOf f version base (state first p) ≡ found (again (onWay begun place′ left′ run′ first p)))
+      → ((first p : Point) → turnOf false f version base (state first p) ≡ found (again (onWay begun place′ left′ run′ first p)))
       → Reads f version base begun place′ left′ run′ moves → Reads f version base begun place left run moves
   reads-on place′ left′ run′ moves turn rest first p qs l =
       sym (again-trace f (encodedIn version base) (state first p) (onWay begun place′ left′ run′ first p) (sym (turn first p))) ∙ rest first p qs l
 
   -- a turn that closes
-  pub closes-with : (place′ left′ : ℕ) → ((first p : Point) → turnOf f version base (state first p) ≡ found (gives (closing (onWay begun place′ left′ Idle first p))))
+  pub closes-with : (place′ left′ : ℕ) → ((first p : Point) → turnOf false f version base (state first p) ≡ found (gives (closing (onWay begun place′ left′ Idle first p))))
       → Reads f version base begun place left run []
   unfolding pointsThen
   closes-with place′ left′ turn first p [] W.stays =
       let end = closing (onWay begun place′ left′ Idle first p) in
       sym (gives-trace f (encodedIn version base) (state first p) end (sym (turn first p)))
-      ∙ ap (point first) (sym (ends-trace f (encodedIn version base) end (sym (closed-ends f version base end refl))))
+      ∙ ap (point first) (sym (ends-trace f (encodedIn version base) end (sym (closed-ends false f version base end refl))))
       ∙ ap (λ (q : Point). point q closed) (same begun)
     where
       same : (t : Bool) → first ≡ (if t then first else first)

@@ -8,16 +8,17 @@ use mathlib.Core.List.{List}
 use lib.Dec.{leb, eqb}
 use lib.ListN.{length}
 use Rattle.numbers.specs.Answer.{Answer, found, failed, refused, if_then_else_, _>>=_}
-use Rattle.numbers.specs.Varint.{Numeral, forwardAt, backwardAt}
+use Rattle.numbers.specs.Varint.{Numeral, readingOf, backwardAt}
 use Rattle.numbers.specs.Point.{pointOf, signedOf}
 use Rattle.numbers.specs.declared.point.{RawPoint.RawPoint}
 use Rattle.border.specs.Place.{moveBy, isStill, movedBy, negated}
-use Rattle.border.specs.Reader.{Turn, gives, again, ends, onward, arrived, closing, advanced, shownBy, plainMove, plainPair, plainTurn, asI64, opened, reference, marker, lent, forwardFrom, backwardFrom, packedTurn, turnOf}
+use Rattle.border.specs.Reader.{Turn, Reading, gives, again, ends, onward, arrived, closing, advanced, shownBy, plainMove, plainPair, plainTurn, asI64, opened, reference, marker, lent, forwardFrom, backwardFrom, packedTurn, turnOf}
 use Rattle.border.specs.declared.reader.{Reader.Reader, Run.Run, Version.Version}
 use Rattle.border.specs.declared.reader.Version.the-variants.{Plain, Packed}
 use Rattle.border.specs.declared.reader.Run.the-variants.{Idle, Forward, Backward}
 use Rattle.numbers.proofs.Answers.{All, then-all, any}
-use Rattle.numbers.proofs.Laws.{Read, forward-read, Before, backward-read}
+use Rattle.numbers.proofs.Laws.{Read, Before, backward-read}
+use Rattle.numbers.proofs.Readings.{reading-read}
 
 -- ---- the measure
 
@@ -77,8 +78,8 @@ Less f b (again s) = left f s < b
 Less f b ends = Unit
 
 module _ (f : List ℕ) (b : ℕ) where
-  after : (place : ℕ) (next : Numeral → Answer Turn) → ((n : Numeral) → place < length f → place < n .place → All (Less f b) (next n)) → All (Less f b) (forwardAt f place >>= next)
-  after place next k = then-all (λ (number : Numeral). Read f place (number .value) (number .place)) (Less f b) (forwardAt f place) next (forward-read f place) (λ n h. k n (h .inside) (h .grows))
+  after : (strict : Bool) (place : ℕ) (next : Numeral → Answer Turn) → ((n : Numeral) → place < length f → place < n .place → All (Less f b) (next n)) → All (Less f b) (readingOf strict f place >>= next)
+  after strict place next k = then-all (λ (number : Numeral). Read f place (number .value) (number .place)) (Less f b) (readingOf strict f place) next (reading-read strict f place) (λ n h. k n (h .inside) (h .grows))
 
   before : (place : ℕ) (next : Numeral → Answer Turn) → ((n : Numeral) → place < length f → n .place < place → All (Less f b) (next n)) → All (Less f b) (backwardAt f place >>= next)
   before place next k = then-all (Before f place) (Less f b) (backwardAt f place) next (backward-read f place) (λ n h. k n (h .inside) (h .falls))
@@ -103,52 +104,55 @@ module _ (f : List ℕ) (b : ℕ) where
 later : (f : List ℕ) (s : Reader) (place place′ : ℕ) → s .place ≤ place → place < length f → place < place′ → (r : Run) → room (length f) place′ r < left f s
 later f s place place′ h k l r = border-lower (length f) (s .place) place′ (s .run) r (omega arith) (omega arith)
 
-module _ (f : List ℕ) (base : ℕ) (s : Reader) where
+module _ (strict : Bool) (f : List ℕ) (base : ℕ) (s : Reader) where
+  abbrev read : Reading
+  read = readingOf strict f
+
   abbrev b : ℕ
   b = left f s
 
-  numbers-less : (t : Reader) → s .place ≤ t .place → All (Less f b) (plainPair f t)
+  numbers-less : (t : Reader) → s .place ≤ t .place → All (Less f b) (plainPair read t)
   unfolding plainPair
   numbers-less t h =
-      after f b (t .place) _
-      (λ lat k l. after f b (lat .place) _
+      after f b strict (t .place) _
+      (λ lat k l. after f b strict (lat .place) _
       (λ lon k′ l′. pair-less f b (onward t (lon .place) (t .moves) Idle) (moveBy (signedOf (lat .value)) (signedOf (lon .value))) (later f s (lat .place) (lon .place) (omega arith) k′ l′)))
 
-  plain-less : All (Less f b) (plainTurn f s)
+  plain-less : All (Less f b) (plainTurn read s)
   unfolding plainTurn
   plain-less =
-      either (All (Less f b)) (s .begun) (plainPair f s) _ (numbers-less s (le-refl (s .place)))
-      (after f b (s .place) _
+      either (All (Less f b)) (s .begun) (plainPair read s) _ (numbers-less s (le-refl (s .place)))
+      (after f b strict (s .place) _
       (λ count k l. either (All (Less f b)) (eqb (count .value) 0) failed _ tt (numbers-less (onward s (count .place) (count .value) Idle) (omega arith))))
 
-  reference-less : (t : Reader) → s .place ≤ t .place → All (Less f b) (reference f base t)
+  reference-less : (t : Reader) → s .place ≤ t .place → All (Less f b) (reference read base t)
   unfolding reference
   reference-less t h =
-      after f b (t .place) _
-      (λ start k l. after f b (start .place) _
+      after f b strict (t .place) _
+      (λ start k l. after f b strict (start .place) _
       (λ length k′ l′. whatever f b (opened base (asI64 (start .value)) (signedOf (length .value))) _
       (λ run. later f s (start .place) (length .place) (omega arith) k′ l′ run)))
 
-  marker-less : (t : Reader) → s .place ≤ t .place → All (Less f b) (marker f base t)
+  marker-less : (t : Reader) → s .place ≤ t .place → All (Less f b) (marker read base t)
   unfolding marker
   marker-less t h =
-      after f b (t .place) _
+      after f b strict (t .place) _
       (λ mark k l. let less = later f s (t .place) (mark .place) h k l in
       either (All (Less f b)) (eqb (mark .value) 0) (found (gives (closing (onward t (mark .place) (t .moves) Idle)))) _ (less Idle)
-      (either (All (Less f b)) (eqb (mark .value) 1) (reference f base (onward t (mark .place) (t .moves) Idle)) _
+      (either (All (Less f b)) (eqb (mark .value) 1) (reference read base (onward t (mark .place) (t .moves) Idle)) _
       (reference-less (onward t (mark .place) (t .moves) Idle) (omega arith))
       (less Idle)))
 
-  packed-less : (run : Run) → s .run ≡ run → All (Less f b) (packedTurn run f base s)
+  packed-less : (run : Run) → s .run ≡ run → All (Less f b) (packedTurn run read f base s)
   unfolding packedTurn
   packed-less Idle e =
-      after f b (s .place) _
+      after f b strict (s .place) _
       (λ number k l. let here = onward s (number .place) (s .moves) Idle in
-      either (All (Less f b)) (eqb (number .value) 0) (marker f base here) _
+      either (All (Less f b)) (eqb (number .value) 0) (marker read base here) _
       (marker-less here (omega arith))
       (advanced-less f b here (pointOf (number .value)) (later f s (s .place) (number .place) (le-refl (s .place)) k l Idle)))
   packed-less (Forward next end) e =
-      after f b next _
+      after f b strict next _
       (λ number k l. whatever f b (lent (number .value)) _
       (λ by. advanced-less f b (onward s (s .place) (s .moves) (forwardFrom (number .place) end)) by
       (rw e (forward-lower (length f) (s .place) next (number .place) end k l))))
@@ -159,7 +163,7 @@ module _ (f : List ℕ) (base : ℕ) (s : Reader) where
       (λ back. advanced-less f b (onward s (s .place) (s .moves) (backwardFrom (number .place) end)) back
       (rw e (backward-lower (length f) (s .place) next (number .place) end k l)))))
 
-pub turn-lowers : (f : List ℕ) (version : Version) (base : ℕ) (s : Reader) → All (Less f (left f s)) (turnOf f version base s)
+pub turn-lowers : (strict : Bool) (f : List ℕ) (version : Version) (base : ℕ) (s : Reader) → All (Less f (left f s)) (turnOf strict f version base s)
 unfolding turnOf
-turn-lowers f Plain base s = either (All (Less f (left f s))) (s .closed) (found ends) _ tt (plain-less f base s)
-turn-lowers f Packed base s = either (All (Less f (left f s))) (s .closed) (found ends) _ tt (packed-less f base s (s .run) refl)
+turn-lowers strict f Plain base s = either (All (Less f (left f s))) (s .closed) (found ends) _ tt (plain-less strict f base s)
+turn-lowers strict f Packed base s = either (All (Less f (left f s))) (s .closed) (found ends) _ tt (packed-less strict f base s (s .run) refl)

@@ -58,21 +58,21 @@ module _ (f : List ℕ) (encoding : Encoding) where
   next-agree zero m s h k = absurd (not-suc-le-zero h)
   next-agree (suc n) zero s h k = absurd (not-suc-le-zero k)
   next-agree (suc n) (suc m) s h k =
-      round-agree f (left f s) (turnOf f (encoding .version) (encoding .«data») s) _ _ (turn-lowers f (encoding .version) (encoding .«data») s)
+      round-agree f (left f s) (turnOf (encoding .strict) f (encoding .version) (encoding .«data») s) _ _ (turn-lowers (encoding .strict) f (encoding .version) (encoding .«data») s)
       (λ t l. next-agree n m t (lt-of-lt-of-le l (le-of-suc-le-suc h)) (lt-of-lt-of-le l (le-of-suc-le-suc k)))
 
   -- the next point, turn by turn
-  pub next-step : (s : Reader) → nextPoint f encoding s ≡ (turnOf f (encoding .version) (encoding .«data») s >>= roundAgain (nextPoint f encoding))
+  pub next-step : (s : Reader) → nextPoint f encoding s ≡ (turnOf (encoding .strict) f (encoding .version) (encoding .«data») s >>= roundAgain (nextPoint f encoding))
   unfolding nextPoint nextWithin
   next-step s =
-      round-agree f (left f s) (turnOf f (encoding .version) (encoding .«data») s) _ _ (turn-lowers f (encoding .version) (encoding .«data») s)
+      round-agree f (left f s) (turnOf (encoding .strict) f (encoding .version) (encoding .«data») s) _ _ (turn-lowers (encoding .strict) f (encoding .version) (encoding .«data») s)
       (λ t l. next-agree _ _ t (enough s t l) (lt-trans (enough s t l) (lt-suc-self _)))
 
   within-less : (n b : ℕ) (s : Reader) → left f s ≤ b → All (LessThere f b) (nextWithin n f encoding s)
   unfolding nextWithin
   within-less zero b s h = tt
   within-less (suc n) b s h =
-      round-less f b (turnOf f (encoding .version) (encoding .«data») s) _ (loosen f b (left f s) (turnOf f (encoding .version) (encoding .«data») s) h (turn-lowers f (encoding .version) (encoding .«data») s))
+      round-less f b (turnOf (encoding .strict) f (encoding .version) (encoding .«data») s) _ (loosen f b (left f s) (turnOf (encoding .strict) f (encoding .version) (encoding .«data») s) h (turn-lowers (encoding .strict) f (encoding .version) (encoding .«data») s))
       (λ t l. within-less n b t (le-of-lt l))
 
   next-lowers : (s : Reader) → All (LessThere f (left f s)) (nextPoint f encoding s)
@@ -96,10 +96,10 @@ module _ (f : List ℕ) (encoding : Encoding) where
 
   -- ---- what a loop over turns or points needs
 
-  pub again-less : (s t : Reader) → found (again t) ≡ turnOf f (encoding .version) (encoding .«data») s → left f t < left f s
-  again-less s t e = subst (All (Less f (left f s))) (sym e) (turn-lowers f (encoding .version) (encoding .«data») s)
+  pub again-less : (s t : Reader) → found (again t) ≡ turnOf (encoding .strict) f (encoding .version) (encoding .«data») s → left f t < left f s
+  again-less s t e = subst (All (Less f (left f s))) (sym e) (turn-lowers (encoding .strict) f (encoding .version) (encoding .«data») s)
 
-  pub again-same : (s t : Reader) → found (again t) ≡ turnOf f (encoding .version) (encoding .«data») s → nextPoint f encoding t ≡ nextPoint f encoding s
+  pub again-same : (s t : Reader) → found (again t) ≡ turnOf (encoding .strict) f (encoding .version) (encoding .«data») s → nextPoint f encoding t ≡ nextPoint f encoding s
   unfolding roundAgain
   again-same s t e = ap (λ (u : Answer Turn). u >>= roundAgain (nextPoint f encoding)) e ∙ sym (next-step s)
 
@@ -112,17 +112,17 @@ module _ (f : List ℕ) (encoding : Encoding) where
 
   -- ---- the trace, turn by turn
 
-  by-turn : (s : Reader) {t : Answer Turn} → t ≡ turnOf f (encoding .version) (encoding .«data») s → traceThen (t >>= roundAgain (nextPoint f encoding)) (traceOf f encoding) ≡ traceOf f encoding s
+  by-turn : (s : Reader) {t : Answer Turn} → t ≡ turnOf (encoding .strict) f (encoding .version) (encoding .«data») s → traceThen (t >>= roundAgain (nextPoint f encoding)) (traceOf f encoding) ≡ traceOf f encoding s
   by-turn s e = ap (λ (u : Answer Turn). traceThen (u >>= roundAgain (nextPoint f encoding)) (traceOf f encoding)) e ∙ ap (λ (n : Answer Given). traceThen n (traceOf f encoding)) (sym (next-step s)) ∙ sym (trace-step s)
 
-  pub gives-trace : (s t : Reader) → found (gives t) ≡ turnOf f (encoding .version) (encoding .«data») s → point (t .point) (traceOf f encoding t) ≡ traceOf f encoding s
+  pub gives-trace : (s t : Reader) → found (gives t) ≡ turnOf (encoding .strict) f (encoding .version) (encoding .«data») s → point (t .point) (traceOf f encoding t) ≡ traceOf f encoding s
   unfolding roundAgain traceThen
   gives-trace s t e = by-turn s e
 
-  pub again-trace : (s t : Reader) → found (again t) ≡ turnOf f (encoding .version) (encoding .«data») s → traceOf f encoding t ≡ traceOf f encoding s
+  pub again-trace : (s t : Reader) → found (again t) ≡ turnOf (encoding .strict) f (encoding .version) (encoding .«data») s → traceOf f encoding t ≡ traceOf f encoding s
   unfolding roundAgain
   again-trace s t e = trace-step t ∙ by-turn s e
 
-  pub ends-trace : (s : Reader) → found ends ≡ turnOf f (encoding .version) (encoding .«data») s → closed ≡ traceOf f encoding s
+  pub ends-trace : (s : Reader) → found ends ≡ turnOf (encoding .strict) f (encoding .version) (encoding .«data») s → closed ≡ traceOf f encoding s
   unfolding roundAgain traceThen
   ends-trace s e = by-turn s e

@@ -18,6 +18,7 @@ use Rattle.border.specs.declared.reader.Version.the-variants.{Plain}
 use Rattle.numbers.specs.Answer.{found, if_then_else_}
 use Rattle.numbers.specs.Point.{signedOf}
 use Rattle.numbers.specs.Spelling.{Whole}
+use Rattle.numbers.specs.Varint.{readingOf}
 use Rattle.border.specs.Written as W
 
 -- a pair that is no zero move
@@ -29,24 +30,24 @@ module _ (f : List ℕ) (base : ℕ) {lat lon : List ℕ} {a b : ℕ} (whole : W
   abbrev behind : ℕ
   behind = place + length lat + length lon
 
-  pair-here : (begun : Bool) (left : ℕ) (first p : Point) → plainPair f (onWay begun place left Idle first p) ≡ plainMove (onWay begun behind left Idle first p) by
-  pair-here begun left first p = pair-read f base (onWay begun place left Idle first p) (reads whole here) (reads whole′ there)
+  pair-here : (begun : Bool) (left : ℕ) (first p : Point) → plainPair (readingOf false f) (onWay begun place left Idle first p) ≡ plainMove (onWay begun behind left Idle first p) by
+  pair-here begun left first p = pair-read (readingOf false f) f base (onWay begun place left Idle first p) (reads whole here) (reads whole′ there)
 
   -- with moves left it is one of them; after the last it closes
-  pair-steps : (begun : Bool) (left : ℕ) (first p q : Point) → found q ≡ movedBy p by → plainPair f (onWay begun place (suc left) Idle first p) ≡ found (gives (onWay true behind left Idle (if begun then first else q) q))
+  pair-steps : (begun : Bool) (left : ℕ) (first p q : Point) → found q ≡ movedBy p by → plainPair (readingOf false f) (onWay begun place (suc left) Idle first p) ≡ found (gives (onWay true behind left Idle (if begun then first else q) q))
   pair-steps begun left first p q m =
       pair-here begun (suc left) first p
       ∙ pair-moves (onWay begun behind (suc left) Idle first p) by (λ z. omega arith) m
       ∙ rw (goes, sub-one)
 
-  pair-ends : (begun : Bool) (first p : Point) → plainPair f (onWay begun place 0 Idle first p) ≡ found (gives (closing (onWay begun behind 0 Idle first p)))
+  pair-ends : (begun : Bool) (first p : Point) → plainPair (readingOf false f) (onWay begun place 0 Idle first p) ≡ found (gives (closing (onWay begun behind 0 Idle first p)))
   pair-ends begun first p =
       pair-here begun 0 first p ∙ pair-closes (onWay begun behind 0 Idle first p) by refl ∙ rw goes
 
 module _ (f : List ℕ) (base : ℕ) where
   -- pairs at a place, from a state whose turn reads the first of them
   paired : {bytes : List ℕ} {moves : List RawPoint} {last : RawPoint} (guard : List ℕ) → Pairs bytes moves → Pairs guard (last ∷ []) → (place : ℕ) → At f place (bytes ++ guard)
-      → (begun : Bool) (before left : ℕ) → ((first p : Point) → plainTurn f (onWay begun before left Idle first p) ≡ plainPair f (onWay begun place (length moves) Idle first p))
+      → (begun : Bool) (before left : ℕ) → ((first p : Point) → plainTurn (readingOf false f) (onWay begun before left Idle first p) ≡ plainPair (readingOf false f) (onWay begun place (length moves) Idle first p))
       → Reads f Plain base begun before left Idle moves
   unfolding turnOf
   paired guard W.none (W.some {lat} {lon} {bytes} whole whole′ goes r) place here begun before left turn =
@@ -63,9 +64,9 @@ module _ (f : List ℕ) (base : ℕ) where
       let n = length more in
       steps f Plain base begun before left Idle behind n Idle _ more
       (λ first p q m. turn first p ∙ pair-steps f base whole whole′ goes place lat-here lon-here begun n first p q m)
-      (λ first p qs l. paired guard r last behind (at-next f (place + length lat) lon (bytes ++ guard) after) true behind n (λ first p. counted-before f (onWay true behind n Idle first p) refl) first p qs l)
+      (λ first p qs l. paired guard r last behind (at-next f (place + length lat) lon (bytes ++ guard) after) true behind n (λ first p. counted-before (readingOf false f) (onWay true behind n Idle first p) refl) first p qs l)
 
   pub counted : {bytes : List ℕ} {moves : List RawPoint} → Version0 bytes moves → (place : ℕ) → At f place bytes → 0 < length moves → Reads f Plain base false place 0 Idle moves
   counted (W.counted {count} {bytes} {guard} {moves} whole pairs last) place here some =
       paired guard pairs last (place + length count) (at-next f place count (bytes ++ guard) here) false place 0
-      (λ first p. count-read f (onWay false place 0 Idle first p) refl (reads whole (at-first f place count (bytes ++ guard) here)) (λ z. omega arith))
+      (λ first p. count-read (readingOf false f) (onWay false place 0 Idle first p) refl (reads whole (at-first f place count (bytes ++ guard) here)) (λ z. omega arith))

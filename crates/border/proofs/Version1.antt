@@ -4,7 +4,7 @@ use borrow.Author.Tests.{le-leb, lt-leb}
 use lib.Dec.{lit<}
 use lib.IntN.{pos, negℤ}
 use lib.ListN.{length, getD, length-append}
-use mathlib.Core.Bool.{Bool, true}
+use mathlib.Core.Bool.{Bool, true, false}
 use mathlib.Core.List.{List, [], _∷_, _++_, append-assoc}
 use mathlib.Core.Path.{_≡_, refl, sym, ap, _∙_}
 use native.Mathlib.Nat.{add-zero, suc-add, add-assoc, mod-eq-of-lt}
@@ -23,7 +23,7 @@ use Rattle.border.specs.declared.reader.Version.the-variants.{Packed}
 use Rattle.numbers.proofs.Spelling.{one-byte}
 use Rattle.numbers.specs.Answer.{found}
 use Rattle.numbers.specs.Point.{signedOf, pointOf}
-use Rattle.numbers.specs.Varint.{numeral, forwardAt}
+use Rattle.numbers.specs.Varint.{numeral, readingOf}
 use Rattle.border.specs.Written as W
 
 -- what is left of a run
@@ -51,7 +51,7 @@ module _ (f : List ℕ) (base : ℕ) where
 
   -- one move, wherever its number stands
   packed-step : (place place′ : ℕ) (run run′ : Run) (by : RawPoint) (moves : List RawPoint)
-      → ((begun : Bool) (first p : Point) → packedTurn run f base (onWay begun place 0 run first p) ≡ advanced (onWay begun place′ 0 run′ first p) by)
+      → ((begun : Bool) (first p : Point) → packedTurn run (readingOf false f) f base (onWay begun place 0 run first p) ≡ advanced (onWay begun place′ 0 run′ first p) by)
       → Delivers place′ run′ moves → Delivers place run (by ∷ moves)
   unfolding turnOf
   packed-step place place′ run run′ by moves turn rest begun =
@@ -70,7 +70,7 @@ module _ (f : List ℕ) (base : ℕ) where
       let onward-run : forwardFrom next end ≡ Forward next end = more-forward next end (omega arith) in
       rw onward-run
       (packed-step place place (Forward next end) (forwardFrom (next + length w) end) (pointOf value) (moves ++ more)
-      (λ begun first p. forward-move f base (onWay begun place 0 (Forward next end) first p) next end (reads whole (at-first f next w ws here)) (λ z. omega arith))
+      (λ begun first p. forward-move (readingOf false f) f base (onWay begun place 0 (Forward next end) first p) next end (reads whole (at-first f next w ws here)) (λ z. omega arith))
       (forward-run r place (next + length w) end more (at-next f next w ws here) (omega arith) (rw same at rest)))
 
   -- those of a backward run, behind a clear byte
@@ -84,7 +84,7 @@ module _ (f : List ℕ) (base : ℕ) where
       let last : Delivers place (backwardFrom (next + length w) end) (back ∷ more) =
       rw (more-backward (next + length w) end (omega arith))
       (packed-step place place (Backward (next + length w) end) (backwardFrom next end) back more
-      (λ begun first p. backward-move f base (onWay begun place 0 (Backward (next + length w) end) first p) (next + length w) end (reads-back whole clear (at-first f (suc next) w ws here)) (λ z. omega arith) (sym away))
+      (λ begun first p. backward-move (readingOf false f) f base (onWay begun place 0 (Backward (next + length w) end) first p) (next + length w) end (reads-back whole clear (at-first f (suc next) w ws here)) (λ z. omega arith) (sym away))
       rest) in
       rw (append-assoc turned (back ∷ []) more, ← same)
       (backward-run r t place (next + length w) end (back ∷ more) (stays-clear whole (at-first f (suc next) w ws here)) (rw suc-add at (at-next f (suc next) w ws here)) (omega arith) last)
@@ -126,9 +126,9 @@ opens-backward base low (suc k) h =
 module _ (f : List ℕ) (base : ℕ) where
   -- 0 and a marker
   marked : (s : Reader) (mark : ℕ) → At f (s .place) (0 ∷ mark ∷ []) → mark < 128
-      → (packedTurn Idle f base s ≡ marker f base (onward s (s .place + 1) (s .moves) Idle)) × (numeral mark (s .place + 2) ≡ forwardAt f (s .place + 1))
+      → (packedTurn Idle (readingOf false f) f base s ≡ marker (readingOf false f) base (onward s (s .place + 1) (s .moves) Idle)) × (numeral mark (s .place + 2) ≡ readingOf false f (s .place + 1))
   marked s mark here small = (
-    turn-marker f base s (reads (one-byte 0 (lit< tt)) (at-first f (s .place) (0 ∷ []) (mark ∷ []) here)) refl,
+    turn-marker (readingOf false f) f base s (reads (one-byte 0 (lit< tt)) (at-first f (s .place) (0 ∷ []) (mark ∷ []) here)) refl,
     rw (← add-assoc (s .place) 1 1) (reads (one-byte mark small) (at-next f (s .place) (0 ∷ []) (mark ∷ []) here)),
   )
 
@@ -168,10 +168,10 @@ module _ (f : List ℕ) (base : ℕ) (earlier : List ℕ) (data-section : At f b
       closes-with f Packed base begun place 0 Idle (place + 2) 0
       (λ first p. let s = onWay begun place 0 Idle first p in
       let mark = marked f base s 0 here (lit< tt) in
-      mark .0 ∙ mark-closes f base (onward s (place + 1) 0 Idle) (mark .1) refl)
+      mark .0 ∙ mark-closes (readingOf false f) f base (onward s (place + 1) 0 Idle) (mark .1) refl)
   packed (W.step {w} {bytes} {value} {more} whole nonzero r) place here begun =
       packed-step f base place (place + length w) Idle Idle (pointOf value) more
-      (λ begun first p. turn-move f base (onWay begun place 0 Idle first p) (reads whole (at-first f place w bytes here)) (λ z. omega arith))
+      (λ begun first p. turn-move (readingOf false f) f base (onWay begun place 0 Idle first p) (reads whole (at-first f place w bytes here)) (λ z. omega arith))
       (λ t. packed r (place + length w) (at-next f place w bytes here) t)
       begun
   packed (W.borrows {start} {size} {w} {w′} {bytes} {lent} {more} whole whole′ piece r) place here begun =
@@ -183,6 +183,6 @@ module _ (f : List ℕ) (base : ℕ) (earlier : List ℕ) (data-section : At f b
       (λ first p. let s = onWay begun place 0 Idle first p in
       let mark = marked f base s 1 (at-first f place (0 ∷ 1 ∷ []) (w ++ (w′ ++ bytes)) here) (lit< tt) in
       mark .0
-      ∙ mark-opens f base (onward s (place + 1) 0 Idle) (mark .1) (λ z. omega arith) refl
-      ∙ reference-opens f base (onward s (place + 2) 0 Idle) (reads whole (at-first f (place + 2) w (w′ ++ bytes) numbers)) (reads whole′ (at-first f after w′ bytes next)) (opening .opens))
+      ∙ mark-opens (readingOf false f) f base (onward s (place + 1) 0 Idle) (mark .1) (λ z. omega arith) refl
+      ∙ reference-opens (readingOf false f) f base (onward s (place + 2) 0 Idle) (reads whole (at-first f (place + 2) w (w′ ++ bytes) numbers)) (reads whole′ (at-first f after w′ bytes next)) (opening .opens))
       (opening .delivers begun)

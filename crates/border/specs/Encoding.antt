@@ -1,5 +1,6 @@
--- The encoding of a file's borders: their version, and the place that references count from.
+-- The encoding of a file's borders: their version, the place that references count from, and whether numbers are read strictly.
 use Prim.Native.Nat.{ℕ}
+use mathlib.Core.Bool.{Bool, false}
 use lib.Dec.{eqb}
 use Rattle.numbers.specs.Answer.{if_then_else_}
 use Rattle.border.specs.declared.reader.{Encoding.Encoding, Version.Version, Version.the-variants.Plain, Version.the-variants.Packed}
@@ -8,8 +9,12 @@ use Rattle.border.specs.declared.reader.{Encoding.Encoding, Version.Vers
 abbrev pub versionOf : ℕ → Version
 versionOf number = if eqb number 0 then Plain else Packed
 
+abbrev pub encodedBy : Bool → Version → ℕ → Encoding
+encodedBy strict version base = record { version = version; «data» = base; strict = strict }
+
+-- in the plain reading
 abbrev pub encodedIn : Version → ℕ → Encoding
-encodedIn version base = record { version = version; «data» = base }
+encodedIn version base = encodedBy false version base
 
 abbrev pub encodingOf : ℕ → ℕ → Encoding
 encodingOf number base = encodedIn (versionOf number) base

@@ -1,11 +1,11 @@
 -- The points of a border, one turn of the reader's loop at a time: document 01, "Points, verdict, merge".
 use Prim.Native.Nat.{ℕ, zero, suc, _+_, _-_, _%_, _^_}
-use mathlib.Core.Bool.{true}
+use mathlib.Core.Bool.{Bool, true}
 use mathlib.Core.List.{List}
 use lib.Dec.{ltb, leb, eqb}
 use lib.IntN.{ℤ, pos, negsuc, _+ℤ_, _-ℤ_}
 use Rattle.numbers.specs.Answer.{Answer, found, failed, checked, if_then_else_, _>>=_}
-use Rattle.numbers.specs.Varint.{forwardAt, backwardAt}
+use Rattle.numbers.specs.Varint.{Numeral, readingOf, backwardAt}
 use Rattle.numbers.specs.Point.{low32, signedOf, pointOf}
 use Rattle.numbers.specs.declared.point.{RawPoint.RawPoint}
 use Rattle.border.specs.Place.{moveBy, isStill, movedBy, negated}
@@ -44,18 +44,22 @@ plainMove s by = if eqb (s .moves) 0 then found (shownBy by (closing s)) else do
   p ← movedBy (s .point) by
   found (shownBy by (arrived (onward s (s .place) (s .moves - 1) Idle) p))
 
+-- the reading of a number at a place, plain or strict
+abbrev pub Reading : Type 0
+Reading = ℕ → Answer Numeral
+
 -- "The closing point also reads two signed numbers"
-unfoldable pub plainPair : List ℕ → Reader → Answer Turn
-plainPair f s = do
-  lat ← forwardAt f (s .place)
-  lon ← forwardAt f (lat .place)
+unfoldable pub plainPair : Reading → Reader → Answer Turn
+plainPair read s = do
+  lat ← read (s .place)
+  lon ← read (lat .place)
   plainMove (onward s (lon .place) (s .moves) Idle) (moveBy (signedOf (lat .value)) (signedOf (lon .value)))
 
 -- version 0: "a count (0 fails), then moves"
-unfoldable pub plainTurn : List ℕ → Reader → Answer Turn
-plainTurn f s = if s .begun then plainPair f s else do
-  count ← forwardAt f (s .place)
-  if eqb (count .value) 0 then failed else plainPair f (onward s (count .place) (count .value) Idle)
+unfoldable pub plainTurn : Reading → Reader → Answer Turn
+plainTurn read s = if s .begun then plainPair read s else do
+  count ← read (s .place)
+  if eqb (count .value) 0 then failed else plainPair read (onward s (count .place) (count .value) Idle)
 
 -- a place counted from the data section, modulo 2 ^ 32
 abbrev pub dataPlace : ℕ → ℤ → ℕ
@@ -72,21 +76,21 @@ opened base start (pos (suc n)) = checked 63 (start +ℤ pos (suc n)) >>= λ end
 opened base start (negsuc n) = checked 63 (start +ℤ negsuc n) >>= λ end. found (Backward (dataPlace base (start -ℤ pos 1)) (dataPlace base (end -ℤ pos 1)))
 
 -- "0 then 1 opens a reference (start, signed length)"
-unfoldable pub reference : List ℕ → ℕ → Reader → Answer Turn
-reference f base s = do
-  start ← forwardAt f (s .place)
-  length ← forwardAt f (start .place)
+unfoldable pub reference : Reading → ℕ → Reader → Answer Turn
+reference read base s = do
+  start ← read (s .place)
+  length ← read (start .place)
   run ← opened base (asI64 (start .value)) (signedOf (length .value))
   found (again (onward s (length .place) (s .moves) run))
 
 -- "0 then 0 closes; .. 0 then another value repeats the point"
-unfoldable pub marker : List ℕ → ℕ → Reader → Answer Turn
-marker f base s = do
-  mark ← forwardAt f (s .place)
+unfoldable pub marker : Reading → ℕ → Reader → Answer Turn
+marker read base s = do
+  mark ← read (s .place)
   let here = onward s (mark .place) (s .moves) Idle
   if eqb (mark .value) 0
       then found (gives (closing here))
-      else if eqb (mark .value) 1 then reference f base here else found (gives (arrived here (s .point)))
+      else if eqb (mark .value) 1 then reference read base here else found (gives (arrived here (s .point)))
 
 -- "A 0 inside a reference fails"
 unfoldable pub lent : ℕ → Answer RawPoint
@@ -100,22 +104,22 @@ unfoldable pub backwardFrom : ℕ → ℕ → Run
 backwardFrom next end = if leb next end then Idle else Backward next end
 
 -- version 1: the next number, outside a reference, inside one that is read forward, and backward
-unfoldable pub packedTurn : Run → List ℕ → ℕ → Reader → Answer Turn
-packedTurn Idle f base s = do
-  number ← forwardAt f (s .place)
+unfoldable pub packedTurn : Run → Reading → List ℕ → ℕ → Reader → Answer Turn
+packedTurn Idle read f base s = do
+  number ← read (s .place)
   let here = onward s (number .place) (s .moves) Idle
-  if eqb (number .value) 0 then marker f base here else advanced here (pointOf (number .value))
-packedTurn (Forward next end) f base s = do
-  number ← forwardAt f next
+  if eqb (number .value) 0 then marker read base here else advanced here (pointOf (number .value))
+packedTurn (Forward next end) read f base s = do
+  number ← read next
   by ← lent (number .value)
   advanced (onward s (s .place) (s .moves) (forwardFrom (number .place) end)) by
-packedTurn (Backward next end) f base s = do
+packedTurn (Backward next end) read f base s = do
   number ← backwardAt f next
   by ← lent (number .value)
   back ← negated by
   advanced (onward s (s .place) (s .moves) (backwardFrom (number .place) end)) back
 
--- a closed border has ended; the others are read by their version
-unfoldable pub turnOf : List ℕ → Version → ℕ → Reader → Answer Turn
-turnOf f Plain base s = if s .closed then found ends else plainTurn f s
-turnOf f Packed base s = if s .closed then found ends else packedTurn (s .run) f base s
+-- a closed border has ended; the others are read by their version, strictly or not. A number that is read backward is always complete.
+unfoldable pub turnOf : Bool → List ℕ → Version → ℕ → Reader → Answer Turn
+turnOf strict f Plain base s = if s .closed then found ends else plainTurn (readingOf strict f) s
+turnOf strict f Packed base s = if s .closed then found ends else packedTurn (s .run) (readingOf strict f) f base s

@@ -29,7 +29,7 @@ turns f = suc (suc (length f) * suc (length f))
 -- turns up to a point or the end; that they are never used up is the law `next-step`
 unfoldable pub nextWithin : ℕ → List ℕ → Encoding → Reader → Answer Given
 nextWithin zero f encoding s = A.failed
-nextWithin (suc more) f encoding s = turnOf f (encoding .version) (encoding .«data») s >>= roundAgain (nextWithin more f encoding)
+nextWithin (suc more) f encoding s = turnOf (encoding .strict) f (encoding .version) (encoding .«data») s >>= roundAgain (nextWithin more f encoding)
 
 unfoldable pub nextPoint : List ℕ → Encoding → Reader → Answer Given
 nextPoint f encoding s = nextWithin (turns f) f encoding s

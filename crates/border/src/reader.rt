@@ -3,6 +3,7 @@ ghost use mathlib.Core.Path.{_≡_};
 ghost use lib.IntN.{pos, negsuc};
 ghost use Rattle.numbers.specs.Answer.{found};
 ghost use Rattle.numbers.specs.Varint as varint;
+ghost use Rattle.numbers.specs.Varint.{readingOf};
 ghost use Rattle.border.specs.Reader.{onward, arrived, closing, advanced, shownBy, plainMove, plainPair, plainTurn, dataPlace, asI64, opened, reference, marker, forwardFrom, backwardFrom, packedTurn, turnOf};
 ghost use Rattle.border.specs.Told.{counted, stopped, toldRun, toldTurn, told, settledBy, steppedBy};
 ghost use Rattle.border.specs.Trace.{nextPoint, borderAt};
@@ -21,7 +22,7 @@ use numbers::refusal::OUT_OF_RANGE;
 use numbers::varint::Number;
 use numbers::varint::Varint;
 use numbers::varint::read_backward;
-use numbers::varint::read_forward;
+use numbers::varint::read_number;
 
 // How borders are written: version 0 and version 1.
 pub enum Version {
@@ -29,10 +30,12 @@ pub enum Version {
     Packed,
 }
 
-// The encoding of a file's borders: their version, and where the data section begins that references count from.
+// The encoding of a file's borders: their version, where the data section begins that references count from, and whether a number that
+// the file's end cuts is refused.
 pub struct Encoding {
     pub version: Version,
     pub data: u32,
+    pub strict: bool,
 }
 
 // A reference that is being read: its next place and its end.
@@ -156,14 +159,14 @@ fn plain_move(reader: Reader, place: usize, moves: u64, by: RawPoint) -> Turn
 }
 
 // Version 0: the two signed numbers of a move or of the closing pair.
-fn plain_pair(file: &[u8], reader: Reader, place: usize, moves: u64) -> Turn
-    ensures { λ r. ⌜ toldTurn r ≡ plainPair (now (file .entry)) (onward reader place moves Run.Idle) ⌝ }
+fn plain_pair(file: &[u8], strict: bool, reader: Reader, place: usize, moves: u64) -> Turn
+    ensures { λ r. ⌜ toldTurn r ≡ plainPair (readingOf strict (now (file .entry))) (onward reader place moves Run.Idle) ⌝ }
 {
-    let n = read_forward(file, place);
+    let n = read_number(file, place, strict);
     let Varint::Number(lat) = n else {
         return stop(n);
     };
-    let m = read_forward(file, lat.place);
+    let m = read_number(file, lat.place, strict);
     let Varint::Number(lon) = m else {
         return stop(m);
     };
@@ -175,8 +178,8 @@ fn plain_pair(file: &[u8], reader: Reader, place: usize, moves: u64) -> Turn
 }
 
 // Version 0: the moves that are left, and where the next pair stands. The count comes before the first move.
-fn moves_left(file: &[u8], reader: Reader) -> Varint
-    ensures { λ r. ⌜ varint.told r ≡ counted (now (file .entry)) reader ⌝ }
+fn moves_left(file: &[u8], strict: bool, reader: Reader) -> Varint
+    ensures { λ r. ⌜ varint.told r ≡ counted (readingOf strict (now (file .entry))) reader ⌝ }
 {
     let place = reader.place;
     if reader.begun {
@@ -185,7 +188,7 @@ fn moves_left(file: &[u8], reader: Reader) -> Varint
             place,
         });
     }
-    let n = read_forward(file, place);
+    let n = read_number(file, place, strict);
     let Varint::Number(count) = n else {
         return n;
     };
@@ -196,14 +199,14 @@ fn moves_left(file: &[u8], reader: Reader) -> Varint
 }
 
 // The one call of `plain_pair`: with a second one it would not be compiled in line.
-fn plain_turn(file: &[u8], reader: Reader) -> Turn
-    ensures { λ r. ⌜ toldTurn r ≡ plainTurn (now (file .entry)) reader ⌝ }
+fn plain_turn(file: &[u8], strict: bool, reader: Reader) -> Turn
+    ensures { λ r. ⌜ toldTurn r ≡ plainTurn (readingOf strict (now (file .entry))) reader ⌝ }
 {
-    let n = moves_left(file, reader);
+    let n = moves_left(file, strict, reader);
     let Varint::Number(moves) = n else {
         return stop(n);
     };
-    plain_pair(file, reader, moves.place, moves.value)
+    plain_pair(file, strict, reader, moves.place, moves.value)
 }
 
 // A reference, or that its end leaves the i64.
@@ -262,14 +265,14 @@ fn open_run(base: u32, start: u64, length: i32) -> Opened
 }
 
 // Version 1, after 0 and 1.
-fn open_reference(file: &[u8], base: u32, reader: Reader, place: usize) -> Turn
-    ensures { λ r. ⌜ toldTurn r ≡ reference (now (file .entry)) base (onward reader place (reader .moves) Run.Idle) ⌝ }
+fn open_reference(file: &[u8], base: u32, strict: bool, reader: Reader, place: usize) -> Turn
+    ensures { λ r. ⌜ toldTurn r ≡ reference (readingOf strict (now (file .entry))) base (onward reader place (reader .moves) Run.Idle) ⌝ }
 {
-    let n = read_forward(file, place);
+    let n = read_number(file, place, strict);
     let Varint::Number(start) = n else {
         return stop(n);
     };
-    let m = read_forward(file, start.place);
+    let m = read_number(file, start.place, strict);
     let Varint::Number(length) = m else {
         return stop(m);
     };
@@ -297,10 +300,10 @@ fn go_on(reader: Reader, place: usize, run: Run) -> Reader
 }
 
 // Version 1, after 0.
-fn read_marker(file: &[u8], base: u32, reader: Reader, place: usize) -> Turn
-    ensures { λ r. ⌜ toldTurn r ≡ marker (now (file .entry)) base (onward reader place (reader .moves) Run.Idle) ⌝ }
+fn read_marker(file: &[u8], base: u32, strict: bool, reader: Reader, place: usize) -> Turn
+    ensures { λ r. ⌜ toldTurn r ≡ marker (readingOf strict (now (file .entry))) base (onward reader place (reader .moves) Run.Idle) ⌝ }
 {
-    let n = read_forward(file, place);
+    let n = read_number(file, place, strict);
     let Varint::Number(mark) = n else {
         return stop(n);
     };
@@ -308,23 +311,23 @@ fn read_marker(file: &[u8], base: u32, reader: Reader, place: usize) -> Turn
         return Turn::Gives(close(reader, mark.place, reader.moves));
     }
     if mark.value == 1 {
-        return open_reference(file, base, reader, mark.place);
+        return open_reference(file, base, strict, reader, mark.place);
     }
     let here = reader.point;
     Turn::Gives(arrive(reader, mark.place, reader.moves, Run::Idle, here))
 }
 
 // Version 1, outside a reference.
-fn read_move(file: &[u8], base: u32, reader: Reader) -> Turn
-    ensures { λ r. ⌜ toldTurn r ≡ packedTurn Run.Idle (now (file .entry)) base reader ⌝ }
+fn read_move(file: &[u8], base: u32, strict: bool, reader: Reader) -> Turn
+    ensures { λ r. ⌜ toldTurn r ≡ packedTurn Run.Idle (readingOf strict (now (file .entry))) (now (file .entry)) base reader ⌝ }
 {
     let place = reader.place;
-    let n = read_forward(file, place);
+    let n = read_number(file, place, strict);
     let Varint::Number(number) = n else {
         return stop(n);
     };
     if number.value == 0 {
-        return read_marker(file, base, reader, number.place);
+        return read_marker(file, base, strict, reader, number.place);
     }
     advance(reader, number.place, Run::Idle, decode_point(number.value))
 }
@@ -351,10 +354,17 @@ fn backward_from(next: usize, end: usize) -> Run
 }
 
 // Version 1, inside a reference that is read forward.
-fn run_forward(file: &[u8], base: u32, reader: Reader, next: usize, end: usize) -> Turn
-    ensures { λ r. ⌜ toldTurn r ≡ packedTurn (Run.Forward next end) (now (file .entry)) base reader ⌝ }
+fn run_forward(
+    file: &[u8],
+    base: u32,
+    strict: bool,
+    reader: Reader,
+    next: usize,
+    end: usize,
+) -> Turn
+    ensures { λ r. ⌜ toldTurn r ≡ packedTurn (Run.Forward next end) (readingOf strict (now (file .entry))) (now (file .entry)) base reader ⌝ }
 {
-    let n = read_forward(file, next);
+    let n = read_number(file, next, strict);
     let Varint::Number(ahead) = n else {
         return stop(n);
     };
@@ -366,8 +376,15 @@ fn run_forward(file: &[u8], base: u32, reader: Reader, next: usize, end: usize) 
 }
 
 // Version 1, inside a reference that is read backward.
-fn run_backward(file: &[u8], base: u32, reader: Reader, next: usize, end: usize) -> Turn
-    ensures { λ r. ⌜ toldTurn r ≡ packedTurn (Run.Backward next end) (now (file .entry)) base reader ⌝ }
+fn run_backward(
+    file: &[u8],
+    base: u32,
+    strict: bool,
+    reader: Reader,
+    next: usize,
+    end: usize,
+) -> Turn
+    ensures { λ r. ⌜ toldTurn r ≡ packedTurn (Run.Backward next end) (readingOf strict (now (file .entry))) (now (file .entry)) base reader ⌝ }
 {
     let n = read_backward(file, next);
     let Varint::Number(behind) = n else {
@@ -382,27 +399,27 @@ fn run_backward(file: &[u8], base: u32, reader: Reader, next: usize, end: usize)
     advance(reader, reader.place, backward_from(behind.place, end), by)
 }
 
-fn packed_turn(file: &[u8], base: u32, reader: Reader) -> Turn
-    ensures { λ r. ⌜ toldTurn r ≡ packedTurn (reader .run) (now (file .entry)) base reader ⌝ }
+fn packed_turn(file: &[u8], base: u32, strict: bool, reader: Reader) -> Turn
+    ensures { λ r. ⌜ toldTurn r ≡ packedTurn (reader .run) (readingOf strict (now (file .entry))) (now (file .entry)) base reader ⌝ }
 {
     let run = reader.run;
     match run {
-        Run::Idle => read_move(file, base, reader),
-        Run::Forward { next, end } => run_forward(file, base, reader, next, end),
-        Run::Backward { next, end } => run_backward(file, base, reader, next, end),
+        Run::Idle => read_move(file, base, strict, reader),
+        Run::Forward { next, end } => run_forward(file, base, strict, reader, next, end),
+        Run::Backward { next, end } => run_backward(file, base, strict, reader, next, end),
     }
 }
 
 fn turn_once(file: &[u8], encoding: Encoding, reader: Reader) -> Turn
-    ensures { λ r. ⌜ toldTurn r ≡ turnOf (now (file .entry)) (encoding .version) (encoding .«data») reader ⌝ }
+    ensures { λ r. ⌜ toldTurn r ≡ turnOf (encoding .strict) (now (file .entry)) (encoding .version) (encoding .«data») reader ⌝ }
 {
     if reader.closed {
         return Turn::Ended;
     }
     let version = encoding.version;
     match version {
-        Version::Packed => packed_turn(file, encoding.data, reader),
-        Version::Plain => plain_turn(file, reader),
+        Version::Packed => packed_turn(file, encoding.data, encoding.strict, reader),
+        Version::Plain => plain_turn(file, encoding.strict, reader),
     }
 }
 

@@ -22,7 +22,9 @@ use tzif::local::local_time;
 use tzif::local::offset_bits;
 use uskelzar::uskelzar_local_time;
 use uskelzar::uskelzar_lookup;
+use uskelzar::uskelzar_lookup_strict;
 use uskelzar::uskelzar_open;
+use uskelzar::uskelzar_open_strict;
 use uskelzar::uskelzar_simple_lookup;
 use zones::text::String;
 use zones::text::read_string;
@@ -31,6 +33,12 @@ use zones::utf8::is_utf8;
 fn run_open(file: &[u8], text: &mut [u8]) -> Reply {
     let mut words = unspoken();
     let number = uskelzar_open(file, text, &mut words);
+    spoken(number, words)
+}
+
+fn run_open_strict(file: &[u8], text: &mut [u8]) -> Reply {
+    let mut words = unspoken();
+    let number = uskelzar_open_strict(file, text, &mut words);
     spoken(number, words)
 }
 
@@ -48,6 +56,15 @@ fn run_lookup(record: &[u8], file: &[u8], slots: &mut [u32], text: &mut [u8]) ->
     spoken(number, words)
 }
 
+fn run_lookup_strict(record: &[u8], file: &[u8], slots: &mut [u32], text: &mut [u8]) -> Reply {
+    let lat = coordinate(record, 5);
+    let lon = coordinate(record, 9);
+    let asked = byte_at(record, 13) != 0;
+    let mut words = unspoken();
+    let number = uskelzar_lookup_strict(file, lat, lon, asked, slots, text, &mut words);
+    spoken(number, words)
+}
+
 fn run_simple(record: &[u8], file: &[u8], slots: &mut [u32], text: &mut [u8]) -> Reply {
     let lat = coordinate(record, 5);
     let lon = coordinate(record, 9);
@@ -59,6 +76,7 @@ fn run_simple(record: &[u8], file: &[u8], slots: &mut [u32], text: &mut [u8]) ->
 fn run_either(record: &[u8], file: &[u8], slots: &mut [u32], text: &mut [u8]) -> Reply {
     match byte_at(record, 0) {
         2 | 14 => run_lookup(record, file, slots, text),
+        8 | 16 => run_lookup_strict(record, file, slots, text),
         _ => run_simple(record, file, slots, text),
     }
 }
@@ -120,7 +138,7 @@ fn unmask(file: &[u8], start: usize, text: &mut [u8]) {
 
 // Size and next place, and the bytes in the text.
 fn run_string(file: &[u8], metadata: u32, place: usize, text: &mut [u8]) -> Reply {
-    match read_string(file, metadata, place) {
+    match read_string(file, false, metadata, place) {
         String::Text(string) => {
             unmask(file, string.start, text);
             answered([string.size as u64, string.next as u64, 0, 0, 0])
@@ -165,14 +183,15 @@ fn run_listed(record: &[u8], file: &[u8], text: &mut [u8]) -> Reply {
     told_local(local_time(file, instant_at(record, 5), text))
 }
 
-// 1 is open, 14 lookup and 15 simple lookup; 2 and 3 are both with three words a hit. Of this program's own, 5 is a string, with its place where a lookup has the latitude and the metadata offset where it has the
+// 1 is open, 14 lookup and 15 simple lookup; 2 and 3 are both with three words a hit. 7 is strict opening and 16 strict lookup, 8 with three words a hit. Of this program's own, 5 is a string, with its place where a lookup has the latitude and the metadata offset where it has the
 // longitude, and 6 is UTF-8, over bytes that are stored XOR 0x80. 20 is local time, with an instant of eight bytes
 // in the place of both, and 21 local time by the transitions alone.
 pub fn run(record: &[u8], file: &[u8], slots: &mut [u32], text: &mut [u8]) -> Reply {
     match byte_at(record, 0) {
         1 => run_open(file, text),
-        2 | 3 => run_in_three(record, file, slots, text),
-        14 | 15 => run_either(record, file, slots, text),
+        7 => run_open_strict(file, text),
+        2 | 3 | 8 => run_in_three(record, file, slots, text),
+        14 | 15 | 16 => run_either(record, file, slots, text),
         20 => run_local(record, file, text),
         21 => run_listed(record, file, text),
         5 => run_string(file, word_at(record, 9), size_at(record, 5), text),

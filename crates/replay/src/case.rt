@@ -151,7 +151,7 @@ fn judge_write(record: &[u8]) -> Verdict {
 
 pub fn judge(record: &[u8]) -> Verdict {
     match byte_at(record, 0) {
-        1 | 2 | 3 | 5 | 6 | 14 | 15 | 20 | 21 => judge_file(record),
+        1 | 2 | 3 | 5 | 6 | 7 | 8 | 14 | 15 | 16 | 20 | 21 => judge_file(record),
         4 => judge_write(record),
         _ => Verdict::Skipped,
     }

@@ -109,6 +109,9 @@ fn report(tally: &[u64]) {
     print_op(b"simple", counted(tally, 15));
     print_op(b"lookup in three words", counted(tally, 2));
     print_op(b"simple in three words", counted(tally, 3));
+    print_op(b"open strictly", counted(tally, 7));
+    print_op(b"lookup strictly", counted(tally, 16));
+    print_op(b"lookup strictly in three words", counted(tally, 8));
     print_op(b"write", counted(tally, 4));
     print_op(b"string", counted(tally, 5));
     print_op(b"utf8", counted(tally, 6));

@@ -2,7 +2,7 @@
 -- the number said in `openingSpoken`, `foundSpoken`, `writtenSpoken` or `localSpoken`; here, that this number is 0 exactly where the definition gives an answer. Assumes nothing.
 use Prim.Native.Nat.{ℕ}
 use mathlib.Core.Bool.{Bool, true, false}
-use mathlib.Core.List.{List}
+use mathlib.Core.List.{List, [], _∷_, _++_}
 use mathlib.Core.Logic.{_↔_}
 use mathlib.Core.Path.{_≡_, refl, subst}
 use native.Mathlib.Omega.{arith}
@@ -16,10 +16,10 @@ use Rattle.footer.specs.Local.{localTime}
 use Rattle.tzif.specs.declared.local.LocalTime.{LocalTime}
 use Rattle.tzif.specs.declared.local.LocalTime.the-variants as L
 use Rattle.tzif.specs.declared.refusal.Refusal as T
-use Rattle.zones.proofs.Numbered.{openingNumbers, opening-refusals}
-use Rattle.zones.proofs.NumberedLookup.{lookupNumbers, lookup-refusals, simple-lookup-refusals}
-use Rattle.zones.specs.Lookup.{lookedUp}
-use Rattle.zones.specs.Opening.{openedOf}
+use Rattle.zones.proofs.Numbered.{openingNumbers, opening-refusals, strict-opening-refusals}
+use Rattle.zones.proofs.NumberedLookup.{lookupNumbers, lookup-refusals, strict-lookup-refusals, simple-lookup-refusals}
+use Rattle.zones.specs.Lookup.{lookedUp, lookedStrictly}
+use Rattle.zones.specs.Opening.{openedOf, openedStrictly}
 use Rattle.numbers.specs.Reply.{Reply, given, refused}
 use Rattle.zones.specs.Simple.{simplyLooked}
 use Rattle.zones.specs.declared.location.Location.{Location}
@@ -53,6 +53,19 @@ pub lookup-zero : (file : List ℕ) (location : Location) (asked : Bool) (n room
 lookup-zero file location asked n room =
     zero-said zonesValues (lookedUp file location asked n room .reply)
     (λ why is. never-zero lookupNumbers (λ z. z) (why .number) (lookup-refusals file location asked n room why is))
+
+-- `uskelzar_open_strict`
+pub open-strict-zero : (file : List ℕ) (room : ℕ) → (openingSpoken (openedStrictly file room) .said .number ≡ 0) ↔ Answered (openedStrictly file room .reply)
+open-strict-zero file room =
+    zero-said openingValues (openedStrictly file room .reply)
+    (λ why is. never-zero (openingNumbers ++ 31 ∷ []) (λ z. z) (why .number) (strict-opening-refusals file room why is))
+
+-- `uskelzar_lookup_strict`
+pub lookup-strict-zero : (file : List ℕ) (location : Location) (asked : Bool) (n room : ℕ)
+    → (foundSpoken zonesValues (lookedStrictly file location asked n room) .said .number ≡ 0) ↔ Answered (lookedStrictly file location asked n room .reply)
+lookup-strict-zero file location asked n room =
+    zero-said zonesValues (lookedStrictly file location asked n room .reply)
+    (λ why is. never-zero (lookupNumbers ++ 31 ∷ []) (λ z. z) (why .number) (strict-lookup-refusals file location asked n room why is))
 
 -- `uskelzar_simple_lookup`
 pub simple-lookup-zero : (file : List ℕ) (location : Location) (n room : ℕ)

@@ -8,8 +8,8 @@ ghost use lib.ListN.{length};
 ghost use Rattle.border.specs.Pieces.{piecesOf};
 ghost use Rattle.border.specs.Writer.{borderOf, fitted, told};
 ghost use Rattle.footer.specs.Local.{localTime};
-ghost use Rattle.zones.specs.Lookup.{lookedUp, toldLooked};
-ghost use Rattle.zones.specs.Opening.{openedOf, toldOpened};
+ghost use Rattle.zones.specs.Lookup.{lookedUp, lookedStrictly, toldLooked};
+ghost use Rattle.zones.specs.Opening.{openedOf, openedStrictly, toldOpened};
 ghost use Rattle.numbers.specs.Reply.{Reply, given, refused};
 ghost use Rattle.zones.specs.Simple.{simplyLooked, toldSimple};
 ghost use Rattle.uskelzar.specs.Spoken.{saidOf, openingValues, zonesValues, describedValues, lengthValue, localValues, refusedSaid, localReply, spoken, openingSpoken, foundSpoken, writtenSpoken, localSpoken};
@@ -23,8 +23,10 @@ use tzif::local::offset_bits;
 use zones::location::Location;
 use zones::lookup::Looked;
 use zones::lookup::lookup;
+use zones::lookup::lookup_strict;
 use zones::opening::Opened;
 use zones::opening::open;
+use zones::opening::open_strict;
 use zones::simple::Description;
 use zones::simple::Simple;
 use zones::simple::simple_lookup;
@@ -182,6 +184,34 @@ pub extern "C" fn uskelzar_simple_lookup(
 {
     speak(
         say_described(simple_lookup(file, Location { lat, lon }, hits, text)),
+        reply,
+    )
+}
+
+// Opens a file as `uskelzar_open` does, but refuses a number that the file's end cuts: 31.
+#[no_mangle]
+pub extern "C" fn uskelzar_open_strict(file: &[u8], text: &mut [u8], reply: &mut [u64; 5]) -> u8
+    ensures { λ r. ⌜ spoken r (now (reply .exit)) (now (text .exit) ∷ []) ≡ openingSpoken (openedStrictly (now (file .entry)) (length (now (text .entry)))) ⌝ }
+{
+    speak(say_opened(open_strict(file, text)), reply)
+}
+
+// Looks a location up as `uskelzar_lookup` does, but refuses a number that the file's end cuts: 31.
+#[no_mangle]
+pub extern "C" fn uskelzar_lookup_strict(
+    file: &[u8],
+    lat: f32,
+    lon: f32,
+    asked: bool,
+    hits: &mut [u32],
+    text: &mut [u8],
+    reply: &mut [u64; 5],
+) -> u8
+    ensures { λ r. ⌜ spoken r (now (reply .exit)) (now (hits .exit) ∷ now (text .exit) ∷ [])
+        ≡ foundSpoken zonesValues (lookedStrictly (now (file .entry)) (record { lat = lat; lon = lon }) asked (length (now (hits .entry))) (length (now (text .entry)))) ⌝ }
+{
+    speak(
+        say_looked(lookup_strict(file, Location { lat, lon }, asked, hits, text)),
         reply,
     )
 }

@@ -37,6 +37,7 @@ fn encoding_of(line: &[u8]) -> Encoding {
     Encoding {
         version: version_of(line),
         data: (decimal(word(line, 2)) % 0x1_0000_0000) as u32,
+        strict: false,
     }
 }
 

@@ -10,6 +10,7 @@ use crate::text::word;
 use numbers::float::bits::bits_of;
 use numbers::float::bits::of_bits;
 use numbers::varint::Varint;
+use numbers::varint::is_complete;
 
 // `KIND PLACE FILE > VALUE NEXT`, `.. > fails` or `.. > refused 12 0`.
 fn reads_as(line: &[u8], answer: Varint) -> bool {
@@ -36,6 +37,30 @@ pub fn forward(line: &[u8]) -> bool {
     let size = bytes(word(line, 2), &mut space);
     let place = decimal(word(line, 1)) as usize;
     reads_as(line, numbers::varint::read_forward(&space[..size], place))
+}
+
+// Whether the file holds all of a number is told behind its place.
+fn completes(line: &[u8], file: &[u8], answer: Varint) -> bool {
+    match answer {
+        Varint::Number(number) => {
+            let complete = is_complete(file, number);
+            is_decimal(word(line, 6), complete as u64)
+        }
+        Varint::Failed => true,
+        Varint::Refused(_) => true,
+    }
+}
+
+// `numeral PLACE FILE > VALUE NEXT COMPLETE`.
+pub fn numeral(line: &[u8]) -> bool {
+    let mut space = [0u8; 32];
+    let size = bytes(word(line, 2), &mut space);
+    let place = decimal(word(line, 1)) as usize;
+    let answer = numbers::varint::read_forward(&space[..size], place);
+    if reads_as(line, answer) {
+        return completes(line, &space[..size], answer);
+    }
+    false
 }
 
 pub fn backward(line: &[u8]) -> bool {

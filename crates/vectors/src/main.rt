@@ -11,7 +11,7 @@ use libc::STDOUT_FILENO;
 use text::word;
 
 // A kind is a place in the list of names. A line of no such kind is wrong.
-const KINDS: usize = 12;
+const KINDS: usize = 13;
 
 fn kind_of(names: &[u8], line: &[u8]) -> usize {
     let mut kind = 0;
@@ -38,6 +38,7 @@ fn is_right(kind: usize, line: &[u8]) -> bool {
         9 => leaf::fixed(line),
         10 => leaf::safezone(line),
         11 => borders::border(line),
+        12 => leaf::numeral(line),
         _ => false,
     }
 }
@@ -114,11 +115,11 @@ fn report_rest() {
 
 fn main() {
     let names =
-        b"varint backward signed point i32_to_f32 u64_to_f32 f32_to_i32 f32_to_i64 sqrt fixed safezone border unknown";
+        b"varint backward signed point i32_to_f32 u64_to_f32 f32_to_i32 f32_to_i64 sqrt fixed safezone border numeral unknown";
     let mut space = [0u8; 131072];
     let size = io::read_full(STDIN_FILENO, &mut space);
-    let mut compared = [0u64; 13];
-    let mut wrong = [0u64; 13];
+    let mut compared = [0u64; 14];
+    let mut wrong = [0u64; 14];
     run_all(names, &space[..size], &mut compared, &mut wrong);
     report(names, &compared, &wrong);
     report_rest();

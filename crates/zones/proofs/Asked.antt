@@ -15,10 +15,10 @@ use Rattle.numbers.specs.Answer.{if_then_else_}
 use Rattle.zones.proofs.Unless.{shown, Unless, refuses, alike, unless-after, unless-demand, unless-then}
 use Rattle.zones.specs.Fields.{fieldsOf}
 use Rattle.zones.specs.Find.{Matched, isPrecision, fixOf, matchedWith}
-use Rattle.zones.specs.Header.{headOf}
+use Rattle.zones.specs.Header.{headOf, headStrictly}
 use Rattle.zones.specs.Hits.{width}
 use Rattle.zones.specs.Lent.{Outcome, Replied, replied, repliedOf}
-use Rattle.zones.specs.Lookup.{safezoneBits, zonesWith, zonesIn, lookedWith, lookedUp}
+use Rattle.zones.specs.Lookup.{safezoneBits, zonesWith, zonesIn, lookedWith, lookedUp, lookedStrictly}
 use Rattle.zones.specs.Merge.{merged}
 use Rattle.numbers.specs.Reply.{Reply, given, refused, plain, _>>=_}
 use Rattle.zones.specs.Rest.{restMark}
@@ -170,15 +170,20 @@ unfolding lookedWith
 asked-or-not-with file head location n room = replies-so n room _ _ (zones-unless file head location n room) (zones-unmeasured file head location n room)
 
 module _ (file : List ℕ) (location : Location) (n room : ℕ) where
+  opened : (r : Reply Head) → shown unmeasuredOutcome (r >>= λ head. zonesWith file head location false n room) ≡ (r >>= λ head. zonesWith file head location false n room)
+  opened (given head) = zones-unmeasured file head location n room
+  opened (refused why) = refl
+
   -- and in one that is opened first
   pub asked-or-not-up : AskedOrNot n room (lookedUp file location true n room) (lookedUp file location false n room)
   unfolding lookedUp zonesIn
   asked-or-not-up =
       replies-so n room _ _ (unless-after (headOf file) (λ head. zones-unless file head location n room)) (opened (headOf file))
-    where
-      opened : (r : Reply Head) → shown unmeasuredOutcome (r >>= λ head. zonesWith file head location false n room) ≡ (r >>= λ head. zonesWith file head location false n room)
-      opened (given head) = zones-unmeasured file head location n room
-      opened (refused why) = refl
+
+  -- strictly too
+  pub asked-or-not-strictly : AskedOrNot n room (lookedStrictly file location true n room) (lookedStrictly file location false n room)
+  unfolding lookedStrictly
+  asked-or-not-strictly = replies-so n room _ _ (unless-after (headStrictly file) (λ head. zones-unless file head location n room)) (opened (headStrictly file))
 
   -- where asking with the distance is answered, asking without it is answered too: the same matches, strings, bytes used and end mark
   pub without-safezone : {zones : Zones} → lookedUp file location true n room .reply ≡ given zones

@@ -3,10 +3,10 @@ use mathlib.Core.Path.{_≡_, sym, ap, _∙_}
 use mathlib.Core.Bool.{Bool}
 use mathlib.Core.List.{List}
 use Prim.Native.Nat.{ℕ}
-use Rattle.zones.specs.Header.{headOf}
+use Rattle.zones.specs.Header.{headOf, headStrictly}
 use Rattle.zones.specs.Lent.{Outcome, Replied, replied, repliedOf}
 use Rattle.numbers.specs.Lists.{zeros}
-use Rattle.zones.specs.Lookup.{zonesWith, zonesIn, lookedWith, lookedUp}
+use Rattle.zones.specs.Lookup.{zonesWith, zonesIn, lookedWith, lookedUp, lookedStrictly}
 use Rattle.numbers.specs.Reply.{Reply, given, refused}
 use Rattle.zones.specs.Simple.{describedWith, describedIn, simplyLookedWith, simplyLooked}
 use Rattle.zones.specs.declared.header.Head.{Head}
@@ -40,3 +40,12 @@ module _ (file : List ℕ) (location : Location) (n room : ℕ) where
     pub not-simply-looked : replied (refused why) hs ts ≡ simplyLooked file location n room
     unfolding simplyLooked describedIn
     not-simply-looked = refused-zero n room (carried e (λ h. describedWith file h location n room)) h t
+
+  -- and the strict lookup with a header that was read strictly
+  pub strictly-looked-with : {head : Head} → given head ≡ headStrictly file → (asked : Bool) → lookedWith file head location asked n room ≡ lookedStrictly file location asked n room
+  unfolding lookedWith lookedStrictly
+  strictly-looked-with e asked = ap (repliedOf n room) (onward e (λ h. zonesWith file h location asked n room))
+
+  pub not-strictly-looked : {why : Refusal} {hs ts : List ℕ} → refused why ≡ headStrictly file → hs ≡ zeros n → ts ≡ zeros room → (asked : Bool) → replied (refused why) hs ts ≡ lookedStrictly file location asked n room
+  unfolding lookedStrictly
+  not-strictly-looked e h t asked = refused-zero n room (carried e (λ h. zonesWith file h location asked n room)) h t

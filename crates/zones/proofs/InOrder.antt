@@ -1,5 +1,5 @@
 -- In a table in order an early stop loses nothing, and boxes of the borders' own points change no verdict. Assumes nothing.
-use Prim.Native.Nat.{ℕ}
+use Prim.Native.Nat.{ℕ, _+_, _%_, _^_}
 use borrow.Author.Tests.{ltb-true, leb-true, lt-ltb}
 use lib.Dec.{ltb}
 use lib.IntN.{ℤ, pos, negsuc}
@@ -12,7 +12,8 @@ use native.Mathlib.Omega.{arith}
 use Rattle.border.proofs.OutsideBox.{standing-outside-box}
 use Rattle.border.proofs.Signs.{differ}
 use Rattle.border.specs.Box.{Box, boxOf}
-use Rattle.border.specs.Verdict.{Judgement, reached}
+use Rattle.border.specs.Encoding.{versionOf, encodedBy}
+use Rattle.border.specs.Verdict.{Judgement, reached, judgedAt}
 use Rattle.border.specs.declared.place.Point.{Point}
 use Rattle.border.specs.declared.verdict.Verdict.the-variants.{NotInZone}
 use Rattle.numbers.specs.Answer.{if_then_else_}
@@ -97,10 +98,13 @@ same-test : (box : Box) (fix : Point) → holds (boundsAround box) fix ≡ B.hol
 unfolding B.holds
 same-test box fix = refl
 
-module _ {file : List ℕ} {head : Head} {r : Row} {points : List Point} (boxed : Boxed file head r points) (fix : Point) where
+module _ {file : List ℕ} {head : Head} {r : Row} {points : List Point} (plainly : head .strict ≡ false) (boxed : Boxed file head r points) (fix : Point) where
   -- A border whose box does not hold the location would have come to `NotInZone`.
   pub outside-its-box : (least : ℕ) → holds (r .bounds) fix ≡ false → judgeIn file head fix false (r .polygon) least ≡ reached NotInZone least
-  outside-its-box least out = standing-outside-box (boxed .border) fix least (sym (same-test (boxOf points) fix) ∙ subst (λ b. holds b fix ≡ false) (boxed .box) out)
+  outside-its-box least out =
+      let start = head .sections .«data» in
+      ap (λ (strict : Bool). judgedAt file (encodedBy strict (versionOf (head .preamble .version)) start) ((start + r .polygon) % 2 ^ 32) (fix .lat) (fix .lon) false least) plainly
+      ∙ standing-outside-box (boxed .border) fix least (sym (same-test (boxOf points) fix) ∙ subst (λ b. holds b fix ≡ false) (boxed .box) out)
 
   -- so its turn is its border's, whether its box holds the location or not
   turn-by-border : (least : ℕ) → rowTurn (judgeIn file head fix false) fix r least ≡ judgedTurn r (judgeIn file head fix false (r .polygon) least)
@@ -112,7 +116,7 @@ module _ {file : List ℕ} {head : Head} {r : Row} {points : List Point} (boxed 
       by-box true held = refl
       by-box false out = rw (outside-its-box least out)
 
-module _ (file : List ℕ) (head : Head) (fix : Point) (room : ℕ) where
+module _ (file : List ℕ) (head : Head) (plainly : head .strict ≡ false) (fix : Point) (room : ℕ) where
   abbrev judge : ℕ → ℕ → Judgement
   judge = judgeIn file head fix false
 
@@ -123,4 +127,4 @@ module _ (file : List ℕ) (head : Head) (fix : Point) (room : ℕ) where
   boxes-change-nothing none least hits = refl
   boxes-change-nothing (one {r = r} {rows = rows} boxed later) least hits =
       turn-alike room (seekAll judge fix room rows) (seekAlone judge room rows) (boxes-change-nothing later) (rowTurn judge fix r least) hits
-      ∙ ap (λ (t : Turn). afterTurn t hits room (seekAlone judge room rows)) (turn-by-border boxed fix least)
+      ∙ ap (λ (t : Turn). afterTurn t hits room (seekAlone judge room rows)) (turn-by-border plainly boxed fix least)

@@ -1,6 +1,6 @@
 -- The fourth word of a match leads to its entry: read there, it has a box that holds the location, and with it the table's row has the match's metadata id. Assumes nothing.
 use mathlib.Core.Path.{_≡_, refl, sym, ap, subst, _∙_}
-use mathlib.Core.Bool.{Bool, true}
+use mathlib.Core.Bool.{Bool, true, false}
 use mathlib.Core.List.{List, [], _∷_, _++_}
 use Prim.Native.Nat.{ℕ, _%_, _^_, _≤_, _<_}
 use native.Mathlib.Omega.{arith}
@@ -15,13 +15,14 @@ use Rattle.numbers.proofs.Replies.{given-from, demanded}
 use Rattle.numbers.specs.Answer.{Answer, found, _>>=_}
 use Rattle.numbers.specs.Answer as A
 use Rattle.numbers.specs.Reply.{given, plain}
-use Rattle.numbers.specs.Varint.{Numeral, forwardAt}
+use Rattle.numbers.specs.Varint.{Numeral, forwardAt, readingOf}
 use Rattle.zones.proofs.HowItEnds.{lookup-ends, simple-lookup-ends}
 use Rattle.zones.proofs.MatchKinds.{Each, end, next, both, either, answered-each}
+use Rattle.zones.proofs.Beside.{entry-plain}
 use Rattle.zones.proofs.TableRows.{rows-so}
 use Rattle.zones.specs.Ending.{Through, here, outside, judged, Answered}
 use Rattle.zones.specs.Find.{fixOf}
-use Rattle.zones.specs.Header.{preambleOf, contentsOf, headOf}
+use Rattle.zones.specs.Header.{preambleOf, contentsBy, headBy, headOf}
 use Rattle.zones.specs.Hits.{hitOf, hitAt}
 use Rattle.zones.specs.Lookup.{lookedUp}
 use Rattle.zones.specs.Merge.{summary, groupKind, seen, mergedAfter, merged}
@@ -60,12 +61,12 @@ record ReadAt (file : List ℕ) (r : Row) : Type 0 where
   box : r .bounds ≡ entry .bounds
 
 module _ (file : List ℕ) where
-  row-read : (at : Cursor) (r : Row) → found r ≡ rowBy (forwardAt file) at → ReadAt file r
+  row-read : (strict : Bool) (at : Cursor) (r : Row) → found r ≡ rowBy (readingOf strict file) at → ReadAt file r
   unfolding rowBy
-  row-read at r e = go (entryBy (forwardAt file) (at .place)) refl e
+  row-read strict at r e = go (entryBy (readingOf strict file) (at .place)) refl e
     where
-      go : (answer : Answer Entry) → entryBy (forwardAt file) (at .place) ≡ answer → found r ≡ (answer >>= λ entry. found (rowOf at entry)) → ReadAt file r
-      go (found entry) a e = let is : r ≡ rowOf at entry = cc in subst (ReadAt file) (sym is) (record { entry = entry; reads = a; box = refl })
+      go : (answer : Answer Entry) → entryBy (readingOf strict file) (at .place) ≡ answer → found r ≡ (answer >>= λ entry. found (rowOf at entry)) → ReadAt file r
+      go (found entry) a e = let is : r ≡ rowOf at entry = cc in subst (ReadAt file) (sym is) (record { entry = entry; reads = entry-plain file strict (at .place) a; box = refl })
       go A.failed a e = let z : _≡_ {A = ℕ} 0 1 = cc in absurd (omega arith)
       go (A.refused n) a e = let z : _≡_ {A = ℕ} 0 1 = cc in absurd (omega arith)
 
@@ -74,10 +75,10 @@ module _ (file : List ℕ) where
 
   rows-read : (head : Head) → EachRead (rowsIn file head)
   unfolding rowsIn Begins
-  rows-read head = rows-so (forwardAt file) EachRead (λ r l. absurd (begins l)) (λ r l. absurd (begins l)) goes (λ at n e r l. absurd (begins l)) _ _
+  rows-read head = rows-so (readingOf (head .strict) file) EachRead (λ r l. absurd (begins l)) (λ r l. absurd (begins l)) goes (λ at n e r l. absurd (begins l)) _ _
     where
-      goes : (at : Cursor) (s : Row) (rest : Rows) → found s ≡ rowBy (forwardAt file) at → EachRead rest → EachRead (row s rest)
-      goes at s rest e k _ P.here = row-read at s e
+      goes : (at : Cursor) (s : Row) (rest : Rows) → found s ≡ rowBy (readingOf (head .strict) file) at → EachRead rest → EachRead (row s rest)
+      goes at s rest e k _ P.here = row-read (head .strict) at s e
       goes at s rest e k r (later l) = k r l
 
   -- inside the file, which has at most 2 ^ 30 bytes
@@ -92,9 +93,9 @@ module _ (file : List ℕ) where
       go (A.refused n) on read e = let z : _≡_ {A = ℕ} 0 1 = cc in absurd (omega arith)
 
   small-file : (head : Head) → headOf file ≡ given head → length file ≤ 2 ^ 30
-  unfolding headOf contentsOf preambleOf
+  unfolding headBy contentsBy preambleOf
   small-file head e =
-      let contents = given-from (contentsOf file) _ (sym e) in
+      let contents = given-from (contentsBy false file) _ (sym e) in
       let preamble = given-from (preambleOf file) _ (contents .is) in
       leb-true (length file) (2 ^ 30) (demanded (leb (length file) (2 ^ 30)) (plain 1) (preamble .is) .0)
 

@@ -1,15 +1,15 @@
 -- A refusal of an entry point leaves every lent word and byte zero. Assumes nothing.
 use mathlib.Core.Path.{_≡_, refl}
-use mathlib.Core.Bool.{Bool}
+use mathlib.Core.Bool.{Bool, true, false}
 use mathlib.Core.List.{List}
 use Prim.Native.Nat.{ℕ}
 use native.Mathlib.Omega.{arith}
-use Rattle.zones.specs.Header.{Contents}
+use Rattle.zones.specs.Header.{Contents, headStrictly}
 use Rattle.zones.specs.Lent.{Outcome, repliedOf}
 use Rattle.numbers.specs.Lists.{zeros}
-use Rattle.zones.specs.Lookup.{zonesIn, lookedUp}
+use Rattle.zones.specs.Lookup.{zonesBy, zonesIn, lookedUp, lookedStrictly}
 use Rattle.zones.specs.Opening as O
-use Rattle.zones.specs.Opening.{fittingOf, openedOf}
+use Rattle.zones.specs.Opening.{fittingOf, openedBy, openedOf, openedStrictly}
 use Rattle.numbers.specs.Reply.{Reply, given, refused}
 use Rattle.zones.specs.Simple.{describedIn, simplyLooked}
 use Rattle.zones.specs.declared.location.Location.{Location}
@@ -27,8 +27,8 @@ text-zero room (refused why′) why e = refl
 
 -- A refused opening leaves the whole text zero.
 pub open-refusal-zeroes : (file : List ℕ) (room : ℕ) (why : Refusal) → openedOf file room .reply ≡ refused why → openedOf file room .text ≡ zeros room
-unfolding openedOf
-open-refusal-zeroes file room = text-zero room (fittingOf file room)
+unfolding openedBy
+open-refusal-zeroes file room = text-zero room (fittingOf false file room)
 
 -- A refused lookup leaves every word of the hit list and every byte of the text zero.
 pub lookup-refusal-zeroes : (file : List ℕ) (location : Location) (asked : Bool) (n room : ℕ) (why : Refusal) → lookedUp file location asked n room .reply ≡ refused why
@@ -41,3 +41,13 @@ pub simple-lookup-refusal-zeroes : (file : List ℕ) (location : Location) (n ro
     → (simplyLooked file location n room .hits ≡ zeros n) × (simplyLooked file location n room .text ≡ zeros room)
 unfolding simplyLooked
 simple-lookup-refusal-zeroes file location n room = both-zero n room (describedIn file location n room)
+
+-- So do a refused strict opening and a refused strict lookup.
+pub strict-open-refusal-zeroes : (file : List ℕ) (room : ℕ) (why : Refusal) → openedStrictly file room .reply ≡ refused why → openedStrictly file room .text ≡ zeros room
+unfolding openedBy
+strict-open-refusal-zeroes file room = text-zero room (fittingOf true file room)
+
+pub strict-lookup-refusal-zeroes : (file : List ℕ) (location : Location) (asked : Bool) (n room : ℕ) (why : Refusal) → lookedStrictly file location asked n room .reply ≡ refused why
+    → (lookedStrictly file location asked n room .hits ≡ zeros n) × (lookedStrictly file location asked n room .text ≡ zeros room)
+unfolding lookedStrictly
+strict-lookup-refusal-zeroes file location asked n room = both-zero n room (zonesBy (headStrictly file) file location asked n room)

@@ -5,7 +5,7 @@ use mathlib.Core.List.{List}
 use Prim.Native.Nat.{ℕ}
 use Rattle.numbers.specs.Reply.{Reply, given, refused}
 use Rattle.zones.specs.Lent.{Replied, replied}
-use Rattle.zones.specs.Lookup.{lookedUp, toldLooked}
+use Rattle.zones.specs.Lookup.{lookedUp, toldLooked, lookedStrictly}
 use Rattle.zones.specs.Simple.{simplyLooked, toldSimple}
 use Rattle.zones.specs.declared.location.Location.{Location}
 use Rattle.zones.specs.declared.lookup.Zones.{Zones}
@@ -49,3 +49,8 @@ pub same-simple-lookup : (file : List ℕ) (location : Location) (n room : ℕ) 
     → replied (toldSimple r) hs ts ≡ simplyLooked file location n room → replied (toldSimple r′) hs′ ts′ ≡ simplyLooked file location n room
     → (r ≡ r′) × (hs ≡ hs′) × (ts ≡ ts′)
 same-simple-lookup file location n room = one-reply toldSimple simpleBack simple-again (simplyLooked file location n room)
+
+pub same-lookup-strict : (file : List ℕ) (location : Location) (asked : Bool) (n room : ℕ) (r r′ : Looked) (hs hs′ ts ts′ : List ℕ)
+    → replied (toldLooked r) hs ts ≡ lookedStrictly file location asked n room → replied (toldLooked r′) hs′ ts′ ≡ lookedStrictly file location asked n room
+    → (r ≡ r′) × (hs ≡ hs′) × (ts ≡ ts′)
+same-lookup-strict file location asked n room = one-reply toldLooked lookedBack looked-again (lookedStrictly file location asked n room)

@@ -8,9 +8,10 @@ use mathlib.Core.Path.{_≡_, refl, sym, ap, _∙_}
 use native.Mathlib.Nat.{le-refl, le-of-lt}
 use native.Mathlib.Omega.{arith}
 use Rattle.numbers.proofs.Answers.{All, then-all}
-use Rattle.numbers.proofs.Laws.{Read, forward-read}
+use Rattle.numbers.proofs.Laws.{Read}
+use Rattle.numbers.proofs.Readings.{reading-read}
 use Rattle.numbers.specs.Answer.{Answer, found, if_then_else_, _>>=_}
-use Rattle.numbers.specs.Varint.{Numeral, forwardAt}
+use Rattle.numbers.specs.Varint.{Numeral, readingOf}
 use Rattle.zones.specs.Rows.{after, Rows, row, tableEnd, unreadable, refused, rowsThen, rowBy, rowsWithin, rowsFrom}
 use Rattle.zones.specs.Table.{stepsBy, entryBy}
 use Rattle.zones.specs.declared.rows.Cursor.{Cursor}
@@ -22,8 +23,8 @@ use Rattle.numbers.specs.Answer as A
 abbrev pub Grows : (ℕ → Answer Numeral) → Type 0
 Grows read = (place : ℕ) → All (λ (number : Numeral). place < number .place) (read place)
 
-pub forward-grows : (file : List ℕ) → Grows (forwardAt file)
-forward-grows file place = go (forwardAt file place) (forward-read file place)
+pub reading-grows : (strict : Bool) (file : List ℕ) → Grows (readingOf strict file)
+reading-grows strict file place = go (readingOf strict file place) (reading-read strict file place)
   where
     go : (answer : Answer Numeral) → All (λ (number : Numeral). Read file place (number .value) (number .place)) answer → All (λ (number : Numeral). place < number .place) answer
     go (found number) h = h .grows

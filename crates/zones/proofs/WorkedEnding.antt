@@ -6,7 +6,7 @@ use Prim.Native.Nat.{ℕ}
 use native.Mathlib.Omega.{arith}
 use lib.IntN.{negsuc}
 use lib.Ieee.{fin, ofInt, add, sub, mul, div, toSigned}
-use Rattle.numbers.specs.Varint.{forwardAt, valueOf, sizeOf, tooLong}
+use Rattle.numbers.specs.Varint.{readingOf, forwardAt, valueOf, sizeOf, tooLong}
 use Rattle.numbers.specs.Point.{signedOf, evenBits, pointOf}
 use Rattle.numbers.specs.Float.{fixedPoint, oneShifted}
 use Rattle.numbers.specs.Answer.{checked}
@@ -21,7 +21,7 @@ use Rattle.border.specs.Verdict.{along, passing, closedAt, thenOn, judge, judge
 use Rattle.zones.specs.Field.{fieldAt}
 use Rattle.zones.specs.Fields.{fieldsFrom, fieldsOf}
 use Rattle.zones.specs.Find.{fixOf, matchedWith}
-use Rattle.zones.specs.Header.{preambleOf, textsFrom, sectionsFrom, sectionsAt, contentsOf, headOf}
+use Rattle.zones.specs.Header.{preambleOf, textsFrom, sectionsFrom, sectionsAt, contentsBy, headBy}
 use Rattle.zones.specs.Hits.{words, hitOf, hitAt}
 use Rattle.zones.specs.Ending.{Answered}
 use Rattle.zones.specs.Lent.{Replied, replied, repliedOf}
@@ -52,7 +52,7 @@ inTheZone = record { lat = fin false 225 (negsuc 13); lon = fin false 225 (negsu
 
 pub answered : lookedUp printed inTheZone false 4 4
     ≡ replied (given (record { matches = 1; mark = 1; safezone = 0; used = 4 })) (0 ∷ 0 ∷ 1 ∷ 16 ∷ []) (0 ∷ 0 ∷ 1 ∷ 0x41 ∷ [])
-unfolding forwardAt valueOf sizeOf tooLong signedOf evenBits pointOf fixedPoint oneShifted checked movedBy advanced marker packedTurn turnOf roundAgain nextWithin nextPoint traceThen traceWithin traceOf along passing closedAt thenOn judge judgedAt fieldAt fieldsFrom fieldsOf fixOf matchedWith preambleOf textsFrom sectionsFrom sectionsAt contentsOf headOf words repliedOf safezoneBits zonesWith zonesIn lookedUp summary seen mergedAfter merged rowsThen rowBy rowsWithin rowsFrom rowsIn judgedTurn rowTurn seek searched stepsBy entryBy within remoteAt stringAt bytesOf textAt characters startedBy begunBy followed goesOn isUtf8 samePoint between inBox quadrantOf slopeOf edgeOf straight closestOn turned quarterBy halfTurn turnAt crossingOf acrossBy clearOf woundBy measured S.checked ofInt add sub mul div toSigned
+unfolding readingOf forwardAt valueOf sizeOf tooLong signedOf evenBits pointOf fixedPoint oneShifted checked movedBy advanced marker packedTurn turnOf roundAgain nextWithin nextPoint traceThen traceWithin traceOf along passing closedAt thenOn judge judgedAt fieldAt fieldsFrom fieldsOf fixOf matchedWith preambleOf textsFrom sectionsFrom sectionsAt contentsBy headBy words repliedOf safezoneBits zonesWith zonesIn lookedUp summary seen mergedAfter merged rowsThen rowBy rowsWithin rowsFrom rowsIn judgedTurn rowTurn seek searched stepsBy entryBy within remoteAt stringAt bytesOf textAt characters startedBy begunBy followed goesOn isUtf8 samePoint between inBox quadrantOf slopeOf edgeOf straight closestOn turned quarterBy halfTurn turnAt crossingOf acrossBy clearOf woundBy measured S.checked ofInt add sub mul div toSigned
 answered = refl
 
 -- so the search behind it went through the file's one row, and ended at the table's end
@@ -78,7 +78,7 @@ outOfOrder =
 
 pub stopped-early : lookedUp outOfOrder inTheZone false 4 4
     ≡ replied (given (record { matches = 1; mark = 4; safezone = 0; used = 4 })) (0 ∷ 0 ∷ 1 ∷ 16 ∷ []) (0 ∷ 0 ∷ 1 ∷ 0x41 ∷ [])
-unfolding restMark forwardAt valueOf sizeOf tooLong signedOf evenBits pointOf fixedPoint oneShifted checked movedBy advanced marker packedTurn turnOf roundAgain nextWithin nextPoint traceThen traceWithin traceOf along passing closedAt thenOn judge judgedAt fieldAt fieldsFrom fieldsOf fixOf matchedWith preambleOf textsFrom sectionsFrom sectionsAt contentsOf headOf words repliedOf safezoneBits zonesWith zonesIn lookedUp summary seen mergedAfter merged rowsThen rowBy rowsWithin rowsFrom rowsIn judgedTurn rowTurn seek searched stepsBy entryBy within remoteAt stringAt bytesOf textAt characters startedBy begunBy followed goesOn isUtf8 samePoint between inBox quadrantOf slopeOf edgeOf straight closestOn turned quarterBy halfTurn turnAt crossingOf acrossBy clearOf woundBy measured S.checked ofInt add sub mul div toSigned
+unfolding readingOf restMark forwardAt valueOf sizeOf tooLong signedOf evenBits pointOf fixedPoint oneShifted checked movedBy advanced marker packedTurn turnOf roundAgain nextWithin nextPoint traceThen traceWithin traceOf along passing closedAt thenOn judge judgedAt fieldAt fieldsFrom fieldsOf fixOf matchedWith preambleOf textsFrom sectionsFrom sectionsAt contentsBy headBy words repliedOf safezoneBits zonesWith zonesIn lookedUp summary seen mergedAfter merged rowsThen rowBy rowsWithin rowsFrom rowsIn judgedTurn rowTurn seek searched stepsBy entryBy within remoteAt stringAt bytesOf textAt characters startedBy begunBy followed goesOn isUtf8 samePoint between inBox quadrantOf slopeOf edgeOf straight closestOn turned quarterBy halfTurn turnAt crossingOf acrossBy clearOf woundBy measured S.checked ofInt add sub mul div toSigned
 stopped-early = refl
 
 -- so a row behind the second holds the location

@@ -12,7 +12,7 @@ use Rattle.border.specs.Moves.{pointsOf}
 use Rattle.border.specs.Written.{Placed}
 use Rattle.border.specs.declared.place.Point.{Point}
 use Rattle.numbers.specs.Point.{signedOf}
-use Rattle.numbers.specs.Varint.{forwardAt, valueOf, sizeOf, tooLong}
+use Rattle.numbers.specs.Varint.{readingOf, forwardAt, valueOf, sizeOf, tooLong}
 use Rattle.zones.proofs.InOrder.{early-stop-loses-nothing, boxes-change-nothing}
 use Rattle.zones.specs.Ordered.{Ordered, ends, next, AllBoxed, none, one, seekAlone}
 use Rattle.zones.specs.Rows.{rowsThen, rowBy, rowsWithin, rowsFrom, rowsIn}
@@ -30,7 +30,7 @@ abbrev printed : List ℕ
 printed = front ++ border
 
 abbrev head : Head
-head = record { preamble = record { kind = 0x43; version = 1; precision = 16; count = 1 }; sections = record { table = 16; metadata = 22; «data» = 24 } }
+head = record { preamble = record { kind = 0x43; version = 1; precision = 16; count = 1 }; sections = record { table = 16; metadata = 22; «data» = 24 }; strict = false }
 
 abbrev points : List Point
 points = pointsOf (pos 2 ∷ pos 10 ∷ pos 10 ∷ pos 2 ∷ []) (pos 2 ∷ pos 2 ∷ pos 10 ∷ pos 10 ∷ [])
@@ -39,15 +39,15 @@ placed : Placed [] border printed 24 24
 placed = record { header = front; rest = []; layout = refl; data-section = refl; border-place = refl; size = omega arith }
 
 printed-ordered : Ordered 22 (pos 2) (rowsIn printed head)
-unfolding forwardAt valueOf sizeOf tooLong signedOf stepsBy entryBy rowsThen rowBy rowsWithin rowsFrom rowsIn
+unfolding readingOf forwardAt valueOf sizeOf tooLong signedOf stepsBy entryBy rowsThen rowBy rowsWithin rowsFrom rowsIn
 printed-ordered = next refl refl ends
 
 printed-boxed : AllBoxed printed head (rowsIn printed head) (points ∷ [])
-unfolding forwardAt valueOf sizeOf tooLong signedOf stepsBy entryBy rowsThen rowBy rowsWithin rowsFrom rowsIn minZ maxZ boxOver boxOf pointsOf zipWith
+unfolding readingOf forwardAt valueOf sizeOf tooLong signedOf stepsBy entryBy rowsThen rowBy rowsWithin rowsFrom rowsIn minZ maxZ boxOver boxOf pointsOf zipWith
 printed-boxed = one (record { border = written-stands (record { pieces = []; earlier = []; bytes = border; accepted = packed-bytes; placed = placed }); box = refl }) none
 
 pub printed-alone : (fix : Point) (room : ℕ) → searched printed head fix false room ≡ seekAlone (judgeIn printed head fix false) room (rowsIn printed head) farthest []
 unfolding searched
 printed-alone fix room =
     early-stop-loses-nothing 22 fix (judgeIn printed head fix false) room printed-ordered farthest []
-    ∙ boxes-change-nothing printed head fix room printed-boxed farthest []
+    ∙ boxes-change-nothing printed head refl fix room printed-boxed farthest []

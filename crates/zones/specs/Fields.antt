@@ -20,7 +20,7 @@ module _ (file : List ℕ) (head : Head) (room : ℕ) where
   unfoldable pub fieldsFrom : ℕ → ℕ → ℕ → List ℕ → Reply (List ℕ)
   fieldsFrom zero tag place text = given text
   fieldsFrom (suc more) tag place text = do
-    field ← fieldAt file (head .sections .metadata) place tag (room - length text)
+    field ← fieldAt (head .strict) file (head .sections .metadata) place tag (room - length text)
     fieldsFrom more (tag + 1) (field .next) (text ++ field .bytes)
 
   -- the fields of each match, one match after the other

@@ -9,7 +9,7 @@ use Rattle.numbers.specs.Answer.{if_then_else_}
 use Rattle.numbers.specs.Float.{toF32, oneShifted, _⊠_, _⊘_}
 use Rattle.numbers.specs.Float.Root.{root}
 use Rattle.numbers.specs.Reply.{Reply, given, refused, _>>=_}
-use Rattle.zones.specs.Header.{headOf}
+use Rattle.zones.specs.Header.{headOf, headStrictly}
 use Rattle.zones.specs.Hits.{width}
 use Rattle.zones.specs.declared.header.Head.{Head}
 use Rattle.zones.specs.Find.{ninety, Matched, matchedWith}
@@ -45,10 +45,13 @@ unfoldable pub zonesWith : List ℕ → Head → Location → Bool → ℕ → �
 zonesWith file head location asked n room = zonesFrom file head asked room (matchedWith file head location asked (n / width))
 
 -- the file is opened first
-unfoldable pub zonesIn : List ℕ → Location → Bool → ℕ → ℕ → Reply (Outcome Zones)
-zonesIn file location asked n room = do
-  head ← headOf file
+abbrev pub zonesBy : Reply Head → List ℕ → Location → Bool → ℕ → ℕ → Reply (Outcome Zones)
+zonesBy opened file location asked n room = do
+  head ← opened
   zonesWith file head location asked n room
+
+unfoldable pub zonesIn : List ℕ → Location → Bool → ℕ → ℕ → Reply (Outcome Zones)
+zonesIn file location asked n room = zonesBy (headOf file) file location asked n room
 
 -- the reply and both lent buffers, in a file with this header
 unfoldable pub lookedWith : List ℕ → Head → Location → Bool → ℕ → ℕ → Replied Zones
@@ -57,6 +60,10 @@ lookedWith file head location asked n room = repliedOf n room (zonesWith file he
 -- and in a file that is opened first
 unfoldable pub lookedUp : List ℕ → Location → Bool → ℕ → ℕ → Replied Zones
 lookedUp file location asked n room = repliedOf n room (zonesIn file location asked n room)
+
+-- request Q-6: opened and read strictly
+unfoldable pub lookedStrictly : List ℕ → Location → Bool → ℕ → ℕ → Replied Zones
+lookedStrictly file location asked n room = repliedOf n room (zonesBy (headStrictly file) file location asked n room)
 
 abbrev pub toldLooked : Looked → Reply Zones
 toldLooked (L.Zones zones) = given zones

@@ -4,7 +4,7 @@ use lib.Dec.{ltb}
 use mathlib.Core.List.{List}
 use Rattle.numbers.specs.Answer.{Answer, found, if_then_else_, _>>=_}
 use Rattle.numbers.specs.Point.{low32, halfOf}
-use Rattle.numbers.specs.Varint.{Numeral, forwardAt}
+use Rattle.numbers.specs.Varint.{Numeral, readingOf}
 use Rattle.zones.specs.Table.{entryBy}
 use Rattle.zones.specs.declared.header.Head.{Head}
 use Rattle.zones.specs.declared.rows.Cursor.{Cursor}
@@ -63,7 +63,7 @@ module _ (read : ℕ → Answer Numeral) where
 
 -- the rows of a file's table, which ends where the metadata begins
 unfoldable pub rowsIn : List ℕ → Head → Rows
-rowsIn file head = rowsFrom (forwardAt file) (head .sections .metadata) (startAt (head .sections .table))
+rowsIn file head = rowsFrom (readingOf (head .strict) file) (head .sections .metadata) (startAt (head .sections .table))
 
 -- ---- the code's answers
 abbrev pub toldReading : Reading → Answer Row

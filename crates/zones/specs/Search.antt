@@ -5,7 +5,7 @@ use lib.ListN.{length}
 use mathlib.Core.Bool.{Bool}
 use mathlib.Core.List.{List, [], _∷_, _++_}
 use mathlib.Core.Path.{_≡_}
-use Rattle.border.specs.Encoding.{encodingOf}
+use Rattle.border.specs.Encoding.{versionOf, encodedBy}
 use Rattle.border.specs.Verdict.{Judgement, reached, judgedAt}
 use Rattle.border.specs.declared.place.Point.{Point}
 use Rattle.border.specs.declared.verdict.Verdict.the-variants.{NotInZone, InZone, InExcludedZone, OnBorderVertex, OnBorderSegment}
@@ -87,7 +87,7 @@ farthest = 2 ^ 64 - 1
 abbrev pub judgeIn : List ℕ → Head → Point → Bool → ℕ → ℕ → Judgement
 judgeIn file head fix asked polygon least =
     let start = head .sections .«data» in
-    judgedAt file (encodingOf (head .preamble .version) start) ((start + polygon) % 2 ^ 32) (fix .lat) (fix .lon) asked least
+    judgedAt file (encodedBy (head .strict) (versionOf (head .preamble .version)) start) ((start + polygon) % 2 ^ 32) (fix .lat) (fix .lon) asked least
 
 -- the search of some rows, with so many slots for hits
 abbrev pub searchedRows : List ℕ → Head → Point → Bool → ℕ → Rows → Reply Found

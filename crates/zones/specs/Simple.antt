@@ -80,8 +80,8 @@ module _ (file : List ℕ) (head : Head) where
   unfoldable pub pickedFrom : ℕ → ℕ → ℕ → ℕ → Picked → Reply Picked
   pickedFrom zero index names values last = given last
   pickedFrom (suc more) index names values last = do
-    called ← textAt file 0 names (blameOf (head .preamble .count) index)
-    value ← textAt file (head .sections .metadata) values (record { number = 15; detail = 0 })
+    called ← textAt (head .strict) file 0 names (blameOf (head .preamble .count) index)
+    value ← textAt (head .strict) file (head .sections .metadata) values (record { number = 15; detail = 0 })
     pickedFrom more (index + 1) (called .next) (value .next) (newer (partOf (head .preamble .kind) (bytesOf file called)) value last)
 
   -- the wanted fields of a match

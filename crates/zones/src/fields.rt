@@ -35,11 +35,19 @@ fn write_match(text: &mut [u8], from: usize, file: &[u8], head: Head, start: usi
 {
     let preamble = head.preamble;
     let sections = head.sections;
+    let strict = head.strict;
     let mut place = start;
     let mut at = from;
     let mut tag: u8 = 0;
     while tag < preamble.count {
-        let field = match write_field(&mut text[at..], tag, file, sections.metadata, place) {
+        let field = match write_field(
+            &mut text[at..],
+            tag,
+            file,
+            strict,
+            sections.metadata,
+            place,
+        ) {
             Written::Field(field) => field,
             Written::Refused(why) => return Fields::Refused(why),
         };

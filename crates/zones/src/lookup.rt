@@ -3,13 +3,14 @@ ghost use mathlib.Core.Path.{_≡_};
 ghost use lib.ListN.{length};
 ghost use Rattle.numbers.specs.Lists.{zeros};
 ghost use Rattle.zones.specs.Lent.{Agrees, Filled, replied};
-ghost use Rattle.zones.specs.Lookup.{safezoneBits, zonesWith, lookedWith, lookedUp, toldLooked};
+ghost use Rattle.zones.specs.Lookup.{safezoneBits, zonesWith, lookedWith, lookedUp, lookedStrictly, toldLooked};
 use crate::fields::Fields;
 use crate::fields::write_fields;
 use crate::find::Found;
 use crate::find::matches_in;
 use crate::header::Head;
 use crate::header::Headed;
+use crate::header::head_by;
 use crate::header::head_of;
 use crate::location::Location;
 use crate::zero::zero_both;
@@ -107,6 +108,27 @@ pub fn lookup(
         ≡ lookedUp (now (file .entry)) location asked (length (now (hits .entry))) (length (now (text .entry))) ⌝ }
 {
     let head = match head_of(file) {
+        Headed::Head(head) => head,
+        Headed::Refused(why) => {
+            zero_both(hits, text);
+            return Looked::Refused(why);
+        }
+    };
+    lookup_in(file, head, location, asked, hits, text)
+}
+
+// The same, but a number that the file's end cuts is refused: 31.
+pub fn lookup_strict(
+    file: &[u8],
+    location: Location,
+    asked: bool,
+    hits: &mut [u32],
+    text: &mut [u8],
+) -> Looked
+    ensures { λ r. ⌜ replied (toldLooked r) (now (hits .exit)) (now (text .exit))
+        ≡ lookedStrictly (now (file .entry)) location asked (length (now (hits .entry))) (length (now (text .entry))) ⌝ }
+{
+    let head = match head_by(file, true) {
         Headed::Head(head) => head,
         Headed::Refused(why) => {
             zero_both(hits, text);

@@ -2,7 +2,7 @@
 ghost use mathlib.Core.Path.{_≡_};
 ghost use Prim.Native.Nat.{_+_, _%_, _^_};
 ghost use Rattle.numbers.specs.Point.{low32, halfOf};
-ghost use Rattle.numbers.specs.Varint.{forwardAt};
+ghost use Rattle.numbers.specs.Varint.{readingOf};
 ghost use Rattle.zones.specs.Rows.{rowOf, after, startAt, rowBy, toldReading};
 use crate::table::Bounds;
 use crate::table::Entered;
@@ -89,10 +89,10 @@ pub fn start_at(place: usize) -> Cursor
 }
 
 // The row at a cursor.
-pub fn row_at(file: &[u8], at: Cursor) -> Reading
-    ensures { λ r. ⌜ toldReading r ≡ rowBy (forwardAt (now (file .entry))) at ⌝ }
+pub fn row_at(file: &[u8], at: Cursor, strict: bool) -> Reading
+    ensures { λ r. ⌜ toldReading r ≡ rowBy (readingOf strict (now (file .entry))) at ⌝ }
 {
-    let entered = entry_at(file, at.place);
+    let entered = entry_at(file, at.place, strict);
     match entered {
         Entered::Entry(entry) => Reading::Row(row_of(at, entry)),
         Entered::Failed => Reading::Failed,

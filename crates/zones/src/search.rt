@@ -119,6 +119,7 @@ fn judge(file: &[u8], head: Head, fix: Point, asked: bool, polygon: u32, least: 
     let encoding = Encoding {
         version: version_of(preamble.version),
         data: start,
+        strict: head.strict,
     };
     point_in_polygon(file, encoding, place, fix.lat, fix.lon, asked, least)
 }
@@ -152,13 +153,17 @@ pub(crate) fn search(file: &[u8], head: Head, fix: Point, asked: bool, hits: &mu
     let mut least = 0xffff_ffff_ffff_ffff;
     let mut at = start_at(sections.table as usize);
     while at.place < end {
-        let entry = match entry_at(file, at.place) {
+        let entry = match entry_at(file, at.place, head.strict) {
             Entered::Entry(entry) => entry,
             Entered::Failed => return end_with(count, UNREADABLE, least),
             Entered::Refused(number) => return Searched::Refused(plain(number)),
         };
         if is_above(entry.bounds, fix) {
-            return end_with(count, rest_mark(file, end, fix, entry.next), least);
+            return end_with(
+                count,
+                rest_mark(file, head.strict, end, fix, entry.next),
+                least,
+            );
         }
         let row = row_of(at, entry);
         at = after(row);

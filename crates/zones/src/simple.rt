@@ -161,6 +161,7 @@ fn pick(file: &[u8], head: Head, start: usize) -> Picks
 {
     let preamble = head.preamble;
     let sections = head.sections;
+    let strict = head.strict;
     let names = preamble.count as usize;
     let blame = Blame {
         number: BAD_FIELD,
@@ -171,11 +172,11 @@ fn pick(file: &[u8], head: Head, start: usize) -> Picks
     let mut place = start;
     let mut last = begun(preamble.kind);
     while index < names {
-        let called = match read_header_text(file, names, index, name) {
+        let called = match read_header_text(file, strict, names, index, name) {
             Read::Text(called) => called,
             Read::Refused(why) => return Picks::Refused(why),
         };
-        let value = match read_text(file, sections.metadata, place, blame) {
+        let value = match read_text(file, strict, sections.metadata, place, blame) {
             Read::Text(value) => value,
             Read::Refused(why) => return Picks::Refused(why),
         };

@@ -1,14 +1,14 @@
 // The box table: each entry's bounds, and the steps of its metadata id and of its border's place.
 ghost use mathlib.Core.Path.{_≡_};
 ghost use lib.Signed.{ltZ, leZ};
-ghost use Rattle.numbers.specs.Varint.{forwardAt};
+ghost use Rattle.numbers.specs.Varint.{readingOf};
 ghost use Rattle.zones.specs.Table.{toldEntered, stoppedBy, entryBy, stepsBy, boundsOf, isAbove, between, holds};
 use border::place::FixedLat;
 use border::place::FixedLon;
 use border::place::Point;
 use numbers::point::signed;
 use numbers::varint::Varint;
-use numbers::varint::read_forward;
+use numbers::varint::read_number;
 
 pub struct Bounds {
     pub min_lat: FixedLat,
@@ -44,14 +44,14 @@ fn stopped(answer: Varint) -> Entered
 }
 
 // The entry's last two numbers, after its bounds.
-fn steps_at(file: &[u8], place: usize, bounds: Bounds) -> Entered
-    ensures { λ r. ⌜ toldEntered r ≡ stepsBy (forwardAt (now (file .entry))) place bounds ⌝ }
+fn steps_at(file: &[u8], strict: bool, place: usize, bounds: Bounds) -> Entered
+    ensures { λ r. ⌜ toldEntered r ≡ stepsBy (readingOf strict (now (file .entry))) place bounds ⌝ }
 {
-    let fifth = read_forward(file, place);
+    let fifth = read_number(file, place, strict);
     let Varint::Number(metadata) = fifth else {
         return stopped(fifth);
     };
-    let sixth = read_forward(file, metadata.place);
+    let sixth = read_number(file, metadata.place, strict);
     let Varint::Number(polygon) = sixth else {
         return stopped(sixth);
     };
@@ -64,27 +64,27 @@ fn steps_at(file: &[u8], place: usize, bounds: Bounds) -> Entered
 }
 
 // All six numbers are read before any is tested.
-pub fn entry_at(file: &[u8], place: usize) -> Entered
-    ensures { λ r. ⌜ toldEntered r ≡ entryBy (forwardAt (now (file .entry))) place ⌝ }
+pub fn entry_at(file: &[u8], place: usize, strict: bool) -> Entered
+    ensures { λ r. ⌜ toldEntered r ≡ entryBy (readingOf strict (now (file .entry))) place ⌝ }
 {
-    let first = read_forward(file, place);
+    let first = read_number(file, place, strict);
     let Varint::Number(min_lat) = first else {
         return stopped(first);
     };
-    let second = read_forward(file, min_lat.place);
+    let second = read_number(file, min_lat.place, strict);
     let Varint::Number(min_lon) = second else {
         return stopped(second);
     };
-    let third = read_forward(file, min_lon.place);
+    let third = read_number(file, min_lon.place, strict);
     let Varint::Number(max_lat) = third else {
         return stopped(third);
     };
-    let fourth = read_forward(file, max_lat.place);
+    let fourth = read_number(file, max_lat.place, strict);
     let Varint::Number(max_lon) = fourth else {
         return stopped(fourth);
     };
     let bounds = bounds_of(min_lat.value, min_lon.value, max_lat.value, max_lon.value);
-    steps_at(file, max_lon.place, bounds)
+    steps_at(file, strict, max_lon.place, bounds)
 }
 
 pub fn bounds_of(min_lat: u64, min_lon: u64, max_lat: u64, max_lon: u64) -> Bounds

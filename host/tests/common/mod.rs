@@ -58,8 +58,22 @@ impl Buffers {
     }
 
     pub fn open(&mut self, file: &[u8], bytes: usize, edge: Edge) -> Outcome {
+        self.open_by(raw::open, file, bytes, edge)
+    }
+
+    pub fn open_strict(&mut self, file: &[u8], bytes: usize, edge: Edge) -> Outcome {
+        self.open_by(raw::open_strict, file, bytes, edge)
+    }
+
+    fn open_by(
+        &mut self,
+        call: fn(&[u8], &mut [u8]) -> Result<Reply, Refusal>,
+        file: &[u8],
+        bytes: usize,
+        edge: Edge,
+    ) -> Outcome {
         let text = self.text.lend::<u8>(bytes, edge);
-        let reply = raw::open(file, text);
+        let reply = call(file, text);
         let text = text.to_vec();
         self.text.assert_kept(bytes, edge);
         Outcome {
@@ -79,6 +93,19 @@ impl Buffers {
     ) -> Outcome {
         self.call(words, bytes, edge, |hits, text| {
             raw::lookup(file, fix.lat, fix.lon, fix.asked, hits, text)
+        })
+    }
+
+    pub fn lookup_strict(
+        &mut self,
+        file: &[u8],
+        fix: Fix,
+        words: usize,
+        bytes: usize,
+        edge: Edge,
+    ) -> Outcome {
+        self.call(words, bytes, edge, |hits, text| {
+            raw::lookup_strict(file, fix.lat, fix.lon, fix.asked, hits, text)
         })
     }
 

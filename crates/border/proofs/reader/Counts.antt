@@ -2,11 +2,10 @@
 use Prim.Native.Nat.{ℕ}
 use mathlib.Core.Path.{_≡_, refl}
 use mathlib.Core.Bool.{Bool, true, false}
-use mathlib.Core.List.{List}
 use lib.Dec.{eqb}
 use Rattle.numbers.specs.Answer.{Answer, found, failed, refused, if_then_else_, _>>=_}
-use Rattle.numbers.specs.Varint.{Numeral, forwardAt}
-use Rattle.border.specs.Reader.{Turn, onward, plainPair, plainTurn}
+use Rattle.numbers.specs.Varint.{Numeral}
+use Rattle.border.specs.Reader.{Turn, Reading, onward, plainPair, plainTurn}
 use Rattle.border.specs.Told.{counted}
 use Rattle.border.specs.declared.reader.Reader.{Reader}
 use Rattle.border.specs.declared.reader.Run.the-variants.{Idle}
@@ -25,10 +24,10 @@ module _ (k : Numeral → Answer Turn) where
   started true n m = refl
   started false n m = read-on m
 
-module _ (f : List ℕ) (s : Reader) where
+module _ (read : Reading) (s : Reader) where
   abbrev pub pairFrom : Numeral → Answer Turn
-  pairFrom n = plainPair f (onward s (n .place) (n .value) Idle)
+  pairFrom n = plainPair read (onward s (n .place) (n .value) Idle)
 
-  pub counted-turn : (counted f s >>= pairFrom) ≡ plainTurn f s
+  pub counted-turn : (counted read s >>= pairFrom) ≡ plainTurn read s
   unfolding counted plainTurn plainPair
-  counted-turn = started pairFrom (s .begun) (record { value = s .moves; place = s .place }) (forwardAt f (s .place))
+  counted-turn = started pairFrom (s .begun) (record { value = s .moves; place = s .place }) (read (s .place))

@@ -8,7 +8,7 @@ abbrev Inv-loop : tie.InvT-loop
 Inv-loop names line kind₀ kind = Unit {0}
 
 abbrev μ-loop : tie.MeasureT-loop
-μ-loop names line kind₀ kind = 12 - kind
+μ-loop names line kind₀ kind = 13 - kind
 
 pub kind-of-spec : {M : Type 1} → statement M
 kind-of-spec =

@@ -8,7 +8,7 @@ abbrev Inv-loop : tie.InvT-loop
 Inv-loop names compared wrong kind₀ t5 t6 t7 kind = Unit {0}
 
 abbrev μ-loop : tie.MeasureT-loop
-μ-loop names compared wrong kind₀ t5 t6 t7 kind = 13 - kind
+μ-loop names compared wrong kind₀ t5 t6 t7 kind = 14 - kind
 
 pub report-spec : {M : Type 1} → statement M
 report-spec =

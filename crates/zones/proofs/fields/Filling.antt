@@ -47,10 +47,10 @@ sent-refused (given f) e = let z : _≡_ {A = ℕ} 0 1 = cc in absurd (omega ari
 sent-refused (refused why′) e = cc
 
 -- a field that is given has room
-field-fits : (file : List ℕ) (metadata place tag room : ℕ) {f : Field} → given f ≡ fieldAt file metadata place tag room → length (f .bytes) ≤ room
+field-fits : (strict : Bool) (file : List ℕ) (metadata place tag room : ℕ) {f : Field} → given f ≡ fieldAt strict file metadata place tag room → length (f .bytes) ≤ room
 unfolding fieldAt
-field-fits file metadata place tag room {f} e =
-    let text = given-from (textAt file metadata place _) _ e in
+field-fits strict file metadata place tag room {f} e =
+    let text = given-from (textAt strict file metadata place _) _ e in
     go (field tag (bytesOf file (text .it))) (text .it .next) (leb (length (field tag (bytesOf file (text .it)))) room) refl (text .onto)
   where
     go : (bytes : List ℕ) (next : ℕ) (test : Bool) → leb (length bytes) room ≡ test → given f ≡ (demand test (plain 18) >> given (record { bytes = bytes; next = next })) → length (f .bytes) ≤ room
@@ -93,7 +93,7 @@ module _ (file : List ℕ) (head : Head) (room count : ℕ) where
       rest = take (length text - at) (drop at text)
 
       abbrev one : ℕ → Reply Field
-      one n = fieldAt file (head .sections .metadata) place tag n
+      one n = fieldAt (head .strict) file (head .sections .metadata) place tag n
 
       opened : (one (room - length (g .out)) >>= λ f. fieldsFrom file head room (count - (tag + 1)) (tag + 1) (f .next) (g .out ++ f .bytes)) ≡ whole
       unfolding fieldsFrom
@@ -114,7 +114,7 @@ module _ (file : List ℕ) (head : Head) (room count : ℕ) where
               ∙ omega (
                 arith,
                 length-take-le at text (omega (arith, g .held .fits, filling-length)),
-                ap length l ∙ after-length (one (length rest)) rest (λ f is. field-fits file (head .sections .metadata) place tag (length rest) is),
+                ap length l ∙ after-length (one (length rest)) rest (λ f is. field-fits (head .strict) file (head .sections .metadata) place tag (length rest) is),
                 remains-length (g .held),
                 g .held .sized,
                 g .held .fits,
@@ -124,7 +124,7 @@ module _ (file : List ℕ) (head : Head) (room count : ℕ) where
           pub filled : {sent : Sent} → r ≡ W.Field sent → Filling file head room count whole (take at text ++ (last ++ drop (length text - at) (drop at text))) (at + sent .size) (sent .next) (tag + 1)
           filled {sent} is =
               let o = sent-out (one (length rest)) (ap toldField (sym is) ∙ e) in
-              let fits : length (o .it .bytes) ≤ length rest = field-fits file (head .sections .metadata) place tag (length rest) (o .is) in
+              let fits : length (o .it .bytes) ≤ length rest = field-fits (head .strict) file (head .sections .metadata) place tag (length rest) (o .is) in
               record {
                 out = g .out ++ o .it .bytes;
                 held = written (g .held) (o .it .bytes) last (o .size) (omega (arith, o .size, remains-length (g .held))) (l ∙ ap (λ (v : Reply Field). textAfter v rest) (sym (o .is)));

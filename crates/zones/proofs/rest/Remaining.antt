@@ -15,10 +15,10 @@ use Rattle.numbers.proofs.Answers.{All}
 use Rattle.numbers.proofs.Laws.{end-then, caseOf, stops}
 use Rattle.numbers.specs.Answer.{Answer, found, failed, refused, if_then_else_, _>>=_}
 use Rattle.numbers.specs.Point.{signedOf}
-use Rattle.numbers.specs.Varint.{Numeral, told, nowhere, endOf, forwardAt}
+use Rattle.numbers.specs.Varint.{Numeral, told, nowhere, endOf, forwardAt, readingOf}
 use Rattle.numbers.specs.declared.varint.Varint.{Varint}
 use Rattle.numbers.proofs.Answers.{other}
-use Rattle.zones.proofs.TableRows.{Grows, forward-grows, rows-step, entry-past}
+use Rattle.zones.proofs.TableRows.{Grows, reading-grows, rows-step, entry-past}
 use Rattle.zones.specs.Rest.{restMark, fiveBy, heldBy, isHeld}
 use Rattle.zones.specs.Rows.{Rows, row, rowOf, after, startAt, tableEnd, rowsThen, rowBy, rowsWithin, rowsFrom}
 use Rattle.zones.specs.Table.{stepsBy, entryBy, isAbove, holds}
@@ -180,12 +180,12 @@ none-held a e h k = none (told a) ∙ ap isHeld (stops a e h (λ number. found f
     none failed = refl
     none (refused n) = refl
 
-module _ (file : List ℕ) (end : ℕ) (fix : Point) (place : ℕ) (more : place < end) where
+module _ (strict : Bool) (file : List ℕ) (end : ℕ) (fix : Point) (place : ℕ) (more : place < end) where
   abbrev read : ℕ → Answer Numeral
-  read = forwardAt file
+  read = readingOf strict file
 
   here-is : {mark : ℕ} → behind read end fix (restFrom read end fix) (entryBy read place) ≡ mark → restFrom read end fix place ≡ mark
-  here-is e = rest-step read end fix (forward-grows file) place more ∙ e
+  here-is e = rest-step read end fix (reading-grows strict file) place more ∙ e
 
   pub unread : (a : Varint) → told a ≡ read place → (caseOf a ≡ 1) ⊎ (caseOf a ≡ 2) → restFrom read end fix place ≡ 2
   unfolding entryBy
@@ -215,7 +215,7 @@ module _ (file : List ℕ) (end : ℕ) (fix : Point) (place : ℕ) (more : place
         later : place < next
 
       here : Here
-      here = go (entryBy read place) refl (end-of-five read fix place first (sym is)) (entry-said read fix place first (sym is)) (entry-past read (forward-grows file) place)
+      here = go (entryBy read place) refl (end-of-five read fix place first (sym is)) (entry-said read fix place first (sym is)) (entry-past read (reading-grows strict file) place)
         where
           go : (answer : Answer Entry) → entryBy read place ≡ answer → entryEnd answer ≡ endOf (fiveBy read (first .place)) → All (Said read fix place first (sym is)) answer → All (λ (entry : Entry). place < entry .next) answer → Here
           go (found entry) e ends said later = record { entry = entry; entry-is = e; next-is = ends ∙ sym n; said = said; later = rw (sym (ends ∙ sym n)) later }

@@ -5,7 +5,7 @@ use lib.Dec.{eqb}
 use mathlib.Core.Bool.{Bool, true, false}
 use mathlib.Core.List.{List}
 use mathlib.Core.Path.{_≡_, refl, sym, ap, subst, _∙_}
-use Rattle.border.specs.Encoding.{versionOf, encodedIn}
+use Rattle.border.specs.Encoding.{versionOf, encodedBy}
 use Rattle.border.specs.Verdict.{Judgement, told, judgedAt}
 use Rattle.border.specs.declared.place.Point.{Point}
 use Rattle.border.specs.declared.reader.Version.{Version}
@@ -25,8 +25,8 @@ use Rattle.border.specs.declared.verdict.Judged.the-variants as J
 -- ---- a judged border
 module _ (file : List ℕ) (head : Head) (fix : Point) (asked : Bool) (polygon least : ℕ) where
   pub judged-in : {version : Version} {place : ℕ} {judgement : Judgement} → version ≡ versionOf (head .preamble .version) → place ≡ (head .sections .«data» + polygon) % 2 ^ 32
-      → judgement ≡ judgedAt file (encodedIn version (head .sections .«data»)) place (fix .lat) (fix .lon) asked least → judgement ≡ judgeIn file head fix asked polygon least
-  judged-in v p j = j ∙ (λ i. judgedAt file (encodedIn (v i) (head .sections .«data»)) (p i) (fix .lat) (fix .lon) asked least)
+      → judgement ≡ judgedAt file (encodedBy (head .strict) version (head .sections .«data»)) place (fix .lat) (fix .lon) asked least → judgement ≡ judgeIn file head fix asked polygon least
+  judged-in v p j = j ∙ (λ i. judgedAt file (encodedBy (head .strict) (v i) (head .sections .«data»)) (p i) (fix .lat) (fix .lon) asked least)
 
 module _ (r : Row) {judgement : Judged} {verdict : Verdict} {least kind : ℕ} (is : judgement ≡ J.Answered verdict least) (k : kind ≡ kindOf verdict) where
   pub outside : kind ≡ 0 → On least ≡ judgedTurn r (told judgement)

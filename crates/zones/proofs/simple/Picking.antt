@@ -48,21 +48,21 @@ module _ (file : List ℕ) (head : Head) (count index name place : ℕ) (last : 
     abbrev rest : Text → Text → Reply Picked
     rest called value = pickedFrom file head (count - (index + 1)) (index + 1) (called .next) (value .next) (newer (partOf (head .preamble .kind) (bytesOf file called)) value last)
 
-    opened : (textAt file 0 name (blameOf (head .preamble .count) index) >>= λ called. textAt file (head .sections .metadata) place fifteen >>= rest called) ≡ whole
+    opened : (textAt (head .strict) file 0 name (blameOf (head .preamble .count) index) >>= λ called. textAt (head .strict) file (head .sections .metadata) place fifteen >>= rest called) ≡ whole
     unfolding pickedFrom
     opened = let z : count - index ≡ suc (count - (index + 1)) = omega arith in rw z at so-far
 
-    pub no-name : {why : Refusal} → refused why ≡ textAt file 0 name (blameOf (head .preamble .count) index) → refused why ≡ whole
+    pub no-name : {why : Refusal} → refused why ≡ textAt (head .strict) file 0 name (blameOf (head .preamble .count) index) → refused why ≡ whole
     no-name e = carried e _ ∙ opened
 
-    module _ {called : Text} (e : given called ≡ textAt file 0 name (blameOf (head .preamble .count) index)) where
+    module _ {called : Text} (e : given called ≡ textAt (head .strict) file 0 name (blameOf (head .preamble .count) index)) where
       pub name-inside : called .start + called .size ≤ length file
-      name-inside = text-lies file called 0 name (blameOf (head .preamble .count) index) e .inside
+      name-inside = text-lies file called (head .strict) 0 name (blameOf (head .preamble .count) index) e .inside
 
-      pub no-value : {why : Refusal} → refused why ≡ textAt file (head .sections .metadata) place fifteen → refused why ≡ whole
+      pub no-value : {why : Refusal} → refused why ≡ textAt (head .strict) file (head .sections .metadata) place fifteen → refused why ≡ whole
       no-value f = carried f _ ∙ onward e _ ∙ opened
 
-      pub goes : {value : Text} {part : ℕ} {next : Picked} → given value ≡ textAt file (head .sections .metadata) place fifteen → part ≡ partOf (head .preamble .kind) (bytesOf file called) → next ≡ newer part value last
+      pub goes : {value : Text} {part : ℕ} {next : Picked} → given value ≡ textAt (head .strict) file (head .sections .metadata) place fifteen → part ≡ partOf (head .preamble .kind) (bytesOf file called) → next ≡ newer part value last
           → pickedFrom file head (count - (index + 1)) (index + 1) (called .next) (value .next) next ≡ whole
       goes {value} f p n =
           ap (pickedFrom file head (count - (index + 1)) (index + 1) (called .next) (value .next)) (n ∙ ap (λ (k : ℕ). newer k value last) p) ∙ onward f (rest called) ∙ onward e _ ∙ opened
@@ -123,10 +123,10 @@ module _ (file : List ℕ) where
     unfolding pickedFrom
     from-lies zero index names values last {picked} e l = let same : last ≡ picked = cc in rw (← same) l
     from-lies (suc more) index names values last e l =
-        let called = given-from (textAt file 0 names (blameOf (head .preamble .count) index)) _ e in
-        let value = given-from (textAt file (head .sections .metadata) values fifteen) _ (called .onto) in
+        let called = given-from (textAt (head .strict) file 0 names (blameOf (head .preamble .count) index)) _ e in
+        let value = given-from (textAt (head .strict) file (head .sections .metadata) values fifteen) _ (called .onto) in
         let part = partOf (head .preamble .kind) (bytesOf file (called .it)) in
-        from-lies more (index + 1) (called .it .next) (value .it .next) (newer part (value .it) last) (value .onto) (newer-lies part (value .it) last (text-lies file (value .it) (head .sections .metadata) values fifteen (value .is) .inside) l)
+        from-lies more (index + 1) (called .it .next) (value .it .next) (newer part (value .it) last) (value .onto) (newer-lies part (value .it) last (text-lies file (value .it) (head .strict) (head .sections .metadata) values fifteen (value .is) .inside) l)
 
     pub picked-lies : {picked : Picked} (place : ℕ) → given picked ≡ pickedFrom file head (head .preamble .count) 0 7 place (begun (head .preamble .kind)) → Lying file picked
     picked-lies place e = from-lies (head .preamble .count) 0 7 place (begun (head .preamble .kind)) e (begun-lies (head .preamble .kind))

@@ -15,8 +15,8 @@ unfolding counted
 returns c =
     rw (c .if1 .taken)
 
-read-forward-requires : tie.Need-read-forward-requires
-read-forward-requires c κs = search needs
+read-number-requires : tie.Need-read-number-requires
+read-number-requires c κs = search needs
 
 enum-known-n : tie.Need-enum-known-n
 enum-known-n c = search needs
@@ -24,18 +24,18 @@ enum-known-n c = search needs
 returns-2 : tie.Need-returns-2
 unfolding counted
 returns-2 c =
-    rw (c .before .before .if1 .left) (found-again (told (c .before .read-forward .result)) ∙ stops (c .before .read-forward .result) (c .before .read-forward .ensures) (c .match .keys2) found _)
+    rw (c .before .before .if1 .left) (found-again (told (c .before .read-number .result)) ∙ stops (c .before .read-number .result) (c .before .read-number .ensures) (c .match .keys2) found _)
 
 returns-3 : tie.Need-returns-3
 unfolding counted
 returns-3 c =
-    rw (c .before .before .before .before .before .before .if1 .left, ← c .before .before .before .before .before .read-forward .ensures, c .before .before .before .n .given .1, eq-eqb _ _ (c .if2 .taken))
+    rw (c .before .before .before .before .before .before .if1 .left, ← c .before .before .before .before .before .read-number .ensures, c .before .before .before .n .given .1, eq-eqb _ _ (c .if2 .taken))
 
 returns-4 : tie.Need-returns-4
 unfolding counted
 returns-4 c =
-    rw (c .before .before .before .before .before .before .if1 .left, ← c .before .before .before .before .before .read-forward .ensures, c .before .before .before .n .given .1, ne-eqb _ _ (c .if2 .left))
+    rw (c .before .before .before .before .before .before .if1 .left, ← c .before .before .before .before .before .read-number .ensures, c .before .before .before .n .given .1, ne-eqb _ _ (c .if2 .left))
 
 pub moves-left-spec : {M : Type 1} → statement M
 moves-left-spec =
-    tie.close (tie.spec returns read-forward-requires enum-known-n returns-2 returns-3 returns-4)
+    tie.close (tie.spec returns read-number-requires enum-known-n returns-2 returns-3 returns-4)

@@ -9,12 +9,13 @@ use Rattle.border.proofs.reader.open_reference.Statement.{statement}
 use Rattle.border.specs.declared.reader.Reader.{Reader}
 use Rattle.border.specs.Reader.{again, onward, reference}
 use Rattle.border.specs.declared.reader.Run.the-variants.{Idle}
+use Rattle.numbers.specs.Varint.{readingOf}
 use Rattle.numbers.proofs.Laws.{goes-on, stops}
 use Rattle.numbers.specs.Answer.{found}
 use Rattle.border.proofs.reader.open_reference.Tie as tie
 
-read-forward-requires : tie.Need-read-forward-requires
-read-forward-requires c κs = search needs
+read-number-requires : tie.Need-read-number-requires
+read-number-requires c κs = search needs
 
 enum-known-n : tie.Need-enum-known-n
 enum-known-n c = search needs
@@ -25,12 +26,12 @@ stop-requires c κs = search needs
 returns : tie.Need-returns
 unfolding reference
 returns c =
-    let read-forward = c .before .before .read-forward in
+    let read-number = c .before .before .read-number in
     let matched = c .before .match in
-    c .stop .ensures ∙ stops (read-forward .result) (read-forward .ensures) (matched .keys2) _ _
+    c .stop .ensures ∙ stops (read-number .result) (read-number .ensures) (matched .keys2) _ _
 
-read-forward-requires-2 : tie.Need-read-forward-requires-2
-read-forward-requires-2 c κs = search needs
+read-number-requires-2 : tie.Need-read-number-requires-2
+read-number-requires-2 c κs = search needs
 
 enum-known-m : tie.Need-enum-known-m
 enum-known-m c = search needs
@@ -41,13 +42,13 @@ stop-requires-2 c κs = search needs
 returns-2 : tie.Need-returns-2
 unfolding reference
 returns-2 c =
-    let read-forward2 = c .before .before .read-forward2 in
+    let read-number2 = c .before .before .read-number2 in
     let match2 = c .before .match2 in
-    let read-forward = c .before .before .before .before .before .before .read-forward in
+    let read-number = c .before .before .before .before .before .before .read-number in
     let n = c .before .before .before .before .n in
     c .stop2 .ensures
-    ∙ stops (read-forward2 .result) (read-forward2 .ensures) (match2 .keys2) _ _
-    ∙ goes-on (read-forward .result) (read-forward .ensures) (n .given .1) _
+    ∙ stops (read-number2 .result) (read-number2 .ensures) (match2 .keys2) _ _
+    ∙ goes-on (read-number .result) (read-number .ensures) (n .given .1) _
 
 signed-requires : tie.Need-signed-requires
 signed-requires c κs = search needs
@@ -65,12 +66,12 @@ returns-3 : tie.Need-returns-3
 returns-3 c =
     let args = c .before .before .before .before .before .before .before .before .before .before .before .before .before .args in
     let n = c .before .before .before .before .before .before .before .before .before .n in
-    let read-forward = c .before .before .before .before .before .before .before .before .before .before .before .read-forward in
+    let read-number = c .before .before .before .before .before .before .before .before .before .before .before .read-number in
     let m = c .before .before .before .before .before .m in
-    let read-forward2 = c .before .before .before .before .before .before .before .read-forward2 in
+    let read-number2 = c .before .before .before .before .before .before .before .read-number2 in
     let signed = c .before .before .before .signed in
     let open-run = c .before .before .open-run in
-    sym (reference-over (now (args .file)) (args .base) (onward (args .reader) (args .place) (args .reader .moves) Idle) (rw (n .given .1) at (read-forward .ensures)) (rw (m .given .1) at (read-forward2 .ensures)) (rw (toZ-ofZ w32 _ (sfits-of (signed .ok)) ∙ signed .ensures, c .enum-told .given .1) at (open-run .ensures)))
+    sym (reference-over (readingOf (args .strict) (now (args .file))) (now (args .file)) (args .base) (onward (args .reader) (args .place) (args .reader .moves) Idle) (rw (n .given .1) at (read-number .ensures)) (rw (m .given .1) at (read-number2 .ensures)) (rw (toZ-ofZ w32 _ (sfits-of (signed .ok)) ∙ signed .ensures, c .enum-told .given .1) at (open-run .ensures)))
 
 go-on-requires : tie.Need-go-on-requires
 go-on-requires c κs = search needs
@@ -79,24 +80,24 @@ returns-4 : tie.Need-returns-4
 returns-4 c =
     let args = c .before .before .before .before .before .before .before .before .before .before .before .before .before .before .before .args in
     let n = c .before .before .before .before .before .before .before .before .before .before .before .n in
-    let read-forward = c .before .before .before .before .before .before .before .before .before .before .before .before .before .read-forward in
+    let read-number = c .before .before .before .before .before .before .before .before .before .before .before .before .before .read-number in
     let m = c .before .before .before .before .before .before .before .m in
-    let read-forward2 = c .before .before .before .before .before .before .before .before .before .read-forward2 in
+    let read-number2 = c .before .before .before .before .before .before .before .before .before .read-number2 in
     let signed = c .before .before .before .before .before .signed in
     let run = c .before .before .run in
     let open-run = c .before .before .before .before .open-run in
     ap (λ (t : Reader). found (again t)) (c .go-on .ensures)
-    ∙ sym (reference-opens (now (args .file)) (args .base) (onward (args .reader) (args .place) (args .reader .moves) Idle) (rw (n .given .1) at (read-forward .ensures)) (rw (m .given .1) at (read-forward2 .ensures)) (rw (toZ-ofZ w32 _ (sfits-of (signed .ok)) ∙ signed .ensures, run .given .1) at (open-run .ensures)))
+    ∙ sym (reference-opens (readingOf (args .strict) (now (args .file))) (now (args .file)) (args .base) (onward (args .reader) (args .place) (args .reader .moves) Idle) (rw (n .given .1) at (read-number .ensures)) (rw (m .given .1) at (read-number2 .ensures)) (rw (toZ-ofZ w32 _ (sfits-of (signed .ok)) ∙ signed .ensures, run .given .1) at (open-run .ensures)))
 
 pub open-reference-spec : {M : Type 1} → statement M
 open-reference-spec =
     tie.close
     (tie.spec
-    read-forward-requires
+    read-number-requires
     enum-known-n
     stop-requires
     returns
-    read-forward-requires-2
+    read-number-requires-2
     enum-known-m
     stop-requires-2
     returns-2

@@ -8,11 +8,12 @@ use Rattle.border.proofs.reader.Turns.{pair-read}
 use Rattle.border.proofs.reader.plain_pair.Statement.{statement}
 use Rattle.border.specs.Reader.{onward, plainPair}
 use Rattle.border.specs.declared.reader.Run.the-variants.{Idle}
+use Rattle.numbers.specs.Varint.{readingOf}
 use Rattle.numbers.proofs.Laws.{goes-on, stops}
 use Rattle.border.proofs.reader.plain_pair.Tie as tie
 
-read-forward-requires : tie.Need-read-forward-requires
-read-forward-requires c κs = search needs
+read-number-requires : tie.Need-read-number-requires
+read-number-requires c κs = search needs
 
 enum-known-n : tie.Need-enum-known-n
 enum-known-n c = search needs
@@ -23,12 +24,12 @@ stop-requires c κs = search needs
 returns : tie.Need-returns
 unfolding plainPair
 returns c =
-    let read-forward = c .before .before .read-forward in
+    let read-number = c .before .before .read-number in
     let matched = c .before .match in
-    c .stop .ensures ∙ stops (read-forward .result) (read-forward .ensures) (matched .keys2) _ _
+    c .stop .ensures ∙ stops (read-number .result) (read-number .ensures) (matched .keys2) _ _
 
-read-forward-requires-2 : tie.Need-read-forward-requires-2
-read-forward-requires-2 c κs = search needs
+read-number-requires-2 : tie.Need-read-number-requires-2
+read-number-requires-2 c κs = search needs
 
 enum-known-m : tie.Need-enum-known-m
 enum-known-m c = search needs
@@ -39,13 +40,13 @@ stop-requires-2 c κs = search needs
 returns-2 : tie.Need-returns-2
 unfolding plainPair
 returns-2 c =
-    let read-forward2 = c .before .before .read-forward2 in
+    let read-number2 = c .before .before .read-number2 in
     let match2 = c .before .match2 in
-    let read-forward = c .before .before .before .before .before .before .read-forward in
+    let read-number = c .before .before .before .before .before .before .read-number in
     let n = c .before .before .before .before .n in
     c .stop2 .ensures
-    ∙ stops (read-forward2 .result) (read-forward2 .ensures) (match2 .keys2) _ _
-    ∙ goes-on (read-forward .result) (read-forward .ensures) (n .given .1) _
+    ∙ stops (read-number2 .result) (read-number2 .ensures) (match2 .keys2) _ _
+    ∙ goes-on (read-number .result) (read-number .ensures) (n .given .1) _
 
 signed-requires : tie.Need-signed-requires
 signed-requires c κs = search needs
@@ -62,20 +63,20 @@ returns-3 c =
     let signed2 = c .before .signed2 in
     let args = c .before .before .before .before .before .before .before .before .before .before .before .before .args in
     let n = c .before .before .before .before .before .before .before .before .n in
-    let read-forward = c .before .before .before .before .before .before .before .before .before .before .read-forward in
+    let read-number = c .before .before .before .before .before .before .before .before .before .before .read-number in
     let m = c .before .before .before .before .m in
-    let read-forward2 = c .before .before .before .before .before .before .read-forward2 in
-    rw (toZ-ofZ w32 _ (sfits-of (signed .ok)) ∙ signed .ensures, toZ-ofZ w32 _ (sfits-of (signed2 .ok)) ∙ signed2 .ensures) at (c .plain-move .ensures) ∙ sym (pair-read (now (args .file)) 0 (onward (args .reader) (args .place) (args .moves) Idle) (rw (n .given .1) at (read-forward .ensures)) (rw (m .given .1) at (read-forward2 .ensures)))
+    let read-number2 = c .before .before .before .before .before .before .read-number2 in
+    rw (toZ-ofZ w32 _ (sfits-of (signed .ok)) ∙ signed .ensures, toZ-ofZ w32 _ (sfits-of (signed2 .ok)) ∙ signed2 .ensures) at (c .plain-move .ensures) ∙ sym (pair-read (readingOf (args .strict) (now (args .file))) (now (args .file)) 0 (onward (args .reader) (args .place) (args .moves) Idle) (rw (n .given .1) at (read-number .ensures)) (rw (m .given .1) at (read-number2 .ensures)))
 
 pub plain-pair-spec : {M : Type 1} → statement M
 plain-pair-spec =
     tie.close
     (tie.spec
-    read-forward-requires
+    read-number-requires
     enum-known-n
     stop-requires
     returns
-    read-forward-requires-2
+    read-number-requires-2
     enum-known-m
     stop-requires-2
     returns-2

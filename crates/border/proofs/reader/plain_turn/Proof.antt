@@ -1,6 +1,7 @@
 -- `border::reader::plain_turn` meets its contract: it goes on from the moves that are left. Assumes nothing.
 use mathlib.Core.Path.{_∙_}
 use denote.Ref.{now}
+use Rattle.numbers.specs.Varint.{readingOf}
 use Rattle.numbers.proofs.Laws.{stops, goes-on}
 use Rattle.border.proofs.reader.Counts.{pairFrom, counted-turn}
 use borrow.Author.Needs.{needs}
@@ -18,16 +19,18 @@ stop-requires c κs = search needs
 
 returns : tie.Need-returns
 returns c =
-    let f = now (c .before .before .before .before .args .file) in
-    c .stop .ensures ∙ stops (c .before .before .moves-left .result) (c .before .before .moves-left .ensures) (c .before .match .keys2) _ (pairFrom f (c .before .before .before .before .args .reader)) ∙ counted-turn f (c .before .before .before .before .args .reader)
+    let args = c .before .before .before .before .args in
+    let read = readingOf (args .strict) (now (args .file)) in
+    c .stop .ensures ∙ stops (c .before .before .moves-left .result) (c .before .before .moves-left .ensures) (c .before .match .keys2) _ (pairFrom read (args .reader)) ∙ counted-turn read (args .reader)
 
 plain-pair-requires : tie.Need-plain-pair-requires
 plain-pair-requires c κs = search needs
 
 returns-2 : tie.Need-returns-2
 returns-2 c =
-    let f = now (c .before .before .before .before .before .before .args .file) in
-    c .plain-pair .ensures ∙ goes-on (c .before .before .before .before .moves-left .result) (c .before .before .before .before .moves-left .ensures) (c .before .before .n .given .1) (pairFrom f (c .before .before .before .before .before .before .args .reader)) ∙ counted-turn f (c .before .before .before .before .before .before .args .reader)
+    let args = c .before .before .before .before .before .before .args in
+    let read = readingOf (args .strict) (now (args .file)) in
+    c .plain-pair .ensures ∙ goes-on (c .before .before .before .before .moves-left .result) (c .before .before .before .before .moves-left .ensures) (c .before .before .n .given .1) (pairFrom read (args .reader)) ∙ counted-turn read (args .reader)
 
 pub plain-turn-spec : {M : Type 1} → statement M
 plain-turn-spec =

@@ -7,12 +7,13 @@ use Rattle.border.proofs.reader.read_marker.Statement.{statement}
 use Rattle.border.specs.declared.reader.Reader.{Reader}
 use Rattle.border.specs.Reader.{gives, onward, marker}
 use Rattle.border.specs.declared.reader.Run.the-variants.{Idle}
+use Rattle.numbers.specs.Varint.{readingOf}
 use Rattle.numbers.proofs.Laws.{stops}
 use Rattle.numbers.specs.Answer.{found}
 use Rattle.border.proofs.reader.read_marker.Tie as tie
 
-read-forward-requires : tie.Need-read-forward-requires
-read-forward-requires c κs = search needs
+read-number-requires : tie.Need-read-number-requires
+read-number-requires c κs = search needs
 
 enum-known-n : tie.Need-enum-known-n
 enum-known-n c = search needs
@@ -23,9 +24,9 @@ stop-requires c κs = search needs
 returns : tie.Need-returns
 unfolding marker
 returns c =
-    let read-forward = c .before .before .read-forward in
+    let read-number = c .before .before .read-number in
     let matched = c .before .match in
-    c .stop .ensures ∙ stops (read-forward .result) (read-forward .ensures) (matched .keys2) _ _
+    c .stop .ensures ∙ stops (read-number .result) (read-number .ensures) (matched .keys2) _ _
 
 close-requires : tie.Need-close-requires
 close-requires c κs = search needs
@@ -34,9 +35,9 @@ returns-2 : tie.Need-returns-2
 returns-2 c =
     let args = c .before .before .before .before .before .before .before .before .args in
     let n = c .before .before .before .before .n in
-    let read-forward = c .before .before .before .before .before .before .read-forward in
+    let read-number = c .before .before .before .before .before .before .read-number in
     let if1 = c .before .if1 in
-    ap (λ (t : Reader). found (gives t)) (c .close .ensures) ∙ sym (mark-closes (now (args .file)) (args .base) (onward (args .reader) (args .place) (args .reader .moves) Idle) (rw (n .given .1) at (read-forward .ensures)) (if1 .taken))
+    ap (λ (t : Reader). found (gives t)) (c .close .ensures) ∙ sym (mark-closes (readingOf (args .strict) (now (args .file))) (now (args .file)) (args .base) (onward (args .reader) (args .place) (args .reader .moves) Idle) (rw (n .given .1) at (read-number .ensures)) (if1 .taken))
 
 open-reference-requires : tie.Need-open-reference-requires
 open-reference-requires c κs = search needs
@@ -45,10 +46,10 @@ returns-3 : tie.Need-returns-3
 returns-3 c =
     let args = c .before .before .before .before .before .before .before .before .before .before .args in
     let n = c .before .before .before .before .before .before .n in
-    let read-forward = c .before .before .before .before .before .before .before .before .read-forward in
+    let read-number = c .before .before .before .before .before .before .before .before .read-number in
     let if1 = c .before .before .before .if1 in
     let if2 = c .before .if2 in
-    c .open-reference .ensures ∙ sym (mark-opens (now (args .file)) (args .base) (onward (args .reader) (args .place) (args .reader .moves) Idle) (rw (n .given .1) at (read-forward .ensures)) (if1 .left) (if2 .taken))
+    c .open-reference .ensures ∙ sym (mark-opens (readingOf (args .strict) (now (args .file))) (now (args .file)) (args .base) (onward (args .reader) (args .place) (args .reader .moves) Idle) (rw (n .given .1) at (read-number .ensures)) (if1 .left) (if2 .taken))
 
 arrive-requires : tie.Need-arrive-requires
 arrive-requires c κs = search needs
@@ -57,16 +58,16 @@ returns-4 : tie.Need-returns-4
 returns-4 c =
     let args = c .before .before .before .before .before .before .before .before .before .before .before .args in
     let n = c .before .before .before .before .before .before .before .n in
-    let read-forward = c .before .before .before .before .before .before .before .before .before .read-forward in
+    let read-number = c .before .before .before .before .before .before .before .before .before .read-number in
     let if1 = c .before .before .before .before .if1 in
     let if2 = c .before .before .if2 in
-    ap (λ (t : Reader). found (gives t)) (c .arrive .ensures) ∙ sym (mark-repeats (now (args .file)) (args .base) (onward (args .reader) (args .place) (args .reader .moves) Idle) (rw (n .given .1) at (read-forward .ensures)) (if1 .left) (if2 .left))
+    ap (λ (t : Reader). found (gives t)) (c .arrive .ensures) ∙ sym (mark-repeats (readingOf (args .strict) (now (args .file))) (now (args .file)) (args .base) (onward (args .reader) (args .place) (args .reader .moves) Idle) (rw (n .given .1) at (read-number .ensures)) (if1 .left) (if2 .left))
 
 pub read-marker-spec : {M : Type 1} → statement M
 read-marker-spec =
     tie.close
     (tie.spec
-    read-forward-requires
+    read-number-requires
     enum-known-n
     stop-requires
     returns

@@ -5,6 +5,7 @@ use mathlib.Core.Path.{sym, _∙_}
 use Rattle.border.proofs.reader.Turns.{backward-fails, backward-over, backward-move}
 use Rattle.border.proofs.reader.run_backward.Statement.{statement}
 use Rattle.border.specs.Reader.{packedTurn}
+use Rattle.numbers.specs.Varint.{readingOf}
 use Rattle.numbers.proofs.Laws.{stops}
 use Rattle.border.proofs.reader.run_backward.Tie as tie
 
@@ -29,7 +30,7 @@ returns-2 c =
     let args = c .before .before .before .before .before .before .before .args in
     let n = c .before .before .before .n in
     let read-backward = c .before .before .before .before .before .read-backward in
-    sym (backward-fails (now (args .file)) (args .base) (args .reader) (args .next) (args .end) (rw (n .given .1) at (read-backward .ensures)) (c .if1 .taken))
+    sym (backward-fails (readingOf (args .strict) (now (args .file))) (now (args .file)) (args .base) (args .reader) (args .next) (args .end) (rw (n .given .1) at (read-backward .ensures)) (c .if1 .taken))
 
 decode-point-requires : tie.Need-decode-point-requires
 decode-point-requires c κs = search needs
@@ -51,7 +52,7 @@ returns-3 c =
     let if1 = c .before .before .before .before .if1 in
     let decode-point = c .before .before .before .decode-point in
     let negate = c .before .before .negate in
-    sym (backward-over (now (args .file)) (args .base) (args .reader) (args .next) (args .end) (rw (n .given .1) at (read-backward .ensures)) (if1 .left) (rw (decode-point .ensures, c .enum-told .given .1) at (negate .ensures)))
+    sym (backward-over (readingOf (args .strict) (now (args .file))) (now (args .file)) (args .base) (args .reader) (args .next) (args .end) (rw (n .given .1) at (read-backward .ensures)) (if1 .left) (rw (decode-point .ensures, c .enum-told .given .1) at (negate .ensures)))
 
 backward-from-requires : tie.Need-backward-from-requires
 backward-from-requires c κs = search needs
@@ -70,7 +71,7 @@ returns-4 c =
     let by = c .before .before .before .by in
     let negate = c .before .before .before .before .before .negate in
     rw (backward-from .ensures) at (c .advance .ensures)
-    ∙ sym (backward-move (now (args .file)) (args .base) (args .reader) (args .next) (args .end) (rw (n .given .1) at (read-backward .ensures)) (if1 .left) (rw (decode-point .ensures, by .given .1) at (negate .ensures)))
+    ∙ sym (backward-move (readingOf (args .strict) (now (args .file))) (now (args .file)) (args .base) (args .reader) (args .next) (args .end) (rw (n .given .1) at (read-backward .ensures)) (if1 .left) (rw (decode-point .ensures, by .given .1) at (negate .ensures)))
 
 pub run-backward-spec : {M : Type 1} → statement M
 run-backward-spec =

@@ -5,11 +5,12 @@ use mathlib.Core.Path.{sym, _∙_}
 use Rattle.border.proofs.reader.Turns.{forward-fails, forward-move}
 use Rattle.border.proofs.reader.run_forward.Statement.{statement}
 use Rattle.border.specs.Reader.{packedTurn}
+use Rattle.numbers.specs.Varint.{readingOf}
 use Rattle.numbers.proofs.Laws.{stops}
 use Rattle.border.proofs.reader.run_forward.Tie as tie
 
-read-forward-requires : tie.Need-read-forward-requires
-read-forward-requires c κs = search needs
+read-number-requires : tie.Need-read-number-requires
+read-number-requires c κs = search needs
 
 enum-known-n : tie.Need-enum-known-n
 enum-known-n c = search needs
@@ -20,16 +21,16 @@ stop-requires c κs = search needs
 returns : tie.Need-returns
 unfolding packedTurn
 returns c =
-    let read-forward = c .before .before .read-forward in
+    let read-number = c .before .before .read-number in
     let matched = c .before .match in
-    c .stop .ensures ∙ stops (read-forward .result) (read-forward .ensures) (matched .keys2) _ _
+    c .stop .ensures ∙ stops (read-number .result) (read-number .ensures) (matched .keys2) _ _
 
 returns-2 : tie.Need-returns-2
 returns-2 c =
     let args = c .before .before .before .before .before .before .before .args in
     let n = c .before .before .before .n in
-    let read-forward = c .before .before .before .before .before .read-forward in
-    sym (forward-fails (now (args .file)) (args .base) (args .reader) (args .next) (args .end) (rw (n .given .1) at (read-forward .ensures)) (c .if1 .taken))
+    let read-number = c .before .before .before .before .before .read-number in
+    sym (forward-fails (readingOf (args .strict) (now (args .file))) (now (args .file)) (args .base) (args .reader) (args .next) (args .end) (rw (n .given .1) at (read-number .ensures)) (c .if1 .taken))
 
 forward-from-requires : tie.Need-forward-from-requires
 forward-from-requires c κs = search needs
@@ -46,15 +47,15 @@ returns-3 c =
     let decode-point = c .before .decode-point in
     let args = c .before .before .before .before .before .before .before .before .before .before .args in
     let n = c .before .before .before .before .before .before .n in
-    let read-forward = c .before .before .before .before .before .before .before .before .read-forward in
+    let read-number = c .before .before .before .before .before .before .before .before .read-number in
     let if1 = c .before .before .before .if1 in
-    rw (forward-from .ensures, decode-point .ensures) at (c .advance .ensures) ∙ sym (forward-move (now (args .file)) (args .base) (args .reader) (args .next) (args .end) (rw (n .given .1) at (read-forward .ensures)) (if1 .left))
+    rw (forward-from .ensures, decode-point .ensures) at (c .advance .ensures) ∙ sym (forward-move (readingOf (args .strict) (now (args .file))) (now (args .file)) (args .base) (args .reader) (args .next) (args .end) (rw (n .given .1) at (read-number .ensures)) (if1 .left))
 
 pub run-forward-spec : {M : Type 1} → statement M
 run-forward-spec =
     tie.close
     (tie.spec
-    read-forward-requires
+    read-number-requires
     enum-known-n
     stop-requires
     returns

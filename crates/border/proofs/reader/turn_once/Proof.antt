@@ -8,7 +8,7 @@ use Rattle.border.specs.Reader.{turnOf}
 use Rattle.border.proofs.reader.turn_once.Tie as tie
 
 returns : tie.Need-returns
-returns c = sym (closed-ends (now (c .before .before .args .file)) (c .before .before .args .encoding .version) (c .before .before .args .encoding .«data») (c .before .before .args .reader) (c .if1 .taken))
+returns c = sym (closed-ends (c .before .before .args .encoding .strict) (now (c .before .before .args .file)) (c .before .before .args .encoding .version) (c .before .before .args .encoding .«data») (c .before .before .args .reader) (c .if1 .taken))
 
 enum-told : tie.Need-enum-told
 enum-told c = search needs

@@ -1,5 +1,6 @@
 -- `zones::fields::write_match` meets its contract. The loop's invariant is `Filling`: the text so far stands at the front of a buffer that is zero
 -- beyond it. Assumes nothing.
+use mathlib.Core.Bool.{Bool}
 use Prim.Native.Nat.{_-_}
 use lib.ListN.{length, take}
 use mathlib.Core.Path.{refl}
@@ -12,14 +13,14 @@ use Rattle.zones.specs.declared.header.Preamble.{Preamble}
 use Rattle.zones.specs.declared.header.Sections.{Sections}
 use Rattle.zones.proofs.fields.write_match.Tie as tie
 
-abbrev headOf : Preamble → Sections → Head
-headOf preamble sections = record { preamble = preamble; sections = sections }
+abbrev headOf : Preamble → Sections → Bool → Head
+headOf preamble sections strict = record { preamble = preamble; sections = sections; strict = strict }
 
 abbrev Inv-loop : tie.InvT-loop
-Inv-loop text₀ from file start preamble sections place₀ at₀ tag₀ text place at tag = Filling file (headOf preamble sections) (length text₀) (preamble .count) (fieldsFrom file (headOf preamble sections) (length text₀) (preamble .count) 0 start (take from text₀)) text at place tag
+Inv-loop text₀ from file start preamble sections strict place₀ at₀ tag₀ text place at tag = Filling file (headOf preamble sections strict) (length text₀) (preamble .count) (fieldsFrom file (headOf preamble sections strict) (length text₀) (preamble .count) 0 start (take from text₀)) text at place tag
 
 abbrev μ-loop : tie.MeasureT-loop
-μ-loop text₀ from file start preamble sections place₀ at₀ tag₀ text place at tag = preamble .count - tag
+μ-loop text₀ from file start preamble sections strict place₀ at₀ tag₀ text place at tag = preamble .count - tag
 
 loop-holds : tie.Need-loop-holds Inv-loop μ-loop
 loop-holds c =

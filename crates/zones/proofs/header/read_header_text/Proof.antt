@@ -8,7 +8,7 @@ returns : tie.Need-returns
 returns c =
     let args = c .before .before .before .args in
     let blame-for = c .before .blame-for in
-    c .read-text .ensures ∙ ap (textAt (args .file .now) 0 (args .place)) (blame-for .ensures)
+    c .read-text .ensures ∙ ap (textAt (args .strict) (args .file .now) 0 (args .place)) (blame-for .ensures)
 
 pub read-header-text-spec : {M : Type 1} → statement M
 read-header-text-spec = tie.close (tie.spec (λ c κs. tt) (λ c κs. tt) returns)

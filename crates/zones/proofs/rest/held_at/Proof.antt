@@ -11,52 +11,52 @@ use Rattle.zones.proofs.rest.held_at.Tie as tie
 
 returns : tie.Need-returns
 unfolding heldBy
-returns c = none-held (c .before .read-forward .result) (c .before .read-forward .ensures) (c .match .keys2) _
+returns c = none-held (c .before .read-number .result) (c .before .read-number .ensures) (c .match .keys2) _
 
 returns-2 : tie.Need-returns-2
 unfolding heldBy
 returns-2 c =
-    let read-forward2 = c .before .read-forward2 in
-    let read-forward = c .before .before .before .before .before .read-forward in
+    let read-number2 = c .before .read-number2 in
+    let read-number = c .before .before .before .before .before .read-number in
     let first = c .before .before .before .first in
-    none-held (read-forward2 .result) (read-forward2 .ensures) (c .match2 .keys2) _ ∙ ap isHeld (goes-on (read-forward .result) (read-forward .ensures) (first .given .1) _)
+    none-held (read-number2 .result) (read-number2 .ensures) (c .match2 .keys2) _ ∙ ap isHeld (goes-on (read-number .result) (read-number .ensures) (first .given .1) _)
 
 returns-3 : tie.Need-returns-3
 unfolding heldBy
 returns-3 c =
-    let read-forward3 = c .before .read-forward3 in
-    let read-forward2 = c .before .before .before .before .before .read-forward2 in
+    let read-number3 = c .before .read-number3 in
+    let read-number2 = c .before .before .before .before .before .read-number2 in
     let second = c .before .before .before .second in
-    let read-forward = c .before .before .before .before .before .before .before .before .before .read-forward in
+    let read-number = c .before .before .before .before .before .before .before .before .before .read-number in
     let first = c .before .before .before .before .before .before .before .first in
-    none-held (read-forward3 .result) (read-forward3 .ensures) (c .match3 .keys2) _ ∙ ap isHeld (goes-on (read-forward2 .result) (read-forward2 .ensures) (second .given .1) _ ∙ goes-on (read-forward .result) (read-forward .ensures) (first .given .1) _)
+    none-held (read-number3 .result) (read-number3 .ensures) (c .match3 .keys2) _ ∙ ap isHeld (goes-on (read-number2 .result) (read-number2 .ensures) (second .given .1) _ ∙ goes-on (read-number .result) (read-number .ensures) (first .given .1) _)
 
 returns-4 : tie.Need-returns-4
 unfolding heldBy
 returns-4 c =
-    let read-forward4 = c .before .read-forward4 in
-    let read-forward3 = c .before .before .before .before .before .read-forward3 in
+    let read-number4 = c .before .read-number4 in
+    let read-number3 = c .before .before .before .before .before .read-number3 in
     let third = c .before .before .before .third in
-    let read-forward2 = c .before .before .before .before .before .before .before .before .before .read-forward2 in
+    let read-number2 = c .before .before .before .before .before .before .before .before .before .read-number2 in
     let second = c .before .before .before .before .before .before .before .second in
-    let read-forward = c .before .before .before .before .before .before .before .before .before .before .before .before .before .read-forward in
+    let read-number = c .before .before .before .before .before .before .before .before .before .before .before .before .before .read-number in
     let first = c .before .before .before .before .before .before .before .before .before .before .before .first in
-    none-held (read-forward4 .result) (read-forward4 .ensures) (c .match4 .keys2) _ ∙ ap isHeld (goes-on (read-forward3 .result) (read-forward3 .ensures) (third .given .1) _ ∙ goes-on (read-forward2 .result) (read-forward2 .ensures) (second .given .1) _ ∙ goes-on (read-forward .result) (read-forward .ensures) (first .given .1) _)
+    none-held (read-number4 .result) (read-number4 .ensures) (c .match4 .keys2) _ ∙ ap isHeld (goes-on (read-number3 .result) (read-number3 .ensures) (third .given .1) _ ∙ goes-on (read-number2 .result) (read-number2 .ensures) (second .given .1) _ ∙ goes-on (read-number .result) (read-number .ensures) (first .given .1) _)
 
 returns-5 : tie.Need-returns-5
 unfolding heldBy
 returns-5 c =
     let args = c .before .before .before .before .before .before .before .before .before .before .before .before .before .before .before .before .before .before .before .args in
     let bounds-of = c .before .bounds-of in
-    let read-forward4 = c .before .before .before .before .before .read-forward4 in
+    let read-number4 = c .before .before .before .before .before .read-number4 in
     let fourth = c .before .before .before .fourth in
-    let read-forward3 = c .before .before .before .before .before .before .before .before .before .read-forward3 in
+    let read-number3 = c .before .before .before .before .before .before .before .before .before .read-number3 in
     let third = c .before .before .before .before .before .before .before .third in
-    let read-forward2 = c .before .before .before .before .before .before .before .before .before .before .before .before .before .read-forward2 in
+    let read-number2 = c .before .before .before .before .before .before .before .before .before .before .before .before .before .read-number2 in
     let second = c .before .before .before .before .before .before .before .before .before .before .before .second in
-    let read-forward = c .before .before .before .before .before .before .before .before .before .before .before .before .before .before .before .before .before .read-forward in
+    let read-number = c .before .before .before .before .before .before .before .before .before .before .before .before .before .before .before .before .before .read-number in
     let first = c .before .before .before .before .before .before .before .before .before .before .before .before .before .before .before .first in
-    c .holds .ensures ∙ ap (λ (b : Bounds). holds b (args .fix)) (bounds-of .ensures) ∙ ap isHeld (goes-on (read-forward4 .result) (read-forward4 .ensures) (fourth .given .1) _ ∙ goes-on (read-forward3 .result) (read-forward3 .ensures) (third .given .1) _ ∙ goes-on (read-forward2 .result) (read-forward2 .ensures) (second .given .1) _ ∙ goes-on (read-forward .result) (read-forward .ensures) (first .given .1) _)
+    c .holds .ensures ∙ ap (λ (b : Bounds). holds b (args .fix)) (bounds-of .ensures) ∙ ap isHeld (goes-on (read-number4 .result) (read-number4 .ensures) (fourth .given .1) _ ∙ goes-on (read-number3 .result) (read-number3 .ensures) (third .given .1) _ ∙ goes-on (read-number2 .result) (read-number2 .ensures) (second .given .1) _ ∙ goes-on (read-number .result) (read-number .ensures) (first .given .1) _)
 
 pub held-at-spec : {M : Type 1} → statement M
 held-at-spec =

@@ -5,8 +5,8 @@ use borrow.Author.Needs.{needs}
 use lib.ListN.{length}
 use mathlib.Core.Path.{refl, sym, ap, _∙_}
 use native.Mathlib.Omega.{arith}
-use Rattle.numbers.specs.Varint.{forwardAt}
-use Rattle.zones.proofs.TableRows.{forward-grows, at-end, at-row, at-unreadable, at-refused, row-less}
+use Rattle.numbers.specs.Varint.{readingOf}
+use Rattle.zones.proofs.TableRows.{reading-grows, at-end, at-row, at-unreadable, at-refused, row-less}
 use Rattle.zones.proofs.rest.Remaining.{stopped-mark}
 use Rattle.zones.proofs.rows.Entering.{row-read, row-failed, row-refused}
 use Rattle.zones.proofs.search.Searching.{Going, starts, kept-length, early, stops, refuses, on, full, met}
@@ -22,7 +22,7 @@ use Rattle.zones.proofs.search.search.Tie as tie
 
 abbrev Inv-loop : tie.InvT-loop
 Inv-loop file head fix asked hits₀ end room count₀ least₀ at₀ hits count least at =
-    Going (judgeIn file head fix asked) fix end (length hits₀) (searched file head fix asked (length hits₀ / width)) (rowsFrom (forwardAt file) end at) hits count least
+    Going (judgeIn file head fix asked) fix end (length hits₀) (searched file head fix asked (length hits₀ / width)) (rowsFrom (readingOf (head .strict) file) end at) hits count least
 
 abbrev μ-loop : tie.MeasureT-loop
 μ-loop file head fix asked hits₀ end room count₀ least₀ at₀ hits count least at = end - at .place
@@ -46,7 +46,7 @@ returns c =
     let loop = c .before .before .before .before .before .before .loop in
     let if1 = c .before .before .before .before .if1 in
     let entry-at = c .before .before .before .entry-at in
-    rw (c .end-with .ensures) (S.at-unreadable _ _ _ _ (loop .inv) (at-unreadable _ (forward-grows _) _ (if1 .taken) (row-failed _ _ (entry-at .result) (enum-told (c .before .before)) (entry-at .ensures))))
+    rw (c .end-with .ensures) (S.at-unreadable _ _ _ _ (loop .inv) (at-unreadable _ (reading-grows _ _) _ (if1 .taken) (row-failed _ _ (entry-at .result) (enum-told (c .before .before)) (entry-at .ensures))))
 
 same-length-2 : tie.Need-same-length-2 Inv-loop μ-loop
 same-length-2 c =
@@ -59,7 +59,7 @@ returns-2 c =
     let if1 = c .before .before .before .before .before .if1 in
     let number = c .before .before .number in
     let entry-at = c .before .before .before .before .entry-at in
-    rw (c .plain .ensures) (S.at-refused _ _ _ _ (loop .inv) _ (at-refused _ (forward-grows _) _ (if1 .taken) (row-refused _ _ (sym (ap toldEntered (number .given .1)) ∙ entry-at .ensures))))
+    rw (c .plain .ensures) (S.at-refused _ _ _ _ (loop .inv) _ (at-refused _ (reading-grows _ _) _ (if1 .taken) (row-refused _ _ (sym (ap toldEntered (number .given .1)) ∙ entry-at .ensures))))
 
 rest-mark-requires : tie.Need-rest-mark-requires Inv-loop μ-loop
 rest-mark-requires c κs =
@@ -80,7 +80,7 @@ returns-3 c =
     let is-above = c .before .before .before .is-above in
     let if2 = c .before .before .if2 in
     let rest-mark = c .before .rest-mark in
-    rw (c .end-with2 .ensures) (early _ _ _ _ (loop .inv) (at-row _ (forward-grows _) _ (if1 .taken) (row-read _ _ (sym (ap toldEntered (entry .given .1)) ∙ entry-at .ensures) refl) refl) (sym (is-above .ensures) ∙ if2 .taken) (stopped-mark _ _ _ _ (sym (is-above .ensures) ∙ if2 .taken) (rest-mark .ensures)))
+    rw (c .end-with2 .ensures) (early _ _ _ _ (loop .inv) (at-row _ (reading-grows _ _) _ (if1 .taken) (row-read _ _ (sym (ap toldEntered (entry .given .1)) ∙ entry-at .ensures) refl) refl) (sym (is-above .ensures) ∙ if2 .taken) (stopped-mark _ _ _ _ (sym (is-above .ensures) ∙ if2 .taken) (rest-mark .ensures)))
 
 loop-less : tie.Need-loop-less Inv-loop μ-loop
 loop-less c =
@@ -89,7 +89,7 @@ loop-less c =
     let entry-at = c .before .before .before .before .before .before .before .before .before .before .before .entry-at in
     let row-of = c .before .before .before .before .before .row-of in
     let after = c .before .before .before .before .after in
-    row-less _ (forward-grows _) _ (if1 .taken) (row-read _ _ (sym (ap toldEntered (entry .given .1)) ∙ entry-at .ensures) (row-of .ensures)) (after .ensures)
+    row-less _ (reading-grows _ _) _ (if1 .taken) (row-read _ _ (sym (ap toldEntered (entry .given .1)) ∙ entry-at .ensures) (row-of .ensures)) (after .ensures)
 
 loop-again : tie.Need-loop-again Inv-loop μ-loop
 loop-again c =
@@ -104,7 +104,7 @@ loop-again c =
     let if2 = c .before .before .before .before .before .before .if2 in
     let turn = c .before .turn in
     let on-row = c .before .before .before .on-row in
-    on _ _ _ _ (loop .inv) (at-row _ (forward-grows _) _ (if1 .taken) (row-read _ _ (sym (ap toldEntered (entry .given .1)) ∙ entry-at .ensures) (row-of .ensures)) (after .ensures)) (ap (λ (r : Row). isAbove (r .bounds) (args .fix)) (row-of .ensures) ∙ sym (is-above .ensures) ∙ if2 .left) (sym (turn .given .1) ∙ on-row .ensures)
+    on _ _ _ _ (loop .inv) (at-row _ (reading-grows _ _) _ (if1 .taken) (row-read _ _ (sym (ap toldEntered (entry .given .1)) ∙ entry-at .ensures) (row-of .ensures)) (after .ensures)) (ap (λ (r : Row). isAbove (r .bounds) (args .fix)) (row-of .ensures) ∙ sym (is-above .ensures) ∙ if2 .left) (sym (turn .given .1) ∙ on-row .ensures)
 
 same-length-4 : tie.Need-same-length-4 Inv-loop μ-loop
 same-length-4 c =
@@ -126,7 +126,7 @@ returns-4 c =
     let on-row = c .before .before .before .before .before .on-row in
     let if3 = c .before .if3 in
     let room = c .before .before .before .before .before .before .before .before .before .before .before .before .before .before .before .before .before .before .before .room in
-    rw (c .plain2 .ensures) (full _ _ _ _ (loop .inv) (at-row _ (forward-grows _) _ (if1 .taken) (row-read _ _ (sym (ap toldEntered (entry .given .1)) ∙ entry-at .ensures) (row-of .ensures)) (after .ensures)) (ap (λ (r : Row). isAbove (r .bounds) (args .fix)) (row-of .ensures) ∙ sym (is-above .ensures) ∙ if2 .left) (sym (turn2 .given .1) ∙ on-row .ensures) _ (omega (arith, if3 .taken, room .ensures)))
+    rw (c .plain2 .ensures) (full _ _ _ _ (loop .inv) (at-row _ (reading-grows _ _) _ (if1 .taken) (row-read _ _ (sym (ap toldEntered (entry .given .1)) ∙ entry-at .ensures) (row-of .ensures)) (after .ensures)) (ap (λ (r : Row). isAbove (r .bounds) (args .fix)) (row-of .ensures) ∙ sym (is-above .ensures) ∙ if2 .left) (sym (turn2 .given .1) ∙ on-row .ensures) _ (omega (arith, if3 .taken, room .ensures)))
 
 put-hit-requires : tie.Need-put-hit-requires Inv-loop μ-loop
 put-hit-requires c κs =
@@ -148,7 +148,7 @@ loop-less-2 c =
     let entry-at = c .before .before .before .before .before .before .before .before .before .before .before .before .before .before .before .before .entry-at in
     let row-of = c .before .before .before .before .before .before .before .before .before .before .row-of in
     let after = c .before .before .before .before .before .before .before .before .before .after in
-    row-less _ (forward-grows _) _ (if1 .taken) (row-read _ _ (sym (ap toldEntered (entry .given .1)) ∙ entry-at .ensures) (row-of .ensures)) (after .ensures)
+    row-less _ (reading-grows _ _) _ (if1 .taken) (row-read _ _ (sym (ap toldEntered (entry .given .1)) ∙ entry-at .ensures) (row-of .ensures)) (after .ensures)
 
 loop-again-2 : tie.Need-loop-again-2 Inv-loop μ-loop
 loop-again-2 c =
@@ -166,7 +166,7 @@ loop-again-2 c =
     let on-row = c .before .before .before .before .before .before .before .before .on-row in
     let if3 = c .before .before .before .before .if3 in
     let room = c .before .before .before .before .before .before .before .before .before .before .before .before .before .before .before .before .before .before .before .before .before .before .room in
-    rw (put-hit .ensures) (met _ _ _ _ (loop .inv) (at-row _ (forward-grows _) _ (if1 .taken) (row-read _ _ (sym (ap toldEntered (entry .given .1)) ∙ entry-at .ensures) (row-of .ensures)) (after .ensures)) (ap (λ (r : Row). isAbove (r .bounds) (args .fix)) (row-of .ensures) ∙ sym (is-above .ensures) ∙ if2 .left) (sym (turn2 .given .1) ∙ on-row .ensures) (omega (arith, if3 .left, room .ensures)) (met-kind _ _ _ _ (sym (turn2 .given .1) ∙ on-row .ensures)))
+    rw (put-hit .ensures) (met _ _ _ _ (loop .inv) (at-row _ (reading-grows _ _) _ (if1 .taken) (row-read _ _ (sym (ap toldEntered (entry .given .1)) ∙ entry-at .ensures) (row-of .ensures)) (after .ensures)) (ap (λ (r : Row). isAbove (r .bounds) (args .fix)) (row-of .ensures) ∙ sym (is-above .ensures) ∙ if2 .left) (sym (turn2 .given .1) ∙ on-row .ensures) (omega (arith, if3 .left, room .ensures)) (met-kind _ _ _ _ (sym (turn2 .given .1) ∙ on-row .ensures)))
 
 same-length-5 : tie.Need-same-length-5 Inv-loop μ-loop
 same-length-5 c =
@@ -186,7 +186,7 @@ returns-5 c =
     let if2 = c .before .before .before .before .before .before .before .if2 in
     let turn3 = c .before .before .turn3 in
     let on-row = c .before .before .before .before .on-row in
-    rw (c .end-with3 .ensures) (stops _ _ _ _ (loop .inv) (at-row _ (forward-grows _) _ (if1 .taken) (row-read _ _ (sym (ap toldEntered (entry .given .1)) ∙ entry-at .ensures) (row-of .ensures)) (after .ensures)) (ap (λ (r : Row). isAbove (r .bounds) (args .fix)) (row-of .ensures) ∙ sym (is-above .ensures) ∙ if2 .left) (sym (turn3 .given .1) ∙ on-row .ensures))
+    rw (c .end-with3 .ensures) (stops _ _ _ _ (loop .inv) (at-row _ (reading-grows _ _) _ (if1 .taken) (row-read _ _ (sym (ap toldEntered (entry .given .1)) ∙ entry-at .ensures) (row-of .ensures)) (after .ensures)) (ap (λ (r : Row). isAbove (r .bounds) (args .fix)) (row-of .ensures) ∙ sym (is-above .ensures) ∙ if2 .left) (sym (turn3 .given .1) ∙ on-row .ensures))
 
 same-length-6 : tie.Need-same-length-6 Inv-loop μ-loop
 same-length-6 c =
@@ -206,7 +206,7 @@ returns-6 c =
     let if2 = c .before .before .before .before .before .before .before .if2 in
     let turn4 = c .before .before .turn4 in
     let on-row = c .before .before .before .before .on-row in
-    rw (c .plain3 .ensures) (refuses _ _ _ _ (loop .inv) (at-row _ (forward-grows _) _ (if1 .taken) (row-read _ _ (sym (ap toldEntered (entry .given .1)) ∙ entry-at .ensures) (row-of .ensures)) (after .ensures)) (ap (λ (r : Row). isAbove (r .bounds) (args .fix)) (row-of .ensures) ∙ sym (is-above .ensures) ∙ if2 .left) _ (sym (turn4 .given .1) ∙ on-row .ensures))
+    rw (c .plain3 .ensures) (refuses _ _ _ _ (loop .inv) (at-row _ (reading-grows _ _) _ (if1 .taken) (row-read _ _ (sym (ap toldEntered (entry .given .1)) ∙ entry-at .ensures) (row-of .ensures)) (after .ensures)) (ap (λ (r : Row). isAbove (r .bounds) (args .fix)) (row-of .ensures) ∙ sym (is-above .ensures) ∙ if2 .left) _ (sym (turn4 .given .1) ∙ on-row .ensures))
 
 same-length-7 : tie.Need-same-length-7 Inv-loop μ-loop
 same-length-7 c = kept-length _ _ _ _ (c .before .before .before .loop .inv)
@@ -215,7 +215,7 @@ returns-7 : tie.Need-returns-7 Inv-loop μ-loop
 returns-7 c =
     let loop = c .before .before .before .loop in
     let if1 = c .before .if1 in
-    rw (c .end-with4 .ensures) (S.at-table-end _ _ _ _ (loop .inv) (at-end _ (forward-grows _) _ (if1 .left)))
+    rw (c .end-with4 .ensures) (S.at-table-end _ _ _ _ (loop .inv) (at-end _ (reading-grows _ _) _ (if1 .left)))
 
 pub search-spec : {M : Type 1} → statement M
 search-spec =

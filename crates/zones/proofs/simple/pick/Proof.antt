@@ -1,4 +1,5 @@
 -- `zones::simple::pick` meets its contract. The loop's invariant: the fields that are left give the whole. Assumes nothing.
+use mathlib.Core.Bool.{Bool}
 use Prim.Native.Nat.{_-_, _≤_}
 use mathlib.Core.Path.{_≡_, sym, ap, _∙_}
 use native.Mathlib.Omega.{arith}
@@ -11,14 +12,14 @@ use Rattle.zones.specs.declared.header.Preamble.{Preamble}
 use Rattle.zones.specs.declared.header.Sections.{Sections}
 use Rattle.zones.proofs.simple.pick.Tie as tie
 
-abbrev headOf : Preamble → Sections → Head
-headOf preamble sections = record { preamble = preamble; sections = sections }
+abbrev headOf : Preamble → Sections → Bool → Head
+headOf preamble sections strict = record { preamble = preamble; sections = sections; strict = strict }
 
 abbrev Inv-loop : tie.InvT-loop
-Inv-loop file start preamble sections names blame index₀ name₀ place₀ last₀ index name place last = (pickedFrom file (headOf preamble sections) (names - index) index name place last ≡ pickedFrom file (headOf preamble sections) names 0 7 start (begun (preamble .kind))) × (index ≤ names)
+Inv-loop file start preamble sections strict names blame index₀ name₀ place₀ last₀ index name place last = (pickedFrom file (headOf preamble sections strict) (names - index) index name place last ≡ pickedFrom file (headOf preamble sections strict) names 0 7 start (begun (preamble .kind))) × (index ≤ names)
 
 abbrev μ-loop : tie.MeasureT-loop
-μ-loop file start preamble sections names blame index₀ name₀ place₀ last₀ index name place last = names - index
+μ-loop file start preamble sections strict names blame index₀ name₀ place₀ last₀ index name place last = names - index
 
 loop-holds : tie.Need-loop-holds Inv-loop μ-loop
 loop-holds c = (starts _ _ _ _ (c .begun .ensures), omega arith)
