@@ -7,14 +7,14 @@ use native.Mathlib.Omega.{arith}
 use Rattle.tzif.proofs.Signs.{allOctets, octets-of}
 use Rattle.tzif.proofs.Theorems.{LastNotAfter, last-not-after}
 use Rattle.tzif.specs.Check.{nulEnd, checkTime, checkIndex, checkType, checkLeap, checkStandard, isStandard, checkUt}
-use Rattle.tzif.specs.Header.{begins, isVersion, versionFits, checkHeader, blockAt, noneOrAll, checkCounts, checkBlock, readBlock}
-use Rattle.tzif.specs.Local.{typeIn, typeBehind, isAfterLast, byTable, replied, lent, localTime}
+use Rattle.tzif.specs.Header.{begins, isVersion, isFourth, versionFits, checkHeader, blockAt, noneOrAll, checkCounts, checkBlock, readBlock}
+use Rattle.tzif.specs.Local.{typeIn, typeBehind, isAfterLast, byTable, replied, lent, localTimeBy, localTime}
 use Rattle.tzif.specs.Number.{octets, be32, raised, timeAt, lift}
 use Rattle.tzif.specs.Part.{countOf, checkOf, checkPart}
 use Rattle.tzif.specs.Reply.{given, demand, each, refusal, _>>=_, _>>_}
 use Rattle.tzif.specs.Text.{firstWith, isStop, runTo}
 use Rattle.tzif.specs.Times.{timeIn, transitionsOf, lastWith, lastNotAfter}
-use Rattle.tzif.specs.Zone.{readShort, readZone}
+use Rattle.tzif.specs.Zone.{readShort, readZoneBy, readZone}
 use Rattle.tzif.specs.declared.block.Block.{Block}
 use Rattle.tzif.specs.declared.local.LocalTime.the-variants as L
 
@@ -36,7 +36,7 @@ pub record Worked : Type 0 where
   pub no-room : localTime small (pos 0) 0 ≡ replied (L.Refused (refusal 18 0)) []
 
 pub worked : Worked
-unfolding localTime lent readZone readShort readBlock begins isVersion versionFits checkHeader blockAt noneOrAll checkCounts checkBlock checkPart countOf checkOf checkTime checkIndex checkType checkLeap checkStandard isStandard checkUt nulEnd typeIn typeBehind isAfterLast byTable octets be32 raised timeAt lift demand each _>>=_ _>>_ firstWith isStop runTo timeIn lastWith lastNotAfter
+unfolding localTimeBy lent readZoneBy readShort readBlock begins isVersion isFourth versionFits checkHeader blockAt noneOrAll checkCounts checkBlock checkPart countOf checkOf checkTime checkIndex checkType checkLeap checkStandard isStandard checkUt nulEnd typeIn typeBehind isAfterLast byTable octets be32 raised timeAt lift demand each _>>=_ _>>_ firstWith isStop runTo timeIn lastWith lastNotAfter
 worked = record { before = refl; there = refl; behind = refl; read = refl; no-room = refl }
 
 -- what `last-not-after` asks is met

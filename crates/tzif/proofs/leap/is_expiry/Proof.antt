@@ -1,0 +1,31 @@
+-- `tzif::leap::is_expiry` meets its contract. Assumes nothing.
+use borrow.Author.Needs.{needs}
+use borrow.Author.Tests.{eq-eqb, ne-eqb}
+use mathlib.Core.Path.{refl}
+use Rattle.tzif.specs.Check.{isExpiry}
+use Rattle.tzif.proofs.leap.is_expiry.Statement.{statement}
+use Rattle.tzif.proofs.leap.is_expiry.Tie as tie
+
+returns : tie.Need-returns
+unfolding isExpiry
+returns c = rw (eq-eqb _ _ (c .if1 .taken)) refl
+
+returns-2 : tie.Need-returns-2
+unfolding isExpiry
+returns-2 c = rw (ne-eqb _ _ (c .before .before .if1 .left), ne-eqb _ _ (c .if2 .taken)) refl
+
+returns-3 : tie.Need-returns-3
+unfolding isExpiry
+returns-3 c = rw (ne-eqb _ _ (c .before .before .before .before .if1 .left), eq-eqb _ _ (c .before .before .if2 .left), ← c .before .correction-of .ensures .same, ← c .correction-of2 .ensures .same) refl
+
+pub is-expiry-spec : {M : Type 1} → statement M
+is-expiry-spec =
+    tie.close
+    (tie.spec
+    returns
+    (λ c. search needs)
+    returns-2
+    (λ c κs. search needs)
+    (λ c. search needs)
+    (λ c κs. search needs)
+    returns-3)
