@@ -100,7 +100,7 @@ unfolding lastNotAfter timeIn transitionTime
 block-width file file′ o o′ block block′ n e = record {
   check = λ r. record { next = λ i l. rw (← same i, ← same (suc i)) (r .next i (omega arith)) };
   search = λ instant.
-      last-same (λ i. leb (timeIn file (transitionsOf block) i) instant) (λ i. leb (timeIn file′ (transitionsOf block′) i) instant) (λ i. ap (λ (t : ℕ). leb t instant) (same i)) (block .timecnt)
+      last-same (λ i. leb (timeIn file (transitionsOf block) i) instant) (λ i. leb (timeIn file′ (transitionsOf block′) i) instant) (block .timecnt) (λ i l. ap (λ (t : ℕ). leb t instant) (same i))
       ∙ ap (λ (m : ℕ). lastWith m (λ i. leb (timeIn file′ (transitionsOf block′) i) instant)) n;
 }
   where
