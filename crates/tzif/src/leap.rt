@@ -102,7 +102,7 @@ fn is_expiry(file: &[u8], block: Block, i: usize) -> bool
     if i == 0 {
         return false;
     }
-    if i + 1 != block.leapcnt {
+    if i + 1 < block.leapcnt {
         return false;
     }
     let correction = correction_of(file, block, i);
