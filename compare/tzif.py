@@ -146,7 +146,7 @@ def main():
     parser.add_argument("--zic", default="/usr/sbin/zic")
     parser.add_argument("out")
     args = parser.parse_args()
-    rng, tally, seen = random.Random(args.seed), Tally(), set()
+    rng, tally, seen, leaping = random.Random(args.seed), Tally(), set(), set()
     with tempfile.TemporaryDirectory() as made, open(args.out, "wb") as out:
         folders = [args.folder]
         source = os.path.join(args.folder, "tzdata.zi")
@@ -165,10 +165,11 @@ def main():
             folder, before, at = os.path.join(made, "right-" + form), tally.files, tally.asked
             leaps = os.path.join(args.folder, "leapseconds")
             subprocess.run([args.zic, "-b", form, "-L", leaps, "-d", folder, source], check=True)
-            for n, (path, data) in enumerate(found_in(folder)):
-                data = fourth(data, WAYS[n % 4], rng)
-                if data not in seen:
-                    seen.add(data)
+            for path, data in found_in(folder):
+                if data not in leaping:
+                    leaping.add(data)
+                    # a name of its own: zic gives one file many names
+                    data, path = fourth(data, WAYS[tally.files % 4], rng), path + ".4"
                     with open(path, "wb") as file:
                         file.write(data)
                     ask(path, data, args, rng, tally, out)
