@@ -10,7 +10,7 @@ use native.Mathlib.Omega.{arith}
 use Rattle.tzif.proofs.Lasts.{last-same}
 use Rattle.tzif.proofs.Widths.{row}
 use Rattle.tzif.specs.Block.{timePlace, indicesOf, typesOf, designationsOf, leapsOf, standardsOf, utsOf, endOf}
-use Rattle.tzif.specs.Check.{nulEnd, isNul, typePlace, leapPlace, correctionOf, correctionBefore, oneApart, occursLater, isExpiry, isStandard, checkTime, checkIndex, checkType, checkLeap, checkStandard, checkUt}
+use Rattle.tzif.specs.Check.{nulEnd, isNul, typePlace, leapPlace, correctionOf, correctionBefore, oneApart, occursLater, isExpiry, isStandard, checkTime, checkIndex, checkType, checkLeap, checkLeaps, checkStandard, checkUt}
 use Rattle.tzif.specs.Header.{checkBlock}
 use Rattle.tzif.specs.Number.{octet, be32, raised, timeAt}
 use Rattle.tzif.specs.Part.{countOf, checkOf, checkPart}
@@ -118,18 +118,21 @@ module _ (file other : List ℕ) (block : Block) (wide : 4 ≤ block .width) (sa
   unfolding checkUt
   ut-checked i l = rw (is-standard i, same (utsOf block + i) (omega arith) (omega arith)) refl
 
+  leaps-checked : (fourth : Bool) → checkLeaps file fourth block ≡ checkLeaps other fourth block
+  unfolding checkLeaps
+  leaps-checked fourth = each-same (checkLeap file fourth block) (checkLeap other fourth block) (block .leapcnt) (leap-checked fourth)
+
   part-checked : (part : Part) → checkPart file block part ≡ checkPart other block part
   unfolding checkPart checkOf countOf
   part-checked P.Times = each-same (checkTime file block) (checkTime other block) (block .timecnt) time-checked
   part-checked P.Indices = each-same (checkIndex file block) (checkIndex other block) (block .timecnt) index-checked
   part-checked (P.Types nul) = each-same (checkType file block nul) (checkType other block nul) (block .typecnt) (type-checked nul)
-  part-checked (P.Leaps fourth) = each-same (checkLeap file fourth block) (checkLeap other fourth block) (block .leapcnt) (leap-checked fourth)
   part-checked P.Standards = each-same (checkStandard file block) (checkStandard other block) (block .isstdcnt) standard-checked
   part-checked P.Uts = each-same (checkUt file block) (checkUt other block) (block .isutcnt) ut-checked
 
   pub block-checked : (fourth : Bool) → checkBlock file fourth block ≡ checkBlock other fourth block
   unfolding checkBlock
-  block-checked fourth = λ i. part-checked P.Times i >> (part-checked P.Indices i >> (parts i >> (part-checked (P.Leaps fourth) i >> (part-checked P.Standards i >> part-checked P.Uts i))))
+  block-checked fourth = λ i. part-checked P.Times i >> (part-checked P.Indices i >> (parts i >> (leaps-checked fourth i >> (part-checked P.Standards i >> part-checked P.Uts i))))
     where
       parts : checkPart file block (P.Types (nulEnd file block)) ≡ checkPart other block (P.Types (nulEnd other block))
       parts = λ i. part-checked (P.Types (nul-end i)) i

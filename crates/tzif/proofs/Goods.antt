@@ -13,7 +13,7 @@ use Rattle.tzif.proofs.Rises.{both-given, each-passed, held, transition
 use Rattle.tzif.proofs.Widths.{four-at-least}
 use Rattle.tzif.proofs.Zones.{ReadFrom, zone-from}
 use Rattle.tzif.specs.Block.{Within, indicesOf, designationsOf, endOf}
-use Rattle.tzif.specs.Check.{typePlace, nulEnd, checkIndex, checkType}
+use Rattle.tzif.specs.Check.{typePlace, nulEnd, checkIndex, checkType, checkLeaps}
 use Rattle.tzif.specs.Header.{rfc9636, isFourth, blockAt, checkCounts, checkBlock, readBlock}
 use Rattle.tzif.specs.Local.{typeIn, typeBehind, isAfterLast, byTable, Good, Held}
 use Rattle.tzif.specs.Number.{octet}
@@ -33,7 +33,7 @@ pub record Passed (file : List ℕ) (fourth : Bool) (block : Block) : Type 0 whe
   pub times : checkPart file block P.Times ≡ given tt
   pub indices : checkPart file block P.Indices ≡ given tt
   pub types : checkPart file block (P.Types (nulEnd file block)) ≡ given tt
-  pub leaps : checkPart file block (P.Leaps fourth) ≡ given tt
+  pub leaps : checkLeaps file fourth block ≡ given tt
 
 parts-passed : (file : List ℕ) (fourth : Bool) (block : Block) → checkBlock file fourth block ≡ given tt → Passed file fourth block
 unfolding checkBlock

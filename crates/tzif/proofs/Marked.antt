@@ -14,11 +14,11 @@ use Rattle.tzif.proofs.Beyond.{Beyond, footer-same, table-same, table-b
 use Rattle.tzif.proofs.Rises.{both-given}
 use Rattle.tzif.proofs.Widths.{four-at-least}
 use Rattle.tzif.specs.Block.{endOf}
-use Rattle.tzif.specs.Check.{nulEnd, correctionOf, correctionBefore, oneApart, isExpiry, checkLeap}
+use Rattle.tzif.specs.Check.{nulEnd, correctionOf, correctionBefore, oneApart, isExpiry, checkLeap, checkLeaps}
 use Rattle.tzif.specs.Header.{rfc9636, begins, isFourth, isVersion, versionFits, checkHeader, blockAt, checkCounts, checkBlock, readBlock}
 use Rattle.tzif.specs.Local.{byTable, lent, localTimeBy, localTime}
 use Rattle.tzif.specs.Number.{octet, be32, octets, lift}
-use Rattle.tzif.specs.Part.{countOf, checkOf, checkPart}
+use Rattle.tzif.specs.Part.{checkPart}
 use Rattle.tzif.specs.Reply.{Reply, given, refused, refusal, demand, if_then_else_, _>>=_, _>>_}
 use Rattle.tzif.specs.Zone.{readFooter, readShort, readLong, readZoneBy, readZone}
 use Rattle.tzif.specs.declared.block.Block.{Block}
@@ -80,8 +80,8 @@ module _ (file : List ℕ) (block : Block) (plain : Plain file block) where
   unfolding checkLeap
   leap-plain i l = rw (no-expiry i l, begins-plain i l) refl
 
-  leaps-plain : checkPart file block (P.Leaps true) ≡ checkPart file block (P.Leaps false)
-  unfolding checkPart checkOf countOf
+  leaps-plain : checkLeaps file true block ≡ checkLeaps file false block
+  unfolding checkLeaps
   leaps-plain = each-same (checkLeap file true block) (checkLeap file false block) (block .leapcnt) leap-plain
 
   pub block-plain : checkBlock file true block ≡ checkBlock file false block

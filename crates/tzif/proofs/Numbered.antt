@@ -9,7 +9,7 @@ use mathlib.Core.Path.{_≡_, refl, subst}
 use native.Mathlib.Omega.{arith}
 use Rattle.numbers.proofs.Refusals.{Listed}
 use Rattle.tzif.specs.Block.{endOf}
-use Rattle.tzif.specs.Check.{isExpiry, nulEnd, checkTime, checkIndex, checkType, checkLeap, checkStandard, checkUt}
+use Rattle.tzif.specs.Check.{isExpiry, nulEnd, checkTime, checkIndex, checkType, checkLeap, checkLeaps, checkStandard, checkUt}
 use Rattle.tzif.specs.Header.{rfc9636, isFourth, checkHeader, blockAt, checkCounts, checkBlock, readBlock}
 use Rattle.tzif.specs.Local.{Replied, replied, lent, localTimeBy, localTime}
 use Rattle.tzif.specs.Number.{octet}
@@ -70,12 +70,15 @@ module _ (file : List ℕ) where
   unfolding checkLeap
   leap fourth block i = either (fourth && isExpiry file block i) (demands _ _ refl) (and-then (demands _ _ refl) (demands _ _ refl))
 
+  leaps : (fourth : Bool) (block : Block) → Mine (checkLeaps file fourth block)
+  unfolding checkLeaps
+  leaps fourth block = all (block .leapcnt) (leap fourth block)
+
   entry : (block : Block) (part : Part) (i : ℕ) → Mine (checkOf file block part i)
   unfolding checkOf checkTime checkIndex checkType checkStandard checkUt
   entry block P.Times i = either (eqb i 0) answers (demands _ _ refl)
   entry block P.Indices i = demands _ _ refl
   entry block (P.Types nul) i = and-then (demands _ _ refl) (and-then (demands _ _ refl) (and-then (demands _ _ refl) (demands _ _ refl)))
-  entry block (P.Leaps fourth) i = leap fourth block i
   entry block P.Standards i = demands _ _ refl
   entry block P.Uts i = demands _ _ refl
 
@@ -89,7 +92,7 @@ module _ (file : List ℕ) where
       and-then (part block P.Times)
       (and-then (part block P.Indices)
       (and-then (part block (P.Types (nulEnd file block)))
-      (and-then (part block (P.Leaps fourth))
+      (and-then (leaps fourth block)
       (and-then (part block P.Standards) (part block P.Uts)))))
 
   header : (wide : Bool) (at : ℕ) → Mine (checkHeader rfc9636 file wide at)

@@ -6,7 +6,7 @@ use mathlib.Core.Bool.{Bool, true, false, _&&_, _||_}
 use mathlib.Core.List.{List}
 use mathlib.Core.Path.{_≡_, refl}
 use native.Mathlib.Omega.{arith}
-use Rattle.tzif.specs.Check.{leapPlace, correctionOf, correctionBefore, oneApart, occursLater, isExpiry, checkTime, checkLeap}
+use Rattle.tzif.specs.Check.{leapPlace, correctionOf, correctionBefore, oneApart, occursLater, isExpiry, checkTime, checkLeap, checkLeaps}
 use Rattle.tzif.specs.Part.{countOf, checkOf, checkPart}
 use Rattle.tzif.specs.Reply.{Reply, given, refused, refusal, demand, each, if_then_else_, _>>_}
 use Rattle.tzif.specs.Times.{timeIn, transitionsOf, occurrencesOf, Rises}
@@ -66,8 +66,8 @@ module _ (file : List ℕ) (block : Block) where
       go true e = let same : suc i - 1 ≡ i = omega arith in ltb-true _ _ (rw same at (held _ _ e))
       go false e = omega (arith, leap-spaced i (held _ _ (both-given _ _ e .0)))
 
-  pub occurrences-rise : (fourth : Bool) → checkPart file block (P.Leaps fourth) ≡ given tt → Rises file (occurrencesOf block)
-  unfolding checkPart countOf checkOf
+  pub occurrences-rise : (fourth : Bool) → checkLeaps file fourth block ≡ given tt → Rises file (occurrencesOf block)
+  unfolding checkLeaps
   occurrences-rise fourth passed = record {
     next = λ i l. leap-above fourth i (each-passed (checkLeap file fourth block) (block .leapcnt) passed (suc i) l);
   }

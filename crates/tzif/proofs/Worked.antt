@@ -7,7 +7,7 @@ use native.Mathlib.Omega.{arith}
 use Rattle.tzif.proofs.Marked.{secondVersion, markedThree, PlainFour}
 use Rattle.tzif.proofs.Signs.{allOctets, octets-of}
 use Rattle.tzif.proofs.Theorems.{LastNotAfter, last-not-after}
-use Rattle.tzif.specs.Check.{occursLater, correctionBefore, correctionOf, oneApart, isExpiry, nulEnd, checkTime, checkIndex, checkType, checkLeap, checkStandard, isStandard, checkUt}
+use Rattle.tzif.specs.Check.{occursLater, correctionBefore, correctionOf, oneApart, isExpiry, nulEnd, checkTime, checkIndex, checkType, checkLeap, checkLeaps, checkStandard, isStandard, checkUt}
 use Rattle.tzif.specs.Header.{rfc8536, begins, isVersion, isFourth, versionFits, checkHeader, blockAt, noneOrAll, checkCounts, checkBlock, readBlock}
 use Rattle.tzif.specs.Local.{typeIn, typeBehind, isAfterLast, byTable, replied, lent, localTimeBy, localTime}
 use Rattle.tzif.specs.Number.{octets, be32, raised, timeAt, lift}
@@ -37,7 +37,7 @@ pub record Worked : Type 0 where
   pub no-room : localTime small (pos 0) 0 ≡ replied (L.Refused (refusal 18 0)) []
 
 pub worked : Worked
-unfolding localTimeBy lent readZoneBy readShort readBlock begins isVersion isFourth versionFits checkHeader blockAt noneOrAll checkCounts checkBlock checkPart countOf checkOf checkTime checkIndex checkType checkLeap checkStandard isStandard checkUt nulEnd typeIn typeBehind isAfterLast byTable octets be32 raised timeAt lift demand each _>>=_ _>>_ firstWith isStop runTo timeIn lastWith lastNotAfter
+unfolding localTimeBy lent readZoneBy readShort readBlock begins isVersion isFourth versionFits checkHeader blockAt noneOrAll checkCounts checkBlock checkPart countOf checkOf checkTime checkIndex checkType checkLeap checkLeaps checkStandard isStandard checkUt nulEnd typeIn typeBehind isAfterLast byTable octets be32 raised timeAt lift demand each _>>=_ _>>_ firstWith isStop runTo timeIn lastWith lastNotAfter
 worked = record { before = refl; there = refl; behind = refl; read = refl; no-room = refl }
 
 -- what `last-not-after` asks is met
@@ -77,5 +77,5 @@ pub record WorkedFour : Type 0 where
   pub marked : localTime (markedThree cut) (pos 0) 1 ≡ replied (L.Refused (refusal 55 56)) (0 ∷ [])
 
 pub worked-four : WorkedFour
-unfolding markedThree secondVersion newlineAt readFooter readLong occursLater correctionBefore correctionOf oneApart isExpiry localTimeBy lent readZoneBy readBlock begins isVersion isFourth versionFits checkHeader blockAt noneOrAll checkCounts checkBlock checkPart countOf checkOf checkTime checkIndex checkType checkLeap checkStandard isStandard checkUt nulEnd typeIn typeBehind isAfterLast byTable octets be32 raised timeAt lift demand each _>>=_ _>>_ firstWith isStop runTo timeIn lastWith lastNotAfter
+unfolding markedThree secondVersion newlineAt readFooter readLong occursLater correctionBefore correctionOf oneApart isExpiry localTimeBy lent readZoneBy readBlock begins isVersion isFourth versionFits checkHeader blockAt noneOrAll checkCounts checkBlock checkPart countOf checkOf checkTime checkIndex checkType checkLeap checkLeaps checkStandard isStandard checkUt nulEnd typeIn typeBehind isAfterLast byTable octets be32 raised timeAt lift demand each _>>=_ _>>_ firstWith isStop runTo timeIn lastWith lastNotAfter
 worked-four = record { plain = refl; features = refl; before = refl; marked = refl }

@@ -5,7 +5,7 @@ use mathlib.Core.Bool.{Bool, not, _&&_, _||_}
 use mathlib.Core.List.{List}
 use Rattle.tzif.specs.Block.{timePlace, indicesOf, typesOf, designationsOf, leapsOf, standardsOf, utsOf}
 use Rattle.tzif.specs.Number.{octet, be32, raised}
-use Rattle.tzif.specs.Reply.{Reply, given, refusal, demand, if_then_else_, _>>_}
+use Rattle.tzif.specs.Reply.{Reply, given, refusal, demand, each, if_then_else_, _>>_}
 use Rattle.tzif.specs.Times.{timeIn, transitionsOf, occurrencesOf, lastWith, lastNotAfter}
 use Rattle.tzif.specs.declared.block.Block.{Block}
 
@@ -81,6 +81,10 @@ checkLeap file fourth block i =
     else (do
       demand (occursLater file block i) (refusal 54 (leapPlace block i))
       demand ((eqb i 0 && fourth) || oneApart (correctionBefore file block i) (correctionOf file block i)) (refusal 55 (leapPlace block i + block .width)))
+
+-- all records: the first fault
+unfoldable pub checkLeaps : List ℕ → Bool → Block → Reply (Unit {0})
+checkLeaps file fourth block = each (block .leapcnt) (checkLeap file fourth block)
 
 -- ---- indicators
 -- 56: each standard/wall indicator is 0 or 1

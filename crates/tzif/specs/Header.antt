@@ -6,7 +6,7 @@ use mathlib.Core.Bool.{Bool, false, not, _&&_, _||_}
 use mathlib.Core.List.{List}
 use mathlib.Core.Path.{_≡_}
 use Rattle.tzif.specs.Block.{endOf}
-use Rattle.tzif.specs.Check.{nulEnd}
+use Rattle.tzif.specs.Check.{nulEnd, checkLeaps}
 use Rattle.tzif.specs.Number.{octet, be32, octets}
 use Rattle.tzif.specs.Part.{checkPart}
 use Rattle.tzif.specs.Reply.{Reply, given, refusal, demand, if_then_else_, _>>_}
@@ -76,7 +76,7 @@ checkBlock file fourth block = do
   checkPart file block P.Times
   checkPart file block P.Indices
   checkPart file block (P.Types (nulEnd file block))
-  checkPart file block (P.Leaps fourth)
+  checkLeaps file fourth block
   checkPart file block P.Standards
   checkPart file block P.Uts
 

@@ -9,6 +9,7 @@ ghost use Rattle.tzif.specs.Told.{told, toldBlock};
 ghost use Rattle.tzif.specs.Header.{rfc9636, begins, isVersion, isFourth, versionFits, checkHeader, blockAt, Counted, noneOrAll, checkCounts, checkBlock, readBlock};
 use crate::block::Block;
 use crate::check::nul_end;
+use crate::leap::check_leaps;
 use crate::number::be32;
 use crate::number::octet;
 use crate::number::octets;
@@ -155,7 +156,7 @@ fn check_block(file: &[u8], fourth: bool, block: Block) -> Checked
     let times = check_part(file, block, Part::Times);
     let indices = check_part(file, block, Part::Indices);
     let types = check_part(file, block, Part::Types(nul));
-    let leaps = check_part(file, block, Part::Leaps(fourth));
+    let leaps = check_leaps(file, fourth, block);
     let standards = check_part(file, block, Part::Standards);
     let uts = check_part(file, block, Part::Uts);
     let indicators = both(standards, uts);

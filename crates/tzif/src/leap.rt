@@ -9,7 +9,7 @@ ghost use Rattle.tzif.specs.Told.{told};
 ghost use Rattle.tzif.specs.Number.{Word};
 ghost use Rattle.tzif.specs.Reply.{demand, refusal};
 ghost use Rattle.tzif.specs.Times.{timeIn, occurrencesOf, Rises};
-ghost use Rattle.tzif.specs.Check.{leapPlace, correctionOf, occursLater, correctionBefore, correctionAt, oneApart, isExpiry, checkLeap};
+ghost use Rattle.tzif.specs.Check.{leapPlace, correctionOf, occursLater, correctionBefore, correctionAt, oneApart, isExpiry, checkLeap, checkLeaps};
 use crate::block::Block;
 use crate::number::be32;
 use crate::number::raised;
@@ -148,7 +148,7 @@ fn check_expiry(file: &[u8], block: Block, i: usize) -> Checked
     demand(before < occurrence, 54, leap_place(block, i))
 }
 
-pub fn check_leap(file: &[u8], fourth: bool, block: Block, i: usize) -> Checked
+fn check_leap(file: &[u8], fourth: bool, block: Block, i: usize) -> Checked
     requires { ⌜ Within (length (now file)) block ⌝ }
     requires { ⌜ i < block .leapcnt ⌝ }
     ensures { λ r. ⌜ told r ≡ checkLeap (now (file .entry)) fourth block i ⌝ }
@@ -164,4 +164,20 @@ pub fn check_leap(file: &[u8], fourth: bool, block: Block, i: usize) -> Checked
     let first = demand(later, 54, place);
     let second = demand(follows, 55, place + block.width);
     both(first, second)
+}
+
+// The first fault of all records.
+pub fn check_leaps(file: &[u8], fourth: bool, block: Block) -> Checked
+    requires { ⌜ Within (length (now file)) block ⌝ }
+    ensures { λ r. ⌜ told r ≡ checkLeaps (now (file .entry)) fourth block ⌝ }
+{
+    let mut i = 0;
+    while i < block.leapcnt {
+        let answer = check_leap(file, fourth, block, i);
+        let Checked::Fine = answer else {
+            return answer;
+        };
+        i += 1;
+    }
+    Checked::Fine
 }
