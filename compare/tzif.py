@@ -1,4 +1,5 @@
-"""Holds local time against glibc and Python's zoneinfo, on every TZif file of a folder and on those that zic makes of tzdata.zi.
+"""Holds local time against glibc and Python's zoneinfo, on every TZif file of a folder, on those that zic makes of tzdata.zi, and on
+version 4 files made of its leap-second zones.
 
 Writes the records of `replay`'s op 21 to a file: what is expected of each instant is glibc's answer where the table has one, at the last
 transition zoneinfo's. compare/tzif says how it is run.
@@ -42,6 +43,31 @@ def table(data):
     return instants, (offset, flag, data[name : data.index(0, name)])
 
 
+WAYS = ("plain", "part-way", "expiry", "both")
+
+
+def fourth(data, way, rng):
+    """A version 4 file of a later one: the leap-second tables of both blocks begin part-way, end with an expiry, or both."""
+    made, at = b"", 0
+    for width in (4, 8):
+        head = bytearray(data[at : at + 44])
+        isut, isstd, leaps, times, types, chars = struct.unpack_from(">6I", head, 20)
+        table = at + 44 + times * (width + 1) + types * 6 + chars
+        end = table + leaps * (width + 4)
+        records = [data[i : i + width + 4] for i in range(table, end, width + 4)]
+        if way in ("part-way", "both") and len(records) > 1:
+            del records[: rng.randint(1, len(records) - 1)]
+        if way in ("expiry", "both") and records:
+            form = ">qi" if width == 8 else ">ii"
+            last, correction = struct.unpack(form, records[-1])
+            records.append(struct.pack(form, last + rng.choice((1, 2419198, 2**24)), correction))
+        head[4:5] = b"4"
+        struct.pack_into(">I", head, 28, len(records))
+        made += bytes(head) + data[at + 44 : table] + b"".join(records) + data[end : end + isstd + isut]
+        at = end + isstd + isut
+    return made + data[at:]
+
+
 def record(number, instant, data, answer):
     """A record of op 21; no answer is unknown."""
     head = struct.pack("<BIqBIII", 21, number, instant, 1, 0, ROOM, len(data))
@@ -71,6 +97,7 @@ class Tally:
 
 
 def ask(path, data, args, rng, tally, out):
+    """The file at the path holds the data."""
     os.environ["TZ"] = ":" + path
     LIBC.tzset()
     zone = zoneinfo.ZoneInfo.from_file(io.BytesIO(data))
@@ -107,7 +134,7 @@ def found_in(folder):
             path = os.path.join(where, name)
             with open(path, "rb") as file:
                 data = file.read()
-            if data[:4] == b"TZif" and data[4:5] in b"\0" b"23":
+            if data[:4] == b"TZif" and data[4:5] in b"\0" b"234":
                 yield path, data
 
 
@@ -119,7 +146,7 @@ def main():
     parser.add_argument("--zic", default="/usr/sbin/zic")
     parser.add_argument("out")
     args = parser.parse_args()
-    rng, tally, seen = random.Random(args.seed), Tally(), set()
+    rng, tally, seen, leaping = random.Random(args.seed), Tally(), set(), set()
     with tempfile.TemporaryDirectory() as made, open(args.out, "wb") as out:
         folders = [args.folder]
         source = os.path.join(args.folder, "tzdata.zi")
@@ -134,6 +161,19 @@ def main():
                     seen.add(data)
                     ask(path, data, args, rng, tally, out)
             print(f"{os.path.basename(folder)}: {tally.files - before} files")
+        for form in ("fat", "slim") if os.path.exists(source) else ():
+            folder, before, at = os.path.join(made, "right-" + form), tally.files, tally.asked
+            leaps = os.path.join(args.folder, "leapseconds")
+            subprocess.run([args.zic, "-b", form, "-L", leaps, "-d", folder, source], check=True)
+            for path, data in found_in(folder):
+                if data not in leaping:
+                    leaping.add(data)
+                    # a name of its own: zic gives one file many names
+                    data, path = fourth(data, WAYS[tally.files % 4], rng), path + ".4"
+                    with open(path, "wb") as file:
+                        file.write(data)
+                    ask(path, data, args, rng, tally, out)
+            print(f"version 4, {form}: {tally.files - before} files, {tally.asked - at} instants")
     print(f"seed {args.seed}: {tally.files} different files, {tally.asked} instants, {tally.unknown} of them after the last transition")
     print(f"before the first transition: {tally.first}, glibc differs from type 0 in {tally.glibc_first}, zoneinfo in {tally.zoneinfo_first}")
     print(f"glibc and zoneinfo apart within the table: {tally.apart}")

@@ -54,9 +54,9 @@ enum uskelzar_refusal {
     USKELZAR_PIECE = 23,              /* piece list; detail: the piece's index */
     USKELZAR_OUTPUT_ROOM = 24,        /* border doesn't fit the output */
     USKELZAR_INCOMPLETE = 31,         /* a number that the file's end cuts; of the two strict functions alone */
-    /* of a TZif file: the rule of RFC 8536 that is broken; detail: a place in the file, that of .. */
+    /* of a TZif file: the rule of RFC 8536 or 9636 that is broken; detail: a place in the file, that of .. */
     USKELZAR_TZIF_MAGIC = 40,         /* a header does not begin with "TZif": the header */
-    USKELZAR_TZIF_VERSION = 41,       /* version missing, not 0, '2' or '3', or the second not the first: the octet */
+    USKELZAR_TZIF_VERSION = 41,       /* version missing, not 0, '2', '3' or '4', or the second not the first: the octet */
     USKELZAR_TZIF_HEADER = 42,        /* the file ends inside a header: the header */
     USKELZAR_TZIF_ISUTCNT = 43,       /* neither 0 nor typecnt: the count */
     USKELZAR_TZIF_ISSTDCNT = 44,      /* neither 0 nor typecnt: the count */
@@ -211,8 +211,8 @@ uint8_t uskelzar_write_border(uint8_t version, const int32_t *lats, size_t lats_
                               size_t earlier_length, uint8_t *out, size_t out_length,
                               uint64_t reply[USKELZAR_REPLY_WORDS]);
 
-/* Local time at an instant, by a TZif file (RFC 8536, versions 1 to 3) and the TZ string of its footer, all of which is checked
- * first. The instant is in seconds from 1970-01-01 00:00:00 UT, on the file's own scale.
+/* Local time at an instant, by a TZif file (RFC 8536 and 9636, versions 1 to 4) and the TZ string of its footer, all of
+ * which is checked first. The instant is in seconds from 1970-01-01 00:00:00 UT, on the file's own scale.
  * Answers: 1, the offset's bits, the daylight flag, the abbreviation's length: by the last transition that is not after the
  *       instant; before the first by type 0. After the last, and throughout where there are none, by the TZ string, where
  *       the file has one; where it has none, by type 0 if there are no transitions, and else unknown: all words are 0.

@@ -91,6 +91,52 @@ fn strings() {
     }
 }
 
+/// `AAA` at UT with these leap-second records, an occurrence and a correction each, in both blocks.
+fn leaping(version: u8, records: &[(i32, i32)]) -> Vec<u8> {
+    let counts = [0, 0, records.len() as u32, 0, 1, 4];
+    let mut out = header(version, counts);
+    out.extend(b"\0\0\0\0\0\0AAA\0");
+    out.extend(records.iter().flat_map(|(time, correction)| [time.to_be_bytes(), correction.to_be_bytes()].concat()));
+    out.extend(header(version, counts));
+    out.extend(b"\0\0\0\0\0\0AAA\0");
+    for (time, correction) in records {
+        out.extend(i64::from(*time).to_be_bytes());
+        out.extend(correction.to_be_bytes());
+    }
+    out.extend(b"\nAAA0\n");
+    out
+}
+
+/// Version 4: a table that begins part-way and one that ends with an expiry are taken, an expiry in the middle is not; version 3 takes neither.
+#[test]
+fn fourth() {
+    const MONTH: i32 = 2_419_199;
+    let refused = |version, records: &[(i32, i32)]| {
+        let why = TimeZone::new(leaping(version, records)).err()?;
+        Some((why.number, why.detail))
+    };
+    let (occurrence, correction) = (Number::TzifOccurrence, Number::TzifCorrection);
+    for (records, fourth, third) in [
+        (&[][..], None, None),
+        (&[(0, 1), (MONTH, 0)], None, None),
+        (&[(0, 27)], None, Some((correction, 58))),
+        (&[(0, 0)], None, Some((correction, 58))),
+        (&[(0, 1), (1, 1)], None, Some((occurrence, 62))),
+        (&[(0, 1), (MONTH, 1)], None, Some((correction, 66))),
+        (&[(0, 1), (0, 1)], Some((occurrence, 62)), Some((occurrence, 62))),
+        (&[(0, 1), (MONTH, 1), (2 * MONTH, 2)], Some((correction, 66)), Some((correction, 66))),
+        (&[(0, 1), (MONTH, 1), (2 * MONTH, 1)], Some((correction, 66)), Some((correction, 66))),
+        (&[(-1, 27)], Some((occurrence, 54)), Some((occurrence, 54))),
+    ] {
+        assert_eq!(refused(b'4', records), fourth, "{records:?}");
+        assert_eq!(refused(b'3', records), third, "{records:?}");
+    }
+    let zone = TimeZone::new(leaping(b'4', &[(0, 27), (1, 27)])).unwrap();
+    assert_eq!(zone.local_time(1 << 40).err().map(|why| why.number), Some(Number::TzifYear));
+    assert_eq!(zone.local_time(2).unwrap(), local(0, false, b"AAA"));
+    assert_eq!(TimeZone::new(leaping(b'5', &[])).err().unwrap().number, Number::TzifVersion);
+}
+
 fn civil(year: u16, date: [u8; 2], time: [u8; 3], weekday: u8) -> CivilTime {
     let ([month, day], [hour, minute, second]) = (date, time);
     CivilTime {

@@ -1,3 +1,4 @@
 -- What callers of this crate go by.
 pub mod Theorems
 pub mod Numbered
+pub mod Versions

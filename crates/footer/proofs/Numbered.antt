@@ -6,11 +6,12 @@ use mathlib.Core.Bool.{Bool, true, false}
 use mathlib.Core.List.{List, [], _∷_, _++_}
 use mathlib.Core.Path.{_≡_, refl, subst}
 use native.Mathlib.Omega.{arith}
-use Rattle.footer.specs.Local.{askIn, agrees, orSixty, stringIn, rulesIn, isRuled, byRule, answerBy, answerAt, localTime}
+use Rattle.footer.specs.Local.{askIn, agrees, orSixty, stringIn, rulesIn, isRuled, byRule, answerBy, answerAt, localTimeBy, localTime}
 use Rattle.footer.specs.declared.rule.Rules.{Rules}
 use Rattle.footer.specs.declared.rule.Rules.the-variants as R
 use Rattle.numbers.proofs.Refusals.{Listed, still-listed}
 use Rattle.tzif.proofs.Numbered.{NumberedReply, answers, refuses, then-reply, and-then, demands, either, zone-numbered, localNumbers}
+use Rattle.tzif.specs.Header.{rfc9636}
 use Rattle.tzif.specs.Local.{byTable, Replied, replied, lent}
 use Rattle.tzif.specs.Number.{lift}
 use Rattle.tzif.specs.Reply.{Reply, given, refused, refusal, if_then_else_}
@@ -61,7 +62,7 @@ unfolding answerBy
 by-numbered file block R.Without instant = answers
 by-numbered file block (R.By tz) instant = either (isRuled file block instant) (asked-numbered (askIn file block tz instant)) answers
 
-at-numbered : (file : List ℕ) (instant : ℤ) → Mine (answerAt file instant)
+at-numbered : (file : List ℕ) (instant : ℤ) → Mine (answerAt rfc9636 file instant)
 unfolding answerAt
 at-numbered file instant = then-reply (wider (zone-numbered file)) (λ zone. then-reply (rules-numbered file zone) (λ rules. by-numbered file (zone .block) rules (lift instant)))
 
@@ -84,5 +85,5 @@ of-lent file room (refuses h) why e = number-of e refl h
 
 -- a call that is refused is refused with one of these
 pub local-time-refusals : (file : List ℕ) (instant : ℤ) (room : ℕ) (why : Refusal) → localTime file instant room .reply ≡ L.Refused why → Listed footerNumbers (why .number)
-unfolding localTime
+unfolding localTimeBy
 local-time-refusals file instant room = of-lent file room (at-numbered file instant)

@@ -7,7 +7,7 @@ use mathlib.Core.Bool.{Bool, true, false}
 use mathlib.Core.List.{List}
 use mathlib.Core.Path.{_≡_, refl, ap, sym, _∙_}
 use native.Mathlib.Omega.{arith}
-use Rattle.footer.specs.Local.{askIn, agrees, orSixty, stringIn, rulesIn, isRuled, byRule, answerBy, answerAt, localTime}
+use Rattle.footer.specs.Local.{askIn, agrees, orSixty, stringIn, rulesIn, isRuled, byRule, answerBy, answerAt, localTimeBy, localTime}
 use Rattle.footer.specs.declared.rule.Rules.{Rules}
 use Rattle.footer.specs.declared.rule.Rules.the-variants as R
 use Rattle.tzif.specs.Reply.{if_then_else_}
@@ -38,7 +38,7 @@ same-local-time file instant room r q s t p e =
 
 -- where Q-9 refuses, the refusal stays
 pub q10-refuses : (file : List ℕ) (instant : ℤ) (room : ℕ) {why : Refusal} → readZone file ≡ refused why → localTime file instant room ≡ plain.localTime file instant room
-unfolding localTime answerAt plain.localTime _>>=_
+unfolding localTimeBy answerAt plain.localTimeBy _>>=_
 q10-refuses file instant room e = simp e
 
 -- an instant that the transitions answer is not after the last
@@ -52,7 +52,7 @@ listed file block instant {found} e = go (isAfterLast file block instant) refl
 
 module _ (file : List ℕ) (instant : ℤ) (room : ℕ) {zone : Zone} (z : readZone file ≡ given zone) where
   same-answer : {rules : Rules} → rulesIn file zone ≡ given rules → answerBy file (zone .block) rules (lift instant) ≡ given (byTable file (zone .block) (lift instant)) → localTime file instant room ≡ plain.localTime file instant room
-  unfolding localTime answerAt plain.localTime _>>=_
+  unfolding localTimeBy answerAt plain.localTimeBy _>>=_
   same-answer r a = simp (z, r, a)
 
   no-string : zone .size ≡ 0 → rulesIn file zone ≡ given R.Without

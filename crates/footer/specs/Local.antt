@@ -15,11 +15,12 @@ use Rattle.footer.specs.declared.rule.Stated.the-variants as Q
 use Rattle.tzif.specs.Reply.{if_then_else_}
 use Rattle.tzif.specs.Block.{endOf}
 use Rattle.tzif.specs.Check.{correctionAt}
+use Rattle.tzif.specs.Header.{Rfc, rfc9636}
 use Rattle.tzif.specs.Local.{typeIn, typeBehind, isAfterLast, byTable, lent, Replied, Good, Held}
 use Rattle.tzif.specs.Number.{lift}
 use Rattle.tzif.specs.Reply.{Reply, given, refused, refusal, demand, _>>=_, _>>_}
 use Rattle.tzif.specs.Times.{timeIn, transitionsOf, occurrencesOf, Rises}
-use Rattle.tzif.specs.Zone.{readZone}
+use Rattle.tzif.specs.Zone.{readZoneBy}
 use Rattle.tzif.specs.declared.block.Block.{Block}
 use Rattle.tzif.specs.declared.local.Answer.{Answer}
 use Rattle.tzif.specs.declared.local.Answer.the-variants as A
@@ -76,15 +77,19 @@ unfoldable pub answerBy : List ℕ → Block → Rules → ℕ → Reply Answer
 answerBy file block R.Without instant = given (byTable file block instant)
 answerBy file block (R.By tz) instant = if isRuled file block instant then byRule (askIn file block tz instant) else given (byTable file block instant)
 
-unfoldable pub answerAt : List ℕ → ℤ → Reply Answer
-answerAt file instant = do
-  zone ← readZone file
+unfoldable pub answerAt : Rfc → List ℕ → ℤ → Reply Answer
+answerAt rfc file instant = do
+  zone ← readZoneBy rfc file
   rules ← rulesIn file zone
   answerBy file (zone .block) rules (lift instant)
 
 -- local time in a file at an instant, with so much text lent
-unfoldable pub localTime : List ℕ → ℤ → ℕ → Replied
-localTime file instant room = lent file room (answerAt file instant)
+unfoldable pub localTimeBy : Rfc → List ℕ → ℤ → ℕ → Replied
+localTimeBy rfc file instant room = lent file room (answerAt rfc file instant)
+
+-- by the newer RFC
+abbrev pub localTime : List ℕ → ℤ → ℕ → Replied
+localTime = localTimeBy rfc9636
 
 -- what the code's answers say
 unfoldable pub toldRules : Stated → Reply Rules

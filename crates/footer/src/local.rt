@@ -2,6 +2,7 @@
 ghost use mathlib.Core.Path.{_≡_};
 ghost use lib.ListN.{length};
 ghost use Rattle.footer.specs.Local.{isRuled, byRule, answerBy, answerAt, localTime, toldSaid, Sound, HeldRules, HeldAsked, HeldSaid};
+ghost use Rattle.tzif.specs.Header.{rfc9636};
 ghost use Rattle.tzif.specs.Local.{byTable, replied, Good};
 ghost use Rattle.tzif.specs.Reply.{given};
 use crate::found::found_of;
@@ -86,7 +87,7 @@ fn answer_by(file: &[u8], block: Block, rules: Rules, instant: usize) -> Said
 
 // What a file says of an instant.
 fn answer_at(file: &[u8], instant: i64) -> Said
-    ensures { λ r. ⌜ (toldSaid r ≡ answerAt (now (file .entry)) instant) × HeldSaid (length (now (file .entry))) r ⌝ }
+    ensures { λ r. ⌜ (toldSaid r ≡ answerAt rfc9636 (now (file .entry)) instant) × HeldSaid (length (now (file .entry))) r ⌝ }
 {
     let zone = match read_zone(file) {
         Read::Zone(zone) => zone,

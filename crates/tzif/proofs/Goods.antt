@@ -13,15 +13,15 @@ use Rattle.tzif.proofs.Rises.{both-given, each-passed, held, transition
 use Rattle.tzif.proofs.Widths.{four-at-least}
 use Rattle.tzif.proofs.Zones.{ReadFrom, zone-from}
 use Rattle.tzif.specs.Block.{Within, indicesOf, designationsOf, endOf}
-use Rattle.tzif.specs.Check.{typePlace, nulEnd, checkIndex, checkType}
-use Rattle.tzif.specs.Header.{blockAt, checkCounts, checkBlock, readBlock}
+use Rattle.tzif.specs.Check.{typePlace, nulEnd, checkIndex, checkType, checkLeaps}
+use Rattle.tzif.specs.Header.{rfc9636, isFourth, blockAt, checkCounts, checkBlock, readBlock}
 use Rattle.tzif.specs.Local.{typeIn, typeBehind, isAfterLast, byTable, Good, Held}
 use Rattle.tzif.specs.Number.{octet}
 use Rattle.tzif.specs.Part.{countOf, checkOf, checkPart}
 use Rattle.tzif.specs.Reply.{given, if_then_else_}
 use Rattle.tzif.specs.Text.{isStop, runTo}
 use Rattle.tzif.specs.Times.{transitionsOf, occurrencesOf, lastNotAfter, Rises}
-use Rattle.tzif.specs.Zone.{readZone}
+use Rattle.tzif.specs.Zone.{readZoneBy}
 use Rattle.tzif.specs.declared.block.Block.{Block}
 use Rattle.tzif.specs.declared.local.Found.{Found}
 use Rattle.tzif.specs.declared.zone.Zone.{Zone}
@@ -29,15 +29,15 @@ use Rattle.tzif.specs.declared.local.Answer.the-variants as A
 use Rattle.tzif.specs.declared.part.Part.the-variants as P
 
 -- ---- the parts of a block that was read
-pub record Passed (file : List ℕ) (block : Block) : Type 0 where
+pub record Passed (file : List ℕ) (fourth : Bool) (block : Block) : Type 0 where
   pub times : checkPart file block P.Times ≡ given tt
   pub indices : checkPart file block P.Indices ≡ given tt
   pub types : checkPart file block (P.Types (nulEnd file block)) ≡ given tt
-  pub leaps : checkPart file block P.Leaps ≡ given tt
+  pub leaps : checkLeaps file fourth block ≡ given tt
 
-parts-passed : (file : List ℕ) (block : Block) → checkBlock file block ≡ given tt → Passed file block
+parts-passed : (file : List ℕ) (fourth : Bool) (block : Block) → checkBlock file fourth block ≡ given tt → Passed file fourth block
 unfolding checkBlock
-parts-passed file block e =
+parts-passed file fourth block e =
     let one = both-given _ _ e in
     let two = both-given _ _ (one .1) in
     let three = both-given _ _ (two .1) in
@@ -64,20 +64,20 @@ counts-passed file at block e =
 pub record ReadBlock (file : List ℕ) (block : Block) : Type 0 where
   pub within : Within (length file) block
   pub some : 0 < block .typecnt
-  pub passed : Passed file block
+  pub passed : Passed file (isFourth rfc9636 (octet file 4)) block
 
 width-of : (file : List ℕ) (wide : Bool) (at : ℕ) → 4 ≤ blockAt file wide at .width
 unfolding blockAt
 width-of file wide at = four-at-least wide
 
-pub block-read : (file : List ℕ) (wide : Bool) (at : ℕ) {block : Block} → readBlock file wide at ≡ given block → ReadBlock file block
+pub block-read : (file : List ℕ) (wide : Bool) (at : ℕ) {block : Block} → readBlock rfc9636 file wide at ≡ given block → ReadBlock file block
 unfolding readBlock
 block-read file wide at {block} e =
     let counted = both-given _ _ (both-given _ _ e .1) in
     let checked = both-given _ _ (counted .1) in
     let same : blockAt file wide at ≡ block = cc (checked .1) in
     let counts = counts-passed file at (blockAt file wide at) (counted .0) in
-    rw (← same) (record { within = record { wide = width-of file wide at; end = counts .end }; some = counts .some; passed = parts-passed file (blockAt file wide at) (checked .0) })
+    rw (← same) (record { within = record { wide = width-of file wide at; end = counts .end }; some = counts .some; passed = parts-passed file (isFourth rfc9636 (octet file 4)) (blockAt file wide at) (checked .0) })
 
 -- ---- a good block
 index-below : (file : List ℕ) (block : Block) (i : ℕ) → checkIndex file block i ≡ given tt → octet file (indicesOf block + i) < block .typecnt
@@ -119,7 +119,7 @@ module _ {file : List ℕ} {block : Block} (read : ReadBlock file block) where
   }
 
 -- ---- a file that was read
-module _ (file : List ℕ) {zone : Zone} (e : readZone file ≡ given zone) where
+module _ (file : List ℕ) {zone : Zone} (e : readZoneBy rfc9636 file ≡ given zone) where
   from : ReadFrom file zone
   from = zone-from file (λ block is. block-read file false 0 is .within .end) e
 
@@ -132,11 +132,11 @@ module _ (file : List ℕ) {zone : Zone} (e : readZone file ≡ given zone) wher
 
   -- its leap-second occurrences rise
   pub zone-leaps-rise : Rises file (occurrencesOf (zone .block))
-  zone-leaps-rise = occurrences-rise file (zone .block) (zone-read .passed .leaps)
+  zone-leaps-rise = occurrences-rise file (zone .block) (isFourth rfc9636 (octet file 4)) (zone-read .passed .leaps)
 
   -- it is no longer than 1 GiB
   pub zone-short : length file ≤ 2 ^ 30
-  unfolding readZone
+  unfolding readZoneBy
   zone-short = leb-true _ _ (held _ _ (both-given _ _ e .0))
 
   -- its TZ string lies within it

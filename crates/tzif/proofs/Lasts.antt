@@ -96,7 +96,7 @@ module _ {times : ℕ → ℕ} {n instant low high : ℕ} (s : Narrowed times n 
       (λ k a b. lt-leb (times k) instant (s .after k (omega (arith, s .order)) b))
 
 -- two tests that say the same
-pub last-same : (holds holds′ : ℕ → Bool) → ((k : ℕ) → holds k ≡ holds′ k) → (n : ℕ) → lastWith n holds ≡ lastWith n holds′
+pub last-same : (holds holds′ : ℕ → Bool) (n : ℕ) → ((k : ℕ) → k < n → holds k ≡ holds′ k) → lastWith n holds ≡ lastWith n holds′
 unfolding lastWith
-last-same holds holds′ e zero = refl
-last-same holds holds′ e (suc m) = rw (e m, last-same holds holds′ e m) refl
+last-same holds holds′ zero e = refl
+last-same holds holds′ (suc m) e = rw (e m (omega arith), last-same holds holds′ m (λ k l. e k (omega arith))) refl

@@ -1,13 +1,25 @@
 -- The correction at an instant, by how many records there are. Assumes nothing.
-use Prim.Native.Nat.{ℕ, _^_, _≤_}
+use Prim.Native.Nat.{ℕ, zero, suc, _^_, _≤_, _<_}
 use borrow.Author.Tests.{eq-eqb}
+use lib.Dec.{eqb}
+use mathlib.Core.Bool.{Bool, true, false, not, _&&_}
 use mathlib.Core.List.{List}
 use mathlib.Core.Path.{_≡_, refl}
 use native.Mathlib.Omega.{arith}
 use Rattle.tzif.proofs.Lasts.{last-within}
-use Rattle.tzif.specs.Check.{correctionBefore, correctionAt}
+use Rattle.tzif.specs.Check.{correctionBefore, correctionAt, isExpiry}
 use Rattle.tzif.specs.Times.{occurrencesOf, lastNotAfter}
 use Rattle.tzif.specs.declared.block.Block.{Block}
+
+-- an expiry has a record before it
+not-first : (i : ℕ) (rest : Bool) → (not (eqb i 0) && rest) ≡ true → 0 < i
+not-first zero rest e = let z : _≡_ {A = ℕ} 0 1 = cc in absurd (omega arith)
+not-first (suc i) rest e = omega arith
+
+pub expires-behind : (file : List ℕ) (fourth : Bool) (block : Block) (i : ℕ) → (fourth && isExpiry file block i) ≡ true → 0 < i
+unfolding isExpiry
+expires-behind file true block i e = not-first i _ e
+expires-behind file false block i e = let z : _≡_ {A = ℕ} 0 1 = cc in absurd (omega arith)
 
 module _ (file : List ℕ) (block : Block) (instant : ℕ) where
   pub records-within : lastNotAfter file (occurrencesOf block) instant ≤ block .leapcnt

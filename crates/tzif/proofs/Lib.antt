@@ -15,3 +15,7 @@ pub mod Leaps
 pub mod Numbered
 pub mod Theorems
 pub mod Worked
+pub mod Versions
+pub mod Alike
+pub mod Beyond
+pub mod Marked

@@ -7,7 +7,7 @@ use mathlib.Core.List.{List, []}
 use mathlib.Core.Path.{_≡_, ap}
 use native.Mathlib.Nat.{sub-zero}
 use native.Mathlib.Omega.{arith}
-use Rattle.tzif.specs.Local.{byTable, replied, named, lent, localTime}
+use Rattle.tzif.specs.Local.{byTable, replied, named, lent, localTimeBy, localTime}
 use Rattle.tzif.specs.Number.{lift}
 use Rattle.tzif.specs.Reply.{given, refused, refusal, _>>=_}
 use Rattle.tzif.specs.Text.{slice, zeros, padded}
@@ -37,14 +37,14 @@ module _ (file : List ℕ) (room : ℕ) (found : Found) {text : List ℕ} where
 -- ---- the whole call
 module _ (file : List ℕ) (instant : ℤ) (room : ℕ) {text : List ℕ} where
   pub not-read : {why : Refusal} → readZone file ≡ refused why → text ≡ zeros room → replied (L.Refused why) text ≡ localTime file instant room
-  unfolding localTime lent _>>=_
+  unfolding localTimeBy lent _>>=_
   not-read {why} e t = rw e (ap (replied (L.Refused why)) t)
 
   module _ {zone : Zone} (e : readZone file ≡ given zone) {form : ℕ} (f : form ≡ lift instant) where
     pub not-known : byTable file (zone .block) form ≡ A.Unknown → text ≡ zeros room → replied L.Unknown text ≡ localTime file instant room
-    unfolding localTime lent _>>=_
+    unfolding localTimeBy lent _>>=_
     not-known b t = rw (e, ← f, b) (ap (replied L.Unknown) t)
 
     pub is-found : {found : Found} {reply : LocalTime} → byTable file (zone .block) form ≡ A.Found found → replied reply text ≡ named file room found → replied reply text ≡ localTime file instant room
-    unfolding localTime lent _>>=_
+    unfolding localTimeBy lent _>>=_
     is-found b r = rw (e, ← f, b) r

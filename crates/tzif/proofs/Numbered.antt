@@ -3,20 +3,20 @@ use Prim.Native.Nat.{ℕ, zero, suc}
 use lib.Dec.{leb, eqb}
 use lib.IntN.{ℤ}
 use lib.ListN.{length}
-use mathlib.Core.Bool.{Bool, true, false}
+use mathlib.Core.Bool.{Bool, true, false, _&&_}
 use mathlib.Core.List.{List, [], _∷_}
 use mathlib.Core.Path.{_≡_, refl, subst}
 use native.Mathlib.Omega.{arith}
 use Rattle.numbers.proofs.Refusals.{Listed}
 use Rattle.tzif.specs.Block.{endOf}
-use Rattle.tzif.specs.Check.{nulEnd, checkTime, checkIndex, checkType, checkLeap, checkStandard, checkUt}
-use Rattle.tzif.specs.Header.{checkHeader, blockAt, checkCounts, checkBlock, readBlock}
-use Rattle.tzif.specs.Local.{Replied, replied, lent, localTime}
+use Rattle.tzif.specs.Check.{isExpiry, nulEnd, checkTime, checkIndex, checkType, checkLeap, checkLeaps, checkStandard, checkUt}
+use Rattle.tzif.specs.Header.{rfc9636, isFourth, checkHeader, blockAt, checkCounts, checkBlock, readBlock}
+use Rattle.tzif.specs.Local.{Replied, replied, lent, localTimeBy, localTime}
 use Rattle.tzif.specs.Number.{octet}
 use Rattle.tzif.specs.Part.{countOf, checkOf, checkPart}
 use Rattle.tzif.specs.Reply.{Reply, given, refused, refusal, demand, each, if_then_else_, _>>=_, _>>_}
 use Rattle.tzif.specs.Text.{slice, zeros, padded}
-use Rattle.tzif.specs.Zone.{readFooter, readShort, readLong, readZone}
+use Rattle.tzif.specs.Zone.{readFooter, readShort, readLong, readZoneBy}
 use Rattle.tzif.specs.declared.block.Block.{Block}
 use Rattle.tzif.specs.declared.local.Answer.{Answer}
 use Rattle.tzif.specs.declared.local.Answer.the-variants as A
@@ -66,12 +66,19 @@ abbrev Mine : {A : Type 0} → Reply A → Type 0
 Mine = NumberedReply (Listed localNumbers)
 
 module _ (file : List ℕ) where
+  leap : (fourth : Bool) (block : Block) (i : ℕ) → Mine (checkLeap file fourth block i)
+  unfolding checkLeap
+  leap fourth block i = either (fourth && isExpiry file block i) (demands _ _ refl) (and-then (demands _ _ refl) (demands _ _ refl))
+
+  leaps : (fourth : Bool) (block : Block) → Mine (checkLeaps file fourth block)
+  unfolding checkLeaps
+  leaps fourth block = all (block .leapcnt) (leap fourth block)
+
   entry : (block : Block) (part : Part) (i : ℕ) → Mine (checkOf file block part i)
-  unfolding checkOf checkTime checkIndex checkType checkLeap checkStandard checkUt
+  unfolding checkOf checkTime checkIndex checkType checkStandard checkUt
   entry block P.Times i = either (eqb i 0) answers (demands _ _ refl)
   entry block P.Indices i = demands _ _ refl
   entry block (P.Types nul) i = and-then (demands _ _ refl) (and-then (demands _ _ refl) (and-then (demands _ _ refl) (demands _ _ refl)))
-  entry block P.Leaps i = and-then (demands _ _ refl) (demands _ _ refl)
   entry block P.Standards i = demands _ _ refl
   entry block P.Uts i = demands _ _ refl
 
@@ -79,16 +86,16 @@ module _ (file : List ℕ) where
   unfolding checkPart
   part block p = all (countOf block p) (entry block p)
 
-  parts : (block : Block) → Mine (checkBlock file block)
+  parts : (fourth : Bool) (block : Block) → Mine (checkBlock file fourth block)
   unfolding checkBlock
-  parts block =
+  parts fourth block =
       and-then (part block P.Times)
       (and-then (part block P.Indices)
       (and-then (part block (P.Types (nulEnd file block)))
-      (and-then (part block P.Leaps)
+      (and-then (leaps fourth block)
       (and-then (part block P.Standards) (part block P.Uts)))))
 
-  header : (wide : Bool) (at : ℕ) → Mine (checkHeader file wide at)
+  header : (wide : Bool) (at : ℕ) → Mine (checkHeader rfc9636 file wide at)
   unfolding checkHeader
   header wide at = and-then (demands _ _ refl) (and-then (demands _ _ refl) (demands _ _ refl))
 
@@ -96,9 +103,9 @@ module _ (file : List ℕ) where
   unfolding checkCounts
   counts at block = and-then (demands _ _ refl) (and-then (demands _ _ refl) (and-then (demands _ _ refl) (and-then (demands _ _ refl) (demands _ _ refl))))
 
-  a-block : (wide : Bool) (at : ℕ) → Mine (readBlock file wide at)
+  a-block : (wide : Bool) (at : ℕ) → Mine (readBlock rfc9636 file wide at)
   unfolding readBlock
-  a-block wide at = and-then (header wide at) (and-then (counts at (blockAt file wide at)) (and-then (parts (blockAt file wide at)) answers))
+  a-block wide at = and-then (header wide at) (and-then (counts at (blockAt file wide at)) (and-then (parts (isFourth rfc9636 (octet file 4)) (blockAt file wide at)) answers))
 
   footer : (at : ℕ) → Mine (readFooter file at)
   unfolding readFooter
@@ -108,12 +115,12 @@ module _ (file : List ℕ) where
   unfolding readShort
   short block = and-then (demands _ _ refl) answers
 
-  long : (first : Block) → Mine (readLong file first)
+  long : (first : Block) → Mine (readLong rfc9636 file first)
   unfolding readLong
   long first = then-reply (a-block true (endOf first)) (λ block. then-reply (footer (endOf block)) (λ size. answers))
 
-  pub zone-numbered : Mine (readZone file)
-  unfolding readZone
+  pub zone-numbered : Mine (readZoneBy rfc9636 file)
+  unfolding readZoneBy
   zone-numbered = and-then (demands _ _ refl) (then-reply (a-block false 0) (λ first. either (eqb (octet file 4) 0) (short first) (long first)))
 
 -- ---- the whole call
@@ -135,5 +142,5 @@ of-lent file room (refuses h) why e = number-of e refl h
 
 -- a call that is refused is refused with one of these
 pub local-time-refusals : (file : List ℕ) (instant : ℤ) (room : ℕ) (why : Refusal) → localTime file instant room .reply ≡ L.Refused why → Listed localNumbers (why .number)
-unfolding localTime
+unfolding localTimeBy
 local-time-refusals file instant room = of-lent file room (then-reply (zone-numbered file) (λ zone. answers))

@@ -1,14 +1,14 @@
 -- What passed checks say: no fault in all is no fault in each, and times that 48 or 54 finds no fault with rise. Assumes nothing.
 use Prim.Native.Nat.{ℕ, zero, suc, _+_, _-_, _<_, _≤_}
 use borrow.Author.Tests.{ltb-true, ltb-false, leb-true, ne-eqb}
-use lib.Dec.{ltb}
-use mathlib.Core.Bool.{Bool, true, false}
+use lib.Dec.{ltb, eqb}
+use mathlib.Core.Bool.{Bool, true, false, _&&_, _||_}
 use mathlib.Core.List.{List}
 use mathlib.Core.Path.{_≡_, refl}
 use native.Mathlib.Omega.{arith}
-use Rattle.tzif.specs.Check.{occursLater, checkTime, checkLeap}
+use Rattle.tzif.specs.Check.{leapPlace, correctionOf, correctionBefore, oneApart, occursLater, isExpiry, checkTime, checkLeap, checkLeaps}
 use Rattle.tzif.specs.Part.{countOf, checkOf, checkPart}
-use Rattle.tzif.specs.Reply.{Reply, given, refused, demand, each, _>>_}
+use Rattle.tzif.specs.Reply.{Reply, given, refused, refusal, demand, each, if_then_else_, _>>_}
 use Rattle.tzif.specs.Times.{timeIn, transitionsOf, occurrencesOf, Rises}
 use Rattle.tzif.specs.declared.block.Block.{Block}
 use Rattle.tzif.specs.declared.refusal.Refusal.{Refusal}
@@ -47,10 +47,6 @@ module _ (file : List ℕ) (block : Block) where
         ltb-true _ _ (rw same at (held _ _ later));
   }
 
-  leap-later : (i : ℕ) → checkLeap file block i ≡ given tt → occursLater file block i ≡ true
-  unfolding checkLeap
-  leap-later i e = held _ _ (both-given _ _ e .0)
-
   leap-spaced : (i : ℕ) → occursLater file block (suc i) ≡ true → timeIn file (occurrencesOf block) i + 2419199 ≤ timeIn file (occurrencesOf block) (suc i)
   unfolding occursLater
   leap-spaced i e =
@@ -58,10 +54,22 @@ module _ (file : List ℕ) (block : Block) where
       let same : suc i - 1 ≡ i = omega arith in
       leb-true _ _ (rw same at later)
 
-  pub occurrences-rise : checkPart file block P.Leaps ≡ given tt → Rises file (occurrencesOf block)
-  unfolding checkPart countOf checkOf
-  occurrences-rise passed = record {
-    next = λ i l. omega (arith, leap-spaced i (leap-later (suc i) (each-passed (checkLeap file block) (block .leapcnt) passed (suc i) l)));
+  -- an expiry lies above the record before it, a leap second 28 days less a second or more
+  leap-above : (fourth : Bool) (i : ℕ) → checkLeap file fourth block (suc i) ≡ given tt → timeIn file (occurrencesOf block) i < timeIn file (occurrencesOf block) (suc i)
+  unfolding checkLeap
+  leap-above fourth i = go (fourth && isExpiry file block (suc i))
+    where
+      go : (t : Bool) → (if t then demand (ltb (timeIn file (occurrencesOf block) (suc i - 1)) (timeIn file (occurrencesOf block) (suc i))) (refusal 54 (leapPlace block (suc i)))
+          else (demand (occursLater file block (suc i)) (refusal 54 (leapPlace block (suc i)))
+            >> demand ((eqb (suc i) 0 && fourth) || oneApart (correctionBefore file block (suc i)) (correctionOf file block (suc i))) (refusal 55 (leapPlace block (suc i) + block .width)))) ≡ given tt
+          → timeIn file (occurrencesOf block) i < timeIn file (occurrencesOf block) (suc i)
+      go true e = let same : suc i - 1 ≡ i = omega arith in ltb-true _ _ (rw same at (held _ _ e))
+      go false e = omega (arith, leap-spaced i (held _ _ (both-given _ _ e .0)))
+
+  pub occurrences-rise : (fourth : Bool) → checkLeaps file fourth block ≡ given tt → Rises file (occurrencesOf block)
+  unfolding checkLeaps
+  occurrences-rise fourth passed = record {
+    next = λ i l. leap-above fourth i (each-passed (checkLeap file fourth block) (block .leapcnt) passed (suc i) l);
   }
 
 pub rises : {file : List ℕ} {times : Times} → Rises file times → (i j : ℕ) → i < j → j < times .count → timeIn file times i < timeIn file times j

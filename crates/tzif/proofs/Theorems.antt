@@ -16,7 +16,7 @@ use Rattle.tzif.proofs.Lasts.{last-within, last-holds, last-fails, last
 use Rattle.tzif.proofs.Laws.{Least, least-fault, fault-of-least}
 use Rattle.tzif.proofs.Signs.{Octets, time-is-signed, signed-fits, lift-keeps}
 use Rattle.tzif.specs.Block.{timePlace, indicesOf}
-use Rattle.tzif.specs.Local.{typeBehind, isAfterLast, byTable, Replied, replied, lent, localTime}
+use Rattle.tzif.specs.Local.{typeBehind, isAfterLast, byTable, Replied, replied, lent, localTimeBy, localTime}
 use Rattle.tzif.specs.Number.{octet, signedAt, lift}
 use Rattle.tzif.specs.Reply.{Reply, given, refused, refusal, each, if_then_else_, _>>=_}
 use Rattle.tzif.specs.Text.{slice, zeros, padded}
@@ -100,7 +100,7 @@ unfolding lastNotAfter timeIn transitionTime
 block-width file file′ o o′ block block′ n e = record {
   check = λ r. record { next = λ i l. rw (← same i, ← same (suc i)) (r .next i (omega arith)) };
   search = λ instant.
-      last-same (λ i. leb (timeIn file (transitionsOf block) i) instant) (λ i. leb (timeIn file′ (transitionsOf block′) i) instant) (λ i. ap (λ (t : ℕ). leb t instant) (same i)) (block .timecnt)
+      last-same (λ i. leb (timeIn file (transitionsOf block) i) instant) (λ i. leb (timeIn file′ (transitionsOf block′) i) instant) (block .timecnt) (λ i l. ap (λ (t : ℕ). leb t instant) (same i))
       ∙ ap (λ (m : ℕ). lastWith m (λ i. leb (timeIn file′ (transitionsOf block′) i) instant)) n;
 }
   where
@@ -142,5 +142,5 @@ zeroed file room (given A.Unknown) n = refl
 zeroed file room (refused why) n = refl
 
 pub zero-unless-local : (file : List ℕ) (instant : ℤ) (room : ℕ) → NoLocal (localTime file instant room .reply) → localTime file instant room .text ≡ zeros room
-unfolding localTime
+unfolding localTimeBy
 zero-unless-local file instant room = zeroed file room (readZone file >>= λ zone. given (byTable file (zone .block) (lift instant)))

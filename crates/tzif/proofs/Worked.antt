@@ -1,20 +1,21 @@
 -- A small file, computed: what the theorems speak of is met. Assumes nothing.
-use Prim.Native.Nat.{ℕ}
+use Prim.Native.Nat.{ℕ, _+_, _^_}
 use lib.IntN.{pos, negsuc}
 use mathlib.Core.List.{List, [], _∷_}
 use mathlib.Core.Path.{_≡_, refl}
 use native.Mathlib.Omega.{arith}
+use Rattle.tzif.proofs.Marked.{secondVersion, markedThree, PlainFour}
 use Rattle.tzif.proofs.Signs.{allOctets, octets-of}
 use Rattle.tzif.proofs.Theorems.{LastNotAfter, last-not-after}
-use Rattle.tzif.specs.Check.{nulEnd, checkTime, checkIndex, checkType, checkLeap, checkStandard, isStandard, checkUt}
-use Rattle.tzif.specs.Header.{begins, isVersion, versionFits, checkHeader, blockAt, noneOrAll, checkCounts, checkBlock, readBlock}
-use Rattle.tzif.specs.Local.{typeIn, typeBehind, isAfterLast, byTable, replied, lent, localTime}
+use Rattle.tzif.specs.Check.{occursLater, correctionBefore, correctionOf, oneApart, isExpiry, nulEnd, checkTime, checkIndex, checkType, checkLeap, checkLeaps, checkStandard, isStandard, checkUt}
+use Rattle.tzif.specs.Header.{rfc8536, begins, isVersion, isFourth, versionFits, checkHeader, blockAt, noneOrAll, checkCounts, checkBlock, readBlock}
+use Rattle.tzif.specs.Local.{typeIn, typeBehind, isAfterLast, byTable, replied, lent, localTimeBy, localTime}
 use Rattle.tzif.specs.Number.{octets, be32, raised, timeAt, lift}
 use Rattle.tzif.specs.Part.{countOf, checkOf, checkPart}
 use Rattle.tzif.specs.Reply.{given, demand, each, refusal, _>>=_, _>>_}
 use Rattle.tzif.specs.Text.{firstWith, isStop, runTo}
 use Rattle.tzif.specs.Times.{timeIn, transitionsOf, lastWith, lastNotAfter}
-use Rattle.tzif.specs.Zone.{readShort, readZone}
+use Rattle.tzif.specs.Zone.{newlineAt, readFooter, readShort, readLong, readZoneBy, readZone}
 use Rattle.tzif.specs.declared.block.Block.{Block}
 use Rattle.tzif.specs.declared.local.LocalTime.the-variants as L
 
@@ -36,10 +37,45 @@ pub record Worked : Type 0 where
   pub no-room : localTime small (pos 0) 0 ≡ replied (L.Refused (refusal 18 0)) []
 
 pub worked : Worked
-unfolding localTime lent readZone readShort readBlock begins isVersion versionFits checkHeader blockAt noneOrAll checkCounts checkBlock checkPart countOf checkOf checkTime checkIndex checkType checkLeap checkStandard isStandard checkUt nulEnd typeIn typeBehind isAfterLast byTable octets be32 raised timeAt lift demand each _>>=_ _>>_ firstWith isStop runTo timeIn lastWith lastNotAfter
+unfolding localTimeBy lent readZoneBy readShort readBlock begins isVersion isFourth versionFits checkHeader blockAt noneOrAll checkCounts checkBlock checkPart countOf checkOf checkTime checkIndex checkType checkLeap checkLeaps checkStandard isStandard checkUt nulEnd typeIn typeBehind isAfterLast byTable octets be32 raised timeAt lift demand each _>>=_ _>>_ firstWith isStop runTo timeIn lastWith lastNotAfter
 worked = record { before = refl; there = refl; behind = refl; read = refl; no-room = refl }
 
 -- what `last-not-after` asks is met
 pub small-last : LastNotAfter small table (pos 0) (typeBehind small table (lastNotAfter small (transitionsOf table) (lift (pos 0))))
 unfolding allOctets
 small-last = last-not-after small (octets-of small refl) table (pos 0) (record { sfits = omega arith })
+
+-- ---- version 4
+-- `A` at UT with two leap seconds, in both blocks: neither feature
+abbrev four : List ℕ
+four =
+    84 ∷ 90 ∷ 105 ∷ 102 ∷ 52 ∷ 0 ∷ 0 ∷ 0 ∷ 0 ∷ 0 ∷ 0 ∷ 0 ∷ 0 ∷ 0 ∷ 0 ∷ 0 ∷ 0 ∷ 0 ∷ 0 ∷ 0 ∷ 0 ∷ 0 ∷ 0 ∷ 0 ∷ 0 ∷ 0 ∷ 0 ∷ 0 ∷ 0 ∷ 0 ∷ 0 ∷ 2 ∷ 0 ∷ 0 ∷ 0 ∷ 0 ∷ 0 ∷ 0 ∷ 0 ∷ 1 ∷ 0 ∷ 0 ∷ 0 ∷ 2 ∷ 0 ∷ 0 ∷ 0 ∷ 0 ∷ 0 ∷ 0 ∷ 65 ∷ 0 ∷ 0 ∷ 0 ∷ 0 ∷ 0 ∷ 0 ∷ 0 ∷ 0 ∷ 1 ∷ 0 ∷ 36 ∷ 233 ∷ 255 ∷ 0 ∷ 0 ∷ 0 ∷ 2 ∷ 84 ∷ 90 ∷ 105 ∷ 102 ∷ 52 ∷ 0 ∷ 0 ∷ 0 ∷ 0 ∷ 0 ∷ 0 ∷ 0 ∷ 0 ∷ 0 ∷ 0 ∷ 0 ∷ 0 ∷ 0 ∷ 0 ∷ 0 ∷ 0 ∷ 0 ∷ 0 ∷ 0 ∷ 0 ∷ 0 ∷ 0 ∷ 0 ∷ 0 ∷ 0 ∷ 0 ∷ 2 ∷ 0 ∷ 0 ∷ 0 ∷ 0 ∷ 0 ∷ 0 ∷ 0 ∷ 1 ∷ 0 ∷ 0 ∷ 0 ∷ 2 ∷ 0 ∷ 0 ∷ 0 ∷ 0 ∷ 0 ∷ 0 ∷ 65 ∷ 0 ∷ 0 ∷ 0 ∷ 0 ∷ 0 ∷ 0 ∷ 0 ∷ 0 ∷ 0 ∷ 0 ∷ 0 ∷ 0 ∷ 1 ∷ 0 ∷ 0 ∷ 0 ∷ 0 ∷ 0 ∷ 36 ∷ 233 ∷ 255 ∷ 0 ∷ 0 ∷ 0 ∷ 2 ∷ 10 ∷ 10 ∷ []
+
+-- what `v4-as-v3` asks is met
+pub four-plain : PlainFour four
+unfolding secondVersion blockAt octets be32 raised correctionOf oneApart
+four-plain = record {
+  first = refl;
+  second = λ l. refl;
+  one = record { begins = λ l. refl; ends = λ l e. differ e };
+  two = record { begins = λ l. refl; ends = λ l e. differ e };
+}
+  where
+    differ : (2 ^ 31 + 2) ≡ (2 ^ 31 + 1) → ⊥
+    differ e = omega (arith, e)
+
+-- `A` at UT with a table that begins at 27 and expires a second later, in both blocks
+abbrev cut : List ℕ
+cut =
+    84 ∷ 90 ∷ 105 ∷ 102 ∷ 52 ∷ 0 ∷ 0 ∷ 0 ∷ 0 ∷ 0 ∷ 0 ∷ 0 ∷ 0 ∷ 0 ∷ 0 ∷ 0 ∷ 0 ∷ 0 ∷ 0 ∷ 0 ∷ 0 ∷ 0 ∷ 0 ∷ 0 ∷ 0 ∷ 0 ∷ 0 ∷ 0 ∷ 0 ∷ 0 ∷ 0 ∷ 2 ∷ 0 ∷ 0 ∷ 0 ∷ 0 ∷ 0 ∷ 0 ∷ 0 ∷ 1 ∷ 0 ∷ 0 ∷ 0 ∷ 2 ∷ 0 ∷ 0 ∷ 0 ∷ 0 ∷ 0 ∷ 0 ∷ 65 ∷ 0 ∷ 0 ∷ 0 ∷ 0 ∷ 0 ∷ 0 ∷ 0 ∷ 0 ∷ 27 ∷ 0 ∷ 0 ∷ 0 ∷ 1 ∷ 0 ∷ 0 ∷ 0 ∷ 27 ∷ 84 ∷ 90 ∷ 105 ∷ 102 ∷ 52 ∷ 0 ∷ 0 ∷ 0 ∷ 0 ∷ 0 ∷ 0 ∷ 0 ∷ 0 ∷ 0 ∷ 0 ∷ 0 ∷ 0 ∷ 0 ∷ 0 ∷ 0 ∷ 0 ∷ 0 ∷ 0 ∷ 0 ∷ 0 ∷ 0 ∷ 0 ∷ 0 ∷ 0 ∷ 0 ∷ 0 ∷ 2 ∷ 0 ∷ 0 ∷ 0 ∷ 0 ∷ 0 ∷ 0 ∷ 0 ∷ 1 ∷ 0 ∷ 0 ∷ 0 ∷ 2 ∷ 0 ∷ 0 ∷ 0 ∷ 0 ∷ 0 ∷ 0 ∷ 65 ∷ 0 ∷ 0 ∷ 0 ∷ 0 ∷ 0 ∷ 0 ∷ 0 ∷ 0 ∷ 0 ∷ 0 ∷ 0 ∷ 0 ∷ 27 ∷ 0 ∷ 0 ∷ 0 ∷ 0 ∷ 0 ∷ 0 ∷ 0 ∷ 1 ∷ 0 ∷ 0 ∷ 0 ∷ 27 ∷ 10 ∷ 10 ∷ []
+
+-- both are answered; before version 4 they were 41, and marked 3 the table is 55
+pub record WorkedFour : Type 0 where
+  pub plain : localTime four (pos 0) 1 ≡ replied (L.Local (record { offset = pos 0; daylight = 0; length = 1 })) (65 ∷ [])
+  pub features : localTime cut (pos 0) 1 ≡ replied (L.Local (record { offset = pos 0; daylight = 0; length = 1 })) (65 ∷ [])
+  pub before : localTimeBy rfc8536 cut (pos 0) 1 ≡ replied (L.Refused (refusal 41 4)) (0 ∷ [])
+  pub marked : localTime (markedThree cut) (pos 0) 1 ≡ replied (L.Refused (refusal 55 56)) (0 ∷ [])
+
+pub worked-four : WorkedFour
+unfolding markedThree secondVersion newlineAt readFooter readLong occursLater correctionBefore correctionOf oneApart isExpiry localTimeBy lent readZoneBy readBlock begins isVersion isFourth versionFits checkHeader blockAt noneOrAll checkCounts checkBlock checkPart countOf checkOf checkTime checkIndex checkType checkLeap checkLeaps checkStandard isStandard checkUt nulEnd typeIn typeBehind isAfterLast byTable octets be32 raised timeAt lift demand each _>>=_ _>>_ firstWith isStop runTo timeIn lastWith lastNotAfter
+worked-four = record { plain = refl; features = refl; before = refl; marked = refl }

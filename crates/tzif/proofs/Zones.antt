@@ -10,11 +10,11 @@ use native.Mathlib.Omega.{arith}
 use Rattle.tzif.proofs.Blocks.{first-true}
 use Rattle.tzif.proofs.Rises.{both-given, held}
 use Rattle.tzif.specs.Block.{endOf}
-use Rattle.tzif.specs.Header.{checkHeader, readBlock}
+use Rattle.tzif.specs.Header.{rfc9636, checkHeader, readBlock}
 use Rattle.tzif.specs.Number.{octet}
 use Rattle.tzif.specs.Reply.{Reply, given, refused, refusal, demand, if_then_else_, _>>=_, _>>_}
 use Rattle.tzif.specs.Told.{toldBlock, toldFooter, toldZone}
-use Rattle.tzif.specs.Zone.{stringSize, newlineAt, readFooter, readShort, readLong, readZone}
+use Rattle.tzif.specs.Zone.{stringSize, newlineAt, readFooter, readShort, readLong, readZoneBy}
 use Rattle.tzif.specs.declared.block.Block.{Block}
 use Rattle.tzif.specs.declared.header.Reading.{Reading}
 use Rattle.tzif.specs.declared.refusal.Refusal.{Refusal}
@@ -88,42 +88,42 @@ module _ (file : List ℕ) (block : Block) {end : ℕ} (n : end ≡ endOf block)
   short-ends l = rw (← n, le-leb (length file) end l) refl
 
 -- ---- later versions
-module _ (file : List ℕ) (first : Block) {at : ℕ} (n : at ≡ endOf first) {reading : Reading} (e : toldBlock reading ≡ readBlock file true at) where
-  pub second-refused : {why : Refusal} → reading ≡ R.Refused why → toldZone (Z.Refused why) ≡ readLong file first
+module _ (file : List ℕ) (first : Block) {at : ℕ} (n : at ≡ endOf first) {reading : Reading} (e : toldBlock reading ≡ readBlock rfc9636 file true at) where
+  pub second-refused : {why : Refusal} → reading ≡ R.Refused why → toldZone (Z.Refused why) ≡ readLong rfc9636 file first
   unfolding readLong toldZone _>>=_
   second-refused is = rw (← n, block-refused e is) refl
 
   module _ {block : Block} (is : reading ≡ R.Block block) {end : ℕ} (m : end ≡ endOf block) {footer : Footer} (f : toldFooter footer ≡ readFooter file end) where
-    pub no-footer : {why : Refusal} → footer ≡ F.Refused why → toldZone (Z.Refused why) ≡ readLong file first
+    pub no-footer : {why : Refusal} → footer ≡ F.Refused why → toldZone (Z.Refused why) ≡ readLong rfc9636 file first
     unfolding readLong toldZone _>>=_
     no-footer so = rw (← n, block-given e is, ← m, footer-refused f so) refl
 
     pub long-read : {size version : ℕ} → footer ≡ F.Size size → version ≡ octet file 4
-        → toldZone (Z.Zone (record { version = version; block = block; string = end + 1; size = size })) ≡ readLong file first
+        → toldZone (Z.Zone (record { version = version; block = block; string = end + 1; size = size })) ≡ readLong rfc9636 file first
     unfolding readLong toldZone _>>=_
     long-read so v = rw (← n, block-given e is, ← m, footer-given f so, v) refl
 
 -- ---- the file
 module _ (file : List ℕ) where
-  pub too-long : 2 ^ 30 < length file → toldZone (Z.Refused (refusal 1 0)) ≡ readZone file
-  unfolding readZone toldZone demand _>>_
+  pub too-long : 2 ^ 30 < length file → toldZone (Z.Refused (refusal 1 0)) ≡ readZoneBy rfc9636 file
+  unfolding readZoneBy toldZone demand _>>_
   too-long l = rw (lt-leb (length file) (2 ^ 30) l) refl
 
-  module _ (l : length file ≤ 2 ^ 30) {reading : Reading} (e : toldBlock reading ≡ readBlock file false 0) where
-    pub first-refused : {why : Refusal} → reading ≡ R.Refused why → toldZone (Z.Refused why) ≡ readZone file
-    unfolding readZone toldZone demand _>>_ _>>=_
+  module _ (l : length file ≤ 2 ^ 30) {reading : Reading} (e : toldBlock reading ≡ readBlock rfc9636 file false 0) where
+    pub first-refused : {why : Refusal} → reading ≡ R.Refused why → toldZone (Z.Refused why) ≡ readZoneBy rfc9636 file
+    unfolding readZoneBy toldZone demand _>>_ _>>=_
     first-refused is = rw (le-leb (length file) (2 ^ 30) l, block-refused e is) refl
 
     module _ {first : Block} (is : reading ≡ R.Block first) {version : ℕ} (v : version ≡ octet file 4) {r : Reply Zone} where
-      pub as-short : version ≡ 0 → r ≡ readShort file first → r ≡ readZone file
-      unfolding readZone demand _>>_ _>>=_
+      pub as-short : version ≡ 0 → r ≡ readShort file first → r ≡ readZoneBy rfc9636 file
+      unfolding readZoneBy demand _>>_ _>>=_
       as-short z s = rw (le-leb (length file) (2 ^ 30) l, block-given e is, ← v, eq-eqb version 0 z) s
 
-      pub as-long : (version ≡ 0 → ⊥) → r ≡ readLong file first → r ≡ readZone file
-      unfolding readZone demand _>>_ _>>=_
+      pub as-long : (version ≡ 0 → ⊥) → r ≡ readLong rfc9636 file first → r ≡ readZoneBy rfc9636 file
+      unfolding readZoneBy demand _>>_ _>>=_
       as-long z s = rw (le-leb (length file) (2 ^ 30) l, block-given e is, ← v, ne-eqb version 0 z) s
 
-pub header-held : (file : List ℕ) (wide : Bool) (at : ℕ) {block : Block} → readBlock file wide at ≡ given block → at + 44 ≤ length file
+pub header-held : (file : List ℕ) (wide : Bool) (at : ℕ) {block : Block} → readBlock rfc9636 file wide at ≡ given block → at + 44 ≤ length file
 unfolding readBlock checkHeader
 header-held file wide at e =
     let two = both-given _ _ (both-given _ _ (both-given _ _ e .0) .1) in
@@ -145,10 +145,10 @@ given-from (refused why) next e = let z : _≡_ {A = ℕ} 0 1 = cc in absurd (om
 pub record ReadFrom (file : List ℕ) (zone : Zone) : Type 0 where
   pub wide : Bool
   pub at : ℕ
-  pub read : readBlock file wide at ≡ given (zone .block)
+  pub read : readBlock rfc9636 file wide at ≡ given (zone .block)
   pub string : zone .string + zone .size ≤ length file
 
-short-from : (file : List ℕ) (first : Block) {zone : Zone} → endOf first ≤ length file → readBlock file false 0 ≡ given first → readShort file first ≡ given zone → ReadFrom file zone
+short-from : (file : List ℕ) (first : Block) {zone : Zone} → endOf first ≤ length file → readBlock rfc9636 file false 0 ≡ given first → readShort file first ≡ given zone → ReadFrom file zone
 unfolding readShort
 short-from file first {zone} l is e =
     let same : record { version = 0; block = first; string = endOf first; size = 0 } ≡ zone = cc (both-given _ _ e .1) in
@@ -164,20 +164,20 @@ footer-within file at {size} e =
 pub footer-ends : (file : List ℕ) (at : ℕ) {footer : Footer} {size : ℕ} → toldFooter footer ≡ readFooter file at → footer ≡ F.Size size → at + 1 + size ≤ length file
 footer-ends file at e is = footer-within file at (footer-given e is)
 
-long-from : (file : List ℕ) (first : Block) {zone : Zone} → readLong file first ≡ given zone → ReadFrom file zone
+long-from : (file : List ℕ) (first : Block) {zone : Zone} → readLong rfc9636 file first ≡ given zone → ReadFrom file zone
 unfolding readLong
 long-from file first {zone} e =
-    let second = given-from (readBlock file true (endOf first)) _ e in
+    let second = given-from (readBlock rfc9636 file true (endOf first)) _ e in
     let footer = given-from (readFooter file (endOf (second .it))) _ (second .onto) in
     let same : record { version = octet file 4; block = second .it; string = endOf (second .it) + 1; size = footer .it } ≡ zone = cc (footer .onto) in
     rw (← same) (record { wide = true; at = endOf first; read = second .is; string = footer-within file (endOf (second .it)) (footer .is) })
 
-pub zone-from : (file : List ℕ) {zone : Zone} → ((block : Block) → readBlock file false 0 ≡ given block → endOf block ≤ length file) → readZone file ≡ given zone → ReadFrom file zone
-unfolding readZone
+pub zone-from : (file : List ℕ) {zone : Zone} → ((block : Block) → readBlock rfc9636 file false 0 ≡ given block → endOf block ≤ length file) → readZoneBy rfc9636 file ≡ given zone → ReadFrom file zone
+unfolding readZoneBy
 zone-from file {zone} within e =
-    let first = given-from (readBlock file false 0) _ (both-given _ _ e .1) in
+    let first = given-from (readBlock rfc9636 file false 0) _ (both-given _ _ e .1) in
     go (first .it) (first .is) (eqb (octet file 4) 0) (first .onto)
   where
-    go : (first : Block) → readBlock file false 0 ≡ given first → (t : Bool) → (if t then readShort file first else readLong file first) ≡ given zone → ReadFrom file zone
+    go : (first : Block) → readBlock rfc9636 file false 0 ≡ given first → (t : Bool) → (if t then readShort file first else readLong rfc9636 file first) ≡ given zone → ReadFrom file zone
     go first is true e = short-from file first (within first is) is e
     go first is false e = long-from file first e

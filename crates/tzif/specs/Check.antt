@@ -1,11 +1,11 @@
--- The rules of RFC 8536 section 3.2 for one entry of each part of a data block, with their refusals.
+-- The rules of RFC 8536 section 3.2, and of RFC 9636 for version 4, for one entry of each part of a data block, with their refusals.
 use Prim.Native.Nat.{ℕ, _+_, _-_, _*_, _^_}
 use lib.Dec.{ltb, leb, eqb}
 use mathlib.Core.Bool.{Bool, not, _&&_, _||_}
 use mathlib.Core.List.{List}
 use Rattle.tzif.specs.Block.{timePlace, indicesOf, typesOf, designationsOf, leapsOf, standardsOf, utsOf}
 use Rattle.tzif.specs.Number.{octet, be32, raised}
-use Rattle.tzif.specs.Reply.{Reply, given, refusal, demand, if_then_else_, _>>_}
+use Rattle.tzif.specs.Reply.{Reply, given, refusal, demand, each, if_then_else_, _>>_}
 use Rattle.tzif.specs.Times.{timeIn, transitionsOf, occurrencesOf, lastWith, lastNotAfter}
 use Rattle.tzif.specs.declared.block.Block.{Block}
 
@@ -68,11 +68,23 @@ correctionAt file block instant = correctionBefore file block (lastNotAfter file
 unfoldable pub oneApart : ℕ → ℕ → Bool
 oneApart a b = eqb a (b + 1) || eqb b (a + 1)
 
--- 54: the occurrence; 55: the correction is exactly 1 away from the one before it
-unfoldable pub checkLeap : List ℕ → Block → ℕ → Reply (Unit {0})
-checkLeap file block i = do
-  demand (occursLater file block i) (refusal 54 (leapPlace block i))
-  demand (oneApart (correctionBefore file block i) (correctionOf file block i)) (refusal 55 (leapPlace block i + block .width))
+-- the last record, of several, repeats the correction before it: it is no leap second, the table expires there (RFC 9636)
+unfoldable pub isExpiry : List ℕ → Block → ℕ → Bool
+isExpiry file block i = not (eqb i 0) && (eqb (i + 1) (block .leapcnt) && eqb (correctionOf file block i) (correctionOf file block (i - 1)))
+
+-- 54: the occurrence; 55: the correction is exactly 1 away from the one before it.
+-- In version 4 an expiry must only lie above the record before it, and the first correction may be any, since the table may begin part-way
+unfoldable pub checkLeap : List ℕ → Bool → Block → ℕ → Reply (Unit {0})
+checkLeap file fourth block i =
+    if fourth && isExpiry file block i
+    then demand (ltb (timeIn file (occurrencesOf block) (i - 1)) (timeIn file (occurrencesOf block) i)) (refusal 54 (leapPlace block i))
+    else (do
+      demand (occursLater file block i) (refusal 54 (leapPlace block i))
+      demand ((eqb i 0 && fourth) || oneApart (correctionBefore file block i) (correctionOf file block i)) (refusal 55 (leapPlace block i + block .width)))
+
+-- all records: the first fault
+unfoldable pub checkLeaps : List ℕ → Bool → Block → Reply (Unit {0})
+checkLeaps file fourth block = each (block .leapcnt) (checkLeap file fourth block)
 
 -- ---- indicators
 -- 56: each standard/wall indicator is 0 or 1

@@ -1,12 +1,12 @@
--- A header with its data block, as RFC 8536 section 3 has them: refusals 40 to 57 in file order.
+-- A header with its data block, as RFC 8536 and RFC 9636 section 3 have them: refusals 40 to 57 in file order.
 use Prim.Native.Nat.{ℕ, _+_, _^_, _<_, _≤_}
 use lib.Dec.{leb, eqb}
 use lib.ListN.{length}
-use mathlib.Core.Bool.{Bool, not, _&&_, _||_}
+use mathlib.Core.Bool.{Bool, false, not, _&&_, _||_}
 use mathlib.Core.List.{List}
 use mathlib.Core.Path.{_≡_}
 use Rattle.tzif.specs.Block.{endOf}
-use Rattle.tzif.specs.Check.{nulEnd}
+use Rattle.tzif.specs.Check.{nulEnd, checkLeaps}
 use Rattle.tzif.specs.Number.{octet, be32, octets}
 use Rattle.tzif.specs.Part.{checkPart}
 use Rattle.tzif.specs.Reply.{Reply, given, refusal, demand, if_then_else_, _>>_}
@@ -17,21 +17,31 @@ use Rattle.tzif.specs.declared.part.Part.the-variants as P
 unfoldable pub begins : List ℕ → ℕ → Bool
 begins file at = leb (at + 4) (length file) && eqb (be32 file at) 0x545A6966
 
--- NUL, `2` or `3`
-unfoldable pub isVersion : ℕ → Bool
-isVersion version = eqb version 0 || (eqb version 0x32 || eqb version 0x33)
+-- the RFC that a file is read by: 9636 is 8536 with version 4
+pub data Rfc : Type 0 where
+  rfc8536 : Rfc
+  rfc9636 : Rfc
+
+-- `4`, which RFC 8536 does not know
+unfoldable pub isFourth : Rfc → ℕ → Bool
+isFourth rfc8536 version = false
+isFourth rfc9636 version = eqb version 0x34
+
+-- NUL, `2`, `3` or `4`
+unfoldable pub isVersion : Rfc → ℕ → Bool
+isVersion rfc version = eqb version 0 || (eqb version 0x32 || (eqb version 0x33 || isFourth rfc version))
 
 -- the version is there; the second header, before times of eight octets, has the first one's
-unfoldable pub versionFits : List ℕ → Bool → ℕ → Bool
-versionFits file wide at =
+unfoldable pub versionFits : Rfc → List ℕ → Bool → ℕ → Bool
+versionFits rfc file wide at =
     leb (at + 5) (length file)
-    && (if wide then eqb (octet file (at + 4)) (octet file 4) else isVersion (octet file (at + 4)))
+    && (if wide then eqb (octet file (at + 4)) (octet file 4) else isVersion rfc (octet file (at + 4)))
 
 -- 40: the magic; 41: the version; 42: the file ends inside the header
-unfoldable pub checkHeader : List ℕ → Bool → ℕ → Reply (Unit {0})
-checkHeader file wide at = do
+unfoldable pub checkHeader : Rfc → List ℕ → Bool → ℕ → Reply (Unit {0})
+checkHeader rfc file wide at = do
   demand (begins file at) (refusal 40 at)
-  demand (versionFits file wide at) (refusal 41 (at + 4))
+  demand (versionFits rfc file wide at) (refusal 41 (at + 4))
   demand (leb (at + 44) (length file)) (refusal 42 at)
 
 -- the six counts of the header at a place, and the block behind it
@@ -61,21 +71,21 @@ checkCounts file at block = do
   demand (leb (endOf block) (length file)) (refusal 47 (block .begin))
 
 -- 48 to 57: the parts in file order
-unfoldable pub checkBlock : List ℕ → Block → Reply (Unit {0})
-checkBlock file block = do
+unfoldable pub checkBlock : List ℕ → Bool → Block → Reply (Unit {0})
+checkBlock file fourth block = do
   checkPart file block P.Times
   checkPart file block P.Indices
   checkPart file block (P.Types (nulEnd file block))
-  checkPart file block P.Leaps
+  checkLeaps file fourth block
   checkPart file block P.Standards
   checkPart file block P.Uts
 
 -- all of it
-unfoldable pub readBlock : List ℕ → Bool → ℕ → Reply Block
-readBlock file wide at = do
-  checkHeader file wide at
+unfoldable pub readBlock : Rfc → List ℕ → Bool → ℕ → Reply Block
+readBlock rfc file wide at = do
+  checkHeader rfc file wide at
   checkCounts file at (blockAt file wide at)
-  checkBlock file (blockAt file wide at)
+  checkBlock file (isFourth rfc (octet file 4)) (blockAt file wide at)
   given (blockAt file wide at)
 
 -- the code's block is this one, and its end is no more than 64 bits

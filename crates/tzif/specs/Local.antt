@@ -9,11 +9,12 @@ use mir.Syntax.{w32}
 use mir.Val.{toZ}
 use Rattle.tzif.specs.Block.{Within, indicesOf, designationsOf}
 use Rattle.tzif.specs.Check.{typePlace}
+use Rattle.tzif.specs.Header.{Rfc, rfc9636}
 use Rattle.tzif.specs.Number.{octet, be32, lift}
 use Rattle.tzif.specs.Reply.{Reply, given, refused, refusal, if_then_else_, _>>=_}
 use Rattle.tzif.specs.Text.{runTo, slice, zeros, padded}
 use Rattle.tzif.specs.Times.{timeIn, transitionsOf, lastNotAfter, Rises}
-use Rattle.tzif.specs.Zone.{readZone}
+use Rattle.tzif.specs.Zone.{readZoneBy}
 use Rattle.tzif.specs.declared.block.Block.{Block}
 use Rattle.tzif.specs.declared.local.Found.{Found}
 use Rattle.tzif.specs.declared.local.Local.{Local}
@@ -69,10 +70,14 @@ lent file room (given A.Unknown) = replied L.Unknown (zeros room)
 lent file room (refused why) = replied (L.Refused why) (zeros room)
 
 -- local time in a file at an instant, with so much text lent
-unfoldable pub localTime : List ℕ → ℤ → ℕ → Replied
-localTime file instant room = lent file room (do
-  zone ← readZone file
+unfoldable pub localTimeBy : Rfc → List ℕ → ℤ → ℕ → Replied
+localTimeBy rfc file instant room = lent file room (do
+  zone ← readZoneBy rfc file
   given (byTable file (zone .block) (lift instant)))
+
+-- by the newer RFC
+abbrev pub localTime : List ℕ → ℤ → ℕ → Replied
+localTime = localTimeBy rfc9636
 
 -- ---- what the checks leave behind
 -- a block in which nothing is at fault

@@ -1,11 +1,11 @@
--- A whole file, as RFC 8536 section 3 has it: refusals 1 and 40 to 59 in file order.
+-- A whole file, as RFC 8536 and RFC 9636 section 3 have it: refusals 1 and 40 to 59 in file order.
 use Prim.Native.Nat.{ℕ, _+_, _-_, _^_}
 use lib.Dec.{ltb, leb, eqb}
 use lib.ListN.{length}
 use mathlib.Core.Bool.{Bool, true, false, _&&_}
 use mathlib.Core.List.{List}
 use Rattle.tzif.specs.Block.{endOf}
-use Rattle.tzif.specs.Header.{readBlock}
+use Rattle.tzif.specs.Header.{Rfc, rfc9636, readBlock}
 use Rattle.tzif.specs.Number.{octet}
 use Rattle.tzif.specs.Reply.{Reply, given, refusal, demand, if_then_else_, _>>=_, _>>_}
 use Rattle.tzif.specs.Text.{runTo}
@@ -35,15 +35,19 @@ readShort file block = do
   given (record { version = 0; block = block; string = endOf block; size = 0 })
 
 -- later versions: a second header with its block, which answers, and the footer
-unfoldable pub readLong : List ℕ → Block → Reply Zone
-readLong file first = do
-  block ← readBlock file true (endOf first)
+unfoldable pub readLong : Rfc → List ℕ → Block → Reply Zone
+readLong rfc file first = do
+  block ← readBlock rfc file true (endOf first)
   size ← readFooter file (endOf block)
   given (record { version = octet file 4; block = block; string = endOf block + 1; size = size })
 
 -- what the checks of a file leave: its version, the block that answers, the place and length of its TZ string
-unfoldable pub readZone : List ℕ → Reply Zone
-readZone file = do
+unfoldable pub readZoneBy : Rfc → List ℕ → Reply Zone
+readZoneBy rfc file = do
   demand (leb (length file) (2 ^ 30)) (refusal 1 0)
-  first ← readBlock file false 0
-  if eqb (octet file 4) 0 then readShort file first else readLong file first
+  first ← readBlock rfc file false 0
+  if eqb (octet file 4) 0 then readShort file first else readLong rfc file first
+
+-- by the newer RFC
+abbrev pub readZone : List ℕ → Reply Zone
+readZone = readZoneBy rfc9636

@@ -4,10 +4,12 @@ ghost use Prim.Native.Nat.{_+_, _^_, _≤_, _<_};
 ghost use lib.Dec.{leb};
 ghost use lib.ListN.{length};
 ghost use Rattle.tzif.specs.Block.{Within, endOf};
+ghost use Rattle.tzif.specs.Number.{octet};
 ghost use Rattle.tzif.specs.Told.{told, toldBlock};
-ghost use Rattle.tzif.specs.Header.{begins, isVersion, versionFits, checkHeader, blockAt, Counted, noneOrAll, checkCounts, checkBlock, readBlock};
+ghost use Rattle.tzif.specs.Header.{rfc9636, begins, isVersion, isFourth, versionFits, checkHeader, blockAt, Counted, noneOrAll, checkCounts, checkBlock, readBlock};
 use crate::block::Block;
 use crate::check::nul_end;
+use crate::leap::check_leaps;
 use crate::number::be32;
 use crate::number::octet;
 use crate::number::octets;
@@ -44,7 +46,7 @@ fn begins(file: &[u8], at: usize) -> bool
 }
 
 fn is_version(version: usize) -> bool
-    ensures { λ r. ⌜ r ≡ isVersion version ⌝ }
+    ensures { λ r. ⌜ r ≡ isVersion rfc9636 version ⌝ }
 {
     if version == 0 {
         return true;
@@ -52,12 +54,15 @@ fn is_version(version: usize) -> bool
     if version == 0x32 {
         return true;
     }
-    version == 0x33
+    if version == 0x33 {
+        return true;
+    }
+    version == 0x34
 }
 
 fn version_fits(file: &[u8], wide: bool, at: usize) -> bool
     requires { ⌜ at + 4 ≤ length (now file) ⌝ }
-    ensures { λ r. ⌜ r ≡ versionFits (now (file .entry)) wide at ⌝ }
+    ensures { λ r. ⌜ r ≡ versionFits rfc9636 (now (file .entry)) wide at ⌝ }
 {
     if !holds(file.len(), at, 5) {
         return false;
@@ -70,7 +75,7 @@ fn version_fits(file: &[u8], wide: bool, at: usize) -> bool
 }
 
 fn check_header(file: &[u8], wide: bool, at: usize) -> Checked
-    ensures { λ r. ⌜ told r ≡ checkHeader (now (file .entry)) wide at ⌝ }
+    ensures { λ r. ⌜ told r ≡ checkHeader rfc9636 (now (file .entry)) wide at ⌝ }
 {
     let begun = begins(file, at);
     if !begun {
@@ -136,15 +141,22 @@ fn check_counts(file: &[u8], at: usize, block: Block) -> Checked
     both(uts, second)
 }
 
-fn check_block(file: &[u8], block: Block) -> Checked
+fn is_fourth(file: &[u8]) -> bool
+    requires { ⌜ 4 < length (now file) ⌝ }
+    ensures { λ r. ⌜ r ≡ isFourth rfc9636 (octet (now (file .entry)) 4) ⌝ }
+{
+    octet(file, 4) == 0x34
+}
+
+fn check_block(file: &[u8], fourth: bool, block: Block) -> Checked
     requires { ⌜ Within (length (now file)) block ⌝ }
-    ensures { λ r. ⌜ told r ≡ checkBlock (now (file .entry)) block ⌝ }
+    ensures { λ r. ⌜ told r ≡ checkBlock (now (file .entry)) fourth block ⌝ }
 {
     let nul = nul_end(file, block);
     let times = check_part(file, block, Part::Times);
     let indices = check_part(file, block, Part::Indices);
     let types = check_part(file, block, Part::Types(nul));
-    let leaps = check_part(file, block, Part::Leaps);
+    let leaps = check_leaps(file, fourth, block);
     let standards = check_part(file, block, Part::Standards);
     let uts = check_part(file, block, Part::Uts);
     let indicators = both(standards, uts);
@@ -156,7 +168,7 @@ fn check_block(file: &[u8], block: Block) -> Checked
 
 // The block behind a header, if all of it is as the RFC requires.
 pub fn read_block(file: &[u8], wide: bool, at: usize) -> Reading
-    ensures { λ r. ⌜ toldBlock r ≡ readBlock (now (file .entry)) wide at ⌝ }
+    ensures { λ r. ⌜ toldBlock r ≡ readBlock rfc9636 (now (file .entry)) wide at ⌝ }
 {
     let head = check_header(file, wide, at);
     if let Checked::Refused(why) = head {
@@ -167,7 +179,8 @@ pub fn read_block(file: &[u8], wide: bool, at: usize) -> Reading
     if let Checked::Refused(why) = counted {
         return Reading::Refused(why);
     }
-    let checked = check_block(file, block);
+    let fourth = is_fourth(file);
+    let checked = check_block(file, fourth, block);
     if let Checked::Refused(why) = checked {
         return Reading::Refused(why);
     }

@@ -1,13 +1,15 @@
 // The rules for a leap-second record.
 ghost use mathlib.Core.Path.{_≡_};
-ghost use Prim.Native.Nat.{_+_, _^_, _≤_, _<_};
-ghost use lib.Dec.{leb};
+ghost use mathlib.Core.Bool.{_&&_, _||_};
+ghost use Prim.Native.Nat.{_+_, _-_, _^_, _≤_, _<_};
+ghost use lib.Dec.{ltb, leb, eqb};
 ghost use lib.ListN.{length};
 ghost use Rattle.tzif.specs.Block.{Within};
 ghost use Rattle.tzif.specs.Told.{told};
 ghost use Rattle.tzif.specs.Number.{Word};
-ghost use Rattle.tzif.specs.Times.{occurrencesOf, Rises};
-ghost use Rattle.tzif.specs.Check.{leapPlace, correctionOf, occursLater, correctionBefore, correctionAt, oneApart, checkLeap};
+ghost use Rattle.tzif.specs.Reply.{demand, refusal};
+ghost use Rattle.tzif.specs.Times.{timeIn, occurrencesOf, Rises};
+ghost use Rattle.tzif.specs.Check.{leapPlace, correctionOf, occursLater, correctionBefore, correctionAt, oneApart, isExpiry, checkLeap, checkLeaps};
 use crate::block::Block;
 use crate::number::be32;
 use crate::number::raised;
@@ -91,17 +93,91 @@ fn one_apart(a: usize, b: usize) -> bool
     b == a + 1
 }
 
-pub fn check_leap(file: &[u8], block: Block, i: usize) -> Checked
+// Whether a record is no leap second, but says when the table expires.
+fn is_expiry(file: &[u8], block: Block, i: usize) -> bool
     requires { ⌜ Within (length (now file)) block ⌝ }
     requires { ⌜ i < block .leapcnt ⌝ }
-    ensures { λ r. ⌜ told r ≡ checkLeap (now (file .entry)) block i ⌝ }
+    ensures { λ r. ⌜ r ≡ isExpiry (now (file .entry)) block i ⌝ }
 {
+    if i == 0 {
+        return false;
+    }
+    if i + 1 < block.leapcnt {
+        return false;
+    }
+    let correction = correction_of(file, block, i);
+    let before = correction_of(file, block, i - 1);
+    correction == before
+}
+
+// Whether a version 4 table ends here.
+fn expires(file: &[u8], fourth: bool, block: Block, i: usize) -> bool
+    requires { ⌜ Within (length (now file)) block ⌝ }
+    requires { ⌜ i < block .leapcnt ⌝ }
+    ensures { λ r. ⌜ r ≡ (fourth && isExpiry (now (file .entry)) block i) ⌝ }
+{
+    if fourth {
+        return is_expiry(file, block, i);
+    }
+    false
+}
+
+// Whether a correction may follow the one before it, which is 0 before the first.
+fn corrects(fourth: bool, i: usize, before: usize, correction: usize) -> bool
+    requires { ⌜ (before < 2 ^ 32) × (correction < 2 ^ 32) ⌝ }
+    ensures { λ r. ⌜ r ≡ ((eqb i 0 && fourth) || oneApart before correction) ⌝ }
+{
+    if i != 0 {
+        return one_apart(before, correction);
+    }
+    if fourth {
+        return true;
+    }
+    one_apart(before, correction)
+}
+
+// An expiry.
+fn check_expiry(file: &[u8], block: Block, i: usize) -> Checked
+    requires { ⌜ Within (length (now file)) block ⌝ }
+    requires { ⌜ (0 < i) × (i < block .leapcnt) ⌝ }
+    ensures { λ r. ⌜ told r ≡ demand (ltb (timeIn (now (file .entry)) (occurrencesOf block) (i - 1)) (timeIn (now (file .entry)) (occurrencesOf block) i)) (refusal 54 (leapPlace block i)) ⌝ }
+{
+    let occurrences = occurrences_of(block);
+    let before = time_in(file, occurrences, i - 1);
+    let occurrence = time_in(file, occurrences, i);
+    demand(before < occurrence, 54, leap_place(block, i))
+}
+
+fn check_leap(file: &[u8], fourth: bool, block: Block, i: usize) -> Checked
+    requires { ⌜ Within (length (now file)) block ⌝ }
+    requires { ⌜ i < block .leapcnt ⌝ }
+    ensures { λ r. ⌜ told r ≡ checkLeap (now (file .entry)) fourth block i ⌝ }
+{
+    if expires(file, fourth, block, i) {
+        return check_expiry(file, block, i);
+    }
     let place = leap_place(block, i);
     let later = occurs_later(file, block, i);
     let before = correction_before(file, block, i);
     let correction = correction_of(file, block, i);
-    let apart = one_apart(before, correction);
+    let follows = corrects(fourth, i, before, correction);
     let first = demand(later, 54, place);
-    let second = demand(apart, 55, place + block.width);
+    let second = demand(follows, 55, place + block.width);
     both(first, second)
+}
+
+// The first fault of all records.
+pub fn check_leaps(file: &[u8], fourth: bool, block: Block) -> Checked
+    requires { ⌜ Within (length (now file)) block ⌝ }
+    ensures { λ r. ⌜ told r ≡ checkLeaps (now (file .entry)) fourth block ⌝ }
+{
+    let mut i = 0;
+    while i < block.leapcnt {
+        let answer = check_leap(file, fourth, block, i);
+        let Checked::Fine = answer else {
+            return answer;
+        };
+        i += 1;
+    }
+    Checked::Fine
 }

@@ -1,4 +1,4 @@
-// TZif files as RFC 8536 has them: headers and data blocks with all their checks, the footer, and local time by the transitions.
+// TZif files as RFC 8536 and RFC 9636 have them: headers and data blocks with all their checks, the footer, and local time by the transitions.
 pub mod block;
 mod check;
 pub mod header;

@@ -3,6 +3,7 @@ ghost use mathlib.Core.Path.{_≡_};
 ghost use Prim.Native.Nat.{_<_};
 ghost use lib.ListN.{length};
 ghost use Rattle.tzif.specs.Block.{Within};
+ghost use Rattle.tzif.specs.Header.{rfc9636};
 ghost use Rattle.tzif.specs.Told.{toldFooter, toldZone};
 ghost use Rattle.tzif.specs.Zone.{newlineAt, readFooter, readShort, readLong, readZone};
 use crate::block::Block;
@@ -93,7 +94,7 @@ fn read_short(file: &[u8], block: Block) -> Read
 fn read_long(file: &[u8], first: Block) -> Read
     requires { ⌜ Within (length (now file)) first ⌝ }
     requires { ⌜ 4 < length (now file) ⌝ }
-    ensures { λ r. ⌜ toldZone r ≡ readLong (now (file .entry)) first ⌝ }
+    ensures { λ r. ⌜ toldZone r ≡ readLong rfc9636 (now (file .entry)) first ⌝ }
 {
     let block = match read_block(file, true, end_of(first)) {
         Reading::Block(block) => block,

@@ -9,3 +9,4 @@ pub mod Signs
 pub mod Letters
 pub mod Laws
 pub mod Worked
+pub mod Tail

@@ -9,7 +9,7 @@ use mathlib.Core.List.{List}
 use mathlib.Core.Path.{_≡_, refl, ap, sym, _∙_}
 use native.Mathlib.Omega.{arith}
 use Rattle.footer.specs.Found.{foundOf}
-use Rattle.footer.specs.Local.{askIn, rulesIn, isRuled, byRule, answerBy, answerAt, localTime, toldRules, toldSaid, HeldRules, HeldStated, HeldSaid, HeldAsked, Sound}
+use Rattle.footer.specs.Local.{askIn, rulesIn, isRuled, byRule, answerBy, answerAt, localTimeBy, localTime, toldRules, toldSaid, HeldRules, HeldStated, HeldSaid, HeldAsked, Sound}
 use Rattle.footer.specs.declared.local.Said.{Said}
 use Rattle.footer.specs.declared.local.Said.the-variants as S
 use Rattle.footer.specs.declared.rule.Rules.{Rules}
@@ -18,6 +18,7 @@ use Rattle.footer.specs.declared.rule.Stated.{Stated}
 use Rattle.footer.specs.declared.rule.Stated.the-variants as Q
 use Rattle.tzif.specs.Reply.{if_then_else_}
 use Rattle.tzif.proofs.Goods.{zone-good, zone-leaps-rise, zone-string}
+use Rattle.tzif.specs.Header.{rfc9636}
 use Rattle.tzif.specs.Local.{isAfterLast, byTable, lent, named, replied, Held}
 use Rattle.tzif.specs.Number.{lift}
 use Rattle.tzif.specs.Reply.{Reply, given, refused, refusal, _>>=_}
@@ -110,34 +111,34 @@ module _ (file : List ℕ) {zone : Zone} (z : readZone file ≡ given zone) wher
 
 -- the three ways of a file
 module _ (file : List ℕ) (instant : ℤ) where
-  pub not-read : {why : Refusal} → readZone file ≡ refused why → toldSaid (S.Refused why) ≡ answerAt file instant
+  pub not-read : {why : Refusal} → readZone file ≡ refused why → toldSaid (S.Refused why) ≡ answerAt rfc9636 file instant
   unfolding toldSaid answerAt _>>=_
   not-read e = simp e
 
   module _ {zone : Zone} (z : readZone file ≡ given zone) where
-    pub not-ruled : {why : Refusal} → rulesIn file zone ≡ refused why → toldSaid (S.Refused why) ≡ answerAt file instant
+    pub not-ruled : {why : Refusal} → rulesIn file zone ≡ refused why → toldSaid (S.Refused why) ≡ answerAt rfc9636 file instant
     unfolding toldSaid answerAt _>>=_
     not-ruled e = simp (z, e)
 
-    pub answered : {rules : Rules} (said : Said) {lifted : ℕ} → rulesIn file zone ≡ given rules → lifted ≡ lift instant → toldSaid said ≡ answerBy file (zone .block) rules lifted → toldSaid said ≡ answerAt file instant
+    pub answered : {rules : Rules} (said : Said) {lifted : ℕ} → rulesIn file zone ≡ given rules → lifted ≡ lift instant → toldSaid said ≡ answerBy file (zone .block) rules lifted → toldSaid said ≡ answerAt rfc9636 file instant
     unfolding answerAt _>>=_
     answered {rules} said r l s = s ∙ ap (answerBy file (zone .block) rules) l ∙ sym (simp (z, r))
 
 -- the reply
-module _ (file : List ℕ) (instant a : ℤ) (same : a ≡ instant) (room : ℕ) (said : Said) (told : toldSaid said ≡ answerAt file a) where
-  here : toldSaid said ≡ answerAt file instant
-  here = told ∙ ap (answerAt file) same
+module _ (file : List ℕ) (instant a : ℤ) (same : a ≡ instant) (room : ℕ) (said : Said) (told : toldSaid said ≡ answerAt rfc9636 file a) where
+  here : toldSaid said ≡ answerAt rfc9636 file instant
+  here = told ∙ ap (answerAt rfc9636 file) same
 
   pub reply-found : {found : Found} {reply : LocalTime} {text : List ℕ} → said ≡ S.Found found → replied reply text ≡ named file room found → replied reply text ≡ localTime file instant room
-  unfolding localTime toldSaid lent
+  unfolding localTimeBy toldSaid lent
   reply-found e r = r ∙ ap (lent file room) (sym (ap toldSaid e) ∙ here)
 
   pub reply-unknown : {text : List ℕ} → said ≡ S.Unknown → text ≡ zeros room → replied L.Unknown text ≡ localTime file instant room
-  unfolding localTime toldSaid lent
+  unfolding localTimeBy toldSaid lent
   reply-unknown e z = ap (replied L.Unknown) z ∙ ap (lent file room) (sym (ap toldSaid e) ∙ here)
 
   pub reply-refused : {why : Refusal} {text : List ℕ} → said ≡ S.Refused why → text ≡ zeros room → replied (L.Refused why) text ≡ localTime file instant room
-  unfolding localTime toldSaid lent
+  unfolding localTimeBy toldSaid lent
   reply-refused {why} e z = ap (replied (L.Refused why)) z ∙ ap (lent file room) (sym (ap toldSaid e) ∙ here)
 
 pub said-held : {said : Said} {found : Found} (end : ℕ) → said ≡ S.Found found → HeldSaid end said → Held end found

@@ -21,17 +21,13 @@ check-type-requires c κs =
     let part = part in
     (pre .0, rw (part .given .1) at (pre .1))
 
-check-leap-requires : tie.Need-check-leap-requires
-unfolding countOf
-check-leap-requires c κs = (c .before .before .before .pre .0, rw (c .enum-told3 .given .1) at (c .before .before .before .pre .1))
-
 check-standard-requires : tie.Need-check-standard-requires
 unfolding countOf
-check-standard-requires c κs = (c .before .before .before .pre .0, rw (c .enum-told4 .given .1) at (c .before .before .before .pre .1))
+check-standard-requires c κs = (c .before .before .before .pre .0, rw (c .enum-told3 .given .1) at (c .before .before .before .pre .1))
 
 check-ut-requires : tie.Need-check-ut-requires
 unfolding countOf
-check-ut-requires c κs = (c .before .before .before .pre .0, rw (c .enum-told5 .given .1) at (c .before .before .before .pre .1))
+check-ut-requires c κs = (c .before .before .before .pre .0, rw (c .enum-told4 .given .1) at (c .before .before .before .pre .1))
 
 returns : tie.Need-returns
 unfolding checkOf
@@ -47,15 +43,11 @@ returns-3 c = rw (c .before .before .part .given .1) (c .check-type .ensures)
 
 returns-4 : tie.Need-returns-4
 unfolding checkOf
-returns-4 c = rw (c .before .enum-told3 .given .1) (c .check-leap .ensures)
+returns-4 c = rw (c .before .enum-told3 .given .1) (c .check-standard .ensures)
 
 returns-5 : tie.Need-returns-5
 unfolding checkOf
-returns-5 c = rw (c .before .enum-told4 .given .1) (c .check-standard .ensures)
-
-returns-6 : tie.Need-returns-6
-unfolding checkOf
-returns-6 c = rw (c .before .enum-told5 .given .1) (c .check-ut .ensures)
+returns-5 c = rw (c .before .enum-told4 .given .1) (c .check-ut .ensures)
 
 pub check-of-spec : {M : Type 1} → statement M
 check-of-spec =
@@ -68,8 +60,6 @@ check-of-spec =
     (λ c. search needs)
     check-type-requires
     (λ c. search needs)
-    check-leap-requires
-    (λ c. search needs)
     check-standard-requires
     (λ c. search needs)
     check-ut-requires
@@ -77,5 +67,4 @@ check-of-spec =
     returns-2
     returns-3
     returns-4
-    returns-5
-    returns-6)
+    returns-5)

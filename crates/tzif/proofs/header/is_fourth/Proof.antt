@@ -1,0 +1,12 @@
+-- `tzif::header::is_fourth` meets its contract. Assumes nothing.
+use borrow.Author.Needs.{needs}
+use Rattle.tzif.specs.Header.{isFourth}
+use Rattle.tzif.proofs.header.is_fourth.Statement.{statement}
+use Rattle.tzif.proofs.header.is_fourth.Tie as tie
+
+returns : tie.Need-returns
+unfolding isFourth
+returns c = cc
+
+pub is-fourth-spec : {M : Type 1} → statement M
+is-fourth-spec = tie.close (tie.spec (λ c κs. search needs) returns)
