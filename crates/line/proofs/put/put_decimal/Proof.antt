@@ -1,0 +1,17 @@
+-- `line::put::put_decimal` meets its contract. Assumes nothing.
+use borrow.Author.Needs.{needs}
+use mathlib.Core.Path.{_∙_}
+use native.Mathlib.Omega.{arith}
+use Rattle.line.proofs.Decimals.{in-digits}
+use Rattle.line.proofs.Puts.{put-as}
+use Rattle.line.proofs.put.put_decimal.Statement.{statement}
+use Rattle.line.proofs.put.put_decimal.Tie as tie
+
+returns : tie.Need-returns
+returns c =
+    put-as (c .before .before .before .before .before .decimal .ensures .1 .1 ∙ in-digits (c .before .before .before .before .before .before .before .before .args .n) (c .before .before .before .before .before .decimal .result) (omega (arith, c .before .before .before .before .before .before .before .before .fits .n)) (c .before .before .before .before .before .decimal .ensures .1 .0)) (c .before .before .put-all .ensures)
+
+pub put-decimal-spec : {M : Type 1} → statement M
+put-decimal-spec =
+    tie.close
+    (tie.spec (λ c κs. search needs) (λ c. search needs) (λ c. search needs) (λ c κs. search needs) (λ c. search needs) returns)
