@@ -26,17 +26,13 @@ signedText (negsuc n) = 45 ∷ decimal (suc n)
 unfoldable pub shown : ℕ → ℕ
 shown byte = if (ltb 32 byte && ltb byte 127) then byte else 63
 
--- "hour", date, time, weekday, seconds east, daylight flag, abbreviation
+-- "hour", date, time, weekday
+unfoldable pub clockText : Reading → List ℕ
+clockText reading = (104 ∷ 111 ∷ 117 ∷ 114 ∷ 32 ∷ []) ++ (dateText reading ++ (32 ∷ (timeText reading ++ (32 ∷ decimal (reading .weekday)))))
+
+-- and seconds east, daylight flag, abbreviation
 unfoldable pub hourLine : Reading → Local → List ℕ → List ℕ
-hourLine reading local name =
-    (104 ∷ 111 ∷ 117 ∷ 114 ∷ 32 ∷ [])
-    ++ (dateText reading
-    ++ ((32 ∷ timeText reading)
-    ++ ((32 ∷ decimal (reading .weekday))
-    ++ ((32 ∷ signedText (local .offset))
-    ++ ((32 ∷ decimal (local .daylight))
-    ++ ((32 ∷ map shown name)
-    ++ (10 ∷ [])))))))
+hourLine reading local name = clockText reading ++ ((32 ∷ signedText (local .offset)) ++ ((32 ∷ decimal (local .daylight)) ++ ((32 ∷ map shown name) ++ (10 ∷ []))))
 
 -- "unknown"
 abbrev pub unknownLine : List ℕ

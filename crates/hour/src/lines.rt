@@ -1,10 +1,10 @@
 // The lines that are printed, into a lent buffer.
 ghost use mathlib.Core.List.{_∷_, map};
 ghost use mathlib.Core.Path.{_≡_};
-ghost use lib.ListN.{take};
-ghost use Prim.Native.Nat.{min};
+ghost use lib.ListN.{length, take};
+ghost use Prim.Native.Nat.{_≤_, min};
 ghost use Rattle.hour.specs.Hour.{Answered};
-ghost use Rattle.hour.specs.Line.{dateText, timeText, signedText, shown, hourLine, refusedLine};
+ghost use Rattle.hour.specs.Line.{dateText, timeText, clockText, signedText, shown, hourLine, refusedLine};
 ghost use Rattle.line.specs.Put.{Put};
 ghost use Rattle.tzif.specs.Local.{replied};
 ghost use Rattle.tzif.specs.declared.local.LocalTime.the-variants as L;
@@ -18,6 +18,7 @@ use line::put::put_number;
 use line::put::put_two;
 use tzif::local::Local;
 use tzif::local::LocalTime;
+use tzif::local::offset_bits;
 use tzif::refusal::Refusal;
 
 fn put_date(out: &mut [u8], at: usize, reading: Reading) -> usize
@@ -45,14 +46,14 @@ fn put_time(out: &mut [u8], at: usize, reading: Reading) -> usize
 fn put_offset(out: &mut [u8], at: usize, local: Local) -> usize
     ensures { λ r. ⌜ Put (now (out .entry)) at (32 ∷ signedText (local .offset)) (now (out .exit)) r ⌝ }
 {
-    let offset = local.offset;
     let start = put(out, at, b' ');
+    let bits = offset_bits(local);
+    let offset = local.offset;
     if offset < 0 {
         let digits = put(out, start, b'-');
-        let below = (-1 - offset) as u64;
-        return put_decimal(out, digits, below + 1);
+        return put_decimal(out, digits, 0x1_0000_0000 - bits);
     }
-    put_decimal(out, start, offset as u64)
+    put_decimal(out, start, bits)
 }
 
 fn shown(byte: u8) -> u8
@@ -72,12 +73,11 @@ fn least(a: usize, b: usize) -> usize
     if a < b { a } else { b }
 }
 
-// A space and so many bytes of a text, or all.
-fn put_name(out: &mut [u8], at: usize, text: &[u8], length: usize) -> usize
-    ensures { λ r. ⌜ Put (now (out .entry)) at (32 ∷ map shown (take length (now (text .entry)))) (now (out .exit)) r ⌝ }
+fn put_shown(out: &mut [u8], at: usize, text: &[u8], size: usize) -> usize
+    requires { ⌜ size ≤ length (now text) ⌝ }
+    ensures { λ r. ⌜ Put (now (out .entry)) at (map shown (take size (now (text .entry)))) (now (out .exit)) r ⌝ }
 {
-    let mut next = put(out, at, b' ');
-    let size = least(length, text.len());
+    let mut next = at;
     let mut i = 0;
     while i < size {
         next = put(out, next, shown(text[i]));
@@ -86,15 +86,31 @@ fn put_name(out: &mut [u8], at: usize, text: &[u8], length: usize) -> usize
     next
 }
 
-fn put_hour(out: &mut [u8], reading: Reading, local: Local, text: &[u8]) -> usize
-    ensures { λ r. ⌜ Put (now (out .entry)) 0 (hourLine reading local (take (local .length) (now (text .entry)))) (now (out .exit)) r ⌝ }
+// A space and so many bytes of a text, or all.
+fn put_name(out: &mut [u8], at: usize, text: &[u8], most: usize) -> usize
+    ensures { λ r. ⌜ Put (now (out .entry)) at (32 ∷ map shown (take most (now (text .entry)))) (now (out .exit)) r ⌝ }
+{
+    let size = least(most, text.len());
+    let start = put(out, at, b' ');
+    put_shown(out, start, text, size)
+}
+
+// What a clock shows, from the line's start on.
+fn put_clock(out: &mut [u8], reading: Reading) -> usize
+    ensures { λ r. ⌜ Put (now (out .entry)) 0 (clockText reading) (now (out .exit)) r ⌝ }
 {
     let name = put_all(out, 0, b"hour ");
     let date = put_date(out, name, reading);
     let space = put(out, date, b' ');
     let time = put_time(out, space, reading);
-    let weekday = put_number(out, time, reading.weekday);
-    let offset = put_offset(out, weekday, local);
+    put_number(out, time, reading.weekday)
+}
+
+fn put_hour(out: &mut [u8], reading: Reading, local: Local, text: &[u8]) -> usize
+    ensures { λ r. ⌜ Put (now (out .entry)) 0 (hourLine reading local (take (local .length) (now (text .entry)))) (now (out .exit)) r ⌝ }
+{
+    let clock = put_clock(out, reading);
+    let offset = put_offset(out, clock, local);
     let daylight = put_number(out, offset, local.daylight as u64);
     let abbreviation = put_name(out, daylight, text, local.length);
     put(out, abbreviation, b'\n')
