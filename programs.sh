@@ -1,5 +1,6 @@
 # Sourced by zone and stamp: how a person's words become the bytes of a proved program, and how the program is proved, built and run.
-# shellcheck shell=sh
+# Needs $root, the repository.
+# shellcheck shell=sh disable=SC2154
 LC_ALL=C
 export LC_ALL
 name=${0##*/}
