@@ -1,8 +1,7 @@
 -- `hour::instant::instant_of` meets its contract. Assumes nothing.
-use Prim.Native.Nat.{ℕ, _+_, _*_, _^_}
-use borrow.Author.Needs.{needs}
-use borrow.Author.Needs.{sfits-of}
-use mathlib.Core.Path.{_∙_, ap}
+use Prim.Native.Nat.{_+_, _*_, _^_}
+use borrow.Author.Needs.{needs, sfits-of}
+use mathlib.Core.Path.{_∙_}
 use mir.Facts.{toZ-ofZ}
 use mir.Syntax.{w64}
 use mir.Val.{toZ}
@@ -11,7 +10,9 @@ use Rattle.hour.proofs.instant.instant_of.Tie as tie
 
 returns : tie.Need-returns
 returns c =
-    toZ-ofZ (sfits-of (c .signed .ok)) ∙ c .signed .ensures ∙ (λ i. toZ w64 (c .before .before .word-at .ensures i + 2 ^ 32 * c .before .word-at2 .ensures i))
+    let word-at = c .before .before .word-at in
+    let word-at2 = c .before .word-at2 in
+    toZ-ofZ (sfits-of (c .signed .ok)) ∙ c .signed .ensures ∙ (λ i. toZ w64 (word-at .ensures i + 2 ^ 32 * word-at2 .ensures i))
 
 pub instant-of-spec : {M : Type 1} → statement M
 instant-of-spec =

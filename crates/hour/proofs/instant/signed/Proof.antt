@@ -1,11 +1,11 @@
 -- `hour::instant::signed` meets its contract. Assumes nothing.
 use Prim.Native.Nat.{_-_, _^_}
-use Rattle.hour.proofs.Signs.{read-high}
-use Rattle.numbers.proofs.Signed.{complement-fits}
 use borrow.Author.Needs.{needs}
 use mir.Syntax.{w64}
 use native.Mathlib.Omega.{arith}
+use Rattle.hour.proofs.Signs.{read-high}
 use Rattle.hour.proofs.instant.signed.Statement.{statement}
+use Rattle.numbers.proofs.Signed.{complement-fits}
 use Rattle.hour.proofs.instant.signed.Tie as tie
 
 sub-result-2 : tie.Need-sub-result-2

@@ -1,14 +1,18 @@
 -- `hour::lines::put_refusal` meets its contract. Assumes nothing.
-use Rattle.hour.specs.Line.{refusedLine}
-use Rattle.line.proofs.Puts.{put-then}
 use borrow.Author.Needs.{needs}
 use Rattle.hour.proofs.lines.put_refusal.Statement.{statement}
+use Rattle.hour.specs.Line.{refusedLine}
+use Rattle.line.proofs.Puts.{put-then}
 use Rattle.hour.proofs.lines.put_refusal.Tie as tie
 
 returns : tie.Need-returns
 unfolding refusedLine
 returns c =
-    put-then _ _ (c .before .before .before .before .before .before .before .before .before .before .before .before .before .before .before .put-all .ensures) (put-then _ _ (c .before .before .before .before .before .before .before .before .before .before .put-number .ensures) (put-then _ _ (c .before .before .before .before .before .before .put-number2 .ensures) (c .before .before .put .ensures)))
+    let put-all = c .before .before .before .before .before .before .before .before .before .before .before .before .before .before .before .put-all in
+    let put-number = c .before .before .before .before .before .before .before .before .before .before .put-number in
+    let put-number2 = c .before .before .before .before .before .before .put-number2 in
+    let put = c .before .before .put in
+    put-then _ _ (put-all .ensures) (put-then _ _ (put-number .ensures) (put-then _ _ (put-number2 .ensures) (put .ensures)))
 
 pub put-refusal-spec : {M : Type 1} → statement M
 put-refusal-spec =

@@ -1,14 +1,14 @@
 -- `hour::lines::put_shown` meets its contract: after i turns the first i bytes stand there. Assumes nothing.
 use Prim.Native.Nat.{ℕ, _-_, _≤_}
+use lib.ListN.{take}
+use mathlib.Core.List.{map}
 use mathlib.Core.Path.{_≡_, ap}
+use native.Mathlib.Omega.{arith}
 use Rattle.hour.proofs.Names.{shown-next}
+use Rattle.hour.proofs.lines.put_shown.Statement.{statement}
 use Rattle.hour.specs.Line.{shown}
 use Rattle.line.proofs.Puts.{put-length, put-none, put-then, put-as, put-byte}
 use Rattle.line.specs.Put.{Put}
-use lib.ListN.{length, take}
-use mathlib.Core.List.{map}
-use native.Mathlib.Omega.{arith}
-use Rattle.hour.proofs.lines.put_shown.Statement.{statement}
 use Rattle.hour.proofs.lines.put_shown.Tie as tie
 
 abbrev Inv-loop : tie.InvT-loop
@@ -19,13 +19,20 @@ abbrev μ-loop : tie.MeasureT-loop
 
 loop-again : tie.Need-loop-again Inv-loop μ-loop
 loop-again c =
-    (omega arith, put-as (shown-next (c .before .before .before .before .before .before .before .before .before .before .args .text .now) (c .before .before .before .before .before .before .before .loop .i) (omega arith)) (put-then _ _ (c .before .before .before .before .before .before .before .loop .inv .1) (put-byte (c .before .before .before .shown .ensures) (c .before .before .put .ensures))))
+    let args = c .before .before .before .before .before .before .before .before .before .before .args in
+    let loop = c .before .before .before .before .before .before .before .loop in
+    let shown = c .before .before .before .shown in
+    let put = c .before .before .put in
+    (omega arith, put-as (shown-next (args .text .now) (loop .i) (omega arith)) (put-then _ _ (loop .inv .1) (put-byte (shown .ensures) (put .ensures))))
 
 same-length : tie.Need-same-length Inv-loop μ-loop
 same-length c = put-length (c .before .loop .inv .1)
 
 returns : tie.Need-returns Inv-loop μ-loop
-returns c = put-as (ap (λ (k : ℕ). map shown (take k (c .before .before .before .before .args .text .now))) (let e : c .before .loop .i ≡ c .before .before .before .before .args .size = omega arith in e)) (c .before .loop .inv .1)
+returns c =
+    let args = c .before .before .before .before .args in
+    let loop = c .before .loop in
+    put-as (ap (λ (k : ℕ). map shown (take k (args .text .now))) (let e : loop .i ≡ args .size = omega arith in e)) (loop .inv .1)
 
 pub put-shown-spec : {M : Type 1} → statement M
 put-shown-spec =

@@ -3,9 +3,9 @@ use Prim.Native.Nat.{_-_, _≤_}
 use lib.ListN.{length, take}
 use lib.Seq.{take-all}
 use native.Mathlib.Omega.{arith}
-use Rattle.line.specs.Put.{Put}
 use Rattle.line.proofs.Puts.{put-length, put-none, put-next, put-as}
 use Rattle.line.proofs.put.put_all.Statement.{statement}
+use Rattle.line.specs.Put.{Put}
 use Rattle.line.proofs.put.put_all.Tie as tie
 
 abbrev Inv-loop : tie.InvT-loop
@@ -30,13 +30,20 @@ loop-less : tie.Need-loop-less Inv-loop μ-loop
 loop-less c = omega arith
 
 loop-again : tie.Need-loop-again Inv-loop μ-loop
-loop-again c = (omega arith, put-next (c .before .before .before .before .before .before .before .before .before .args .bytes .now) (c .before .before .before .before .before .before .loop .i) (omega arith) (c .before .before .before .before .before .before .loop .inv .1) (c .before .before .put .ensures))
+loop-again c =
+    let args = c .before .before .before .before .before .before .before .before .before .args in
+    let loop = c .before .before .before .before .before .before .loop in
+    let put = c .before .before .put in
+    (omega arith, put-next (args .bytes .now) (loop .i) (omega arith) (loop .inv .1) (put .ensures))
 
 same-length : tie.Need-same-length Inv-loop μ-loop
 same-length c = put-length (c .before .loop .inv .1)
 
 returns : tie.Need-returns Inv-loop μ-loop
-returns c = put-as (take-all (c .before .loop .i) (c .before .before .before .before .args .bytes .now) (omega arith)) (c .before .loop .inv .1)
+returns c =
+    let loop = c .before .loop in
+    let args = c .before .before .before .before .args in
+    put-as (take-all (loop .i) (args .bytes .now) (omega arith)) (loop .inv .1)
 
 pub put-all-spec : {M : Type 1} → statement M
 put-all-spec =

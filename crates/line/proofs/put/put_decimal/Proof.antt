@@ -9,7 +9,11 @@ use Rattle.line.proofs.put.put_decimal.Tie as tie
 
 returns : tie.Need-returns
 returns c =
-    put-as (c .before .before .before .before .before .decimal .ensures .1 .1 ∙ in-digits (c .before .before .before .before .before .before .before .before .args .n) (c .before .before .before .before .before .decimal .result) (omega (arith, c .before .before .before .before .before .before .before .before .fits .n)) (c .before .before .before .before .before .decimal .ensures .1 .0)) (c .before .before .put-all .ensures)
+    let decimal = c .before .before .before .before .before .decimal in
+    let args = c .before .before .before .before .before .before .before .before .args in
+    let fits = c .before .before .before .before .before .before .before .before .fits in
+    let put-all = c .before .before .put-all in
+    put-as (decimal .ensures .1 .1 ∙ in-digits (args .n) (decimal .result) (omega (arith, fits .n)) (decimal .ensures .1 .0)) (put-all .ensures)
 
 pub put-decimal-spec : {M : Type 1} → statement M
 put-decimal-spec =

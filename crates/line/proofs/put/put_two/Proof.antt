@@ -5,7 +5,12 @@ use Rattle.line.proofs.put.put_two.Statement.{statement}
 use Rattle.line.proofs.put.put_two.Tie as tie
 
 returns : tie.Need-returns
-returns c = put-then _ _ (put-byte (c .before .before .before .before .before .before .before .before .before .digit .ensures) (c .before .before .before .before .before .before .put .ensures)) (put-byte (c .before .before .before .before .before .before .before .before .digit2 .ensures) (c .before .before .put2 .ensures))
+returns c =
+    let digit = c .before .before .before .before .before .before .before .before .before .digit in
+    let put = c .before .before .before .before .before .before .put in
+    let digit2 = c .before .before .before .before .before .before .before .before .digit2 in
+    let put2 = c .before .before .put2 in
+    put-then _ _ (put-byte (digit .ensures) (put .ensures)) (put-byte (digit2 .ensures) (put2 .ensures))
 
 pub put-two-spec : {M : Type 1} → statement M
 put-two-spec =
