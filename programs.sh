@@ -1,11 +1,14 @@
 # Sourced by zone and stamp: how a person's words become the bytes of a proved program, and how the program is proved, built and run.
 # Needs $root, the repository.
-# shellcheck shell=sh disable=SC2154
+# shellcheck shell=sh disable=SC2034,SC2154
 LC_ALL=C
 export LC_ALL
 name=${0##*/}
 
 die() { printf '%s: %s\n' "$name" "$*" >&2; exit 2; }
+
+# Refusals 1 to 18 of the program `zone`, in words.
+refusal_words='over 65536 bytes,file too short,not a PLB file,unknown table type,unknown version,bad field name,bad notice,no first size,no second size,no third size,length mismatch,number of more than ten bytes,number out of range,string past the end,bad field value,bad precision,too many hits,too much text'
 
 # A decimal number as the four bytes of the nearest f32, low byte first, each as \0ooo.
 f32_bytes() {
