@@ -14,7 +14,7 @@ use Rattle.calendar.specs.declared.civil.Civil.{Civil}
 use Rattle.calendar.specs.declared.civil.Civil.the-variants as C
 use Rattle.calendar.specs.declared.civil.Reading.{Reading}
 use Rattle.footer.specs.Local.{localTime}
-use Rattle.hour.specs.Hour.{instantOf, answerOf, civilLine, HourOf, LineFor, Answered, Printed}
+use Rattle.hour.specs.Hour.{instantOf, answerOf, civilLine, LineFor, Answered, Printed}
 use Rattle.hour.specs.Line.{dateText, timeText, clockText, signedText, shown, hourLine, unknownLine, refusedLine}
 use Rattle.line.proofs.Decimals.{decimal-short}
 use Rattle.line.proofs.Puts.{put-length, put-front}
@@ -59,11 +59,18 @@ hour-short reading local name h =
     let offset = signedText (local .offset) in
     let daylight = decimal (local .daylight) in
     let shows = map shown name in
-    omega (arith, h, clock-short reading, signed-short (local .offset), decimal-short (local .daylight), length-map name shown,
+    omega (
+      arith,
+      h,
+      clock-short reading,
+      signed-short (local .offset),
+      decimal-short (local .daylight),
+      length-map name shown,
       length-append clock ((32 ∷ offset) ++ ((32 ∷ daylight) ++ ((32 ∷ shows) ++ (10 ∷ [])))),
       length-append offset ((32 ∷ daylight) ++ ((32 ∷ shows) ++ (10 ∷ []))),
       length-append daylight ((32 ∷ shows) ++ (10 ∷ [])),
-      length-append shows (10 ∷ []))
+      length-append shows (10 ∷ []),
+    )
 
 civil-short : (local : Local) (name : List ℕ) (civil : Civil) → length name ≤ 256 → length (civilLine local name civil) ≤ 512
 unfolding civilLine

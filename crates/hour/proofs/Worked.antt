@@ -2,11 +2,9 @@
 use lib.IntN.{pos, negsuc}
 use mathlib.Core.List.{[], _∷_}
 use mathlib.Core.Path.{_≡_, refl}
-use Rattle.calendar.specs.declared.civil.Reading.{Reading}
 use Rattle.hour.specs.Line.{dateText, timeText, clockText, signedText, shown, hourLine, refusedLine}
 use Rattle.line.specs.Put.{decimal, decimalOf}
 use Rattle.tzif.specs.Reply.{refusal}
-use Rattle.tzif.specs.declared.local.Local.{Local}
 
 -- "hour 2026-07-01 13:59:59 3 7200 1 CEST"
 pub worked-line : hourLine (record { year = 2026; month = 7; day = 1; hour = 13; minute = 59; second = 59; weekday = 3 }) (record { offset = pos 7200; daylight = 1; length = 4 }) (67 ∷ 69 ∷ 83 ∷ 84 ∷ [])

@@ -5,7 +5,8 @@ use lib.IntN.{ℤ, pos, negsuc}
 use mathlib.Core.Bool.{_&&_}
 use mathlib.Core.List.{List, [], _∷_, _++_, map}
 use Rattle.calendar.specs.declared.civil.Reading.{Reading}
-use Rattle.line.specs.Put.{decimal, twoDigits, if_then_else_}
+use Rattle.line.specs.Put.{decimal, twoDigits}
+use Rattle.tzif.specs.Reply.{if_then_else_}
 use Rattle.tzif.specs.declared.local.Local.{Local}
 use Rattle.tzif.specs.declared.refusal.Refusal.{Refusal}
 

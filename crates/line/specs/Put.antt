@@ -3,7 +3,7 @@ use Prim.Native.Nat.{ℕ, zero, suc, _+_, _/_, _%_, min, max}
 use lib.Dec.{ltb}
 use lib.ListN.{length}
 use lib.Seq.{sets}
-use mathlib.Core.Bool.{Bool, true, false}
+use mathlib.Core.Bool.{cond}
 use mathlib.Core.List.{List, [], _∷_, _++_}
 use mathlib.Core.Path.{_≡_}
 
@@ -16,16 +16,10 @@ pub record Put (before : List ℕ) (at : ℕ) (bytes after : List ℕ) (next : �
 abbrev pub digit : ℕ → ℕ
 digit n = 48 + n % 10
 
--- the first where the test holds, else the second
-infix 10 if_then_else_
-abbrev pub if_then_else_ : {A : Type 0} → Bool → A → A → A
-if_then_else_ true a b = a
-if_then_else_ false a b = b
-
 -- up to so many digits and one, without zeros in front
 unfoldable pub decimalOf : ℕ → ℕ → List ℕ
 decimalOf zero n = digit n ∷ []
-decimalOf (suc k) n = if ltb n 10 then digit n ∷ [] else decimalOf k (n / 10) ++ (digit n ∷ [])
+decimalOf (suc k) n = cond (ltb n 10) (digit n ∷ []) (decimalOf k (n / 10) ++ (digit n ∷ []))
 
 -- a number of 64 bits in decimal digits
 unfoldable pub decimal : ℕ → List ℕ
