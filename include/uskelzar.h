@@ -227,6 +227,10 @@ uint8_t uskelzar_local_time(const uint8_t *file, size_t file_length, int64_t ins
  * Refuses: 61, with seven zeros, where the clock is outside the years 1 to 9999. */
 uint8_t uskelzar_civil_time(int64_t instant, int32_t offset, uint64_t reply[USKELZAR_CIVIL_WORDS]);
 
+/* To stamp a slip: uskelzar_simple_lookup gives the zone's name, to be used only under USKELZAR_END_WHOLE; find the TZif file of that name and
+ * lend it to uskelzar_local_time; its offset goes to uskelzar_civil_time. The library opens no file, so the name is checked by whoever makes a
+ * path of it. host/example-stamp.c has every way of not stamping. */
+
 #ifdef __cplusplus
 }
 #endif

@@ -10,7 +10,7 @@
 //! # }
 //! ```
 //!
-//! [`raw`] has the six functions as they are, over lent buffers; [`Map`] and [`TimeZone`] lend the buffers themselves.
+//! [`Printer`] has the whole question of a slip: which hour holds at a fix and an instant, or why none is printed. [`raw`] has the six functions as they are, over lent buffers; [`Map`] and [`TimeZone`] lend the buffers themselves.
 
 #![deny(unsafe_op_in_unsafe_fn, missing_docs)]
 
@@ -19,12 +19,14 @@ mod entry;
 mod hit;
 mod local;
 mod map;
+mod printer;
 pub mod raw;
 mod refusal;
 
 pub use entry::Entry;
 pub use local::{CivilTime, LocalTime, TimeZone};
 pub use map::{End, Error, Field, Header, Kind, Map, Match, Room, Simple, Table, Unknown, Zones};
+pub use printer::{Hour, NotStamped, Printer};
 pub use raw::Mapping;
 pub use refusal::{Cause, Number, Refusal};
 

@@ -4,32 +4,11 @@
 mod common;
 
 use common::fence::{Edge, Fence, EDGES};
+use common::tzif::{header, small};
 use uskelzar::raw::{self, Reply};
 use uskelzar::{CivilTime, LocalTime, Number, Refusal, TimeZone};
 
 const MOST: usize = 64;
-
-fn header(version: u8, counts: [u32; 6]) -> Vec<u8> {
-    let mut out = b"TZif".to_vec();
-    out.push(version);
-    out.extend([0; 15]);
-    out.extend(counts.iter().flat_map(|count| count.to_be_bytes()));
-    out
-}
-
-/// `AAA` at UT; from instant 0 on `BCD`, an hour east, daylight time; from 2^33 on, in March 2242, `AAA` again, and then by the string.
-fn small() -> Vec<u8> {
-    let types = [0, 0, 0, 0, 0, 0, 0, 0, 0x0E, 0x10, 1, 4];
-    let mut out = header(b'2', [0, 0, 0, 0, 1, 4]);
-    out.extend(&types[..6]);
-    out.extend(b"AAA\0");
-    out.extend(header(b'2', [0, 0, 0, 2, 2, 8]));
-    out.extend([0i64, 1 << 33].iter().flat_map(|time| time.to_be_bytes()));
-    out.extend([1, 0]);
-    out.extend(types);
-    out.extend(b"AAA\0BCD\0\nAAA0BCD,M3.5.0,M10.5.0\n");
-    out
-}
 
 fn local(offset: i32, daylight: bool, name: &[u8]) -> Option<LocalTime> {
     Some(LocalTime {

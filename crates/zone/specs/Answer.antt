@@ -1,19 +1,16 @@
 -- What the program asks of the library, as document 01 has it: latitude and longitude, then the file.
 use mathlib.Core.Bool.{true}
 use mathlib.Core.List.{List}
-use Prim.Native.Nat.{ℕ, _+_, _*_}
+use Prim.Native.Nat.{ℕ}
 use lib.Dec.{leb}
 use lib.Ieee.{binary32, ofBits}
-use lib.ListN.{length, drop, getD}
+use lib.ListN.{length, drop}
+use Rattle.line.specs.Bytes.{wordAt}
 use Rattle.numbers.specs.Reply.{Reply, plain, demand, _>>_}
 use Rattle.zones.specs.Lent.{Outcome, Replied, repliedOf}
 use Rattle.zones.specs.Lookup.{zonesIn}
 use Rattle.zones.specs.declared.location.Location.{Location}
 use Rattle.zones.specs.declared.lookup.Zones.{Zones}
-
--- four bytes, low byte first
-abbrev pub wordAt : List ℕ → ℕ → ℕ
-wordAt bytes at = getD bytes at 0 + 256 * getD bytes (at + 1) 0 + 65536 * getD bytes (at + 2) 0 + 16777216 * getD bytes (at + 3) 0
 
 abbrev pub locationOf : List ℕ → Location
 locationOf input = record { lat = ofBits binary32 (wordAt input 0); lon = ofBits binary32 (wordAt input 4) }

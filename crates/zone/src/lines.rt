@@ -1,5 +1,8 @@
 // The lines that are printed. Each function puts something at a place of a lent buffer, as far as it fits, and answers the place after it.
-use crate::bytes::byte_at;
+use line::bytes::byte_at;
+use line::put::put;
+use line::put::put_all;
+use line::put::put_number;
 use numbers::refusal::Refusal;
 use zones::hits::WIDTH;
 use zones::lookup::Zones;
@@ -12,32 +15,6 @@ struct Places {
 
 fn after(at: usize, steps: usize) -> usize {
     std::num::wrapping_add_usize(at, steps)
-}
-
-fn store(out: &mut [u8], at: usize, byte: u8) {
-    if at < out.len() {
-        out[at] = byte;
-    }
-}
-
-fn put(out: &mut [u8], at: usize, byte: u8) -> usize {
-    store(out, at, byte);
-    after(at, 1)
-}
-
-fn put_all(out: &mut [u8], at: usize, bytes: &[u8]) -> usize {
-    for i in 0..bytes.len() {
-        store(out, after(at, i), bytes[i]);
-    }
-    after(at, bytes.len())
-}
-
-// A space and the number.
-fn put_number(out: &mut [u8], at: usize, n: u64) -> usize {
-    let mut digits = [0u8; 20];
-    let size = io::decimal(n, &mut digits);
-    let start = put(out, at, b' ');
-    put_all(out, start, &digits[..size])
 }
 
 fn hex_digit(n: u8) -> u8 {
@@ -106,12 +83,17 @@ fn word(hits: &[u32], at: usize) -> u32 {
     if at < hits.len() { hits[at] } else { 0 }
 }
 
-// Polygon id, metadata id, kind, the place of the entry.
+// Polygon id, metadata id.
+fn put_ids(out: &mut [u8], at: usize, hits: &[u32], slot: usize) -> usize {
+    let polygon = put_number(out, at, word(hits, slot) as u64);
+    put_number(out, polygon, word(hits, after(slot, 1)) as u64)
+}
+
+// Both ids, the kind, the place of the entry.
 fn put_match(out: &mut [u8], at: usize, hits: &[u32], slot: usize) -> usize {
     let name = put_all(out, at, b"match");
-    let polygon = put_number(out, name, word(hits, slot) as u64);
-    let metadata = put_number(out, polygon, word(hits, after(slot, 1)) as u64);
-    let kind = put_number(out, metadata, word(hits, after(slot, 2)) as u64);
+    let ids = put_ids(out, name, hits, slot);
+    let kind = put_number(out, ids, word(hits, after(slot, 2)) as u64);
     let place = put_number(out, kind, word(hits, after(slot, 3)) as u64);
     put(out, place, b'\n')
 }

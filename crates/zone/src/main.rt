@@ -1,6 +1,5 @@
 // Document 01's program: a location and a file on standard input, the matches and their fields on standard output.
 mod answer;
-mod bytes;
 mod lines;
 mod zero;
 
@@ -9,9 +8,9 @@ ghost use Prim.Native.Nat.{_*_, _≤_};
 ghost use lib.ListN.{length};
 ghost use Rattle.zones.specs.Hits.{width};
 use answer::answer;
-use bytes::byte_at;
 use libc::STDIN_FILENO;
 use libc::STDOUT_FILENO;
+use line::bytes::byte_at;
 use lines::put_refusal;
 use lines::put_zones;
 use zones::hits::WIDTH;

@@ -3,6 +3,7 @@
 
 pub mod fence;
 pub mod files;
+pub mod tzif;
 
 use fence::{Edge, Fence};
 use uskelzar::raw::{self, Reply, HIT_WORDS};

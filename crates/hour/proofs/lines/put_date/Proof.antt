@@ -1,0 +1,30 @@
+-- `hour::lines::put_date` meets its contract. Assumes nothing.
+use borrow.Author.Needs.{needs}
+use Rattle.hour.proofs.lines.put_date.Statement.{statement}
+use Rattle.hour.specs.Line.{dateText}
+use Rattle.line.proofs.Puts.{put-then}
+use Rattle.hour.proofs.lines.put_date.Tie as tie
+
+returns : tie.Need-returns
+unfolding dateText
+returns c =
+    let put-two = c .before .before .before .before .before .before .before .before .before .before .before .before .before .before .before .before .before .before .before .before .before .before .put-two in
+    let put-two2 = c .before .before .before .before .before .before .before .before .before .before .before .before .before .before .before .before .before .before .put-two2 in
+    let put = c .before .before .before .before .before .before .before .before .before .before .before .before .before .before .put in
+    let put-two3 = c .before .before .before .before .before .before .before .before .before .before .put-two3 in
+    let put2 = c .before .before .before .before .before .before .put2 in
+    let put-two4 = c .before .before .put-two4 in
+    put-then _ _ (put-two .ensures) (put-then _ _ (put-two2 .ensures) (put-then _ _ (put .ensures) (put-then _ _ (put-two3 .ensures) (put-then _ _ (put2 .ensures) (put-two4 .ensures)))))
+
+pub put-date-spec : {M : Type 1} → statement M
+put-date-spec =
+    tie.close
+    (tie.spec
+    (λ c κs. search needs)
+    (λ c κs. search needs)
+    (λ c κs. search needs)
+    (λ c κs. search needs)
+    (λ c κs. search needs)
+    (λ c κs. search needs)
+    (λ c. search needs)
+    returns)

@@ -1,0 +1,44 @@
+-- The lines that are printed: "hour 2026-07-01 13:59:59 3 7200 1 CEST", "unknown", "refused 60 685".
+use Prim.Native.Nat.{ℕ, suc, _/_}
+use lib.Dec.{ltb}
+use lib.IntN.{ℤ, pos, negsuc}
+use mathlib.Core.Bool.{_&&_}
+use mathlib.Core.List.{List, [], _∷_, _++_, map}
+use Rattle.calendar.specs.declared.civil.Reading.{Reading}
+use Rattle.line.specs.Put.{decimal, twoDigits}
+use Rattle.tzif.specs.Reply.{if_then_else_}
+use Rattle.tzif.specs.declared.local.Local.{Local}
+use Rattle.tzif.specs.declared.refusal.Refusal.{Refusal}
+
+-- a year's four digits, "-", the month's two, "-", the day's
+unfoldable pub dateText : Reading → List ℕ
+dateText reading = twoDigits (reading .year / 100) ++ (twoDigits (reading .year) ++ (45 ∷ (twoDigits (reading .month) ++ (45 ∷ twoDigits (reading .day)))))
+
+-- two digits of the hour, ":", the minute, ":", the second
+unfoldable pub timeText : Reading → List ℕ
+timeText reading = twoDigits (reading .hour) ++ (58 ∷ (twoDigits (reading .minute) ++ (58 ∷ twoDigits (reading .second))))
+
+-- "-" before a negative number
+unfoldable pub signedText : ℤ → List ℕ
+signedText (pos n) = decimal n
+signedText (negsuc n) = 45 ∷ decimal (suc n)
+
+-- a byte that would not stand on a line as a letter is "?", so that a line stays one line of seven words
+unfoldable pub shown : ℕ → ℕ
+shown byte = if (ltb 32 byte && ltb byte 127) then byte else 63
+
+-- "hour", date, time, weekday
+unfoldable pub clockText : Reading → List ℕ
+clockText reading = (104 ∷ 111 ∷ 117 ∷ 114 ∷ 32 ∷ []) ++ (dateText reading ++ (32 ∷ (timeText reading ++ (32 ∷ decimal (reading .weekday)))))
+
+-- and seconds east, daylight flag, abbreviation
+unfoldable pub hourLine : Reading → Local → List ℕ → List ℕ
+hourLine reading local name = clockText reading ++ ((32 ∷ signedText (local .offset)) ++ ((32 ∷ decimal (local .daylight)) ++ ((32 ∷ map shown name) ++ (10 ∷ []))))
+
+-- "unknown"
+abbrev pub unknownLine : List ℕ
+unknownLine = 117 ∷ 110 ∷ 107 ∷ 110 ∷ 111 ∷ 119 ∷ 110 ∷ 10 ∷ []
+
+-- "refused", number, detail
+unfoldable pub refusedLine : Refusal → List ℕ
+refusedLine why = (114 ∷ 101 ∷ 102 ∷ 117 ∷ 115 ∷ 101 ∷ 100 ∷ []) ++ ((32 ∷ decimal (why .number)) ++ ((32 ∷ decimal (why .detail)) ++ (10 ∷ [])))

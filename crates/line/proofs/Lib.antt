@@ -1,0 +1,3 @@
+-- What callers of this crate go by.
+pub mod Puts
+pub mod Decimals

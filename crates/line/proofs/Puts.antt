@@ -1,0 +1,76 @@
+-- Bytes that go into a lent buffer one after another. Assumes nothing.
+use Prim.Native.Nat.{ℕ, suc, _+_, _≤_, _<_}
+use native.Mathlib.Nat.{add-zero}
+use native.Mathlib.Numerals.{add-one}
+use native.Mathlib.Omega.{arith}
+use mathlib.Core.Path.{_≡_, refl, sym, ap, _∙_, subst}
+use mathlib.Core.Bool.{Bool, true, false}
+use mathlib.Core.List.{List, [], _∷_, _++_}
+use lib.Dec.{leb}
+use lib.ListN.{length, set, getD, take, drop, length-append}
+use lib.Seq.{sets, length-sets, set-out, sets-eq, take-suc, take-at}
+use borrow.Author.Tests.{leb-true, leb-false}
+use Rattle.line.specs.Put.{Put}
+
+sets-append : (xs ys before : List ℕ) (at : ℕ) → sets before at (xs ++ ys) ≡ sets (sets before at xs) (at + length xs) ys
+sets-append [] ys before at = ap (λ (n : ℕ). sets before n ys) (sym (add-zero at))
+sets-append (x ∷ xs) ys before at = sets-append xs ys (set before at x) (suc at) ∙ ap (λ (n : ℕ). sets (sets (set before at x) (suc at) xs) n ys) (omega arith)
+
+-- nothing is stored behind the end
+sets-out : (ys before : List ℕ) (at : ℕ) → length before ≤ at → sets before at ys ≡ before
+sets-out [] before at h = refl
+sets-out (y ∷ ys) before at h = ap (λ (xs : List ℕ). sets xs (suc at) ys) (set-out before at y h) ∙ sets-out ys before (suc at) (omega arith)
+
+-- from the place that was answered as from the place behind all bytes
+from-there : (ys now : List ℕ) (next far : ℕ) → next ≤ far → (next < length now → next ≡ far) → sets now next ys ≡ sets now far ys
+from-there ys now next far le e = go (leb (length now) next) refl
+  where
+    go : (t : Bool) → leb (length now) next ≡ t → sets now next ys ≡ sets now far ys
+    go true l = let h = leb-true (length now) next l in sets-out ys now next h ∙ sym (sets-out ys now far (omega (arith, h, le)))
+    go false l = ap (λ (n : ℕ). sets now n ys) (e (leb-false (length now) next l))
+
+module _ {before bytes after : List ℕ} {at next : ℕ} (p : Put before at bytes after next) where
+  pub put-length : length after ≡ length before
+  put-length = ap length (p .stored) ∙ length-sets before at bytes
+
+  -- with room for all of them
+  pub put-room : at + length bytes ≤ length before → next ≡ at + length bytes
+  put-room h = omega (arith, p .place-after)
+
+pub put-none : (before : List ℕ) (at : ℕ) → Put before at [] before at
+put-none before at = record { place-after = omega arith; stored = refl }
+
+pub put-one : (before : List ℕ) (at byte : ℕ) → at < length before → Put before at (byte ∷ []) (set before at byte) (at + 1)
+put-one before at byte h = record { place-after = omega arith; stored = refl }
+
+pub put-past : (before : List ℕ) (at byte : ℕ) → length before ≤ at → Put before at (byte ∷ []) before at
+put-past before at byte h = record { place-after = omega arith; stored = sym (set-out before at byte h) }
+
+-- the same bytes, said otherwise
+pub put-as : {before xs ys after : List ℕ} {at next : ℕ} → xs ≡ ys → Put before at xs after next → Put before at ys after next
+put-as {before} {xs} {ys} {after} {at} {next} e p = subst (λ (bs : List ℕ). Put before at bs after next) e p
+
+pub put-byte : {before after : List ℕ} {at byte b next : ℕ} → byte ≡ b → Put before at (byte ∷ []) after next → Put before at (b ∷ []) after next
+put-byte e p = put-as (ap (λ (b : ℕ). b ∷ []) e) p
+
+-- one after another
+pub put-then : {before middle after : List ℕ} {at next end : ℕ} (xs ys : List ℕ) → Put before at xs middle next → Put middle next ys after end → Put before at (xs ++ ys) after end
+put-then {before} {middle} {after} {at} {next} {end} xs ys p q =
+    record {
+      place-after = omega (arith, q .place-after, p .place-after, put-length p, length-append xs ys);
+      stored =
+          q .stored
+          ∙ ap (λ (zs : List ℕ). sets zs next ys) (p .stored)
+          ∙ from-there ys (sets before at xs) next (at + length xs) (omega (arith, p .place-after)) (λ h. omega (arith, h, p .place-after, length-sets before at xs))
+          ∙ sym (sets-append xs ys before at);
+    }
+
+-- one more of a list
+pub put-next : {before now after : List ℕ} {at next end : ℕ} (bytes : List ℕ) (i : ℕ) → i < length bytes → Put before at (take i bytes) now next → Put now next (getD bytes i 0 ∷ []) after end → Put before at (take (i + 1) bytes) after end
+put-next {before} {now} {after} {at} {next} {end} bytes i h p q = subst (λ (bs : List ℕ). Put before at bs after end) (sym (ap (λ (k : ℕ). take k bytes) (add-one i) ∙ take-suc bytes i 0 h)) (put-then (take i bytes) (getD bytes i 0 ∷ []) p q)
+
+-- what stands at the front, whole
+pub put-front : {before bytes after : List ℕ} {next : ℕ} → Put before 0 bytes after next → length bytes ≤ length before → (next ≡ length bytes) × (take next after ≡ bytes)
+put-front {before} {bytes} {after} {next} p h =
+    let n : next ≡ length bytes = omega (arith, p .place-after) in
+    (n, ap (λ (xs : List ℕ). take next xs) (p .stored ∙ sets-eq bytes before 0 (omega arith)) ∙ take-at bytes (drop (0 + length bytes) before) next (sym n))

@@ -1,0 +1,61 @@
+-- `line::put::put_all` meets its contract: after i turns the first i bytes stand there. Assumes nothing.
+use Prim.Native.Nat.{_-_, _≤_}
+use lib.ListN.{length, take}
+use lib.Seq.{take-all}
+use native.Mathlib.Omega.{arith}
+use Rattle.line.proofs.Puts.{put-length, put-none, put-next, put-as}
+use Rattle.line.proofs.put.put_all.Statement.{statement}
+use Rattle.line.specs.Put.{Put}
+use Rattle.line.proofs.put.put_all.Tie as tie
+
+abbrev Inv-loop : tie.InvT-loop
+Inv-loop out₀ at bytes next₀ i₀ out next i = (i ≤ length bytes) × Put out₀ at (take i bytes) out next
+
+abbrev μ-loop : tie.MeasureT-loop
+μ-loop out₀ at bytes next₀ i₀ out next i = length bytes - i
+
+loop-holds : tie.Need-loop-holds Inv-loop μ-loop
+loop-holds c = (omega arith, put-none _ _)
+
+shared-slice-read-put : tie.Need-shared-slice-read-put Inv-loop μ-loop
+shared-slice-read-put c = omega arith
+
+put-requires : tie.Need-put-requires Inv-loop μ-loop
+put-requires c κs = tt
+
+add-i : tie.Need-add-i Inv-loop μ-loop
+add-i c = omega arith
+
+loop-less : tie.Need-loop-less Inv-loop μ-loop
+loop-less c = omega arith
+
+loop-again : tie.Need-loop-again Inv-loop μ-loop
+loop-again c =
+    let args = c .before .before .before .before .before .before .before .before .before .args in
+    let loop = c .before .before .before .before .before .before .loop in
+    let put = c .before .before .put in
+    (omega arith, put-next (args .bytes .now) (loop .i) (omega arith) (loop .inv .1) (put .ensures))
+
+same-length : tie.Need-same-length Inv-loop μ-loop
+same-length c = put-length (c .before .loop .inv .1)
+
+returns : tie.Need-returns Inv-loop μ-loop
+returns c =
+    let loop = c .before .loop in
+    let args = c .before .before .before .before .args in
+    put-as (take-all (loop .i) (args .bytes .now) (omega arith)) (loop .inv .1)
+
+pub put-all-spec : {M : Type 1} → statement M
+put-all-spec =
+    tie.close
+    (tie.spec
+    Inv-loop
+    μ-loop
+    loop-holds
+    shared-slice-read-put
+    put-requires
+    add-i
+    loop-less
+    loop-again
+    same-length
+    returns)

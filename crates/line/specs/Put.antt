@@ -1,0 +1,30 @@
+-- Bytes that stand in a lent buffer, and numbers as they are printed.
+use Prim.Native.Nat.{ℕ, zero, suc, _+_, _/_, _%_, min, max}
+use lib.Dec.{ltb}
+use lib.ListN.{length}
+use lib.Seq.{sets}
+use mathlib.Core.Bool.{cond}
+use mathlib.Core.List.{List, [], _∷_, _++_}
+use mathlib.Core.Path.{_≡_}
+
+-- the bytes stand from a place on, as many as fit; the next place is the one behind them, or the buffer's end
+pub record Put (before : List ℕ) (at : ℕ) (bytes after : List ℕ) (next : ℕ) : Type 0 where
+  pub place-after : next ≡ max at (min (at + length bytes) (length before))
+  pub stored : after ≡ sets before at bytes
+
+-- the ASCII code of the last digit
+abbrev pub digit : ℕ → ℕ
+digit n = 48 + n % 10
+
+-- up to so many digits and one, without zeros in front
+unfoldable pub decimalOf : ℕ → ℕ → List ℕ
+decimalOf zero n = digit n ∷ []
+decimalOf (suc k) n = cond (ltb n 10) (digit n ∷ []) (decimalOf k (n / 10) ++ (digit n ∷ []))
+
+-- a number of 64 bits in decimal digits
+unfoldable pub decimal : ℕ → List ℕ
+decimal n = decimalOf 19 n
+
+-- its last two digits
+abbrev pub twoDigits : ℕ → List ℕ
+twoDigits n = digit (n / 10) ∷ digit n ∷ []

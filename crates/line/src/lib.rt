@@ -1,0 +1,3 @@
+// What the programs that take standard input and print lines share.
+pub mod bytes;
+pub mod put;

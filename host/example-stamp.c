@@ -1,0 +1,167 @@
+/* example-stamp FILE TZDIR LAT LON INSTANT: the local hour that a slip carries, or why it carries none.
+ * The zone is that of uskelzar_simple_lookup, printed only where the search was whole and one zone alone holds the fix; the file of that name
+ * gives local time, and local time the date. Exit status: 0 stamped, 1 not stamped, 2 not run. */
+#include "uskelzar.h"
+#include <inttypes.h>
+#include <stdio.h>
+#include <stdlib.h>
+#include <string.h>
+
+enum { HITS = USKELZAR_HIT_WORDS * 64, TEXT = 256, MAP_MOST = 64 << 20, ZONE_MOST = 1 << 16, PATH_MOST = 1024 };
+
+/* Every way of not stamping; 0 is stamped. */
+enum outcome {
+    STAMPED,
+    MAP_REFUSED,      /* the map is refused */
+    NOT_WHOLE,        /* the search was not whole */
+    NO_ZONE,          /* no zone holds the fix, or the map has no names */
+    SEVERAL_ZONES,    /* the fix is on a border of several zones */
+    BAD_NAME,         /* the zone's name is no path inside the folder */
+    NO_FILE,          /* no TZif file of that name, or too large */
+    ZONE_REFUSED,     /* the TZif file is refused */
+    UNKNOWN,          /* it does not say what holds at this instant */
+    OUTSIDE_YEARS     /* the instant is outside the years 1 to 9999 */
+};
+
+static const char *const outcome_words[] = {
+    "stamped", "the map is refused", "the search was not whole", "no zone", "several zones hold the fix", "not a zone's name",
+    "no TZif file of that name", "the TZif file is refused", "unknown", "outside the years 1 to 9999"};
+
+struct bytes {
+    uint8_t *at;
+    size_t length;
+};
+
+struct stamp {
+    char zone[TEXT + 1];
+    uint64_t civil[USKELZAR_CIVIL_WORDS];
+    int32_t offset;
+    bool daylight;
+    char abbreviation[TEXT + 1];
+    /* of MAP_REFUSED and ZONE_REFUSED: number and detail; of NOT_WHOLE: the mark in detail */
+    uint8_t number;
+    uint64_t detail;
+};
+
+static uint32_t hits[HITS];
+static uint8_t text[TEXT];
+static uint64_t reply[USKELZAR_REPLY_WORDS];
+
+/* A file's bytes; the next call takes the same memory where `room` is the same. */
+static bool read_file(const char *path, uint8_t *room, size_t most, struct bytes *file)
+{
+    FILE *stream = fopen(path, "rb");
+    if (stream == NULL)
+        return false;
+    file->at = room;
+    file->length = fread(room, 1, most, stream);
+    bool whole = !ferror(stream) && fgetc(stream) == EOF;
+    fclose(stream);
+    return whole;
+}
+
+/* A name of letters, digits, _, + and - in parts that / separates: it leads to no place outside a folder. */
+static bool is_inside(const char *zone)
+{
+    static const char letters[] = "ABCDEFGHIJKLMNOPQRSTUVWXYZabcdefghijklmnopqrstuvwxyz0123456789_+-";
+    for (;;) {
+        size_t part = strspn(zone, letters);
+        if (part == 0)
+            return false;
+        zone += part;
+        if (*zone == '\0')
+            return true;
+        if (*zone++ != '/')
+            return false;
+    }
+}
+
+static enum outcome find_zone(const struct bytes *map, float lat, float lon, struct stamp *stamp)
+{
+    stamp->number = uskelzar_simple_lookup(map->at, map->length, lat, lon, hits, HITS, text, TEXT, reply);
+    stamp->detail = reply[USKELZAR_REFUSED_DETAIL];
+    if (stamp->number != USKELZAR_ANSWERED)
+        return MAP_REFUSED;
+    if (reply[USKELZAR_LOOKUP_END] != USKELZAR_END_WHOLE)
+        return NOT_WHOLE;
+    if (reply[USKELZAR_SIMPLE_DESCRIBED] != 1)
+        return NO_ZONE;
+    if (reply[USKELZAR_LOOKUP_MATCHES] != 1)
+        return SEVERAL_ZONES;
+    memcpy(stamp->zone, text, reply[USKELZAR_SIMPLE_LENGTH]);
+    stamp->zone[reply[USKELZAR_SIMPLE_LENGTH]] = '\0';
+    return strlen(stamp->zone) == reply[USKELZAR_SIMPLE_LENGTH] && is_inside(stamp->zone) ? STAMPED : BAD_NAME;
+}
+
+static enum outcome find_hour(const struct bytes *file, int64_t instant, struct stamp *stamp)
+{
+    stamp->number = uskelzar_local_time(file->at, file->length, instant, text, TEXT, reply);
+    stamp->detail = reply[USKELZAR_REFUSED_DETAIL];
+    if (stamp->number == USKELZAR_TZIF_YEAR)
+        return OUTSIDE_YEARS;
+    if (stamp->number != USKELZAR_ANSWERED)
+        return ZONE_REFUSED;
+    if (reply[USKELZAR_LOCAL_KNOWN] != 1)
+        return UNKNOWN;
+    uint32_t bits = (uint32_t)reply[USKELZAR_LOCAL_OFFSET];
+    memcpy(&stamp->offset, &bits, sizeof bits);
+    stamp->daylight = reply[USKELZAR_LOCAL_DAYLIGHT] == 1;
+    memcpy(stamp->abbreviation, text, reply[USKELZAR_LOCAL_LENGTH]);
+    stamp->abbreviation[reply[USKELZAR_LOCAL_LENGTH]] = '\0';
+    stamp->number = uskelzar_civil_time(instant, stamp->offset, stamp->civil);
+    return stamp->number == USKELZAR_ANSWERED ? STAMPED : OUTSIDE_YEARS;
+}
+
+static enum outcome stamp_slip(const struct bytes *map, const char *folder, float lat, float lon, int64_t instant, struct stamp *stamp)
+{
+    static uint8_t room[ZONE_MOST];
+    char path[PATH_MOST];
+    struct bytes file;
+    enum outcome found = find_zone(map, lat, lon, stamp);
+    if (found != STAMPED)
+        return found;
+    int length = snprintf(path, sizeof path, "%s/%s", folder, stamp->zone);
+    if (length < 0 || (size_t)length >= sizeof path || !read_file(path, room, sizeof room, &file))
+        return NO_FILE;
+    return find_hour(&file, instant, stamp);
+}
+
+static void print_stamp(const struct stamp *stamp)
+{
+    const uint64_t *civil = stamp->civil;
+    unsigned size = stamp->offset < 0 ? 0u - (unsigned)stamp->offset : (unsigned)stamp->offset;
+    printf("%04" PRIu64 "-%02" PRIu64 "-%02" PRIu64 " %02" PRIu64 ":%02" PRIu64 ":%02" PRIu64 " ", civil[USKELZAR_CIVIL_YEAR],
+           civil[USKELZAR_CIVIL_MONTH], civil[USKELZAR_CIVIL_DAY], civil[USKELZAR_CIVIL_HOUR], civil[USKELZAR_CIVIL_MINUTE],
+           civil[USKELZAR_CIVIL_SECOND]);
+    printf("%c%02u:%02u", stamp->offset < 0 ? '-' : '+', size / 3600, size / 60 % 60);
+    if (size % 60 != 0)
+        printf(":%02u", size % 60);
+    printf(" %s %s\n", stamp->abbreviation, stamp->zone);
+}
+
+int main(int count, char **words)
+{
+    struct bytes map;
+    struct stamp stamp = {.number = 0};
+    if (count != 6) {
+        fprintf(stderr, "usage: example-stamp FILE TZDIR LAT LON INSTANT\n");
+        return 2;
+    }
+    uint8_t *room = malloc(MAP_MOST);
+    if (room == NULL || !read_file(words[1], room, MAP_MOST, &map)) {
+        fprintf(stderr, "example-stamp: cannot read %s\n", words[1]);
+        return 2;
+    }
+    float lat = strtof(words[3], NULL), lon = strtof(words[4], NULL);
+    enum outcome outcome = stamp_slip(&map, words[2], lat, lon, strtoll(words[5], NULL, 10), &stamp);
+    free(room);
+    if (outcome == STAMPED) {
+        print_stamp(&stamp);
+        return 0;
+    }
+    printf("not stamped: %s", outcome_words[outcome]);
+    if (outcome == MAP_REFUSED || outcome == ZONE_REFUSED)
+        printf(": refusal %u, detail %" PRIu64, stamp.number, stamp.detail);
+    printf("\n");
+    return 1;
+}

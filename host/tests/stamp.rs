@@ -1,0 +1,120 @@
+//! The printer: a stamped slip, and each way of not stamping one.
+
+mod common;
+
+use common::files::*;
+use common::tzif::{ended, fixed};
+use std::fs;
+use std::path::{Path, PathBuf};
+use uskelzar::{Hour, Map, NotStamped, Number, Printer};
+
+/// A folder that goes away with the test.
+struct Folder(PathBuf);
+
+impl Folder {
+    fn new(name: &str) -> Folder {
+        let path = std::env::temp_dir().join(format!("uskelzar-{name}-{}", std::process::id()));
+        fs::create_dir_all(path.join("Up")).unwrap();
+        Folder(path)
+    }
+
+    fn with(self, zone: &str, file: &[u8]) -> Folder {
+        fs::write(self.0.join(zone), file).unwrap();
+        self
+    }
+}
+
+impl Drop for Folder {
+    fn drop(&mut self) {
+        fs::remove_dir_all(&self.0).unwrap();
+    }
+}
+
+const FIX: (f32, f32) = (5.1 * LAT_STEP, 5.1 * LON_STEP);
+const ALONE: (f32, f32) = (15.1 * LAT_STEP, 15.1 * LON_STEP);
+const NOWHERE: (f32, f32) = (60.0, 60.0);
+
+fn stamp(file: &[u8], folder: &Path, fix: (f32, f32), instant: i64) -> Result<Vec<Hour>, NotStamped> {
+    Printer::new(Map::open(file).unwrap(), folder).stamp(fix.0, fix.1, instant)
+}
+
+fn words(hours: &[Hour]) -> Vec<String> {
+    hours.iter().map(Hour::to_string).collect()
+}
+
+#[test]
+fn stamped() {
+    let folder = Folder::new("stamped").with("Up/One", &fixed(7200, "CEST")).with("Up/Two", &fixed(-16_201, "XYZ"));
+    let hours = stamp(&overlap(1), &folder.0, ALONE, 1_782_907_199).unwrap();
+    assert_eq!(words(&hours), ["2026-07-01 07:29:58 -04:30:01 XYZ Up/Two"]);
+    assert_eq!(hours[0].civil.weekday, 3);
+    assert!(!hours[0].local.daylight);
+}
+
+#[test]
+fn one_hour_of_two_zones() {
+    let folder = Folder::new("one-hour").with("Up/One", &fixed(7200, "CEST")).with("Up/Two", &fixed(7200, "SAST"));
+    let hours = stamp(&overlap(0), &folder.0, FIX, 1_782_907_199).unwrap();
+    assert_eq!(words(&hours), ["2026-07-01 13:59:59 +02:00 CEST Up/One", "2026-07-01 13:59:59 +02:00 SAST Up/Two"]);
+}
+
+#[test]
+fn hours_that_differ() {
+    let folder = Folder::new("differ").with("Up/One", &fixed(3600, "A")).with("Up/Two", &fixed(7200, "B"));
+    let Err(NotStamped::HoursDiffer(hours)) = stamp(&overlap(1), &folder.0, FIX, 0) else {
+        panic!("stamped");
+    };
+    assert_eq!(words(&hours), ["1970-01-01 01:00:00 +01:00 A Up/One", "1970-01-01 02:00:00 +02:00 B Up/Two"]);
+}
+
+#[test]
+fn not_whole() {
+    let folder = Folder::new("not-whole");
+    let mut cut = overlap(1);
+    let end = cut.len() - 2;
+    cut[end..].fill(0x80);
+    let fix = |lat, lon| (f32::from_bits(lat), f32::from_bits(lon));
+    for (file, fix, mark) in [
+        (&TABLE_CUT[..], fix(TABLE_CUT_LAT, TABLE_CUT_LON), "mark 2"),
+        (&cut, FIX, "mark 3"),
+        (&OUT_OF_ORDER, fix(OUT_OF_ORDER_LAT, OUT_OF_ORDER_LON), "mark 4"),
+    ] {
+        let why = stamp(file, &folder.0, fix, 0).unwrap_err();
+        assert!(matches!(why, NotStamped::NotWhole(_)), "{why}");
+        assert!(why.to_string().ends_with(mark), "{why}");
+    }
+}
+
+#[test]
+fn no_zone_and_no_name() {
+    let folder = Folder::new("no-zone");
+    assert!(matches!(stamp(&overlap(1), &folder.0, NOWHERE, 0), Err(NotStamped::NoZone)));
+    // countries have a Name
+    let fix = (f32::from_bits(SQUARE_LAT), f32::from_bits(SQUARE_LON));
+    assert!(matches!(stamp(&SQUARE, &folder.0, fix, 0), Err(NotStamped::Unnamed)));
+}
+
+#[test]
+fn a_name_that_leads_out() {
+    let folder = Folder::new("leads-out").with("secret", &fixed(0, "UTC"));
+    for (prefix, id) in [("../", "secret"), ("", "../secret"), ("/", "secret"), ("Up/../", "secret"), ("", ""), ("./", "secret")] {
+        let square = [(1, 1), (9, 1), (9, 9), (1, 9)];
+        let zone = Zone { fields: &[prefix, id], borders: &[&square] };
+        let file = file(b'T', 1, &["TimezoneIdPrefix", "TimezoneId"], "", &[zone]);
+        let why = stamp(&file, &folder.0.join("Up"), FIX, 0).unwrap_err();
+        assert!(matches!(why, NotStamped::BadName(_)), "{prefix}{id}: {why}");
+    }
+}
+
+#[test]
+fn files_that_do_not_answer() {
+    let ask = |folder: &Folder, instant| stamp(&overlap(1), &folder.0, ALONE, instant).unwrap_err();
+    let none = Folder::new("no-file");
+    assert!(matches!(ask(&none, 0), NotStamped::NoFile(zone, _) if zone == "Up/Two"));
+    let ended = Folder::new("ended").with("Up/Two", &ended());
+    assert!(matches!(ask(&ended, 1), NotStamped::Unknown(zone) if zone == "Up/Two"));
+    let cut = Folder::new("cut").with("Up/Two", &fixed(0, "UTC")[..40]);
+    assert!(matches!(ask(&cut, 0), NotStamped::Refused(_, why) if why.number == Number::TzifHeader));
+    let long = Folder::new("years").with("Up/Two", &fixed(0, "UTC"));
+    assert!(matches!(ask(&long, i64::MAX), NotStamped::OutsideYears));
+}
