@@ -23,7 +23,7 @@ pub fn weekday_of(day: u64) -> u64
 }
 
 // The date of a day up to the end of 9999.
-pub fn date_at(day: u64) -> Date
+pub(crate) fn date_at(day: u64) -> Date
     requires { ⌜ day < 3652059 ⌝ }
     ensures { λ r. ⌜ DateOf day (r .year) (r .month) (r .day) ⌝ }
 {

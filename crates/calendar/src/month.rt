@@ -11,7 +11,7 @@ pub struct MonthDay {
 }
 
 // The days of the months from January to this one.
-pub fn days_of_months(leap: bool, month: u64) -> u64
+pub(crate) fn days_of_months(leap: bool, month: u64) -> u64
     requires { ⌜ month ≤ 12 ⌝ }
     ensures { λ r. ⌜ r ≡ daysOfMonths leap month ⌝ }
 {
@@ -26,7 +26,7 @@ pub fn days_of_months(leap: bool, month: u64) -> u64
 }
 
 // The length of a month.
-pub fn month_length(leap: bool, month: u64) -> u64
+pub(crate) fn month_length(leap: bool, month: u64) -> u64
     requires { ⌜ (1 ≤ month) × (month ≤ 12) ⌝ }
     ensures { λ r. ⌜ r ≡ monthLength leap month ⌝ }
 {
@@ -34,7 +34,7 @@ pub fn month_length(leap: bool, month: u64) -> u64
 }
 
 // The month and the day of a day of the year, counted from 0.
-pub fn month_at(leap: bool, place: u64) -> MonthDay
+pub(crate) fn month_at(leap: bool, place: u64) -> MonthDay
     requires { ⌜ place < daysOfMonths leap 12 ⌝ }
     ensures { λ r. ⌜ PlaceOf leap place (r .month) (r .day) ⌝ }
 {

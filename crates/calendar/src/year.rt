@@ -14,7 +14,7 @@ pub fn is_leap(year: u64) -> bool
 }
 
 // The days of the years from 1 to this one.
-pub fn days_of_years(year: u64) -> u64
+pub(crate) fn days_of_years(year: u64) -> u64
     requires { ⌜ year ≤ 20000 ⌝ }
     ensures { λ r. ⌜ r ≡ daysOfYears year ⌝ }
 {
@@ -22,7 +22,7 @@ pub fn days_of_years(year: u64) -> u64
 }
 
 // The year of a day up to the end of 9999. 400 years have 146097 days: a guess by that mean is at most one year off.
-pub fn year_at(day: u64) -> u64
+pub(crate) fn year_at(day: u64) -> u64
     requires { ⌜ day < 3652059 ⌝ }
     ensures { λ r. ⌜ InYear r day ⌝ }
 {

@@ -10,7 +10,7 @@ use Rattle.footer.specs.Local.{askIn, agrees, orSixty, stringIn, rulesIn
 use Rattle.footer.specs.declared.rule.Rules.{Rules}
 use Rattle.footer.specs.declared.rule.Rules.the-variants as R
 use Rattle.numbers.proofs.Refusals.{Listed, still-listed}
-use Rattle.tzif.proofs.Numbered.{NumberedReply, answers, refuses, then-reply, and-then, demands, either, zone-numbered, localNumbers}
+use Rattle.tzif.proofs.Numbered.{NumberedReply, answers, refuses, then-reply, and-then, demands, either, zone-numbered, of-lent, localNumbers}
 use Rattle.tzif.specs.Header.{rfc9636}
 use Rattle.tzif.specs.Local.{byTable, Replied, replied, lent}
 use Rattle.tzif.specs.Number.{lift}
@@ -66,24 +66,7 @@ at-numbered : (file : List ℕ) (instant : ℤ) → Mine (answerAt rfc9636 file 
 unfolding answerAt
 at-numbered file instant = then-reply (wider (zone-numbered file)) (λ zone. then-reply (rules-numbered file zone) (λ rules. by-numbered file (zone .block) rules (lift instant)))
 
--- ---- the whole call
-number-of : {why : Refusal} {r : LocalTime} → r ≡ L.Refused why → {why′ : Refusal} → r ≡ L.Refused why′ → Listed footerNumbers (why′ .number) → Listed footerNumbers (why .number)
-number-of {why} {r} e {why′} e′ h = let same : why′ ≡ why = cc in subst (λ (w : Refusal). Listed footerNumbers (w .number)) same h
-
-of-lent : (file : List ℕ) (room : ℕ) {answer : Reply Answer} → Mine answer → (why : Refusal) → lent file room answer .reply ≡ L.Refused why → Listed footerNumbers (why .number)
-unfolding lent
-of-lent file room (answers {a = A.Found found}) why e = go (leb (found .length) room) e
-  where
-    local : Replied
-    local = replied (L.Local (record { offset = found .offset; daylight = found .daylight; length = found .length })) (padded room (slice file (found .place) (found .length)))
-
-    go : (t : Bool) → (if t then local else replied (L.Refused (refusal 18 0)) (zeros room)) .reply ≡ L.Refused why → Listed footerNumbers (why .number)
-    go true e = let z : _≡_ {A = ℕ} 0 1 = cc in absurd (omega arith)
-    go false e = number-of e refl refl
-of-lent file room (answers {a = A.Unknown}) why e = let z : _≡_ {A = ℕ} 0 1 = cc in absurd (omega arith)
-of-lent file room (refuses h) why e = number-of e refl h
-
 -- a call that is refused is refused with one of these
 pub local-time-refusals : (file : List ℕ) (instant : ℤ) (room : ℕ) (why : Refusal) → localTime file instant room .reply ≡ L.Refused why → Listed footerNumbers (why .number)
 unfolding localTimeBy
-local-time-refusals file instant room = of-lent file room (at-numbered file instant)
+local-time-refusals file instant room = of-lent (Listed footerNumbers) refl file room (at-numbered file instant)

@@ -18,7 +18,7 @@ fn east_of(west: u64) -> i32
 }
 
 // The local time of a clock, its name where it stands in the file.
-pub fn found_of(time: Time) -> Found
+pub(crate) fn found_of(time: Time) -> Found
     requires { ⌜ Short time ⌝ }
     ensures { λ r. ⌜ r ≡ foundOf time ⌝ }
 {
@@ -51,7 +51,7 @@ fn same_octets(file: &[u8], a: usize, b: usize, count: usize) -> bool
 }
 
 // Whether two local times have the same offset, flag and abbreviation.
-pub fn same_found(file: &[u8], a: Found, b: Found) -> bool
+pub(crate) fn same_found(file: &[u8], a: Found, b: Found) -> bool
     requires { ⌜ Held (length (now file)) a × Held (length (now file)) b ⌝ }
     ensures { λ r. ⌜ r ≡ sameFound (now (file .entry)) a b ⌝ }
 {

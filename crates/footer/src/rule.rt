@@ -33,7 +33,7 @@ pub enum Stated {
 }
 
 // What the string says of an instant of the file's own scale.
-pub fn ask_in(file: &[u8], block: Block, tz: Tz, instant: usize) -> Asked
+pub(crate) fn ask_in(file: &[u8], block: Block, tz: Tz, instant: usize) -> Asked
     requires { ⌜ Sound (now file) block × IsTz (length (now file)) tz ⌝ }
     ensures { λ r. ⌜ (r ≡ askIn (now (file .entry)) block tz instant) × HeldAsked (length (now (file .entry))) r ⌝ }
 {
@@ -62,7 +62,7 @@ fn agrees(file: &[u8], block: Block, tz: Tz) -> bool
 }
 
 // The rule of a checked file.
-pub fn rules_in(file: &[u8], zone: Zone) -> Stated
+pub(crate) fn rules_in(file: &[u8], zone: Zone) -> Stated
     requires { ⌜ Sound (now file) (zone .block) × (length (now file) ≤ 2 ^ 30) × (zone .string ≤ length (now file)) ⌝ }
     ensures { λ r. ⌜ (toldRules r ≡ rulesIn (now (file .entry)) zone) × HeldStated (length (now (file .entry))) r ⌝ }
 {

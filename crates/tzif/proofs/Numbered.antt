@@ -124,23 +124,25 @@ module _ (file : List ℕ) where
   zone-numbered = and-then (demands _ _ refl) (then-reply (a-block false 0) (λ first. either (eqb (octet file 4) 0) (short first) (long first)))
 
 -- ---- the whole call
-number-of : {why : Refusal} {r : LocalTime} → r ≡ L.Refused why → {why′ : Refusal} → r ≡ L.Refused why′ → Listed localNumbers (why′ .number) → Listed localNumbers (why .number)
-number-of {why} {r} e {why′} e′ h = let same : why′ ≡ why = cc in subst (λ (w : Refusal). Listed localNumbers (w .number)) same h
+-- a reply is refused with 18, or with what its answer is
+module _ (P : ℕ → Type 0) (room-number : P 18) where
+  number-of : {why : Refusal} {r : LocalTime} → r ≡ L.Refused why → {why′ : Refusal} → r ≡ L.Refused why′ → P (why′ .number) → P (why .number)
+  number-of {why} {r} e {why′} e′ h = let same : why′ ≡ why = cc in subst (λ (w : Refusal). P (w .number)) same h
 
-of-lent : (file : List ℕ) (room : ℕ) {answer : Reply Answer} → Mine answer → (why : Refusal) → lent file room answer .reply ≡ L.Refused why → Listed localNumbers (why .number)
-unfolding lent
-of-lent file room (answers {a = A.Found found}) why e = go (leb (found .length) room) e
-  where
-    local : Replied
-    local = replied (L.Local (record { offset = found .offset; daylight = found .daylight; length = found .length })) (padded room (slice file (found .place) (found .length)))
+  pub of-lent : (file : List ℕ) (room : ℕ) {answer : Reply Answer} → NumberedReply P answer → (why : Refusal) → lent file room answer .reply ≡ L.Refused why → P (why .number)
+  unfolding lent
+  of-lent file room (answers {a = A.Found found}) why e = go (leb (found .length) room) e
+    where
+      local : Replied
+      local = replied (L.Local (record { offset = found .offset; daylight = found .daylight; length = found .length })) (padded room (slice file (found .place) (found .length)))
 
-    go : (t : Bool) → (if t then local else replied (L.Refused (refusal 18 0)) (zeros room)) .reply ≡ L.Refused why → Listed localNumbers (why .number)
-    go true e = let z : _≡_ {A = ℕ} 0 1 = cc in absurd (omega arith)
-    go false e = number-of e refl refl
-of-lent file room (answers {a = A.Unknown}) why e = let z : _≡_ {A = ℕ} 0 1 = cc in absurd (omega arith)
-of-lent file room (refuses h) why e = number-of e refl h
+      go : (t : Bool) → (if t then local else replied (L.Refused (refusal 18 0)) (zeros room)) .reply ≡ L.Refused why → P (why .number)
+      go true e = let z : _≡_ {A = ℕ} 0 1 = cc in absurd (omega arith)
+      go false e = number-of e refl room-number
+  of-lent file room (answers {a = A.Unknown}) why e = let z : _≡_ {A = ℕ} 0 1 = cc in absurd (omega arith)
+  of-lent file room (refuses h) why e = number-of e refl h
 
 -- a call that is refused is refused with one of these
 pub local-time-refusals : (file : List ℕ) (instant : ℤ) (room : ℕ) (why : Refusal) → localTime file instant room .reply ≡ L.Refused why → Listed localNumbers (why .number)
 unfolding localTimeBy
-local-time-refusals file instant room = of-lent file room (then-reply (zone-numbered file) (λ zone. answers))
+local-time-refusals file instant room = of-lent (Listed localNumbers) refl file room (then-reply (zone-numbered file) (λ zone. answers))

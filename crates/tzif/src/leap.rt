@@ -167,7 +167,7 @@ fn check_leap(file: &[u8], fourth: bool, block: Block, i: usize) -> Checked
 }
 
 // The first fault of all records.
-pub fn check_leaps(file: &[u8], fourth: bool, block: Block) -> Checked
+pub(crate) fn check_leaps(file: &[u8], fourth: bool, block: Block) -> Checked
     requires { ⌜ Within (length (now file)) block ⌝ }
     ensures { λ r. ⌜ told r ≡ checkLeaps (now (file .entry)) fourth block ⌝ }
 {

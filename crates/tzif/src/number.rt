@@ -21,7 +21,7 @@ pub fn octet(file: &[u8], place: usize) -> usize
 }
 
 // Four octets as a number without a sign.
-pub fn be32(file: &[u8], place: usize) -> usize
+pub(crate) fn be32(file: &[u8], place: usize) -> usize
     requires { ⌜ place + 4 ≤ length (now file) ⌝ }
     ensures { λ r. ⌜ Word r (be32 (now (file .entry)) place) ⌝ }
 {
@@ -33,7 +33,7 @@ pub fn be32(file: &[u8], place: usize) -> usize
 }
 
 // A signed number of 32 bits, by its bits, more 2^31.
-pub fn raised(bits: usize) -> usize
+pub(crate) fn raised(bits: usize) -> usize
     requires { ⌜ bits < 2 ^ 32 ⌝ }
     ensures { λ r. ⌜ Word r (raised bits) ⌝ }
 {
@@ -45,7 +45,7 @@ pub fn raised(bits: usize) -> usize
 }
 
 // A time of either width, more 2^63.
-pub fn time_at(file: &[u8], place: usize, width: usize) -> usize
+pub(crate) fn time_at(file: &[u8], place: usize, width: usize) -> usize
     requires { ⌜ (4 ≤ width) × (place + width ≤ length (now file)) ⌝ }
     ensures { λ r. ⌜ r ≡ timeAt (now (file .entry)) width place ⌝ }
 {
@@ -58,7 +58,7 @@ pub fn time_at(file: &[u8], place: usize, width: usize) -> usize
 }
 
 // The i32 that has these bits. Both arms compile to no instruction.
-pub fn signed(bits: usize) -> i32
+pub(crate) fn signed(bits: usize) -> i32
     requires { ⌜ bits < 2 ^ 32 ⌝ }
     ensures { λ r. ⌜ r ≡ toZ w32 bits ⌝ }
 {

@@ -15,7 +15,7 @@ fn is_stop(other: usize, byte: usize) -> bool
 }
 
 // How many octets from a place on, of so many at most, stand before a NUL or one other octet.
-pub fn run_to(other: usize, file: &[u8], from: usize, most: usize) -> usize
+pub(crate) fn run_to(other: usize, file: &[u8], from: usize, most: usize) -> usize
     requires { ⌜ «from» + most ≤ length (now file) ⌝ }
     ensures { λ r. ⌜ AtMost most r (runTo other (now (file .entry)) «from» most) ⌝ }
 {
@@ -40,7 +40,7 @@ fn octet_or_zero(name: &[u8], i: usize) -> u8
 }
 
 // A name at the start of a lent text, zeros behind it.
-pub fn lend(name: &[u8], text: &mut [u8])
+pub(crate) fn lend(name: &[u8], text: &mut [u8])
     requires { ⌜ length (now name) ≤ length (now text) ⌝ }
     ensures { λ _. ⌜ now (text .exit) ≡ padded (length (now (text .entry))) (now (name .entry)) ⌝ }
 {

@@ -26,7 +26,7 @@ pub fn transitions_of(block: Block) -> Times
     }
 }
 
-pub fn occurrences_of(block: Block) -> Times
+pub(crate) fn occurrences_of(block: Block) -> Times
     requires { ⌜ (leapsOf block < 2 ^ 64) × (block .width + 4 < 2 ^ 64) ⌝ }
     ensures { λ r. ⌜ r ≡ occurrencesOf block ⌝ }
 {
@@ -47,7 +47,7 @@ pub fn time_in(file: &[u8], times: Times, i: usize) -> usize
 }
 
 // Behind the last time that is not after an instant, by its index.
-pub fn last_not_after(file: &[u8], times: Times, instant: usize) -> usize
+pub(crate) fn last_not_after(file: &[u8], times: Times, instant: usize) -> usize
     requires { ⌜ Inside (length (now file)) times ⌝ }
     requires { ⌜ Rises (now file) times ⌝ }
     ensures { λ r. ⌜ r ≡ lastNotAfter (now (file .entry)) times instant ⌝ }

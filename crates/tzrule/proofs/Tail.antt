@@ -4,24 +4,21 @@ use lib.Dec.{ltb, eqb}
 use lib.ListN.{length, getD}
 use mathlib.Core.Bool.{Bool, true, false}
 use mathlib.Core.List.{List}
-use mathlib.Core.Path.{_≡_, refl, ap, subst, sym}
+use mathlib.Core.Path.{_≡_, refl, subst}
 use native.Mathlib.Omega.{arith}
-use Rattle.calendar.specs.declared.rule.When.{When}
 use Rattle.numbers.specs.Answer.{if_then_else_}
 use Rattle.tzrule.specs.Answer.{Answer, read, fault, onward}
 use Rattle.tzrule.specs.Grammar.{ranged, numberOf, sixty, secondsOf, minutesOf, clockOf, laterOf, earlierOf, signedOf, dottedOf, days, months, weeks, weekdays, julianOf, zeroOf, weekdayFrom, weekFrom, monthFrom, dateOf}
 use Rattle.tzrule.specs.Names.{inName, nameEnd, endOf, bareOf, quotedOf, nameOf}
 use Rattle.tzrule.specs.String.{dayHours, weekHours, hoursOf, timeOf, changeOf, summerOf, changingOf, stringOf}
-use Rattle.tzrule.specs.String as string
 use Rattle.tzrule.specs.Text.{byteAt, isDigit, digitsOf}
 use Rattle.tzrule.specs.declared.name.Span.{Span}
 use Rattle.tzrule.specs.declared.number.Digits.{Digits}
 use Rattle.tzrule.specs.declared.number.Shape.{Shape}
-use Rattle.tzrule.specs.declared.rule.Change.{Change}
 use Rattle.tzrule.specs.declared.rule.Clock.{Clock}
-use Rattle.tzrule.specs.declared.rule.Rule.{Rule}
-use Rattle.tzrule.specs.declared.rule.Tz.{Tz}
 use Rattle.tzrule.specs.declared.rule.Tz.the-variants.{Fixed, Changing}
+use Rattle.tzrule.specs.declared.rule.Tz.{Tz}
+use Rattle.tzrule.specs.String as string
 
 -- both fault at one place, or both read one thing, of which a fact holds, up to one place, which is not before the first
 pub data Alike (from : ℕ) {A : Type 0} (fact : A → Type 0) : Answer A → Answer A → Type 0 where

@@ -132,7 +132,7 @@ fn month_at(text: &[u8], at: usize) -> Found
 }
 
 // A date.
-pub fn date_at(text: &[u8], at: usize) -> Found
+pub(crate) fn date_at(text: &[u8], at: usize) -> Found
     requires { ⌜ (length (now text) ≤ 1073741824) × (at ≤ length (now text)) ⌝ }
     ensures { λ r. ⌜ (toldDate r ≡ dateOf (now (text .entry)) at) × GoodDate (length (now (text .entry))) r ⌝ }
 {

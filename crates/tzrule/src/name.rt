@@ -102,7 +102,7 @@ fn quoted_at(text: &[u8], at: usize) -> Named
 }
 
 // A name.
-pub fn name_at(text: &[u8], at: usize) -> Named
+pub(crate) fn name_at(text: &[u8], at: usize) -> Named
     requires { ⌜ (length (now text) ≤ 1073741824) × (at ≤ length (now text)) ⌝ }
     ensures { λ r. ⌜ (toldName r ≡ nameOf (now (text .entry)) at) × Inside (length (now (text .entry))) r ⌝ }
 {

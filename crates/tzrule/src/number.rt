@@ -71,7 +71,7 @@ fn digits_at(text: &[u8], at: usize, most: usize) -> Digits
 }
 
 // A number at a place.
-pub fn number_at(text: &[u8], at: usize, shape: Shape) -> Number
+pub(crate) fn number_at(text: &[u8], at: usize, shape: Shape) -> Number
     requires { ⌜ (length (now text) ≤ 1073741824) × (at ≤ length (now text)) × IsShape shape ⌝ }
     ensures { λ r. ⌜ (told r ≡ numberOf shape (now (text .entry)) at) × Within (shape .high) (length (now (text .entry))) r ⌝ }
 {

@@ -47,7 +47,7 @@ fn close_of(rule: Rule, year: u64) -> u64
 }
 
 // Is it summer? The mean year has 31556952 seconds; two years before the guess by it have begun, and at most three more have.
-pub fn summer_at(rule: Rule, instant: u64) -> bool
+pub(crate) fn summer_at(rule: Rule, instant: u64) -> bool
     requires { ⌜ IsRule rule × InYears instant ⌝ }
     ensures { λ r. ⌜ r ≡ isSummer rule instant ⌝ }
 {

@@ -63,7 +63,7 @@ fn minutes_at(text: &[u8], at: usize, sum: u64) -> Number
 }
 
 // hh[:mm[:ss]].
-pub fn clock_at(text: &[u8], at: usize, hours: Shape) -> Number
+pub(crate) fn clock_at(text: &[u8], at: usize, hours: Shape) -> Number
     requires { ⌜ (length (now text) ≤ 1073741824) × (at ≤ length (now text)) × IsShape hours ⌝ }
     ensures { λ r. ⌜ (told r ≡ clockOf hours (now (text .entry)) at) × Within (3600 * hours .high + 3599) (length (now (text .entry))) r ⌝ }
 {
@@ -75,7 +75,7 @@ pub fn clock_at(text: &[u8], at: usize, hours: Shape) -> Number
 }
 
 // A time after midnight, more 604800.
-pub fn later_at(text: &[u8], at: usize, hours: Shape) -> Number
+pub(crate) fn later_at(text: &[u8], at: usize, hours: Shape) -> Number
     requires { ⌜ (length (now text) ≤ 1073741824) × (at ≤ length (now text)) × IsShape hours × (hours .high ≤ 167) ⌝ }
     ensures { λ r. ⌜ (told r ≡ laterOf hours (now (text .entry)) at) × Around (3600 * hours .high + 3599) (length (now (text .entry))) r ⌝ }
 {
@@ -105,7 +105,7 @@ fn earlier_at(text: &[u8], at: usize, hours: Shape) -> Number
 }
 
 // With or without a sign, which is of the whole.
-pub fn signed_at(text: &[u8], at: usize, hours: Shape) -> Number
+pub(crate) fn signed_at(text: &[u8], at: usize, hours: Shape) -> Number
     requires { ⌜ (length (now text) ≤ 1073741824) × (at ≤ length (now text)) × IsShape hours × (hours .high ≤ 167) ⌝ }
     ensures { λ r. ⌜ (told r ≡ signedOf hours (now (text .entry)) at) × Around (3600 * hours .high + 3599) (length (now (text .entry))) r ⌝ }
 {
