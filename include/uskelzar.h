@@ -1,7 +1,7 @@
 /* uskelzar.h: which zone holds a fix, by a PLB border file; a writer of borders; local time, by a TZif file; and dates.
  *
  * For libuskelzar.a. What its functions answer, write and touch, and that they end, is proved for every input; what it calls
- * is seen to by a test of the archive. What holds for all six:
+ * is seen to by a test of the archive. What holds for all eight:
  *
  * You bring    pointers that are not null, aligned for their type and good for their length: to read from, or where the
  *              buffer is lent (no const), to write to. Lent buffers and `reply` do not overlap each other or an input, and

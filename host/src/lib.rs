@@ -10,7 +10,7 @@
 //! # }
 //! ```
 //!
-//! [`Printer`] has the whole question of a slip: which hour holds at a fix and an instant, or why none is printed. [`raw`] has the six functions as they are, over lent buffers; [`Map`] and [`TimeZone`] lend the buffers themselves.
+//! [`Printer`] has the whole question of a slip: which hour holds at a fix and an instant, or why none is printed. [`raw`] has the eight functions as they are, over lent buffers; [`Map`] and [`TimeZone`] lend the buffers themselves.
 
 #![deny(unsafe_op_in_unsafe_fn, missing_docs)]
 
