@@ -30,9 +30,15 @@ build_archive() {
     [ -f "$archive" ] || stop "no archive $archive"
 }
 
+# Rust's crates come from Debian's packages.
+crates=/usr/share/cargo/registry
+need_crate() { ls -d "$crates/$1"-* >/dev/null 2>&1 || stop "the crate $1 is missing: Debian's $2"; }
+need_crate memmap2 librust-memmap2-dev
+
 # cargo_host COMMAND WORDS..: cargo on host/, for x86-64
 cargo_host() {
     command=$1
     shift
-    cargo "$command" --quiet --offline --manifest-path "$root/host/Cargo.toml" --target-dir "$root/target/host" --target "$target" "$@"
+    cargo "$command" --quiet --offline --config 'source.crates-io.replace-with="debian"' --config "source.debian.directory=\"$crates\"" \
+        --manifest-path "$root/host/Cargo.toml" --target-dir "$root/target/host" --target "$target" "$@"
 }

@@ -17,7 +17,7 @@ pub struct Entry {
     pub upper: (f64, f64),
     /// Where its border begins in the file.
     pub border: u32,
-    /// The border's points, the closing one not counted; none where it cannot be read to its end.
+    /// The border's points, the closing one not counted; none where it cannot be read to its end, or has more than 16,777,216.
     pub points: Option<u64>,
 }
 
@@ -132,10 +132,13 @@ fn plain_points(file: &[u8], border: u32) -> Option<u64> {
     (count > 0).then_some(points)
 }
 
+/// More than any border that people draw: runs that repeat could make a count that takes years.
+const MOST_POINTS: u64 = 1 << 24;
+
 /// Version 1: each number is a move, 0 then 0 closes, 0 then 1 opens a reference, 0 then another value repeats the point.
 fn packed_points(file: &[u8], data: u32, border: u32) -> Option<u64> {
     let (mut place, mut points) = (border as usize, 0);
-    loop {
+    while points <= MOST_POINTS {
         let (number, next) = number_at(file, place)?;
         if number != 0 {
             (points, place) = (points + 1, next);
@@ -153,31 +156,40 @@ fn packed_points(file: &[u8], data: u32, border: u32) -> Option<u64> {
             _ => (points, place) = (points + 1, next),
         }
     }
+    None
 }
 
-/// The moves of a run of the data: forward from its start up to its end, or backward, both one byte lower. None of them is 0.
+/// The moves of a run of the data, forward or backward by its length's sign; none of them is 0.
 fn run_points(file: &[u8], data: u32, start: i64, length: i64) -> Option<u64> {
     let at = |offset: i64| data.wrapping_add(offset as u32) as usize;
     let end = start.checked_add(length)?;
-    let mut points = 0;
-    if length > 0 {
-        let mut place = at(start);
-        loop {
-            let (number, next) = number_at(file, place).filter(|read| read.0 != 0)?;
-            (points, place) = (points + u64::from(number != 0), next);
-            if place >= at(end) {
-                return Some(points);
-            }
+    match length.signum() {
+        1 => forward_points(file, at(start), at(end)),
+        -1 => backward_points(file, at(start.wrapping_sub(1)), at(end.wrapping_sub(1))),
+        _ => Some(0),
+    }
+}
+
+/// From a run's start up to its end.
+fn forward_points(file: &[u8], mut place: usize, end: usize) -> Option<u64> {
+    for points in 1.. {
+        (_, place) = number_at(file, place).filter(|read| read.0 != 0)?;
+        if place >= end {
+            return Some(points);
         }
     }
-    let mut place = at(start.wrapping_sub(1));
-    while length < 0 {
+    None
+}
+
+/// From a run's last byte down to its end, both one byte lower than told.
+fn backward_points(file: &[u8], mut place: usize, end: usize) -> Option<u64> {
+    for points in 1.. {
         let first = start_of(file, place)?;
         number_at(file, first).filter(|read| read.0 != 0)?;
-        (points, place) = (points + 1, first - 1);
-        if place <= at(end.wrapping_sub(1)) {
-            break;
+        place = first - 1;
+        if place <= end {
+            return Some(points);
         }
     }
-    Some(points)
+    None
 }

@@ -10,24 +10,37 @@
 //! # }
 //! ```
 //!
-//! [`Printer`] has the whole question of a slip: which hour holds at a fix and an instant, or why none is printed. [`raw`] has the eight functions as they are, over lent buffers; [`Map`] and [`TimeZone`] lend the buffers themselves.
+//! [`Printer`] has the whole question of a slip: which hour holds at a fix and an instant, or why none is printed. [`raw`] has the eight functions as they are, over lent buffers, and needs no `std` (`default-features = false`); [`Map`] and [`TimeZone`] lend the buffers themselves.
 
+#![cfg_attr(not(feature = "std"), no_std)]
 #![deny(unsafe_op_in_unsafe_fn, missing_docs)]
 
+#[cfg(feature = "std")]
 mod entries;
+#[cfg(feature = "std")]
 mod entry;
 mod hit;
+#[cfg(feature = "std")]
 mod local;
+#[cfg(feature = "std")]
 mod map;
+#[cfg(feature = "std")]
+mod mapping;
+#[cfg(feature = "std")]
 mod printer;
 pub mod raw;
 mod refusal;
 
+#[cfg(feature = "std")]
 pub use entry::Entry;
+#[cfg(feature = "std")]
 pub use local::{CivilTime, LocalTime, TimeZone};
+#[cfg(feature = "std")]
 pub use map::{End, Error, Field, Header, Kind, Map, Match, Room, Simple, Table, Unknown, Zones};
+#[cfg(feature = "std")]
 pub use printer::{Hour, NotStamped, Printer};
-pub use raw::Mapping;
+#[cfg(feature = "std")]
+pub use mapping::Mapping;
 pub use refusal::{Cause, Number, Refusal};
 
 /// A run of the earlier data that stands for some of a border's moves.
@@ -45,6 +58,7 @@ pub struct Piece {
     pub count: u32,
 }
 
+#[cfg(feature = "std")]
 /// The bytes of a border from its points on the file's grid, each a latitude and a longitude. `earlier` is the data section
 /// up to the border's first byte; each piece borrows some of the moves from it.
 pub fn write_border(
@@ -61,6 +75,7 @@ pub fn write_border(
     Ok(out)
 }
 
+#[cfg(feature = "std")]
 fn words_of(piece: &Piece) -> [u32; 5] {
     [
         piece.start,
@@ -71,6 +86,7 @@ fn words_of(piece: &Piece) -> [u32; 5] {
     ]
 }
 
+#[cfg(feature = "std")]
 /// Room for every border of so many points: ten bytes a move, a count or 16 pieces of at most 12 bytes, and two at the end.
 fn most_bytes(points: usize) -> usize {
     points * 10 + 16 * 12 + 2

@@ -1,12 +1,8 @@
-//! The library's eight functions over lent buffers (include/uskelzar.h has their contracts), and files mapped into memory.
-//! All that is unsafe in this crate is here.
+//! The library's eight functions over lent buffers (include/uskelzar.h has their contracts). It asks nothing of `std`, and all that is unsafe
+//! in this crate is here, but for the mapping of files.
 
 pub use crate::hit::HIT_WORDS;
 use crate::refusal::Refusal;
-use std::ffi::{c_int, c_void};
-use std::fs::File;
-use std::io;
-use std::os::fd::AsRawFd;
 
 /// The five words of a reply.
 pub type Reply = [u64; 5];
@@ -261,71 +257,3 @@ pub fn local_time(file: &[u8], instant: i64, text: &mut [u8]) -> Result<Reply, R
         )
     })
 }
-
-extern "C" {
-    fn mmap(
-        at: *mut c_void,
-        length: usize,
-        access: c_int,
-        flags: c_int,
-        file: c_int,
-        from: i64,
-    ) -> *mut c_void;
-    fn munmap(at: *mut c_void, length: usize) -> c_int;
-}
-
-const PROT_READ: c_int = 1;
-const MAP_PRIVATE: c_int = 2;
-
-/// A file mapped into memory, to be read.
-pub struct Mapping {
-    start: *const u8,
-    length: usize,
-}
-
-impl Mapping {
-    /// Maps a file.
-    ///
-    /// # Safety
-    /// Nobody changes or cuts the file while it is mapped.
-    pub unsafe fn new(file: &File) -> io::Result<Mapping> {
-        let length = file.metadata()?.len() as usize;
-        // SAFETY: a new mapping, at a place that the system chooses, touches no memory in use. An empty file is an error.
-        let start = unsafe {
-            mmap(
-                std::ptr::null_mut(),
-                length,
-                PROT_READ,
-                MAP_PRIVATE,
-                file.as_raw_fd(),
-                0,
-            )
-        };
-        if start as isize == -1 {
-            return Err(io::Error::last_os_error());
-        }
-        Ok(Mapping {
-            start: start.cast(),
-            length,
-        })
-    }
-}
-
-impl AsRef<[u8]> for Mapping {
-    fn as_ref(&self) -> &[u8] {
-        // SAFETY: mapped for reading until `self` is dropped; `new`'s caller saw to it that the bytes stay as they are.
-        unsafe { std::slice::from_raw_parts(self.start, self.length) }
-    }
-}
-
-impl Drop for Mapping {
-    fn drop(&mut self) {
-        // SAFETY: `new` mapped just this, and no borrow outlives `self`.
-        unsafe { munmap(self.start.cast_mut().cast(), self.length) };
-    }
-}
-
-// SAFETY: the memory is only read, and belongs to no thread.
-unsafe impl Send for Mapping {}
-// SAFETY: as above.
-unsafe impl Sync for Mapping {}

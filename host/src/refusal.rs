@@ -1,6 +1,6 @@
 //! Refusals: why a call did not answer.
 
-use std::fmt;
+use core::fmt;
 
 /// What the library refuses, by the numbers of documents 01 and 02.
 #[derive(Clone, Copy, Debug, Eq, PartialEq)]
@@ -128,6 +128,11 @@ const TABLE: [(Number, &str); 47] = [
 ];
 
 impl Number {
+    /// Every one of them, in order.
+    pub fn all() -> impl Iterator<Item = Number> {
+        TABLE.iter().map(|(known, _)| *known)
+    }
+
     fn of(number: u8) -> Number {
         let known = TABLE.iter().find(|(known, _)| *known as u8 == number);
         known
@@ -208,6 +213,7 @@ impl fmt::Display for Refusal {
     }
 }
 
+#[cfg(feature = "std")]
 impl std::error::Error for Refusal {}
 
 #[cfg(test)]

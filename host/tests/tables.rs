@@ -1,0 +1,72 @@
+//! What is said in more than one place is the same there: the release, and the refusals of the header and of `Number`.
+
+use std::fs;
+use uskelzar::raw;
+
+fn text(path: &str) -> String {
+    fs::read_to_string(format!("{}/../{path}", env!("CARGO_MANIFEST_DIR"))).unwrap()
+}
+
+/// The word behind a mark, up to a blank, without quotes.
+fn behind<'a>(text: &'a str, mark: &str) -> &'a str {
+    let rest = &text[text.find(mark).unwrap_or_else(|| panic!("no {mark}")) + mark.len()..];
+    rest.split_whitespace().next().unwrap().trim_matches('"')
+}
+
+/// Name and number of each refusal that the header names, but for 0.
+fn header_refusals() -> Vec<(String, u8)> {
+    let header = text("include/uskelzar.h");
+    let table = header.split("enum uskelzar_refusal {").nth(1).unwrap().split("};").next().unwrap();
+    let lines = table.lines().filter_map(|line| line.trim().strip_prefix("USKELZAR_"));
+    let named = lines.map(|line| line.split_once(" = ").unwrap());
+    let numbered = named.map(|(name, rest)| (name.to_string(), rest.split([',', ' ']).next().unwrap().parse().unwrap()));
+    numbered.filter(|(_, number)| *number != 0).collect()
+}
+
+/// `TzifMagic` as `TZIF_MAGIC`.
+fn in_capitals(name: &str) -> String {
+    let mut out = String::new();
+    for letter in name.chars() {
+        if letter.is_uppercase() && !out.is_empty() {
+            out.push('_');
+        }
+        out.extend(letter.to_uppercase());
+    }
+    out
+}
+
+#[test]
+fn one_release() {
+    let header = text("include/uskelzar.h");
+    let version = env!("CARGO_PKG_VERSION");
+    assert_eq!(behind(&header, "#define USKELZAR_RELEASE "), version);
+    assert_eq!(behind(&text("include/uskelzar.pc"), "Version:"), version);
+    let parts: Vec<u32> = version.split('.').map(|part| part.parse().unwrap()).collect();
+    let number = parts[0] * 10_000 + parts[1] * 100 + parts[2];
+    assert_eq!(behind(&header, "#define USKELZAR_RELEASE_NUMBER "), number.to_string());
+}
+
+#[test]
+fn one_list_of_refusals() {
+    let named = |(name, number): &(String, u8)| (name.clone(), *number);
+    let header: Vec<_> = header_refusals().iter().map(named).collect();
+    let rust: Vec<_> = uskelzar::Number::all().map(|known| (in_capitals(&format!("{known:?}")), known as u8)).collect();
+    assert_eq!(header, rust);
+}
+
+#[test]
+fn every_refusal_of_zone_has_its_words() {
+    let script = text("programs.sh");
+    let words = script.split("refusal_words='").nth(1).unwrap().split('\'').next().unwrap();
+    assert_eq!(words.split(',').count(), uskelzar::Number::TextRoom as usize);
+    assert!(words.split(',').all(|said| !said.trim().is_empty()));
+}
+
+#[test]
+fn one_width_of_a_hit() {
+    let header = text("include/uskelzar.h");
+    let width = behind(&header, "USKELZAR_HIT_WORDS =");
+    assert_eq!(width.trim_end_matches(','), raw::HIT_WORDS.to_string());
+    let code = text("crates/zones/src/hits.rt");
+    assert_eq!(behind(&code, "pub const WIDTH: usize =").trim_end_matches(';'), raw::HIT_WORDS.to_string());
+}
