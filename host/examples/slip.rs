@@ -1,5 +1,5 @@
-//! slip FILE LAT LON: the zone that a slip would carry, how the search ended, and every field of the zones that hold the fix.
-//! Exit status: 0 answered, 1 refused, 2 not run, or answered with a number that the crate does not know. example.c prints the same.
+//! slip [--strict] FILE LAT LON: the zone that a slip would carry, how the search ended, and every field of the zones that hold the fix.
+//! With --strict a number that the file's end cuts is refused. Exit status: 0 answered, 1 refused, 2 not run, or answered with a number that the crate does not know. example.c prints the same.
 
 use std::process::ExitCode;
 use uskelzar::{End, Error, Kind, Map};
@@ -21,7 +21,11 @@ fn kind_words(kind: Kind) -> &'static str {
     }
 }
 
-fn print(map: &Map<Vec<u8>>, lat: f32, lon: f32) -> Result<(), Error> {
+fn print(map: &Map<Vec<u8>>, lat: f32, lon: f32, strict: bool) -> Result<(), Error> {
+    if strict {
+        // where it is not refused it is the plain lookup
+        map.lookup_strict(lat, lon)?;
+    }
     let slip = map.zone_for_slip(lat, lon)?;
     println!("slip: {}", slip.as_deref().unwrap_or("no zone"));
     let zones = map.lookup(lat, lon)?;
@@ -43,17 +47,28 @@ fn print(map: &Map<Vec<u8>>, lat: f32, lon: f32) -> Result<(), Error> {
     Ok(())
 }
 
+fn read(path: &str, strict: bool) -> Result<Map<Vec<u8>>, Error> {
+    if strict {
+        return Map::open_strict(std::fs::read(path)?);
+    }
+    Map::read(path)
+}
+
 fn main() -> ExitCode {
-    let words: Vec<String> = std::env::args().skip(1).collect();
+    let mut words: Vec<String> = std::env::args().skip(1).collect();
+    let strict = words.first().is_some_and(|word| word == "--strict");
+    if strict {
+        words.remove(0);
+    }
     let [path, lat, lon] = words.as_slice() else {
-        eprintln!("usage: slip FILE LAT LON");
+        eprintln!("usage: slip [--strict] FILE LAT LON");
         return ExitCode::from(2);
     };
     let (Ok(lat), Ok(lon)) = (lat.parse(), lon.parse()) else {
         eprintln!("slip: {lat} {lon} are not two numbers");
         return ExitCode::from(2);
     };
-    let done = Map::read(path).and_then(|map| print(&map, lat, lon));
+    let done = read(path, strict).and_then(|map| print(&map, lat, lon, strict));
     match done {
         Ok(()) => ExitCode::SUCCESS,
         Err(Error::Refused(refusal)) => {
