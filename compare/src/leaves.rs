@@ -81,8 +81,11 @@ fn outcome(answer: &Result<Option<(u64, u32)>, Refusal>) -> &'static str {
 
 /// A document's rule, not the Rust's: one bit pattern for every root that is no number (docs/DIFFERENCES.md).
 fn root_bits(x: f32) -> u32 {
-    let is_nan = x.to_bits() & 0x7FFF_FFFF > 0x7F80_0000;
-    if is_nan || x < 0.0 { 0x7FC0_0000 } else { x.sqrt().to_bits() }
+    // Tests of the bits: a test of the float may be compiled into the root alone, whose NaN has the machine's sign.
+    let bits = x.to_bits();
+    let is_nan = bits & 0x7FFF_FFFF > 0x7F80_0000;
+    let is_below = bits > 0x8000_0000;
+    if is_nan || is_below { 0x7FC0_0000 } else { x.sqrt().to_bits() }
 }
 
 fn sort_of(x: f32) -> &'static str {
