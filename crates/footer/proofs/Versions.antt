@@ -156,7 +156,7 @@ module _ (file other : List ℕ) (from : ℕ) (b : Beyond file other from) where
 
     string : {one two : T.Answer Tz} → Alike from (TzFrom from) one two
         → RulesAlike from (orSixty one >>= λ tz. demand (agrees file (zone .block) tz) (refusal 60 (endOf (zone .block))) >> given (R.By tz))
-          (orSixty two >>= λ tz. demand (agrees other (zone .block) tz) (refusal 60 (endOf (zone .block))) >> given (R.By tz))
+        (orSixty two >>= λ tz. demand (agrees other (zone .block) tz) (refusal 60 (endOf (zone .block))) >> given (R.By tz))
     unfolding orSixty _>>=_
     string faults = no-rules
     string (reads {a = tz} h t) = rule tz t
@@ -167,7 +167,7 @@ module _ (file other : List ℕ) (from : ℕ) (b : Beyond file other from) where
       where
         go : (s : Bool)
             → RulesAlike from (if s then given R.Without else (orSixty (stringOf true file (zone .string)) >>= λ tz. demand (agrees file (zone .block) tz) (refusal 60 (endOf (zone .block))) >> given (R.By tz)))
-              (if s then given R.Without else (orSixty (stringOf true other (zone .string)) >>= λ tz. demand (agrees other (zone .block) tz) (refusal 60 (endOf (zone .block))) >> given (R.By tz)))
+            (if s then given R.Without else (orSixty (stringOf true other (zone .string)) >>= λ tz. demand (agrees other (zone .block) tz) (refusal 60 (endOf (zone .block))) >> given (R.By tz)))
         go true = without
         go false = string (string-alike file other from (b .size) (b .at) true (zone .string) (second .string))
 

@@ -267,7 +267,7 @@ module _ (file : List ℕ) (h : PlainFour file) where
 
       go : (reading : Reply Block) → readBlock rfc9636 file true (endOf (firstBlock file)) ≡ reading
           → ReadAlike (mark + 1) (reading >>= λ block. readFooter file (endOf block) >>= λ size. given (record { version = octet file 4; block = block; string = endOf block + 1; size = size }))
-            (reading >>= λ block. readFooter other (endOf block) >>= λ size. given (record { version = octet other 4; block = block; string = endOf block + 1; size = size }))
+          (reading >>= λ block. readFooter other (endOf block) >>= λ size. given (record { version = octet other 4; block = block; string = endOf block + 1; size = size }))
       go (refused why) e = refuses
       go (given block) e =
           let is = read-is file true (endOf (firstBlock file)) e in

@@ -61,7 +61,7 @@ module _ (file : List ℕ) (block : Block) where
     where
       go : (t : Bool) → (if t then demand (ltb (timeIn file (occurrencesOf block) (suc i - 1)) (timeIn file (occurrencesOf block) (suc i))) (refusal 54 (leapPlace block (suc i)))
           else (demand (occursLater file block (suc i)) (refusal 54 (leapPlace block (suc i)))
-            >> demand ((eqb (suc i) 0 && fourth) || oneApart (correctionBefore file block (suc i)) (correctionOf file block (suc i))) (refusal 55 (leapPlace block (suc i) + block .width)))) ≡ given tt
+          >> demand ((eqb (suc i) 0 && fourth) || oneApart (correctionBefore file block (suc i)) (correctionOf file block (suc i))) (refusal 55 (leapPlace block (suc i) + block .width)))) ≡ given tt
           → timeIn file (occurrencesOf block) i < timeIn file (occurrencesOf block) (suc i)
       go true e = let same : suc i - 1 ≡ i = omega arith in ltb-true _ _ (rw same at (held _ _ e))
       go false e = omega (arith, leap-spaced i (held _ _ (both-given _ _ e .0)))

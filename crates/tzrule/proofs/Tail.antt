@@ -185,7 +185,7 @@ module _ (text other : List ℕ) (from : ℕ) (size : length text ≡ length oth
     where
       go : (t : Bool) → from ≤ endOf true text at
           → Alike from SpanFrom (if t then fault (endOf true text at) else if eqb (byteAt text (endOf true text at)) 62 then read (record { start = at; end = endOf true text at }) (endOf true text at + 1) else fault (endOf true text at))
-            (if t then fault (endOf true text at) else if eqb (byteAt other (endOf true text at)) 62 then read (record { start = at; end = endOf true text at }) (endOf true text at + 1) else fault (endOf true text at))
+          (if t then fault (endOf true text at) else if eqb (byteAt other (endOf true text at)) 62 then read (record { start = at; end = endOf true text at }) (endOf true text at + 1) else fault (endOf true text at))
       go true g = faults
       go false g = if-byte (endOf true text at) 62 g (reads (omega (arith, g)) h) faults
 
