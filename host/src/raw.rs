@@ -99,13 +99,45 @@ fn answered(call: impl FnOnce(&mut Reply) -> u8) -> Result<Reply, Refusal> {
     Err(Refusal::of(number, reply))
 }
 
+/// Opening in the library, plain or strict.
+type Opening = unsafe extern "C" fn(*const u8, usize, *mut u8, usize, *mut Reply) -> u8;
+
+fn open_by(opening: Opening, file: &[u8], text: &mut [u8]) -> Result<Reply, Refusal> {
+    // SAFETY: each pointer comes from a slice with its length, and the borrows keep what is lent apart.
+    answered(|reply| unsafe { opening(file.as_ptr(), file.len(), text.as_mut_ptr(), text.len(), reply) })
+}
+
 /// Type, version, precision, field count, bytes used; names then notice in the text.
 pub fn open(file: &[u8], text: &mut [u8]) -> Result<Reply, Refusal> {
-    // SAFETY: each pointer comes from a slice with its length, and the borrows keep what is lent apart.
+    open_by(library::uskelzar_open, file, text)
+}
+
+/// As `open`, but a number that the file's end cuts is refused.
+pub fn open_strict(file: &[u8], text: &mut [u8]) -> Result<Reply, Refusal> {
+    open_by(library::uskelzar_open_strict, file, text)
+}
+
+/// Lookup in the library, plain or strict.
+type Looking =
+    unsafe extern "C" fn(*const u8, usize, f32, f32, bool, *mut u32, usize, *mut u8, usize, *mut Reply) -> u8;
+
+fn lookup_by(
+    looking: Looking,
+    file: &[u8],
+    (lat, lon, asked): (f32, f32, bool),
+    hits: &mut [u32],
+    text: &mut [u8],
+) -> Result<Reply, Refusal> {
+    // SAFETY: as in `open_by`.
     answered(|reply| unsafe {
-        library::uskelzar_open(
+        looking(
             file.as_ptr(),
             file.len(),
+            lat,
+            lon,
+            asked,
+            hits.as_mut_ptr(),
+            hits.len(),
             text.as_mut_ptr(),
             text.len(),
             reply,
@@ -122,35 +154,7 @@ pub fn lookup(
     hits: &mut [u32],
     text: &mut [u8],
 ) -> Result<Reply, Refusal> {
-    // SAFETY: as in `open`.
-    answered(|reply| unsafe {
-        library::uskelzar_lookup(
-            file.as_ptr(),
-            file.len(),
-            lat,
-            lon,
-            asked,
-            hits.as_mut_ptr(),
-            hits.len(),
-            text.as_mut_ptr(),
-            text.len(),
-            reply,
-        )
-    })
-}
-
-/// As `open`, but a number that the file's end cuts is refused.
-pub fn open_strict(file: &[u8], text: &mut [u8]) -> Result<Reply, Refusal> {
-    // SAFETY: as in `open`.
-    answered(|reply| unsafe {
-        library::uskelzar_open_strict(
-            file.as_ptr(),
-            file.len(),
-            text.as_mut_ptr(),
-            text.len(),
-            reply,
-        )
-    })
+    lookup_by(library::uskelzar_lookup, file, (lat, lon, asked), hits, text)
 }
 
 /// As `lookup`, but a number that the file's end cuts is refused.
@@ -162,21 +166,7 @@ pub fn lookup_strict(
     hits: &mut [u32],
     text: &mut [u8],
 ) -> Result<Reply, Refusal> {
-    // SAFETY: as in `open`.
-    answered(|reply| unsafe {
-        library::uskelzar_lookup_strict(
-            file.as_ptr(),
-            file.len(),
-            lat,
-            lon,
-            asked,
-            hits.as_mut_ptr(),
-            hits.len(),
-            text.as_mut_ptr(),
-            text.len(),
-            reply,
-        )
-    })
+    lookup_by(library::uskelzar_lookup_strict, file, (lat, lon, asked), hits, text)
 }
 
 /// Matches, end mark, described (1) or not (0), the description's length; the description in the text.
@@ -187,7 +177,7 @@ pub fn simple_lookup(
     hits: &mut [u32],
     text: &mut [u8],
 ) -> Result<Reply, Refusal> {
-    // SAFETY: as in `open`.
+    // SAFETY: as in `open_by`.
     answered(|reply| unsafe {
         library::uskelzar_simple_lookup(
             file.as_ptr(),
@@ -212,7 +202,7 @@ pub fn write_border(
     earlier: &[u8],
     out: &mut [u8],
 ) -> Result<Reply, Refusal> {
-    // SAFETY: as in `open`.
+    // SAFETY: as in `open_by`.
     answered(|reply| unsafe {
         library::uskelzar_write_border(
             version,
@@ -245,7 +235,7 @@ pub fn civil_time(instant: i64, offset: i32) -> Result<[u64; 7], Refusal> {
 
 /// 1, offset bits, daylight flag, the abbreviation's length; the abbreviation in the text. All zero where it is unknown.
 pub fn local_time(file: &[u8], instant: i64, text: &mut [u8]) -> Result<Reply, Refusal> {
-    // SAFETY: as in `open`.
+    // SAFETY: as in `open_by`.
     answered(|reply| unsafe {
         library::uskelzar_local_time(
             file.as_ptr(),
