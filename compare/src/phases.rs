@@ -6,7 +6,7 @@ use crate::ours::{replay, vectors, Program};
 use crate::random::Random;
 use crate::record::*;
 use crate::recorded;
-use crate::rust::{caught, facts, Facts, Looked, Refusal};
+use crate::rust::{caught, Facts, Looked, Refusal};
 use crate::shrink::{parts, smallest};
 use crate::tally::Tally;
 use crate::writer::written;
@@ -19,14 +19,17 @@ const BATCH: usize = 8 << 20;
 /// Disagreements that are made smaller and printed, of each op.
 const SHOWN: usize = 10;
 
+/// One more than the last op.
+const OPS: usize = STRICT_LOOKUP as usize + 1;
+
 pub struct Run {
     seed: u64,
     replay: Program,
     vectors: Program,
     /// Ops that this replay knows.
-    known: [bool; 7],
+    known: [bool; OPS],
     tally: Tally,
-    shown: [usize; 7],
+    shown: [usize; OPS],
     wrong: u64,
     compared: u64,
 }
@@ -43,6 +46,9 @@ fn op_name(op: u8, ask: bool) -> &'static str {
         OPEN => "open",
         LOOKUP if ask => "lookup with safezone",
         LOOKUP => "lookup without safezone",
+        STRICT_OPEN => "strict open",
+        STRICT_LOOKUP if ask => "strict lookup with safezone",
+        STRICT_LOOKUP => "strict lookup without safezone",
         SIMPLE => "simple lookup",
         WRITE => "write border",
         STRING => "string",
@@ -63,12 +69,12 @@ fn outcome(op: u8, reply: &Reply) -> String {
     }
 }
 
-/// Opening, both lookups and simple lookup are answered from one run of the Rust on the file.
+/// Opening, lookups and simple lookup are answered from one run of the Rust on the file, plain and strict.
 fn reply_to(call: &mut Call) -> Result<Reply, Refusal> {
     match call.op {
         STRING => Ok(leaves::reply_string(call)),
         UTF8 => Ok(leaves::reply_utf8(call)),
-        _ => caught(|| reply(call, &facts(&call.file, call.lat, call.lon))),
+        _ => caught(|| reply(call, &readings(&call.file, call.lat, call.lon))),
     }
 }
 
@@ -91,14 +97,20 @@ fn slots_need(looked: &Option<Looked>) -> usize {
     looked.as_ref().map_or(0, |l| ZONE_WORDS * l.hits.len())
 }
 
-/// The four calls on one file, within what replay has room for.
-fn calls(r: &mut Random, case: &Case, facts: &Facts) -> Vec<Call> {
-    let names = facts.opened.as_ref().map_or(0, |o| o.names.iter().chain([&o.notice]).map(|n| 2 + n.len()).sum());
-    let description = facts.simple.as_ref().map_or(0, Vec::len);
-    let needs = [(OPEN, false, 0, names), (LOOKUP, true, slots_need(&facts.full), text_need(&facts.full)),
-        (LOOKUP, false, slots_need(&facts.plain), text_need(&facts.plain)), (SIMPLE, false, slots_need(&facts.plain), description)];
+fn names_need(facts: &Facts) -> usize {
+    facts.opened.as_ref().map_or(0, |o| o.names.iter().chain([&o.notice]).map(|n| 2 + n.len()).sum())
+}
+
+/// The seven calls on one file, within what replay has room for.
+fn calls(r: &mut Random, case: &Case, read: &Readings) -> Vec<Call> {
+    let Readings { plain, strict } = read;
+    let description = plain.simple.as_ref().map_or(0, Vec::len);
+    let lookup = |op, ask, looked| (op, ask, slots_need(looked), text_need(looked));
+    let needs = [(OPEN, false, 0, names_need(plain)), lookup(LOOKUP, true, &plain.full), lookup(LOOKUP, false, &plain.plain),
+        (SIMPLE, false, slots_need(&plain.plain), description), (STRICT_OPEN, false, 0, names_need(strict)),
+        lookup(STRICT_LOOKUP, true, &strict.full), lookup(STRICT_LOOKUP, false, &strict.plain)];
     needs.map(|(op, ask, slots, text)| {
-        let slots = if op == OPEN { 0 } else { room(r, slots).min(4096) };
+        let slots = if [OPEN, STRICT_OPEN].contains(&op) { 0 } else { room(r, slots).min(4096) };
         Call { op, lat: case.lat, lon: case.lon, ask, slots, room: room(r, text).min(16384), file: case.file.clone() }
     }).into()
 }
@@ -119,7 +131,7 @@ fn smaller_calls(call: &Call) -> Vec<Call> {
         out.push(Call { ask: false, ..call.clone() });
     }
     for (slots, room) in [(0, call.room), (call.slots / 2, call.room), (call.slots, 0), (call.slots, call.room / 2)] {
-        if (slots, room) != (call.slots, call.room) && call.op < WRITE {
+        if (slots, room) != (call.slots, call.room) && ![WRITE, STRING, UTF8].contains(&call.op) {
             out.push(Call { slots, room, ..call.clone() });
         }
     }
@@ -137,8 +149,8 @@ fn written_line(w: &Writing) -> String {
 
 impl Run {
     pub fn new(seed: u64, replay: Program, vectors: Program) -> Result<Run, String> {
-        let mut run = Run { seed, replay, vectors, known: [false; 7], tally: Tally::default(), shown: [0; 7], wrong: 0, compared: 0 };
-        for op in [OPEN, LOOKUP, SIMPLE, WRITE, STRING, UTF8] {
+        let mut run = Run { seed, replay, vectors, known: [false; OPS], tally: Tally::default(), shown: [0; OPS], wrong: 0, compared: 0 };
+        for op in [OPEN, LOOKUP, SIMPLE, WRITE, STRING, UTF8, STRICT_OPEN, STRICT_LOOKUP] {
             let call = Call { op, lat: 0, lon: 0, ask: false, slots: 0, room: 0, file: Vec::new() };
             let record = if op == WRITE {
                 write_record(&Writing::default(), 0, &reply_written(0, written(&Writing::default())))
@@ -164,7 +176,7 @@ impl Run {
         if !reply.refusal.place.is_empty() {
             self.tally.add("panics of the Rust", reply.refusal.place.clone());
         }
-        if matches!(call.op, LOOKUP | SIMPLE) && reply.outcome != 1 {
+        if matches!(call.op, LOOKUP | SIMPLE | STRICT_LOOKUP) && reply.outcome != 1 {
             self.tally.add(group, format!("end mark {}", reply.words[1]));
             self.tally.add(group, format!("matches {}", if reply.words[0] > 3 { "4 or more".into() } else { reply.words[0].to_string() }));
             for zone in reply.slots.chunks(ZONE_WORDS).take(reply.words[0] as usize) {
@@ -241,17 +253,17 @@ impl Run {
                 continue;
             }
             self.tally.add("files", case.made);
-            let facts = match caught(|| facts(&case.file, case.lat, case.lon)) {
-                Ok(facts) => facts,
+            let read = match caught(|| readings(&case.file, case.lat, case.lon)) {
+                Ok(read) => read,
                 Err(why) => {
                     self.wrong += 1;
                     println!("HARNESS case {index}: {} lat {:08X} lon {:08X} file {}", why.place, case.lat, case.lon, hex(&case.file));
                     continue;
                 }
             };
-            for call in calls(&mut Random::new(self.seed, 5, index), &case, &facts) {
+            for call in calls(&mut Random::new(self.seed, 5, index), &case, &read) {
                 if self.known[call.op as usize] {
-                    let reply = reply(&call, &facts);
+                    let reply = reply(&call, &read);
                     self.push(&mut batch, &mut size, Asked { call, reply, case: index })?;
                 } else {
                     self.tally.add("not run, replay does not know it", op_name(call.op, call.ask));

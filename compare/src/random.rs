@@ -1,30 +1,28 @@
 //! Numbers from a seed. Every case has its own stream, so that it can be made again by its number alone.
+use rand::seq::SliceRandom;
+use rand::{Rng, RngCore, SeedableRng};
+use rand_chacha::ChaCha8Rng;
 
-pub struct Random(u64);
-
-fn mixed(mut z: u64) -> u64 {
-    z = (z ^ (z >> 30)).wrapping_mul(0xBF58_476D_1CE4_E5B9);
-    z = (z ^ (z >> 27)).wrapping_mul(0x94D0_49BB_1331_11EB);
-    z ^ (z >> 31)
-}
+pub struct Random(ChaCha8Rng);
 
 impl Random {
     pub fn new(seed: u64, stream: u64, index: u64) -> Random {
-        Random(mixed(seed ^ mixed(stream.wrapping_mul(0x9E37_79B9) ^ mixed(index.wrapping_add(0x1234_5678_9ABC_DEF1)))))
+        let mut numbers = ChaCha8Rng::seed_from_u64(seed);
+        numbers.set_stream(stream << 48 | index);
+        Random(numbers)
     }
 
     pub fn next(&mut self) -> u64 {
-        self.0 = self.0.wrapping_add(0x9E37_79B9_7F4A_7C15);
-        mixed(self.0)
+        self.0.next_u64()
     }
 
-    /// 0 to n - 1.
+    /// 0 to n - 1; 0 for 0.
     pub fn below(&mut self, n: usize) -> usize {
-        ((self.next() as u128 * n as u128) >> 64) as usize
+        self.0.gen_range(0..n.max(1))
     }
 
     pub fn between(&mut self, low: i64, high: i64) -> i64 {
-        low + self.below((high - low) as usize + 1) as i64
+        self.0.gen_range(low..=high)
     }
 
     /// True once in n times; never for 0.
@@ -33,11 +31,13 @@ impl Random {
     }
 
     pub fn pick<T: Copy>(&mut self, of: &[T]) -> T {
-        of[self.below(of.len())]
+        *of.choose(&mut self.0).expect("a list to pick from is not empty")
     }
 
     pub fn bytes(&mut self, n: usize) -> Vec<u8> {
-        (0..n).map(|_| self.next() as u8).collect()
+        let mut bytes = vec![0; n];
+        self.0.fill_bytes(&mut bytes);
+        bytes
     }
 
     /// Every size of number alike; often one beside a power of two.

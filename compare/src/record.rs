@@ -1,6 +1,6 @@
 //! What a call on lent rooms must reply, and the records that crate replay reads. Rooms are the library's alone; the Rust has none.
 use crate::hit::HIT_WORDS;
-use crate::rust::{refused, Facts, Looked, Refusal, Zone};
+use crate::rust::{facts, refused, strict_facts, Facts, Looked, Refusal, Zone};
 
 pub const OPEN: u8 = 1;
 pub const LOOKUP: u8 = 2;
@@ -8,8 +8,10 @@ pub const SIMPLE: u8 = 3;
 pub const WRITE: u8 = 4;
 pub const STRING: u8 = 5;
 pub const UTF8: u8 = 6;
+pub const STRICT_OPEN: u8 = 7;
+pub const STRICT_LOOKUP: u8 = 8;
 
-/// The words of a hit with its place left out: the Rust has none, and `replay` leaves it out of ops 2 and 3.
+/// The words of a hit with its place left out: the Rust has none, and `replay` leaves it out of ops 2, 3 and 8.
 pub const ZONE_WORDS: usize = HIT_WORDS - 1;
 
 /// A call on a file. For a string, `lat` is the place and `lon` the metadata offset.
@@ -130,12 +132,24 @@ fn with_zeros(why: Refusal, slots: usize, room: usize) -> Reply {
     Reply { outcome: 1, refusal: why, words: [0; 5], slots: vec![0; slots], text: vec![0; room] }
 }
 
+/// What the Rust made of a file and a location, plainly and strictly.
+pub struct Readings {
+    pub plain: Facts,
+    pub strict: Facts,
+}
+
+pub fn readings(file: &[u8], lat: u32, lon: u32) -> Readings {
+    Readings { plain: facts(file, lat, lon), strict: strict_facts(file, lat, lon) }
+}
+
 /// Opening, lookup and simple lookup, from what the Rust made of the same file and location.
-pub fn reply(call: &Call, facts: &Facts) -> Reply {
+pub fn reply(call: &Call, read: &Readings) -> Reply {
     let reply = match call.op {
-        OPEN => reply_open(facts, call.room),
-        LOOKUP => reply_lookup(facts, call.ask, call.slots, call.room),
-        _ => reply_simple(facts, call.slots, call.room),
+        OPEN => reply_open(&read.plain, call.room),
+        STRICT_OPEN => reply_open(&read.strict, call.room),
+        LOOKUP => reply_lookup(&read.plain, call.ask, call.slots, call.room),
+        STRICT_LOOKUP => reply_lookup(&read.strict, call.ask, call.slots, call.room),
+        _ => reply_simple(&read.plain, call.slots, call.room),
     };
     let mut reply = reply.unwrap_or_else(|why| with_zeros(why, call.slots, call.room));
     reply.slots.resize(call.slots, 0);

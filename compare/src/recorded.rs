@@ -1,6 +1,5 @@
 //! Recorded cases (`*.bin`): what this harness expects of them must be what was recorded.
-use crate::record::{reply, reply_written, Call, Piece, Reply, Writing, LOOKUP, OPEN, SIMPLE, WRITE};
-use crate::rust::facts;
+use crate::record::{readings, reply, reply_written, Call, Piece, Reply, Writing, LOOKUP, OPEN, SIMPLE, STRICT_LOOKUP, STRICT_OPEN, WRITE};
 use crate::writer::written;
 use std::collections::HashMap;
 
@@ -41,8 +40,8 @@ fn expected(op: u8, input: &mut Input) -> Reply {
     let (lat, lon, ask) = (input.word(), input.word(), input.byte() != 0);
     let (slots, room, size) = (input.size(), input.size(), input.size());
     let file = input.take(size).to_vec();
-    let facts = facts(&file, lat, lon);
-    reply(&Call { op, lat, lon, ask, slots, room, file }, &facts)
+    let read = readings(&file, lat, lon);
+    reply(&Call { op, lat, lon, ask, slots, room, file }, &read)
 }
 
 /// Id and mark of the cases whose mark the rest of the table decides; recorded of them is mark 1.
@@ -58,7 +57,7 @@ pub fn compare(records: &[u8], marks: &HashMap<u32, u32>) -> (usize, Vec<u32>) {
         let size = input.size();
         let mut record = Input(input.take(size));
         let (op, id) = (record.byte(), record.word());
-        if ![OPEN, LOOKUP, SIMPLE, WRITE].contains(&op) {
+        if ![OPEN, LOOKUP, SIMPLE, WRITE, STRICT_OPEN, STRICT_LOOKUP].contains(&op) {
             continue;
         }
         let mut reply = expected(op, &mut record);

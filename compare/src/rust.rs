@@ -4,9 +4,10 @@ use std::collections::HashMap;
 use std::panic::{catch_unwind, AssertUnwindSafe};
 
 use zone_detect::{Database, Error, Location, StringParseError, TableType, ZoneMatchKind};
-use zone_detect_hooked as hooked;
-use zone_detect_hooked::hooks;
 use zone_detect_marked as marked;
+use zone_detect_strict as hooked;
+use zone_detect_strict::hooks;
+use zone_detect_strict::strict::{strictly, CUT};
 
 #[derive(Clone, Debug, Default)]
 pub struct Refusal {
@@ -31,6 +32,9 @@ thread_local!(static LAST: RefCell<Refusal> = RefCell::new(Refusal::default()));
 
 /// The refusal that a panic stands for; 0 for one that document 01 does not know.
 fn panicked(place: &str, text: &str) -> Refusal {
+    if text == CUT {
+        return refused(31, 0, 0);
+    }
     let (number, cause) = match (place, text) {
         ("generated.rs:75", "attempt to shift left with overflow") => (16, 0),
         ("generated.rs:92", "attempt to shift left with overflow") => (12, 0),
@@ -130,6 +134,14 @@ fn opening(file: &[u8], db: &Database) -> Opening {
 pub fn open(file: &[u8]) -> Result<Opening, Refusal> {
     let db = caught(|| Database::from_vec(file.to_vec()))?.map_err(|e| refusal(&e))?;
     Ok(opening(file, &db))
+}
+
+/// Where no number is cut, strict opening takes the same steps.
+fn open_strictly(file: &[u8]) -> Result<Opening, Refusal> {
+    match strictly(|| caught(|| hooked::Database::from_vec(file.to_vec()).is_ok())) {
+        Err(why) if why.number == 31 => Err(why),
+        _ => open(file),
+    }
 }
 
 // ---- lookup
@@ -289,11 +301,18 @@ fn real_full(file: &[u8], lat: f32, lon: f32) -> Result<Answer, Refusal> {
     Ok((found.safezone.to_bits(), matches.collect()))
 }
 
-fn real_plain(file: &[u8], lat: f32, lon: f32) -> Result<Answer, Refusal> {
+/// By the hooked copy, which is asked without safezone and strictly too.
+fn hooked_lookup(file: &[u8], lat: f32, lon: f32, ask: bool) -> Result<Answer, Refusal> {
     let db = hooked::Database::from_vec(file.to_vec()).ok().unwrap();
-    let found = caught(|| hooks::lookup_plain(&db, hooked::Location { latitude: lat, longitude: lon }))?;
+    let location = hooked::Location { latitude: lat, longitude: lon };
+    let (safezone, found) = caught(|| if ask {
+        let found = db.lookup(location);
+        (found.safezone.to_bits(), found.matches)
+    } else {
+        (0, hooks::lookup_plain(&db, location))
+    })?;
     let matches = found.into_iter().map(|m| ((m.zone.polygon_id, m.zone.meta_id, hooked_kind(m.kind)), m.zone.fields));
-    Ok((0, matches.collect()))
+    Ok((safezone, matches.collect()))
 }
 
 fn real_simple(file: &[u8], lat: f32, lon: f32) -> Result<Option<String>, Refusal> {
@@ -322,23 +341,23 @@ fn map_of(opened: &Opening, looked: &Looked, which: usize) -> HashMap<String, St
     map
 }
 
-/// Panics where the steps and the Rust as a whole disagree: the harness would be wrong then, not the library.
-fn looked(file: &[u8], opened: &Opening, lat: f32, lon: f32, ask: bool) -> Looked {
-    let precision = opened.precision as u32;
-    let fix = (hooks::fixed(lat, 90.0, precision), hooks::fixed(lon, 180.0, precision));
-    let raw = hooks::raw(file.to_vec(), opened.version, opened.metadata, opened.data);
+/// Scan, matches and fields in steps, but for the safezone.
+fn by_steps(raw: &hooked::Database, opened: &Opening, fix: (i32, i32), ask: bool) -> Looked {
     let mut looked = Looked::default();
-    looked.fault = scan(&raw, opened, fix, ask, &mut looked).err();
+    looked.fault = scan(raw, opened, fix, ask, &mut looked).err();
     if looked.fault.is_none() {
         looked.matches = merged(&looked.hits);
-        looked.field_fault = read_fields(&raw, opened, &mut looked).err();
+        looked.field_fault = read_fields(raw, opened, &mut looked).err();
     }
-    let real = if ask { real_full(file, lat, lon) } else { real_plain(file, lat, lon) };
-    let marks = real_mark(file, lat, lon, ask);
-    match real {
+    looked
+}
+
+/// Takes the safezone of the whole lookup. Panics where it disagrees with the steps: the harness would be wrong then, not the library.
+fn agree(opened: &Opening, looked: &mut Looked, whole: Result<Answer, Refusal>) {
+    match whole {
         Err(why) => {
             let fault = looked.fault.as_ref().or(looked.field_fault.as_ref());
-            assert!(fault == Some(&why) && marks.err().as_ref() == fault, "the Rust refuses {why:?}, by steps it is {fault:?}");
+            assert!(fault == Some(&why), "the Rust refuses {why:?}, by steps it is {fault:?}");
             // the panic of `expect` has a line of its own
             if let Some(fault) = &mut looked.field_fault {
                 fault.place = why.place;
@@ -346,13 +365,29 @@ fn looked(file: &[u8], opened: &Opening, lat: f32, lon: f32, ask: bool) -> Looke
         }
         Ok((safezone, matches)) => {
             assert!(looked.fault.is_none() && looked.field_fault.is_none());
-            assert_eq!(marks, Ok((looked.mark, looked.hits.len() as u32)));
             assert_eq!(looked.matches, matches.iter().map(|m| m.0).collect::<Vec<_>>());
             for (k, (_, fields)) in matches.iter().enumerate() {
-                assert_eq!(fields, &map_of(opened, &looked, k));
+                assert_eq!(fields, &map_of(opened, looked, k));
             }
             looked.safezone = safezone;
         }
+    }
+}
+
+fn looked(file: &[u8], opened: &Opening, lat: f32, lon: f32, ask: bool, strict: bool) -> Looked {
+    let precision = opened.precision as u32;
+    let fix = (hooks::fixed(lat, 90.0, precision), hooks::fixed(lon, 180.0, precision));
+    let raw = hooks::raw(file.to_vec(), opened.version, opened.metadata, opened.data);
+    let mut looked = by_steps(&raw, opened, fix, ask);
+    if ask && !strict {
+        agree(opened, &mut looked, real_full(file, lat, lon));
+    } else {
+        agree(opened, &mut looked, hooked_lookup(file, lat, lon, ask));
+    }
+    if !strict {
+        let fault = looked.fault.as_ref().or(looked.field_fault.as_ref());
+        let known = fault.map_or(Ok((looked.mark, looked.hits.len() as u32)), |why| Err(why.clone()));
+        assert_eq!(real_mark(file, lat, lon, ask), known);
     }
     // the marked copy knows nothing of the rest of the table
     if let Some(at) = looked.stop {
@@ -361,14 +396,27 @@ fn looked(file: &[u8], opened: &Opening, lat: f32, lon: f32, ask: bool) -> Looke
     looked
 }
 
+/// The same file and location read strictly.
+pub fn strict_facts(file: &[u8], lat: u32, lon: u32) -> Facts {
+    let (lat, lon) = (f32::from_bits(lat), f32::from_bits(lon));
+    let mut facts = Facts { opened: open_strictly(file), full: None, plain: None, simple: None };
+    if let Ok(opened) = &facts.opened {
+        if (1..=32).contains(&opened.precision) {
+            facts.full = Some(strictly(|| looked(file, opened, lat, lon, true, true)));
+            facts.plain = Some(strictly(|| looked(file, opened, lat, lon, false, true)));
+        }
+    }
+    facts
+}
+
 pub fn facts(file: &[u8], lat: u32, lon: u32) -> Facts {
     let (lat, lon) = (f32::from_bits(lat), f32::from_bits(lon));
     let opened = open(file);
     let mut facts = Facts { opened, full: None, plain: None, simple: None };
     if let Ok(opened) = &facts.opened {
         if (1..=32).contains(&opened.precision) {
-            facts.full = Some(looked(file, opened, lat, lon, true));
-            let plain = looked(file, opened, lat, lon, false);
+            facts.full = Some(looked(file, opened, lat, lon, true, false));
+            let plain = looked(file, opened, lat, lon, false, false);
             match real_simple(file, lat, lon) {
                 Ok(text) => facts.simple = text.map(String::into_bytes),
                 Err(why) => assert!(plain.fault.as_ref().or(plain.field_fault.as_ref()) == Some(&why)),
