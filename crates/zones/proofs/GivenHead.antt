@@ -3,14 +3,14 @@ use mathlib.Core.Path.{_≡_, sym, ap, _∙_}
 use mathlib.Core.Bool.{Bool}
 use mathlib.Core.List.{List}
 use Prim.Native.Nat.{ℕ}
-use Rattle.zones.specs.Header.{headOf, headStrictly}
+use Rattle.header.specs.Header.{headOf, headStrictly}
 use Rattle.zones.specs.Lent.{Outcome, Replied, replied, repliedOf}
 use Rattle.numbers.specs.Lists.{zeros}
 use Rattle.zones.specs.Lookup.{zonesWith, zonesIn, lookedWith, lookedUp, lookedStrictly}
 use Rattle.numbers.specs.Reply.{Reply, given, refused}
 use Rattle.zones.specs.Simple.{describedWith, describedIn, simplyLookedWith, simplyLooked}
-use Rattle.zones.specs.declared.header.Head.{Head}
-use Rattle.zones.specs.declared.location.Location.{Location}
+use Rattle.header.specs.declared.header.Head.{Head}
+use Rattle.table.specs.declared.location.Location.{Location}
 use Rattle.numbers.specs.declared.refusal.Refusal.{Refusal}
 use Rattle.numbers.proofs.Replies.{carried, onward}
 

@@ -9,13 +9,13 @@ use Rattle.numbers.specs.Answer.{if_then_else_}
 use Rattle.numbers.specs.Float.{toF32, oneShifted, _⊠_, _⊘_}
 use Rattle.numbers.specs.Float.Root.{root}
 use Rattle.numbers.specs.Reply.{Reply, given, refused, _>>=_}
-use Rattle.zones.specs.Header.{headOf, headStrictly}
-use Rattle.zones.specs.Hits.{width}
-use Rattle.zones.specs.declared.header.Head.{Head}
-use Rattle.zones.specs.Find.{ninety, Matched, matchedWith}
+use Rattle.header.specs.Header.{headOf, headStrictly}
+use Rattle.table.specs.Hits.{width}
+use Rattle.header.specs.declared.header.Head.{Head}
+use Rattle.table.specs.Find.{ninety, Matched, matchedWith}
 use Rattle.zones.specs.Fields.{fieldsOf}
 use Rattle.zones.specs.Lent.{Outcome, Replied, repliedOf}
-use Rattle.zones.specs.declared.location.Location.{Location}
+use Rattle.table.specs.declared.location.Location.{Location}
 use Rattle.zones.specs.declared.lookup.Zones.{Zones}
 use Rattle.zones.specs.declared.lookup.Looked.{Looked}
 use Rattle.zones.specs.declared.lookup.Looked.the-variants as L

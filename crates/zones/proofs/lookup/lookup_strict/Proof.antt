@@ -4,7 +4,7 @@ use lib.ListN.{length}
 use mathlib.Core.Path.{sym, ap, _∙_}
 use Rattle.zones.proofs.GivenHead.{not-strictly-looked, strictly-looked-with}
 use Rattle.zones.proofs.lookup.lookup_strict.Statement.{statement}
-use Rattle.zones.specs.Header.{toldHead}
+use Rattle.header.specs.Header.{toldHead}
 use Rattle.zones.proofs.lookup.lookup_strict.Tie as tie
 
 returns : tie.Need-returns
