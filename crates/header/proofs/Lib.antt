@@ -4,3 +4,4 @@ pub mod Same
 pub mod Numbered
 pub mod Unless
 pub mod StrictHead
+mod Worked

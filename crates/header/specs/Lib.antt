@@ -3,4 +3,3 @@ pub mod Text
 pub mod Field
 pub mod Header
 pub mod Opening
-pub mod Worked
