@@ -4,14 +4,13 @@ ghost use lib.ListN.{length};
 ghost use Rattle.numbers.specs.Lists.{zeros};
 ghost use Rattle.table.specs.Agreeing.{Agrees};
 ghost use Rattle.zones.specs.Lent.{Filled, replied};
-ghost use Rattle.zones.specs.Lookup.{safezoneBits, zonesWith, lookedWith, lookedUp, lookedStrictly, toldLooked};
+ghost use Rattle.zones.specs.Lookup.{safezoneBits, zonesWith, lookedWith, lookedBy, lookedUp, lookedStrictly, toldLooked};
 use crate::fields::Fields;
 use crate::fields::write_fields;
 use header::field::zero;
 use header::header::Head;
 use header::header::Headed;
 use header::header::head_by;
-use header::header::head_of;
 use header::zero::zero_both;
 use numbers::float::bits::bits_of;
 use numbers::float::fixed::factor;
@@ -99,6 +98,28 @@ pub fn lookup_in(
     Looked::Zones(zones)
 }
 
+// In a file whose header is read plainly or strictly.
+fn lookup_by(
+    file: &[u8],
+    strict: bool,
+    location: Location,
+    asked: bool,
+    hits: &mut [u32],
+    text: &mut [u8],
+) -> Looked
+    ensures { λ r. ⌜ replied (toldLooked r) (now (hits .exit)) (now (text .exit))
+        ≡ lookedBy strict (now (file .entry)) location asked (length (now (hits .entry))) (length (now (text .entry))) ⌝ }
+{
+    let head = match head_by(file, strict) {
+        Headed::Head(head) => head,
+        Headed::Refused(why) => {
+            zero_both(hits, text);
+            return Looked::Refused(why);
+        }
+    };
+    lookup_in(file, head, location, asked, hits, text)
+}
+
 pub fn lookup(
     file: &[u8],
     location: Location,
@@ -109,14 +130,7 @@ pub fn lookup(
     ensures { λ r. ⌜ replied (toldLooked r) (now (hits .exit)) (now (text .exit))
         ≡ lookedUp (now (file .entry)) location asked (length (now (hits .entry))) (length (now (text .entry))) ⌝ }
 {
-    let head = match head_of(file) {
-        Headed::Head(head) => head,
-        Headed::Refused(why) => {
-            zero_both(hits, text);
-            return Looked::Refused(why);
-        }
-    };
-    lookup_in(file, head, location, asked, hits, text)
+    lookup_by(file, false, location, asked, hits, text)
 }
 
 // The same, but a number that the file's end cuts is refused: 31.
@@ -130,12 +144,5 @@ pub fn lookup_strict(
     ensures { λ r. ⌜ replied (toldLooked r) (now (hits .exit)) (now (text .exit))
         ≡ lookedStrictly (now (file .entry)) location asked (length (now (hits .entry))) (length (now (text .entry))) ⌝ }
 {
-    let head = match head_by(file, true) {
-        Headed::Head(head) => head,
-        Headed::Refused(why) => {
-            zero_both(hits, text);
-            return Looked::Refused(why);
-        }
-    };
-    lookup_in(file, head, location, asked, hits, text)
+    lookup_by(file, true, location, asked, hits, text)
 }
