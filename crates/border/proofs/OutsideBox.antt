@@ -236,7 +236,6 @@ module _ (fix : Point) where
   box-beyond east (p ∷ ps) h = over-beyond east _ ps h
 
   on-some-side : (box : Box) → holds box fix ≡ false → (side : Side) × Beyond side (corner side box)
-  unfolding holds
   on-some-side box =
       by-tests (leZ (box .low .lat .0) (fix .lat .0)) (leZ (fix .lat .0) (box .high .lat .0)) (leZ (box .low .lon .0) (fix .lon .0)) (leZ (fix .lon .0) (box .high .lon .0)) refl refl refl refl
     where

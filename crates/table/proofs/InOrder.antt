@@ -11,7 +11,7 @@ use mathlib.Core.Path.{_≡_, refl, sym, ap, subst, _∙_}
 use native.Mathlib.Omega.{arith}
 use Rattle.border.proofs.OutsideBox.{standing-outside-box}
 use Rattle.border.proofs.Signs.{differ}
-use Rattle.border.specs.Box.{Box, boxOf}
+use Rattle.border.specs.Box.{boxOf}
 use Rattle.border.specs.Encoding.{versionOf, encodedBy}
 use Rattle.border.specs.Verdict.{Judgement, reached, judgedAt}
 use Rattle.border.specs.declared.place.Point.{Point}
@@ -32,7 +32,6 @@ use Rattle.table.specs.declared.hits.Hit.{Hit}
 use Rattle.table.specs.declared.rows.Row.{Row}
 use Rattle.table.specs.declared.search.Turn.the-variants.{On, Met, Stopped, Refused}
 use Rattle.table.specs.declared.search.Turn.{Turn}
-use Rattle.border.specs.Box as B
 use Rattle.numbers.specs.Reply as R
 
 -- what follows a turn is followed alike
@@ -94,17 +93,13 @@ module _ (judge : ℕ → ℕ → Judgement) (fix : Point) (room : ℕ) where
       ap (λ (t : Turn). afterTurn t hits room (seekAll judge fix room rows)) (sym (W.not-held judge fix r least out)) ∙ rows-left-out later least hits
 
 -- ---- boxes
-same-test : (box : Box) (fix : Point) → holds (boundsAround box) fix ≡ B.holds box fix
-unfolding B.holds
-same-test box fix = refl
-
 module _ {file : List ℕ} {head : Head} {r : Row} {points : List Point} (plainly : head .strict ≡ false) (boxed : Boxed file head r points) (fix : Point) where
   -- A border whose box does not hold the location would have come to `NotInZone`.
   pub outside-its-box : (least : ℕ) → holds (r .bounds) fix ≡ false → judgeIn file head fix false (r .polygon) least ≡ reached NotInZone least
   outside-its-box least out =
       let start = head .sections .«data» in
       ap (λ (strict : Bool). judgedAt file (encodedBy strict (versionOf (head .preamble .version)) start) ((start + r .polygon) % 2 ^ 32) (fix .lat) (fix .lon) false least) plainly
-      ∙ standing-outside-box (boxed .border) fix least (sym (same-test (boxOf points) fix) ∙ subst (λ b. holds b fix ≡ false) (boxed .box) out)
+      ∙ standing-outside-box (boxed .border) fix least (subst (λ b. holds b fix ≡ false) (boxed .box) out)
 
   -- so its turn is its border's, whether its box holds the location or not
   turn-by-border : (least : ℕ) → rowTurn (judgeIn file head fix false) fix r least ≡ judgedTurn r (judgeIn file head fix false (r .polygon) least)

@@ -1,8 +1,9 @@
 -- The box table, as document 01 has it: an entry is six numbers, all read before any is tested.
 use Prim.Native.Nat.{ℕ}
-use lib.IntN.{ℤ}
-use lib.Signed.{ltZ, leZ}
-use mathlib.Core.Bool.{Bool, _&&_}
+use lib.Signed.{ltZ}
+use mathlib.Core.Bool.{Bool}
+use Rattle.border.specs.Box.{Box}
+use Rattle.border.specs.Box as B
 use Rattle.border.specs.declared.place.Point.{Point}
 use Rattle.numbers.specs.Answer.{Answer, found, failed, refused, _>>=_}
 use Rattle.numbers.specs.Point.{signedOf}
@@ -46,12 +47,13 @@ module _ (read : ℕ → Answer Numeral) where
 abbrev pub isAbove : Bounds → Point → Bool
 isAbove bounds fix = ltZ (fix .lat .0) (bounds .«min_lat» .0)
 
-abbrev pub between : ℤ → ℤ → ℤ → Bool
-between low n high = leZ low n && leZ n high
+-- the bounds by their corners
+abbrev pub boxIn : Bounds → Box
+boxIn bounds = record { low = record { lat = bounds .«min_lat»; lon = bounds .«min_lon» }; high = record { lat = bounds .«max_lat»; lon = bounds .«max_lon» } }
 
 -- the box holds the location
 abbrev pub holds : Bounds → Point → Bool
-holds bounds fix = between (bounds .«min_lat» .0) (fix .lat .0) (bounds .«max_lat» .0) && between (bounds .«min_lon» .0) (fix .lon .0) (bounds .«max_lon» .0)
+holds bounds fix = B.holds (boxIn bounds) fix
 
 -- ---- the code's answers
 abbrev pub toldEntered : Entered → Answer Entry

@@ -2,7 +2,8 @@
 ghost use mathlib.Core.Path.{_≡_};
 ghost use lib.Signed.{ltZ, leZ};
 ghost use Rattle.numbers.specs.Varint.{readingOf};
-ghost use Rattle.table.specs.Table.{toldEntered, stoppedBy, entryBy, stepsBy, boundsOf, isAbove, between, holds};
+ghost use Rattle.table.specs.Table.{toldEntered, stoppedBy, entryBy, stepsBy, boundsOf, isAbove, holds};
+ghost use Rattle.border.specs.Box.{between};
 use border::place::FixedLat;
 use border::place::FixedLon;
 use border::place::Point;
