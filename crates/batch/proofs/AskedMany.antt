@@ -3,16 +3,18 @@ use mathlib.Core.Path.{_≡_, refl, sym, ap, subst, _∙_}
 use mathlib.Core.Bool.{Bool, true, false}
 use mathlib.Core.List.{List, [], _∷_, _++_, map}
 use mathlib.Core.Logic.{_⊎_, inl, inr}
-use Prim.Native.Nat.{ℕ, _-_}
+use Prim.Native.Nat.{ℕ, zero, suc, _-_}
 use native.Mathlib.Omega.{arith}
+use lib.Ieee.{Float}
 use lib.ListN.{length, take, length-map}
 use lib.Seq.{take-at}
 use Rattle.numbers.specs.Lists.{zeros, padded}
-use Rattle.numbers.specs.Reply.{Reply, plain}
+use Rattle.numbers.specs.Reply.{Reply, plain, demand}
 use Rattle.numbers.specs.Reply as R
 use Rattle.zones.proofs.Asked.{unmeasured, unmeasuredReply, AskedOrNot, asked-or-not-with}
 use Rattle.zones.proofs.Unless.{shown}
 use Rattle.zones.proofs.hits.Words.{words-length, slots-words}
+use Rattle.zones.specs.Header.{headOf}
 use Rattle.zones.specs.Hits.{words, slots}
 use Rattle.zones.specs.Lent.{Outcome, Replied, repliedOf}
 use Rattle.zones.specs.Lookup.{zonesWith, lookedWith}
@@ -20,8 +22,9 @@ use Rattle.zones.specs.declared.header.Head.{Head}
 use Rattle.zones.specs.declared.hits.Hit.{Hit}
 use Rattle.zones.specs.declared.location.Location.{Location}
 use Rattle.zones.specs.declared.lookup.Zones.{Zones}
-use Rattle.batch.specs.Many.{Batch, given, refused, _>>=_, metAt, Stamped, withOne, eachOf}
+use Rattle.batch.specs.Many.{Batch, given, refused, _>>=_, _>>_, metAt, isTaken, fixesOf, Stamped, nothing, withOne, eachOf, stampedMany, answerWords, Left, left, leftOf, lookedUpMany}
 use Rattle.batch.proofs.Counts.{counts}
+use Rattle.batch.proofs.Stamping.{three-words}
 
 -- an outcome without its safezone bits
 abbrev unmeasuredOne : Outcome Zones → Outcome Zones
@@ -98,3 +101,62 @@ module _ (file : List ℕ) (head : Head) (n room : ℕ) where
           (subst (λ (l : List Zones). AskedOrNotMany (each true fixes (withOne so o)) (each false fixes (record { answers = l; matches = so .matches ++ o .matches; text = so .text ++ o .text }))) (map-snoc (so .answers) (o .answer)) (rest (withOne so o)))
       go (R.refused why) z′ (inr e) rest =
           inr (ap (λ (m : ℕ). refused m why) (sym (length-map (so .answers) unmeasured)) ∙ ap (λ (x : Reply (Outcome Zones)). metAt (length (map unmeasured (so .answers))) x >>= λ o. each false fixes (withOne (unmeasuredAll so) o)) e)
+
+module _ (file : List ℕ) (lats lons : List Float) (n room third : ℕ) where
+  -- the whole call: 33 and opening do not look at the distance
+  stamped-asked : AskedOrNotMany (stampedMany file lats lons true n room third) (stampedMany file lats lons false n room third)
+  unfolding stampedMany
+  stamped-asked = by-lists (isTaken (length lats) (length lons) third)
+    where
+      by-head : (r : Reply Head) → AskedOrNotMany (metAt 0 r >>= λ head. each file head n room true (fixesOf lats lons) nothing) (metAt 0 r >>= λ head. each file head n room false (fixesOf lats lons) nothing)
+      by-head (R.given head) = asked-or-not-each file head n room (fixesOf lats lons) nothing
+      by-head (R.refused why) = inr refl
+
+      by-lists : (test : Bool) → AskedOrNotMany (metAt 0 (demand test (plain 33)) >> (metAt 0 (headOf file) >>= λ head. each file head n room true (fixesOf lats lons) nothing))
+          (metAt 0 (demand test (plain 33)) >> (metAt 0 (headOf file) >>= λ head. each file head n room false (fixesOf lats lons) nothing))
+      by-lists true = by-head (headOf file)
+      by-lists false = inr refl
+
+-- ---- the reply and the three lists
+-- the third list with 0 for the safezone bits of each fix
+pub unmeasuredWords : List ℕ → List ℕ
+unmeasuredWords [] = []
+unmeasuredWords (a ∷ []) = a ∷ []
+unmeasuredWords (a ∷ b ∷ []) = a ∷ b ∷ []
+unmeasuredWords (count ∷ mark ∷ bits ∷ more) = count ∷ mark ∷ 0 ∷ unmeasuredWords more
+
+abbrev pub unmeasuredLeft : Left → Left
+unmeasuredLeft l = left (l .reply) (l .hits) (l .text) (unmeasuredWords (l .answers))
+
+zeros-unmeasured : (k : ℕ) → unmeasuredWords (zeros k) ≡ zeros k
+unfolding unmeasuredWords
+zeros-unmeasured zero = refl
+zeros-unmeasured (suc zero) = refl
+zeros-unmeasured (suc (suc zero)) = refl
+zeros-unmeasured (suc (suc (suc k))) = ap (λ (l : List ℕ). 0 ∷ 0 ∷ 0 ∷ l) (zeros-unmeasured k)
+
+words-unmeasured : (xs : List Zones) (k : ℕ) → unmeasuredWords (answerWords xs ++ zeros k) ≡ answerWords (map unmeasured xs) ++ zeros k
+unfolding unmeasuredWords answerWords
+words-unmeasured [] k = zeros-unmeasured k
+words-unmeasured (x ∷ xs) k = ap (λ (l : List ℕ). x .matches ∷ x .mark ∷ 0 ∷ l) (words-unmeasured xs k)
+
+module _ (n room third : ℕ) where
+  left-unmeasured : (b : Batch Stamped) → unmeasuredLeft (leftOf n room third b) ≡ leftOf n room third (shownMany b)
+  unfolding leftOf
+  left-unmeasured (given so) =
+      let kept : length (map unmeasured (so .answers)) ≡ length (so .answers) = length-map (so .answers) unmeasured in
+      let long : length (answerWords (so .answers)) ≡ length (answerWords (map unmeasured (so .answers))) = omega (arith, kept, three-words (so .answers), three-words (map unmeasured (so .answers))) in
+      let told = words-unmeasured (so .answers) (third - length (answerWords (so .answers))) ∙ ap (λ (k : ℕ). answerWords (map unmeasured (so .answers)) ++ zeros (third - k)) long in
+      λ i. left (given (record { fixes = sym kept i; matches = length (so .matches); used = length (so .text) })) (padded n (words (so .matches))) (padded room (so .text)) (told i)
+  left-unmeasured (refused index why) = ap (left (refused index why) (zeros n) (zeros room)) (zeros-unmeasured third)
+
+  lists-so : (asked not : Batch Stamped) → AskedOrNotMany asked not
+      → ((index : ℕ) × (leftOf n room third asked ≡ leftOf n room third (refused index (plain 13)))) ⊎ (unmeasuredLeft (leftOf n room third asked) ≡ leftOf n room third not)
+  lists-so asked not (inl (index, e)) = inl (index, ap (leftOf n room third) e)
+  lists-so asked not (inr e) = inr (left-unmeasured asked ∙ ap (leftOf n room third) e)
+
+  -- With the distance the call is refused by 13 at some fix, or without it the reply and all three lists are the same but for the safezone bits.
+  pub asked-or-not-many : (file : List ℕ) (lats lons : List Float)
+      → ((index : ℕ) × (lookedUpMany file lats lons true n room third ≡ leftOf n room third (refused index (plain 13)))) ⊎ (unmeasuredLeft (lookedUpMany file lats lons true n room third) ≡ lookedUpMany file lats lons false n room third)
+  unfolding lookedUpMany
+  asked-or-not-many file lats lons = lists-so _ _ (stamped-asked file lats lons n room third)

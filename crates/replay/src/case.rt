@@ -157,6 +157,31 @@ fn filled_answers() -> [u32; 12291]
     [0xAAAA_AAAA; 12291]
 }
 
+// The three lists, which stand behind the reply.
+fn judge_lists(
+    record: &[u8],
+    got: Reply,
+    words: usize,
+    slots: &[u32],
+    text: &[u8],
+    answers: &[u32],
+) -> Verdict
+    requires { ⌜ words + 4 * length (now slots) + 4 * length (now answers) + length (now text) ≡ length (now «record») ⌝ }
+{
+    let told = words + 4 * slots.len();
+    let bytes = told + 4 * answers.len();
+    if !same_words(slots, &record[words..told]) {
+        return print_wrong(b"slots", record, got);
+    }
+    if !same_words(answers, &record[told..bytes]) {
+        return print_wrong(b"answers", record, got);
+    }
+    if !check::same(text, &record[bytes..]) {
+        return print_wrong(b"text", record, got);
+    }
+    Verdict::Right
+}
+
 // A record of many fixes, whose file ends where its reply begins.
 fn run_fixes(
     record: &[u8],
@@ -171,23 +196,20 @@ fn run_fixes(
         × (reply + 30 + 4 * length (now slots) + 4 * length (now answers) + length (now text) ≡ length (now «record»)) ⌝ }
 {
     let file = 30 + 4 * lats + 4 * lons;
-    let got = run_many(record, lats, lons, &record[file..reply], slots, text, answers);
+    let got = run_many(
+        record,
+        lats,
+        lons,
+        &record[file..reply],
+        slots,
+        text,
+        answers,
+    );
     let words = reply + 30;
-    let told = words + 4 * slots.len();
-    let bytes = told + 4 * answers.len();
     if !same_reply(got, recorded_many(&record[reply..words])) {
         return print_wrong(b"reply", record, got);
     }
-    if !same_words(slots, &record[words..told]) {
-        return print_wrong(b"slots", record, got);
-    }
-    if !same_words(answers, &record[told..bytes]) {
-        return print_wrong(b"answers", record, got);
-    }
-    if !check::same(text, &record[bytes..]) {
-        return print_wrong(b"text", record, got);
-    }
-    Verdict::Right
+    judge_lists(record, got, words, slots, text, answers)
 }
 
 fn judge_many(record: &[u8]) -> Verdict {
@@ -237,7 +259,7 @@ pub fn judge(record: &[u8]) -> Verdict {
     match byte_at(record, 0) {
         1 | 2 | 3 | 5 | 6 | 7 | 8 | 14 | 15 | 16 | 20 | 21 => judge_file(record),
         4 => judge_write(record),
-        17 => judge_many(record),
+        9 | 17 => judge_many(record),
         _ => Verdict::Skipped,
     }
 }

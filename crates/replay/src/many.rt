@@ -2,6 +2,9 @@
 ghost use mathlib.Core.Path.{_≡_};
 ghost use Prim.Native.Nat.{_+_, _*_, _≤_};
 ghost use lib.ListN.{length};
+use crate::calls::filled_words;
+use crate::calls::in_four;
+use crate::calls::leave_out;
 use crate::record::byte_at;
 use crate::record::long_at;
 use crate::record::word_at;
@@ -27,6 +30,77 @@ pub fn fixes_at(record: &[u8], at: usize, count: usize) -> [f32; 4097]
     list
 }
 
+fn ask_many(
+    record: &[u8],
+    lats: &[f32],
+    lons: &[f32],
+    file: &[u8],
+    slots: &mut [u32],
+    text: &mut [u8],
+    answers: &mut [u32],
+) -> Reply {
+    let asked = byte_at(record, 5) != 0;
+    let mut said = unspoken();
+    let number = uskelzar_lookup_many(
+        file, lats, lons, asked, slots, text, answers, &mut said,
+    );
+    spoken(number, said)
+}
+
+fn ask_without_places(
+    record: &[u8],
+    lats: &[f32],
+    lons: &[f32],
+    file: &[u8],
+    words: &mut [u32],
+    slots: &mut [u32],
+    text: &mut [u8],
+    answers: &mut [u32],
+) -> Reply {
+    let reply = ask_many(record, lats, lons, file, words, text, answers);
+    leave_out(words, slots);
+    reply
+}
+
+fn ask_in_three(
+    record: &[u8],
+    lats: &[f32],
+    lons: &[f32],
+    file: &[u8],
+    slots: &mut [u32],
+    text: &mut [u8],
+    answers: &mut [u32],
+) -> Reply {
+    let size = in_four(slots.len());
+    let mut words = filled_words();
+    ask_without_places(
+        record,
+        lats,
+        lons,
+        file,
+        &mut words[..size],
+        slots,
+        text,
+        answers,
+    )
+}
+
+// 17 has four words a hit, 9 three: the place is left out.
+fn ask_either(
+    record: &[u8],
+    lats: &[f32],
+    lons: &[f32],
+    file: &[u8],
+    slots: &mut [u32],
+    text: &mut [u8],
+    answers: &mut [u32],
+) -> Reply {
+    match byte_at(record, 0) {
+        17 => ask_many(record, lats, lons, file, slots, text, answers),
+        _ => ask_in_three(record, lats, lons, file, slots, text, answers),
+    }
+}
+
 // What the record asks for, into the lent lists.
 pub fn run_many(
     record: &[u8],
@@ -41,19 +115,7 @@ pub fn run_many(
 {
     let x = fixes_at(record, 30, lats);
     let y = fixes_at(record, 30 + 4 * lats, lons);
-    let asked = byte_at(record, 5) != 0;
-    let mut said = unspoken();
-    let number = uskelzar_lookup_many(
-        file,
-        &x[..lats],
-        &y[..lons],
-        asked,
-        slots,
-        text,
-        answers,
-        &mut said,
-    );
-    spoken(number, said)
+    ask_either(record, &x[..lats], &y[..lons], file, slots, text, answers)
 }
 
 // The reply that 30 bytes of a record hold: the index stands before the values.
