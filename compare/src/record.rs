@@ -8,8 +8,9 @@ pub const SIMPLE: u8 = 3;
 pub const WRITE: u8 = 4;
 pub const STRING: u8 = 5;
 pub const UTF8: u8 = 6;
+pub const MANY: u8 = 9;
 
-/// The words of a hit with its place left out: the Rust has none, and `replay` leaves it out of ops 2 and 3.
+/// The words of a hit with its place left out: the Rust has none, and `replay` leaves it out of ops 2, 3 and 9.
 pub const ZONE_WORDS: usize = HIT_WORDS - 1;
 
 /// A call on a file. For a string, `lat` is the place and `lon` the metadata offset.
@@ -142,7 +143,7 @@ pub fn reply(call: &Call, facts: &Facts) -> Reply {
     reply
 }
 
-fn sized(body: Vec<u8>) -> Vec<u8> {
+pub fn sized(body: Vec<u8>) -> Vec<u8> {
     let mut out = (body.len() as u32).to_le_bytes().to_vec();
     out.extend(body);
     out
