@@ -41,9 +41,7 @@ fn ask_many(
 ) -> Reply {
     let asked = byte_at(record, 5) != 0;
     let mut said = unspoken();
-    let number = uskelzar_lookup_many(
-        file, lats, lons, asked, slots, text, answers, &mut said,
-    );
+    let number = uskelzar_lookup_many(file, lats, lons, asked, slots, text, answers, &mut said);
     spoken(number, said)
 }
 
