@@ -67,6 +67,6 @@ fn one_width_of_a_hit() {
     let header = text("include/uskelzar.h");
     let width = behind(&header, "USKELZAR_HIT_WORDS =");
     assert_eq!(width.trim_end_matches(','), raw::HIT_WORDS.to_string());
-    let code = text("crates/zones/src/hits.rt");
+    let code = text("crates/table/src/hits.rt");
     assert_eq!(behind(&code, "pub const WIDTH: usize =").trim_end_matches(';'), raw::HIT_WORDS.to_string());
 }

@@ -12,15 +12,15 @@ use Rattle.numbers.specs.Lists.{zeros, padded}
 use Rattle.numbers.specs.Reply.{Reply, plain, demand}
 use Rattle.numbers.specs.Reply as R
 use Rattle.zones.proofs.Asked.{unmeasured, unmeasuredReply, AskedOrNot, asked-or-not-with}
-use Rattle.zones.proofs.Unless.{shown}
-use Rattle.zones.proofs.hits.Words.{words-length, slots-words}
-use Rattle.zones.specs.Header.{headOf}
-use Rattle.zones.specs.Hits.{words, slots}
+use Rattle.header.proofs.Unless.{shown}
+use Rattle.table.proofs.Words.{words-length, slots-words}
+use Rattle.header.specs.Header.{headOf}
+use Rattle.table.specs.Hits.{words, slots}
 use Rattle.zones.specs.Lent.{Outcome, Replied, repliedOf}
 use Rattle.zones.specs.Lookup.{zonesWith, lookedWith}
-use Rattle.zones.specs.declared.header.Head.{Head}
-use Rattle.zones.specs.declared.hits.Hit.{Hit}
-use Rattle.zones.specs.declared.location.Location.{Location}
+use Rattle.header.specs.declared.header.Head.{Head}
+use Rattle.table.specs.declared.hits.Hit.{Hit}
+use Rattle.table.specs.declared.location.Location.{Location}
 use Rattle.zones.specs.declared.lookup.Zones.{Zones}
 use Rattle.batch.specs.Many.{Batch, given, refused, _>>=_, _>>_, metAt, isTaken, fixesOf, Stamped, nothing, withOne, eachOf, stampedMany, answerWords, Left, left, leftOf, lookedUpMany}
 use Rattle.batch.proofs.Counts.{counts}

@@ -7,12 +7,12 @@ use lib.ListN.{length}
 use Rattle.numbers.proofs.Replies.{given-from}
 use Rattle.numbers.specs.Reply.{given}
 use Rattle.zones.specs.Fields.{fieldsOf}
-use Rattle.zones.specs.Find.{matchedWith}
-use Rattle.zones.specs.Hits.{width}
+use Rattle.table.specs.Find.{matchedWith}
+use Rattle.table.specs.Hits.{width}
 use Rattle.zones.specs.Lent.{Outcome}
 use Rattle.zones.specs.Lookup.{zonesWith}
-use Rattle.zones.specs.declared.header.Head.{Head}
-use Rattle.zones.specs.declared.location.Location.{Location}
+use Rattle.header.specs.declared.header.Head.{Head}
+use Rattle.table.specs.declared.location.Location.{Location}
 use Rattle.zones.specs.declared.lookup.Zones.{Zones}
 use Rattle.batch.proofs.Few.{matched-few}
 

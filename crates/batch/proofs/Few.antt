@@ -15,21 +15,21 @@ use Rattle.numbers.specs.Answer as A
 use Rattle.numbers.specs.Reply.{Reply, given, plain}
 use Rattle.numbers.specs.Reply as R
 use Rattle.numbers.specs.Varint.{Numeral, readingOf}
-use Rattle.zones.proofs.TableRows.{Grows, reading-grows, rows-step, at-end, row-less}
-use Rattle.zones.specs.Find.{Matched, isPrecision, fixOf, matchedWith}
-use Rattle.zones.specs.Merge.{seen, summary, groupKind, matchOf, mergedAfter, merged}
-use Rattle.zones.specs.Rest.{restMark}
-use Rattle.zones.specs.Rows.{Rows, row, tableEnd, unreadable, after, startAt, rowsThen, rowBy, rowsFrom, rowsIn}
-use Rattle.zones.specs.Rows as T
-use Rattle.zones.specs.Search.{Found, ended, farthest, afterTurn, rowTurn, seek, judgeIn, searched}
-use Rattle.zones.specs.Table.{isAbove}
-use Rattle.zones.specs.declared.header.Head.{Head}
-use Rattle.zones.specs.declared.hits.Hit.{Hit}
-use Rattle.zones.specs.declared.location.Location.{Location}
-use Rattle.zones.specs.declared.rows.Cursor.{Cursor}
-use Rattle.zones.specs.declared.rows.Row.{Row}
-use Rattle.zones.specs.declared.search.Turn.the-variants.{On, Met, Stopped, Refused}
-use Rattle.zones.specs.declared.search.Turn.{Turn}
+use Rattle.table.proofs.TableRows.{Grows, reading-grows, rows-step, at-end, row-less}
+use Rattle.table.specs.Find.{Matched, isPrecision, fixOf, matchedWith}
+use Rattle.table.specs.Merge.{seen, summary, groupKind, matchOf, mergedAfter, merged}
+use Rattle.table.specs.Rest.{restMark}
+use Rattle.table.specs.Rows.{Rows, row, tableEnd, unreadable, after, startAt, rowsThen, rowBy, rowsFrom, rowsIn}
+use Rattle.table.specs.Rows as T
+use Rattle.table.specs.Search.{Found, ended, farthest, afterTurn, rowTurn, seek, judgeIn, searched}
+use Rattle.table.specs.Table.{isAbove}
+use Rattle.header.specs.declared.header.Head.{Head}
+use Rattle.table.specs.declared.hits.Hit.{Hit}
+use Rattle.table.specs.declared.location.Location.{Location}
+use Rattle.table.specs.declared.rows.Cursor.{Cursor}
+use Rattle.table.specs.declared.rows.Row.{Row}
+use Rattle.table.specs.declared.search.Turn.the-variants.{On, Met, Stopped, Refused}
+use Rattle.table.specs.declared.search.Turn.{Turn}
 
 -- ---- rows
 many : Rows → ℕ

@@ -15,13 +15,13 @@ use Rattle.numbers.specs.Reply.{Reply}
 use Rattle.numbers.specs.Reply as R
 use Rattle.numbers.specs.declared.refusal.Refusal.{Refusal}
 use Rattle.zones.proofs.GivenHead.{looked-with, not-looked}
-use Rattle.zones.proofs.hits.Words.{words-length, words-append}
-use Rattle.zones.specs.Header.{headOf}
-use Rattle.zones.specs.Hits.{width, words}
+use Rattle.table.proofs.Words.{words-length, words-append}
+use Rattle.header.specs.Header.{headOf}
+use Rattle.table.specs.Hits.{width, words}
 use Rattle.zones.specs.Lent.{Outcome, Replied, repliedOf}
 use Rattle.zones.specs.Lookup.{zonesWith, lookedWith, lookedUp}
-use Rattle.zones.specs.declared.header.Head.{Head}
-use Rattle.zones.specs.declared.location.Location.{Location}
+use Rattle.header.specs.declared.header.Head.{Head}
+use Rattle.table.specs.declared.location.Location.{Location}
 use Rattle.zones.specs.declared.lookup.Zones.{Zones}
 use Rattle.batch.specs.Many.{given, refused, _>>=_, metAt, isTaken, fixesOf, Stamped, nothing, withOne, eachOf, answerWords, Left, left, leftOf, lookedUpMany}
 use Rattle.batch.specs.OneByOne.{fromOn, unlessRefused, oneByOne}

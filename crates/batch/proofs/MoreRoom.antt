@@ -13,26 +13,26 @@ use Rattle.numbers.proofs.Replies.{given-from, onward, demanded}
 use Rattle.numbers.specs.Answer.{if_then_else_}
 use Rattle.numbers.specs.Reply.{Reply, given, plain, demand, _>>_, _>>=_}
 use Rattle.numbers.specs.Reply as R
-use Rattle.zones.specs.Field.{Field, field, fieldAt}
+use Rattle.header.specs.Field.{Field, field, fieldAt}
 use Rattle.zones.specs.Fields.{fieldsPlace, fieldsFrom, fieldsOf}
-use Rattle.zones.specs.Find.{Matched, isPrecision, fixOf, matchedWith}
-use Rattle.zones.specs.Hits.{width}
+use Rattle.table.specs.Find.{Matched, isPrecision, fixOf, matchedWith}
+use Rattle.table.specs.Hits.{width}
 use Rattle.zones.specs.Lent.{Outcome}
 use Rattle.zones.specs.Lookup.{safezoneBits, zonesWith}
-use Rattle.zones.specs.Merge.{merged}
-use Rattle.zones.specs.Rest.{restMark}
-use Rattle.zones.specs.Rows.{Rows, row, tableEnd, unreadable, rowsIn}
-use Rattle.zones.specs.Rows as T
-use Rattle.zones.specs.Search.{Found, ended, farthest, afterTurn, rowTurn, seek, judgeIn, searched}
-use Rattle.zones.specs.Table.{isAbove}
-use Rattle.zones.specs.Text.{textAt, bytesOf}
-use Rattle.zones.specs.declared.header.Head.{Head}
-use Rattle.zones.specs.declared.hits.Hit.{Hit}
-use Rattle.zones.specs.declared.location.Location.{Location}
+use Rattle.table.specs.Merge.{merged}
+use Rattle.table.specs.Rest.{restMark}
+use Rattle.table.specs.Rows.{Rows, row, tableEnd, unreadable, rowsIn}
+use Rattle.table.specs.Rows as T
+use Rattle.table.specs.Search.{Found, ended, farthest, afterTurn, rowTurn, seek, judgeIn, searched}
+use Rattle.table.specs.Table.{isAbove}
+use Rattle.header.specs.Text.{textAt, bytesOf}
+use Rattle.header.specs.declared.header.Head.{Head}
+use Rattle.table.specs.declared.hits.Hit.{Hit}
+use Rattle.table.specs.declared.location.Location.{Location}
 use Rattle.zones.specs.declared.lookup.Zones.{Zones}
-use Rattle.zones.specs.declared.rows.Row.{Row}
-use Rattle.zones.specs.declared.search.Turn.the-variants.{On, Met, Stopped, Refused}
-use Rattle.zones.specs.declared.search.Turn.{Turn}
+use Rattle.table.specs.declared.rows.Row.{Row}
+use Rattle.table.specs.declared.search.Turn.the-variants.{On, Met, Stopped, Refused}
+use Rattle.table.specs.declared.search.Turn.{Turn}
 
 -- what one gives, the other gives
 abbrev Still : {A : Type 0} → Reply A → Reply A → Type 0

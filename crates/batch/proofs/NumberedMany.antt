@@ -13,14 +13,14 @@ use Rattle.numbers.specs.Reply.{Reply, plain, demand}
 use Rattle.numbers.specs.Reply as R
 use Rattle.numbers.specs.declared.refusal.Refusal.{Refusal}
 use Rattle.zones.proofs.GivenHead.{looked-with}
-use Rattle.zones.proofs.Numbered.{headerNumbers, head-numbered}
+use Rattle.header.proofs.Numbered.{headerNumbers, head-numbered}
 use Rattle.zones.proofs.NumberedLookup.{lookupNumbers, lookup-refusals}
-use Rattle.zones.specs.Header.{headOf}
-use Rattle.zones.specs.Hits.{words}
+use Rattle.header.specs.Header.{headOf}
+use Rattle.table.specs.Hits.{words}
 use Rattle.zones.specs.Lent.{Outcome, Replied, repliedOf}
 use Rattle.zones.specs.Lookup.{zonesWith, lookedWith, lookedUp}
-use Rattle.zones.specs.declared.header.Head.{Head}
-use Rattle.zones.specs.declared.location.Location.{Location}
+use Rattle.header.specs.declared.header.Head.{Head}
+use Rattle.table.specs.declared.location.Location.{Location}
 use Rattle.zones.specs.declared.lookup.Zones.{Zones}
 use Rattle.batch.specs.Many.{Batch, given, refused, _>>=_, _>>_, metAt, isTaken, fixesOf, Stamped, nothing, withOne, eachOf, leftOf, stampedMany, lookedUpMany}
 

@@ -9,9 +9,9 @@ use Rattle.numbers.specs.Lists.{zeros}
 use Rattle.numbers.specs.Reply.{Reply, plain, demand}
 use Rattle.numbers.specs.Reply as R
 use Rattle.numbers.specs.declared.refusal.Refusal.{Refusal}
-use Rattle.zones.specs.Header.{headOf}
+use Rattle.header.specs.Header.{headOf}
 use Rattle.zones.specs.Lookup.{zonesWith}
-use Rattle.zones.specs.declared.header.Head.{Head}
+use Rattle.header.specs.declared.header.Head.{Head}
 use Rattle.batch.specs.Many.{Batch, refused, _>>=_, _>>_, metAt, isTaken, fixesOf, Stamped, nothing, eachOf, left, leftOf, stampedMany, lookedUpMany}
 
 module _ (file : List ℕ) (lats lons : List Float) (asked : Bool) (n room third : ℕ) where

@@ -15,16 +15,17 @@ use Rattle.numbers.specs.Lists.{zeros, padded, over}
 use Rattle.numbers.specs.Reply.{Reply}
 use Rattle.numbers.specs.Reply as R
 use Rattle.numbers.specs.declared.refusal.Refusal.{Refusal}
-use Rattle.zones.proofs.Agreeing.{Gave, gave, refused-so}
-use Rattle.zones.proofs.Buffers.{tail-back}
+use Rattle.table.proofs.Agreeing.{Gave, gave, refused-so}
+use Rattle.header.proofs.Buffers.{tail-back}
 use Rattle.zones.proofs.Holding.{Held, held-length, held-front, lent, remains-length, written}
 use Rattle.zones.proofs.Replying.{agrees-of}
-use Rattle.zones.proofs.hits.Words.{words-length, words-append}
-use Rattle.zones.specs.Hits.{width, words}
-use Rattle.zones.specs.Lent.{Agrees, Filled, Outcome, Replied, replied, repliedOf}
+use Rattle.table.proofs.Words.{words-length, words-append}
+use Rattle.table.specs.Hits.{width, words}
+use Rattle.table.specs.Agreeing.{Agrees}
+use Rattle.zones.specs.Lent.{Filled, Outcome, Replied, replied, repliedOf}
 use Rattle.zones.specs.Lookup.{zonesWith, lookedWith, toldLooked}
-use Rattle.zones.specs.declared.header.Head.{Head}
-use Rattle.zones.specs.declared.location.Location.{Location}
+use Rattle.header.specs.declared.header.Head.{Head}
+use Rattle.table.specs.declared.location.Location.{Location}
 use Rattle.zones.specs.declared.lookup.Looked.{Looked}
 use Rattle.zones.specs.declared.lookup.Looked.the-variants as L
 use Rattle.zones.specs.declared.lookup.Zones.{Zones}
@@ -136,6 +137,10 @@ module _ (file : List ℕ) (head : Head) (asked : Bool) (n room third : ℕ) (la
     pub text-held : Held room (so .text) text used
     pub answers-held : Held third (answerWords (so .answers)) answers (3 * i)
     pub so-far : each (fixesOf (drop i lats) (drop i lons)) so ≡ whole
+
+  -- the same, by another name of the bytes used
+  pub used-is : {whole : Batch Stamped} {hits text answers : List ℕ} {i matches used used′ : ℕ} → used ≡ used′ → Stamping whole hits text answers i matches used → Stamping whole hits text answers i matches used′
+  used-is {whole} {hits} {text} {answers} {i} {matches} e = subst (Stamping whole hits text answers i matches) e
 
   pub begins : (hits text answers : List ℕ) → hits ≡ zeros n → text ≡ zeros room → answers ≡ zeros third → Stamping (each (fixesOf lats lons) nothing) hits text answers 0 0 0
   unfolding words answerWords

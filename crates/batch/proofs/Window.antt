@@ -11,13 +11,13 @@ use Rattle.batch.proofs.Stamping.{One, one-given}
 use Rattle.numbers.proofs.Lists.{zeros-drop}
 use Rattle.numbers.specs.Lists.{zeros, padded}
 use Rattle.numbers.specs.Reply.{Reply}
-use Rattle.zones.proofs.Buffers.{all-zero, tail-lent}
+use Rattle.header.proofs.Buffers.{all-zero, tail-lent}
 use Rattle.zones.proofs.Holding.{Held, lent}
-use Rattle.zones.specs.Hits.{words}
+use Rattle.table.specs.Hits.{words}
 use Rattle.zones.specs.Lent.{Outcome, replied, repliedOf}
 use Rattle.zones.specs.Lookup.{zonesWith, lookedWith, toldLooked}
-use Rattle.zones.specs.declared.header.Head.{Head}
-use Rattle.zones.specs.declared.location.Location.{Location}
+use Rattle.header.specs.declared.header.Head.{Head}
+use Rattle.table.specs.declared.location.Location.{Location}
 use Rattle.zones.specs.declared.lookup.Looked.{Looked}
 use Rattle.zones.specs.declared.lookup.Zones.{Zones}
 use Rattle.numbers.specs.Reply as R

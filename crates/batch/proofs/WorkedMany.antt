@@ -16,21 +16,21 @@ use Rattle.border.specs.Winding.{turned, quarterBy, halfTurn, turnAt, crossingO
 use Rattle.border.specs.Distance.{measured}
 use Rattle.border.specs.Step as S
 use Rattle.border.specs.Verdict.{along, passing, closedAt, thenOn, judge, judgedAt}
-use Rattle.zones.specs.Field.{fieldAt}
+use Rattle.header.specs.Field.{fieldAt}
 use Rattle.zones.specs.Fields.{fieldsFrom, fieldsOf}
-use Rattle.zones.specs.Find.{fixOf, matchedWith}
-use Rattle.zones.specs.Header.{preambleOf, textsFrom, sectionsFrom, sectionsAt, contentsBy, headBy}
-use Rattle.zones.specs.Hits.{words}
-use Rattle.zones.specs.Merge.{summary, seen, mergedAfter, merged}
-use Rattle.zones.specs.Rows.{rowsThen, rowBy, rowsWithin, rowsFrom, rowsIn}
-use Rattle.zones.specs.Search.{judgedTurn, rowTurn, seek, searched}
-use Rattle.zones.specs.Table.{stepsBy, entryBy}
-use Rattle.zones.specs.Text.{within, remoteAt, stringAt, bytesOf, textAt}
-use Rattle.zones.specs.Utf8.{characters, startedBy, begunBy, followed, goesOn, isUtf8}
+use Rattle.table.specs.Find.{fixOf, matchedWith}
+use Rattle.header.specs.Header.{preambleOf, textsFrom, sectionsFrom, sectionsAt, contentsBy, headBy}
+use Rattle.table.specs.Hits.{words}
+use Rattle.table.specs.Merge.{summary, seen, mergedAfter, merged}
+use Rattle.table.specs.Rows.{rowsThen, rowBy, rowsWithin, rowsFrom, rowsIn}
+use Rattle.table.specs.Search.{judgedTurn, rowTurn, seek, searched}
+use Rattle.table.specs.Table.{stepsBy, entryBy}
+use Rattle.header.specs.Text.{within, remoteAt, stringAt, bytesOf, textAt}
+use Rattle.header.specs.Utf8.{characters, startedBy, begunBy, followed, goesOn, isUtf8}
 use mathlib.Core.Path.{_≡_, refl, ap}
 use Prim.Native.Nat.{_*_}
 use lib.Ieee.{Float}
-use Rattle.zones.specs.Hits.{width}
+use Rattle.table.specs.Hits.{width}
 use Rattle.zones.specs.Lookup.{safezoneBits, zonesWith}
 use Rattle.batch.specs.Many.{given, fixesOf, Left, eachOf, stampedMany, answerWords, leftOf, lookedUpMany}
 

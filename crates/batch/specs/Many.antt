@@ -9,12 +9,12 @@ use Rattle.numbers.specs.Lists.{zeros, padded}
 use Rattle.numbers.specs.Reply.{Reply, plain, demand}
 use Rattle.numbers.specs.Reply as R
 use Rattle.numbers.specs.declared.refusal.Refusal.{Refusal}
-use Rattle.zones.specs.Header.{headOf}
-use Rattle.zones.specs.Hits.{words}
+use Rattle.header.specs.Header.{headOf}
+use Rattle.table.specs.Hits.{words}
 use Rattle.zones.specs.Lent.{Outcome}
 use Rattle.zones.specs.Lookup.{zonesWith}
-use Rattle.zones.specs.declared.hits.Hit.{Hit}
-use Rattle.zones.specs.declared.location.Location.{Location}
+use Rattle.table.specs.declared.hits.Hit.{Hit}
+use Rattle.table.specs.declared.location.Location.{Location}
 use Rattle.zones.specs.declared.lookup.Zones.{Zones}
 use Rattle.batch.specs.declared.many.Totals.{Totals}
 use Rattle.batch.specs.declared.many.Many.{Many}

@@ -6,9 +6,9 @@ use lib.ListN.{take, drop}
 use Rattle.numbers.specs.Lists.{zeros, over}
 use Rattle.numbers.specs.Reply as R
 use Rattle.numbers.specs.Reply.{Reply}
-use Rattle.zones.specs.Hits.{width}
+use Rattle.table.specs.Hits.{width}
 use Rattle.zones.specs.Lookup.{lookedUp}
-use Rattle.zones.specs.declared.location.Location.{Location}
+use Rattle.table.specs.declared.location.Location.{Location}
 use Rattle.zones.specs.declared.lookup.Zones.{Zones}
 use Rattle.batch.specs.Many.{given, refused, answerWords, Left, left}
 

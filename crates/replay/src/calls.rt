@@ -15,6 +15,9 @@ use crate::reply::known;
 use crate::reply::refused;
 use crate::reply::spoken;
 use crate::reply::unspoken;
+use header::text::String;
+use header::text::read_string;
+use header::utf8::is_utf8;
 use numbers::float::bits::of_bits;
 use tzif::local::Local;
 use tzif::local::LocalTime;
@@ -26,9 +29,6 @@ use uskelzar::uskelzar_lookup_strict;
 use uskelzar::uskelzar_open;
 use uskelzar::uskelzar_open_strict;
 use uskelzar::uskelzar_simple_lookup;
-use zones::text::String;
-use zones::text::read_string;
-use zones::utf8::is_utf8;
 
 fn run_open(file: &[u8], text: &mut [u8]) -> Reply {
     let mut words = unspoken();

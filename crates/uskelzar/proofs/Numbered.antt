@@ -21,13 +21,13 @@ use Rattle.footer.specs.Local.{localTime}
 use Rattle.tzif.specs.declared.local.LocalTime.{LocalTime}
 use Rattle.tzif.specs.declared.local.LocalTime.the-variants as L
 use Rattle.tzif.specs.declared.refusal.Refusal as T
-use Rattle.zones.proofs.Numbered.{openingNumbers, opening-refusals, strict-opening-refusals}
+use Rattle.header.proofs.Numbered.{openingNumbers, opening-refusals, strict-opening-refusals}
 use Rattle.zones.proofs.NumberedLookup.{lookupNumbers, lookup-refusals, strict-lookup-refusals, simple-lookup-refusals}
 use Rattle.zones.specs.Lookup.{lookedUp, lookedStrictly}
-use Rattle.zones.specs.Opening.{openedOf, openedStrictly}
+use Rattle.header.specs.Opening.{openedOf, openedStrictly}
 use Rattle.numbers.specs.Reply.{Reply, given, refused}
 use Rattle.zones.specs.Simple.{simplyLooked}
-use Rattle.zones.specs.declared.location.Location.{Location}
+use Rattle.table.specs.declared.location.Location.{Location}
 use Rattle.numbers.specs.declared.refusal.Refusal.{Refusal}
 use Rattle.uskelzar.specs.Many.{manySaid, manySpoken}
 use Rattle.uskelzar.specs.Spoken.{saidOf, openingValues, zonesValues, describedValues, lengthValue, localValues, localReply, openingSpoken, foundSpoken, writtenSpoken, localSpoken}

@@ -7,15 +7,15 @@ use mathlib.Core.Path.{_≡_, sym, ap, _∙_}
 use native.Mathlib.Omega.{arith}
 use Rattle.numbers.proofs.Refusals.{Listed}
 use Rattle.numbers.specs.Reply.{refused, plain}
-use Rattle.zones.proofs.Numbered.{openingNumbers, opening-refusals}
+use Rattle.header.proofs.Numbered.{openingNumbers, opening-refusals}
 use Rattle.zones.proofs.NumberedLookup.{lookupNumbers, lookup-refusals}
-use Rattle.zones.proofs.StrictHead.{strict-open-or-plain}
+use Rattle.header.proofs.StrictHead.{strict-open-or-plain}
 use Rattle.zones.proofs.StrictLookup.{strict-or-plain}
 use Rattle.zones.specs.Lent.{Replied, repliedOf}
 use Rattle.zones.specs.Lookup.{lookedUp, lookedStrictly}
-use Rattle.zones.specs.Opening as O
-use Rattle.zones.specs.Opening.{openedOf, openedStrictly}
-use Rattle.zones.specs.declared.location.Location.{Location}
+use Rattle.header.specs.Opening as O
+use Rattle.header.specs.Opening.{openedOf, openedStrictly}
+use Rattle.table.specs.declared.location.Location.{Location}
 use Rattle.zones.specs.declared.lookup.Zones.{Zones}
 
 -- 31 is no number of the list

@@ -11,11 +11,11 @@ use Rattle.tzif.specs.declared.local.LocalTime.{LocalTime}
 use Rattle.tzif.specs.declared.local.LocalTime.the-variants as L
 use Rattle.zones.specs.Lent.{Replied}
 use Rattle.numbers.specs.Lists.{padded}
-use Rattle.zones.specs.Opening as O
+use Rattle.header.specs.Opening as O
 use Rattle.numbers.specs.Reply.{Reply, given, refused, refusal}
 use Rattle.zones.specs.declared.lookup.Zones.{Zones}
 use Rattle.numbers.specs.declared.refusal.Refusal.{Refusal}
-use Rattle.zones.specs.declared.opening.Opening.{Opening}
+use Rattle.header.specs.declared.opening.Opening.{Opening}
 use Rattle.zones.specs.declared.simple.Described.{Described}
 use Rattle.zones.specs.declared.simple.Description.{Description}
 use Rattle.zones.specs.declared.simple.Description.the-variants as D

@@ -5,13 +5,13 @@ use lib.ListN.{length, take, drop}
 use mathlib.Core.Bool.{true}
 use mathlib.Core.List.{List}
 use mathlib.Core.Path.{_≡_, ap, _∙_}
-use Rattle.zones.proofs.Buffers.{tail-lent}
+use Rattle.header.proofs.Buffers.{tail-lent}
 use Rattle.numbers.proofs.Replies.{met, unmet}
 use Rattle.numbers.specs.Lists.{zeros}
 use Rattle.zones.specs.Lent.{Outcome, replied, repliedOf}
 use Rattle.zones.specs.Lookup.{zonesIn, lookedUp}
 use Rattle.numbers.specs.Reply.{Reply, refused, plain}
-use Rattle.zones.specs.declared.location.Location.{Location}
+use Rattle.table.specs.declared.location.Location.{Location}
 use Rattle.zones.specs.declared.lookup.Zones.{Zones}
 use Rattle.numbers.specs.declared.refusal.Refusal.{Refusal}
 use Rattle.zone.specs.Answer.{locationOf, outcomeOf, answerOf}

@@ -9,7 +9,7 @@ use Rattle.line.specs.Bytes.{wordAt}
 use Rattle.numbers.specs.Reply.{Reply, plain, demand, _>>_}
 use Rattle.zones.specs.Lent.{Outcome, Replied, repliedOf}
 use Rattle.zones.specs.Lookup.{zonesIn}
-use Rattle.zones.specs.declared.location.Location.{Location}
+use Rattle.table.specs.declared.location.Location.{Location}
 use Rattle.zones.specs.declared.lookup.Zones.{Zones}
 
 abbrev pub locationOf : List ℕ → Location

@@ -8,7 +8,7 @@ use crate::zero::zero_both;
 use line::bytes::word_at;
 use numbers::float::bits::of_bits;
 use numbers::refusal::plain;
-use zones::location::Location;
+use table::location::Location;
 use zones::lookup::Looked;
 use zones::lookup::lookup;
 

@@ -4,7 +4,7 @@ use line::put::put;
 use line::put::put_all;
 use line::put::put_number;
 use numbers::refusal::Refusal;
-use zones::hits::WIDTH;
+use table::hits::WIDTH;
 use zones::lookup::Zones;
 
 // Where the next line goes, and where the next field of the text begins.

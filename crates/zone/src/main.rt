@@ -6,14 +6,14 @@ mod zero;
 ghost use mathlib.Core.Path.{_≡_};
 ghost use Prim.Native.Nat.{_*_, _≤_};
 ghost use lib.ListN.{length};
-ghost use Rattle.zones.specs.Hits.{width};
+ghost use Rattle.table.specs.Hits.{width};
 use answer::answer;
 use libc::STDIN_FILENO;
 use libc::STDOUT_FILENO;
 use line::bytes::byte_at;
 use lines::put_refusal;
 use lines::put_zones;
-use zones::hits::WIDTH;
+use table::hits::WIDTH;
 use zones::lookup::Looked;
 
 // One byte more than is taken, so that a longer input is seen.

@@ -12,27 +12,27 @@ use Rattle.border.proofs.Unasked.{Agrees, judged-asked-or-not}
 use Rattle.border.specs.Verdict.{Judgement, reached}
 use Rattle.border.specs.declared.place.Point.{Point}
 use Rattle.numbers.specs.Answer.{if_then_else_}
-use Rattle.zones.proofs.Unless.{shown, Unless, refuses, alike, unless-after, unless-demand, unless-then}
+use Rattle.header.proofs.Unless.{shown, Unless, refuses, alike, unless-after, unless-demand, unless-then}
 use Rattle.zones.specs.Fields.{fieldsOf}
-use Rattle.zones.specs.Find.{Matched, isPrecision, fixOf, matchedWith}
-use Rattle.zones.specs.Header.{headOf, headStrictly}
-use Rattle.zones.specs.Hits.{width}
+use Rattle.table.specs.Find.{Matched, isPrecision, fixOf, matchedWith}
+use Rattle.header.specs.Header.{headOf, headStrictly}
+use Rattle.table.specs.Hits.{width}
 use Rattle.zones.specs.Lent.{Outcome, Replied, replied, repliedOf}
 use Rattle.zones.specs.Lookup.{safezoneBits, zonesWith, zonesIn, lookedWith, lookedUp, lookedStrictly}
-use Rattle.zones.specs.Merge.{merged}
+use Rattle.table.specs.Merge.{merged}
 use Rattle.numbers.specs.Reply.{Reply, given, refused, plain, _>>=_}
-use Rattle.zones.specs.Rest.{restMark}
-use Rattle.zones.specs.Rows.{Rows, row, tableEnd, unreadable, rowsIn}
-use Rattle.zones.specs.Search.{Found, ended, kindOf, rowHit, farthest, afterTurn, judgedTurn, rowTurn, seek, judgeIn, searched}
-use Rattle.zones.specs.Table.{isAbove, holds}
-use Rattle.zones.specs.declared.header.Head.{Head}
-use Rattle.zones.specs.declared.hits.Hit.{Hit}
-use Rattle.zones.specs.declared.location.Location.{Location}
+use Rattle.table.specs.Rest.{restMark}
+use Rattle.table.specs.Rows.{Rows, row, tableEnd, unreadable, rowsIn}
+use Rattle.table.specs.Search.{Found, ended, kindOf, rowHit, farthest, afterTurn, judgedTurn, rowTurn, seek, judgeIn, searched}
+use Rattle.table.specs.Table.{isAbove, holds}
+use Rattle.header.specs.declared.header.Head.{Head}
+use Rattle.table.specs.declared.hits.Hit.{Hit}
+use Rattle.table.specs.declared.location.Location.{Location}
 use Rattle.zones.specs.declared.lookup.Zones.{Zones}
-use Rattle.zones.specs.declared.rows.Row.{Row}
-use Rattle.zones.specs.declared.search.Turn.the-variants.{On, Met, Stopped}
+use Rattle.table.specs.declared.rows.Row.{Row}
+use Rattle.table.specs.declared.search.Turn.the-variants.{On, Met, Stopped}
 use Rattle.border.specs.Verdict as J
-use Rattle.zones.specs.Rows as T
+use Rattle.table.specs.Rows as T
 
 -- an answer without its safezone bits
 abbrev pub unmeasured : Zones → Zones

@@ -1,16 +1,16 @@
 -- A header that was read once serves every lookup in its file: the forms that take it answer as those that open the file. Assumes nothing.
 use mathlib.Core.Path.{_≡_, sym, ap, _∙_}
-use mathlib.Core.Bool.{Bool}
+use mathlib.Core.Bool.{Bool, false}
 use mathlib.Core.List.{List}
 use Prim.Native.Nat.{ℕ}
-use Rattle.zones.specs.Header.{headOf, headStrictly}
+use Rattle.header.specs.Header.{headBy, headOf}
 use Rattle.zones.specs.Lent.{Outcome, Replied, replied, repliedOf}
 use Rattle.numbers.specs.Lists.{zeros}
-use Rattle.zones.specs.Lookup.{zonesWith, zonesIn, lookedWith, lookedUp, lookedStrictly}
+use Rattle.zones.specs.Lookup.{zonesWith, zonesIn, lookedWith, lookedBy, lookedUp}
 use Rattle.numbers.specs.Reply.{Reply, given, refused}
 use Rattle.zones.specs.Simple.{describedWith, describedIn, simplyLookedWith, simplyLooked}
-use Rattle.zones.specs.declared.header.Head.{Head}
-use Rattle.zones.specs.declared.location.Location.{Location}
+use Rattle.header.specs.declared.header.Head.{Head}
+use Rattle.table.specs.declared.location.Location.{Location}
 use Rattle.numbers.specs.declared.refusal.Refusal.{Refusal}
 use Rattle.numbers.proofs.Replies.{carried, onward}
 
@@ -20,11 +20,20 @@ unfolding repliedOf
 refused-zero n room {why = why} e h t = (λ i. replied (refused why) (h i) (t i)) ∙ ap (repliedOf n room) e
 
 module _ (file : List ℕ) (location : Location) (n room : ℕ) where
+  -- in a file that is opened plainly or strictly: with its own header, and where it is refused
+  module _ (strict asked : Bool) where
+    pub looked-by : {head : Head} → given head ≡ headBy strict file → lookedWith file head location asked n room ≡ lookedBy strict file location asked n room
+    unfolding lookedWith
+    looked-by e = ap (repliedOf n room) (onward e (λ h. zonesWith file h location asked n room))
+
+    pub not-looked-by : {why : Refusal} {hs ts : List ℕ} → refused why ≡ headBy strict file → hs ≡ zeros n → ts ≡ zeros room → replied (refused why) hs ts ≡ lookedBy strict file location asked n room
+    not-looked-by e h t = refused-zero n room (carried e (λ h. zonesWith file h location asked n room)) h t
+
   module _ {head : Head} (e : given head ≡ headOf file) where
     -- a lookup with the file's own header is the lookup
     pub looked-with : (asked : Bool) → lookedWith file head location asked n room ≡ lookedUp file location asked n room
-    unfolding lookedWith lookedUp zonesIn
-    looked-with asked = ap (repliedOf n room) (onward e (λ h. zonesWith file h location asked n room))
+    unfolding lookedUp zonesIn
+    looked-with asked = looked-by false asked e
 
     -- and so is a simple lookup
     pub simply-looked-with : simplyLookedWith file head location n room ≡ simplyLooked file location n room
@@ -35,17 +44,8 @@ module _ (file : List ℕ) (location : Location) (n room : ℕ) where
   module _ {why : Refusal} {hs ts : List ℕ} (e : refused why ≡ headOf file) (h : hs ≡ zeros n) (t : ts ≡ zeros room) where
     pub not-looked : (asked : Bool) → replied (refused why) hs ts ≡ lookedUp file location asked n room
     unfolding lookedUp zonesIn
-    not-looked asked = refused-zero n room (carried e (λ h. zonesWith file h location asked n room)) h t
+    not-looked asked = not-looked-by false asked e h t
 
     pub not-simply-looked : replied (refused why) hs ts ≡ simplyLooked file location n room
     unfolding simplyLooked describedIn
     not-simply-looked = refused-zero n room (carried e (λ h. describedWith file h location n room)) h t
-
-  -- and the strict lookup with a header that was read strictly
-  pub strictly-looked-with : {head : Head} → given head ≡ headStrictly file → (asked : Bool) → lookedWith file head location asked n room ≡ lookedStrictly file location asked n room
-  unfolding lookedWith lookedStrictly
-  strictly-looked-with e asked = ap (repliedOf n room) (onward e (λ h. zonesWith file h location asked n room))
-
-  pub not-strictly-looked : {why : Refusal} {hs ts : List ℕ} → refused why ≡ headStrictly file → hs ≡ zeros n → ts ≡ zeros room → (asked : Bool) → replied (refused why) hs ts ≡ lookedStrictly file location asked n room
-  unfolding lookedStrictly
-  not-strictly-looked e h t asked = refused-zero n room (carried e (λ h. zonesWith file h location asked n room)) h t

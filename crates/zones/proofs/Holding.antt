@@ -8,7 +8,7 @@ use lib.Seq.{take-at, drop-at}
 use Rattle.numbers.specs.Lists.{zeros, padded, over}
 use Rattle.zones.specs.Fields.{Wrote}
 use Rattle.numbers.proofs.Lists.{zeros-drop}
-use Rattle.zones.proofs.Buffers.{tail-lent, lent-length, tail-back}
+use Rattle.header.proofs.Buffers.{tail-lent, lent-length, tail-back}
 
 pub record Held (room : ℕ) (out text : List ℕ) (at : ℕ) : Type 0 where
   pub sized : length out ≡ at

@@ -12,21 +12,21 @@ use Rattle.border.specs.Verdict.{Judgement}
 use Rattle.border.specs.declared.place.Point.{Point}
 use Rattle.border.specs.declared.verdict.Verdict.{Verdict}
 use Rattle.border.specs.declared.verdict.Verdict.the-variants.{NotInZone, InZone, InExcludedZone, OnBorderVertex, OnBorderSegment}
-use Rattle.zones.specs.Ending.{hitsOf, Through, here, outside, judged, Answered}
-use Rattle.zones.specs.Hits.{noHit, hitAt}
+use Rattle.table.specs.Ending.{hitsOf, Through, here, outside, judged, Answered}
+use Rattle.table.specs.Hits.{noHit, hitAt}
 use Rattle.numbers.specs.Lists.{zeros, padded}
 use Rattle.zones.specs.Lookup.{lookedUp}
-use Rattle.zones.specs.Merge.{Summary, summed, later, _⊕_, single, summary, differs, groupKind, seen, matchOf, mergedAfter, merged}
+use Rattle.table.specs.Merge.{Summary, summed, later, _⊕_, single, summary, differs, groupKind, seen, matchOf, mergedAfter, merged}
 use Rattle.numbers.specs.Reply.{given}
-use Rattle.zones.specs.Rows.{Rows}
+use Rattle.table.specs.Rows.{Rows}
 use Rattle.zones.specs.Simple.{simplyLooked}
-use Rattle.zones.specs.declared.hits.Hit.{Hit}
-use Rattle.zones.specs.declared.location.Location.{Location}
+use Rattle.table.specs.declared.hits.Hit.{Hit}
+use Rattle.table.specs.declared.location.Location.{Location}
 use Rattle.zones.specs.declared.lookup.Zones.{Zones}
-use Rattle.zones.specs.declared.rows.Row.{Row}
+use Rattle.table.specs.declared.rows.Row.{Row}
 use Rattle.zones.specs.declared.simple.Described.{Described}
 use Rattle.zones.proofs.HowItEnds.{lookup-ends, simple-lookup-ends}
-use Rattle.zones.proofs.hits.Words.{word-at}
+use Rattle.table.proofs.Words.{word-at}
 
 -- the kinds of hits, of border verdicts, and of matches
 data HitKind : ℕ → Type 0 where

@@ -15,34 +15,34 @@ use Rattle.numbers.proofs.Readings.{reading-numbered}
 use Rattle.numbers.specs.Answer.{Answer, if_then_else_}
 use Rattle.numbers.specs.Varint.{readingOf}
 use Rattle.numbers.proofs.Replies.{NumberedReply, answers, refuses, then-reply, and-then, demands, number-of}
-use Rattle.zones.proofs.Numbered.{headerNumbers, text-numbered, blame-numbered, head-numbered}
-use Rattle.zones.proofs.header.Heads.{head-strict}
-use Rattle.zones.proofs.TableRows.{rows-so}
-use Rattle.zones.specs.Field.{field, fieldAt}
+use Rattle.header.proofs.Numbered.{headerNumbers, text-numbered, blame-numbered, head-numbered}
+use Rattle.header.proofs.StrictHead.{head-strict}
+use Rattle.table.proofs.TableRows.{rows-so}
+use Rattle.header.specs.Field.{field, fieldAt}
 use Rattle.zones.specs.Fields.{fieldsPlace, fieldsFrom, fieldsOf}
-use Rattle.zones.specs.Find.{fixOf, isPrecision, matchedWith}
-use Rattle.zones.specs.Header.{blameOf, headBy}
-use Rattle.zones.specs.Hits.{width}
+use Rattle.table.specs.Find.{fixOf, isPrecision, matchedWith}
+use Rattle.header.specs.Header.{blameOf, headBy}
+use Rattle.table.specs.Hits.{width}
 use Rattle.zones.specs.Lent.{Outcome, repliedOf}
 use Rattle.zones.specs.Lookup.{zonesWith, zonesBy, zonesIn, lookedUp, lookedStrictly}
 use Rattle.numbers.specs.Reply.{Reply, given, refused, plain, _>>=_}
-use Rattle.zones.specs.Rows.{Rows, row, tableEnd, unreadable, rowBy, rowsFrom, rowsIn}
-use Rattle.zones.specs.Search.{kindOf, judgedTurn, rowTurn, Found, afterTurn, seek, judgeIn, farthest, searched}
+use Rattle.table.specs.Rows.{Rows, row, tableEnd, unreadable, rowBy, rowsFrom, rowsIn}
+use Rattle.table.specs.Search.{kindOf, judgedTurn, rowTurn, Found, afterTurn, seek, judgeIn, farthest, searched}
 use Rattle.zones.specs.Simple.{pickedFrom, pickedOf, checked, descriptionOf, bytesIn, wordedOf, describedWith, describedIn, simplyLooked}
-use Rattle.zones.specs.Table.{stepsBy, entryBy, isAbove, holds}
-use Rattle.zones.specs.Text.{bytesOf, textAt}
-use Rattle.zones.specs.declared.header.Head.{Head}
-use Rattle.zones.specs.declared.hits.Hit.{Hit}
-use Rattle.zones.specs.declared.location.Location.{Location}
+use Rattle.table.specs.Table.{stepsBy, entryBy, isAbove, holds}
+use Rattle.header.specs.Text.{bytesOf, textAt}
+use Rattle.header.specs.declared.header.Head.{Head}
+use Rattle.table.specs.declared.hits.Hit.{Hit}
+use Rattle.table.specs.declared.location.Location.{Location}
 use Rattle.numbers.specs.declared.refusal.Refusal.{Refusal}
-use Rattle.zones.specs.declared.rows.Cursor.{Cursor}
-use Rattle.zones.specs.declared.rows.Row.{Row}
-use Rattle.zones.specs.declared.search.Turn.the-variants.{On, Met, Stopped, Refused}
-use Rattle.zones.specs.declared.search.Turn.{Turn}
+use Rattle.table.specs.declared.rows.Cursor.{Cursor}
+use Rattle.table.specs.declared.rows.Row.{Row}
+use Rattle.table.specs.declared.search.Turn.the-variants.{On, Met, Stopped, Refused}
+use Rattle.table.specs.declared.search.Turn.{Turn}
 use Rattle.zones.specs.declared.simple.Picked.{Picked}
-use Rattle.zones.specs.declared.text.Blame.{Blame}
+use Rattle.header.specs.declared.text.Blame.{Blame}
 use Rattle.numbers.specs.Answer as A
-use Rattle.zones.specs.Rows as T
+use Rattle.table.specs.Rows as T
 
 -- the numbers that document 01 gives to reading a file: 1 to 18
 abbrev pub lookupNumbers : List ℕ

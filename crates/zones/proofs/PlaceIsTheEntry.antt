@@ -18,30 +18,30 @@ use Rattle.numbers.specs.Reply.{given, plain}
 use Rattle.numbers.specs.Varint.{Numeral, forwardAt, readingOf}
 use Rattle.zones.proofs.HowItEnds.{lookup-ends, simple-lookup-ends}
 use Rattle.zones.proofs.MatchKinds.{Each, end, next, both, either, answered-each}
-use Rattle.zones.proofs.Beside.{entry-plain}
-use Rattle.zones.proofs.TableRows.{rows-so}
-use Rattle.zones.specs.Ending.{Through, here, outside, judged, Answered}
-use Rattle.zones.specs.Find.{fixOf}
-use Rattle.zones.specs.Header.{preambleOf, contentsBy, headBy, headOf}
-use Rattle.zones.specs.Hits.{hitOf, hitAt}
+use Rattle.table.proofs.Beside.{entry-plain}
+use Rattle.table.proofs.TableRows.{rows-so}
+use Rattle.table.specs.Ending.{Through, here, outside, judged, Answered}
+use Rattle.table.specs.Find.{fixOf}
+use Rattle.header.specs.Header.{preambleOf, contentsBy, headBy, headOf}
+use Rattle.table.specs.Hits.{hitOf, hitAt}
 use Rattle.zones.specs.Lookup.{lookedUp}
-use Rattle.zones.specs.Merge.{summary, groupKind, seen, mergedAfter, merged}
+use Rattle.table.specs.Merge.{summary, groupKind, seen, mergedAfter, merged}
 use Rattle.zones.specs.Places.{Listed, later, EntryOf}
 use Rattle.zones.specs.Places as P
-use Rattle.zones.specs.Rows.{Rows, row, tableEnd, unreadable, rowOf, rowBy, rowsIn}
-use Rattle.zones.specs.Rows as T
-use Rattle.zones.specs.Search.{kindOf}
+use Rattle.table.specs.Rows.{Rows, row, tableEnd, unreadable, rowOf, rowBy, rowsIn}
+use Rattle.table.specs.Rows as T
+use Rattle.table.specs.Search.{kindOf}
 use Rattle.zones.specs.Simple.{simplyLooked}
-use Rattle.zones.specs.Table.{entryBy, holds}
-use Rattle.zones.specs.declared.header.Head.{Head}
-use Rattle.zones.specs.declared.hits.Hit.{Hit}
-use Rattle.zones.specs.declared.location.Location.{Location}
+use Rattle.table.specs.Table.{entryBy, holds}
+use Rattle.header.specs.declared.header.Head.{Head}
+use Rattle.table.specs.declared.hits.Hit.{Hit}
+use Rattle.table.specs.declared.location.Location.{Location}
 use Rattle.zones.specs.declared.lookup.Zones.{Zones}
-use Rattle.zones.specs.declared.rows.Cursor.{Cursor}
-use Rattle.zones.specs.declared.rows.Row.{Row}
+use Rattle.table.specs.declared.rows.Cursor.{Cursor}
+use Rattle.table.specs.declared.rows.Row.{Row}
 use Rattle.zones.specs.declared.simple.Described.{Described}
-use Rattle.zones.specs.declared.table.Bounds.{Bounds}
-use Rattle.zones.specs.declared.table.Entry.{Entry}
+use Rattle.table.specs.declared.table.Bounds.{Bounds}
+use Rattle.table.specs.declared.table.Entry.{Entry}
 
 -- ---- a row of the table was read at its place
 unfoldable Begins : Rows → Type 0

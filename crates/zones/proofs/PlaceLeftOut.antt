@@ -15,28 +15,28 @@ use Rattle.numbers.specs.Answer.{if_then_else_}
 use Rattle.numbers.specs.Lists.{zeros, padded}
 use Rattle.numbers.specs.Reply.{Reply, given, plain, demand, _>>=_, _>>_}
 use Rattle.numbers.specs.Reply as R
-use Rattle.zones.proofs.Unless.{shown}
-use Rattle.zones.proofs.hits.Words.{words-length}
+use Rattle.header.proofs.Unless.{shown}
+use Rattle.table.proofs.Words.{words-length}
 use Rattle.zones.specs.Fields.{fieldsFrom, fieldsOf, fieldsPlace}
-use Rattle.zones.specs.Find.{fixOf, isPrecision, Matched, matchedWith}
-use Rattle.zones.specs.Header.{headOf}
-use Rattle.zones.specs.Hits.{width, hitOf, words}
+use Rattle.table.specs.Find.{fixOf, isPrecision, Matched, matchedWith}
+use Rattle.header.specs.Header.{headOf}
+use Rattle.table.specs.Hits.{width, hitOf, words}
 use Rattle.zones.specs.Lent.{Outcome, replied, repliedOf}
 use Rattle.zones.specs.Lookup.{safezoneBits, zonesFrom, zonesWith, zonesIn, lookedUp}
-use Rattle.zones.specs.Merge.{Summary, _⊕_, single, summary, groupKind, seen, matchOf, mergedAfter, merged}
+use Rattle.table.specs.Merge.{Summary, _⊕_, single, summary, groupKind, seen, matchOf, mergedAfter, merged}
 use Rattle.zones.specs.Places.{placelessRow, placeless, threeWords, matchedPlaceless, repliedInThree, lookedUpInThree, simplyLookedInThree, leaveOut, withoutPlaces}
-use Rattle.zones.specs.Rest.{restMark}
-use Rattle.zones.specs.Rows.{Rows, row, tableEnd, unreadable, rowsIn}
-use Rattle.zones.specs.Rows as T
-use Rattle.zones.specs.Search.{kindOf, rowHit, judgedTurn, rowTurn, Found, ended, afterTurn, seek, judgeIn, farthest, searched}
+use Rattle.table.specs.Rest.{restMark}
+use Rattle.table.specs.Rows.{Rows, row, tableEnd, unreadable, rowsIn}
+use Rattle.table.specs.Rows as T
+use Rattle.table.specs.Search.{kindOf, rowHit, judgedTurn, rowTurn, Found, ended, afterTurn, seek, judgeIn, farthest, searched}
 use Rattle.zones.specs.Simple.{pickedOf, checked, descriptionOf, bytesIn, lengthIn, wordedOf, describedFrom, describedWith, describedIn, simplyLooked}
-use Rattle.zones.specs.Table.{isAbove, holds}
-use Rattle.zones.specs.declared.header.Head.{Head}
-use Rattle.zones.specs.declared.hits.Hit.{Hit}
-use Rattle.zones.specs.declared.location.Location.{Location}
+use Rattle.table.specs.Table.{isAbove, holds}
+use Rattle.header.specs.declared.header.Head.{Head}
+use Rattle.table.specs.declared.hits.Hit.{Hit}
+use Rattle.table.specs.declared.location.Location.{Location}
 use Rattle.zones.specs.declared.lookup.Zones.{Zones}
-use Rattle.zones.specs.declared.rows.Row.{Row}
-use Rattle.zones.specs.declared.search.Turn.the-variants.{On, Met}
+use Rattle.table.specs.declared.rows.Row.{Row}
+use Rattle.table.specs.declared.search.Turn.the-variants.{On, Met}
 use Rattle.zones.specs.declared.simple.Described.{Described}
 use Rattle.zones.specs.declared.simple.Picked.{Picked}
 

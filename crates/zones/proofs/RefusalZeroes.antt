@@ -4,15 +4,15 @@ use mathlib.Core.Bool.{Bool, true, false}
 use mathlib.Core.List.{List}
 use Prim.Native.Nat.{ℕ}
 use native.Mathlib.Omega.{arith}
-use Rattle.zones.specs.Header.{Contents, headStrictly}
+use Rattle.header.specs.Header.{Contents, headStrictly}
 use Rattle.zones.specs.Lent.{Outcome, repliedOf}
 use Rattle.numbers.specs.Lists.{zeros}
 use Rattle.zones.specs.Lookup.{zonesBy, zonesIn, lookedUp, lookedStrictly}
-use Rattle.zones.specs.Opening as O
-use Rattle.zones.specs.Opening.{fittingOf, openedBy, openedOf, openedStrictly}
+use Rattle.header.specs.Opening as O
+use Rattle.header.specs.Opening.{fittingOf, openedBy, openedOf, openedStrictly}
 use Rattle.numbers.specs.Reply.{Reply, given, refused}
 use Rattle.zones.specs.Simple.{describedIn, simplyLooked}
-use Rattle.zones.specs.declared.location.Location.{Location}
+use Rattle.table.specs.declared.location.Location.{Location}
 use Rattle.numbers.specs.declared.refusal.Refusal.{Refusal}
 
 both-zero : {A : Type 0} (n room : ℕ) (reply : Reply (Outcome A)) (why : Refusal) → repliedOf n room reply .reply ≡ refused why

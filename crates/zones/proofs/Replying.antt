@@ -6,12 +6,13 @@ use Prim.Native.Nat.{ℕ}
 use native.Mathlib.Omega.{arith}
 use Rattle.numbers.specs.Lists.{zeros}
 use Rattle.numbers.specs.Reply.{Reply, given, refused}
-use Rattle.zones.specs.Lent.{Agrees, Outcome, Replied, replied, repliedOf, Filled}
+use Rattle.table.specs.Agreeing.{Agrees}
+use Rattle.zones.specs.Lent.{Outcome, Replied, replied, repliedOf, Filled}
 use Rattle.zones.specs.Lookup.{zonesIn, lookedUp}
-use Rattle.zones.specs.declared.location.Location.{Location}
+use Rattle.table.specs.declared.location.Location.{Location}
 use Rattle.zones.specs.declared.lookup.Zones.{Zones}
 use Rattle.numbers.specs.declared.refusal.Refusal.{Refusal}
-use Rattle.zones.proofs.Agreeing.{gave, refused-so}
+use Rattle.table.proofs.Agreeing.{gave, refused-so}
 
 -- filled in buffers that were zeroed, in the lengths that were lent
 module _ {A : Type 0} (whole : ℕ → ℕ → Reply (Outcome A)) (reply : Reply A) (hs ts : List ℕ) {n n′ room room′ : ℕ} (h : n′ ≡ n) (t : room′ ≡ room)

@@ -7,7 +7,7 @@ use Rattle.numbers.specs.Reply.{Reply, given, refused}
 use Rattle.zones.specs.Lent.{Replied, replied}
 use Rattle.zones.specs.Lookup.{lookedUp, toldLooked, lookedStrictly}
 use Rattle.zones.specs.Simple.{simplyLooked, toldSimple}
-use Rattle.zones.specs.declared.location.Location.{Location}
+use Rattle.table.specs.declared.location.Location.{Location}
 use Rattle.zones.specs.declared.lookup.Zones.{Zones}
 use Rattle.zones.specs.declared.lookup.Looked.{Looked}
 use Rattle.zones.specs.declared.lookup.Looked.the-variants as L

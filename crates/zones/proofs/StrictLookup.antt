@@ -14,33 +14,33 @@ use Rattle.border.specs.Verdict.{Judgement}
 use Rattle.border.specs.declared.place.Point.{Point}
 use Rattle.numbers.specs.Answer.{if_then_else_}
 use Rattle.numbers.specs.Reply.{Reply, given, refused, plain, _>>=_}
-use Rattle.zones.proofs.StrictHead.{Or31, then-same, shown-same, text-strictly, unstrict, head-strictly, table-within}
-use Rattle.zones.proofs.StrictRows.{StrictRows, row, cut-off, at-end, unread, stopped, rows-strictly}
-use Rattle.zones.proofs.Unless.{shown, Unless, refuses, alike, unless-demand}
-use Rattle.zones.proofs.header.Heads.{head-strict}
-use Rattle.zones.specs.Field.{field, fieldAt}
+use Rattle.header.proofs.StrictHead.{Or31, then-same, shown-same, text-strictly, unstrict, head-strictly, table-within}
+use Rattle.table.proofs.StrictRows.{StrictRows, row, cut-off, at-end, unread, stopped, rows-strictly}
+use Rattle.header.proofs.Unless.{shown, Unless, refuses, alike, unless-demand}
+use Rattle.header.proofs.StrictHead.{head-strict}
+use Rattle.header.specs.Field.{field, fieldAt}
 use Rattle.zones.specs.Fields.{fieldsPlace, fieldsFrom, fieldsOf}
-use Rattle.zones.specs.Find.{Matched, isPrecision, fixOf, matchedWith}
-use Rattle.zones.specs.Header.{headBy, headOf, headStrictly}
-use Rattle.zones.specs.Hits.{width}
+use Rattle.table.specs.Find.{Matched, isPrecision, fixOf, matchedWith}
+use Rattle.header.specs.Header.{headBy, headOf, headStrictly}
+use Rattle.table.specs.Hits.{width}
 use Rattle.zones.specs.Lent.{Outcome, Replied, repliedOf}
 use Rattle.zones.specs.Lookup.{zonesWith, zonesBy, zonesIn, lookedUp, lookedStrictly}
-use Rattle.zones.specs.Rest.{restMark}
-use Rattle.zones.specs.Rows.{Rows, startAt, rowsIn}
-use Rattle.zones.specs.Search.{Found, ended, farthest, afterTurn, judgedTurn, rowTurn, seek, judgeIn, searched}
-use Rattle.zones.specs.Table.{isAbove, holds}
-use Rattle.zones.specs.Text.{textAt}
-use Rattle.zones.specs.declared.header.Head.{Head}
-use Rattle.zones.specs.declared.header.Preamble.{Preamble}
-use Rattle.zones.specs.declared.header.Sections.{Sections}
-use Rattle.zones.specs.declared.hits.Hit.{Hit}
-use Rattle.zones.specs.declared.location.Location.{Location}
+use Rattle.table.specs.Rest.{restMark}
+use Rattle.table.specs.Rows.{Rows, startAt, rowsIn}
+use Rattle.table.specs.Search.{Found, ended, farthest, afterTurn, judgedTurn, rowTurn, seek, judgeIn, searched}
+use Rattle.table.specs.Table.{isAbove, holds}
+use Rattle.header.specs.Text.{textAt}
+use Rattle.header.specs.declared.header.Head.{Head}
+use Rattle.header.specs.declared.header.Preamble.{Preamble}
+use Rattle.header.specs.declared.header.Sections.{Sections}
+use Rattle.table.specs.declared.hits.Hit.{Hit}
+use Rattle.table.specs.declared.location.Location.{Location}
 use Rattle.zones.specs.declared.lookup.Zones.{Zones}
-use Rattle.zones.specs.declared.rows.Row.{Row}
-use Rattle.zones.specs.declared.search.Turn.the-variants.{On, Met, Stopped, Refused}
-use Rattle.zones.specs.declared.search.Turn.{Turn}
-use Rattle.zones.specs.declared.text.Blame.{Blame}
-use Rattle.zones.specs.Rows as T
+use Rattle.table.specs.declared.rows.Row.{Row}
+use Rattle.table.specs.declared.search.Turn.the-variants.{On, Met, Stopped, Refused}
+use Rattle.table.specs.declared.search.Turn.{Turn}
+use Rattle.header.specs.declared.text.Blame.{Blame}
+use Rattle.table.specs.Rows as T
 
 -- ---- the search
 module _ (judge judge′ : ℕ → ℕ → Judgement) (alike-judged : (polygon least : ℕ) → StrictJudgement (judge polygon least) (judge′ polygon least)) (fix : Point) (end room : ℕ) where

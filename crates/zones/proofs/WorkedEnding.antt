@@ -18,29 +18,30 @@ use Rattle.border.specs.Winding.{turned, quarterBy, halfTurn, turnAt, crossingO
 use Rattle.border.specs.Distance.{measured}
 use Rattle.border.specs.Step as S
 use Rattle.border.specs.Verdict.{along, passing, closedAt, thenOn, judge, judgedAt}
-use Rattle.zones.specs.Field.{fieldAt}
+use Rattle.header.specs.Field.{fieldAt}
 use Rattle.zones.specs.Fields.{fieldsFrom, fieldsOf}
-use Rattle.zones.specs.Find.{fixOf, matchedWith}
-use Rattle.zones.specs.Header.{preambleOf, textsFrom, sectionsFrom, sectionsAt, contentsBy, headBy}
-use Rattle.zones.specs.Hits.{words, hitOf, hitAt}
-use Rattle.zones.specs.Ending.{Answered}
+use Rattle.table.specs.Find.{fixOf, matchedWith}
+use Rattle.header.specs.Header.{preambleOf, textsFrom, sectionsFrom, sectionsAt, contentsBy, headBy}
+use Rattle.table.specs.Hits.{words, hitOf, hitAt}
+use Rattle.table.specs.Ending.{Answered}
 use Rattle.zones.specs.Lent.{Replied, replied, repliedOf}
 use Rattle.zones.specs.Lookup.{safezoneBits, zonesWith, zonesIn, lookedUp}
-use Rattle.zones.specs.Merge.{summary, seen, mergedAfter, merged}
+use Rattle.table.specs.Merge.{summary, seen, mergedAfter, merged}
 use Rattle.numbers.specs.Reply.{given}
-use Rattle.zones.specs.Rows.{rowsThen, rowBy, rowsWithin, rowsFrom, rowsIn}
-use Rattle.zones.specs.Search.{judgedTurn, rowTurn, seek, searched}
-use Rattle.zones.specs.Table.{stepsBy, entryBy}
-use Rattle.zones.specs.Text.{within, remoteAt, stringAt, bytesOf, textAt}
-use Rattle.zones.specs.Utf8.{characters, startedBy, begunBy, followed, goesOn, isUtf8}
-use Rattle.zones.specs.declared.location.Location.{Location}
+use Rattle.table.specs.Rows.{rowsThen, rowBy, rowsWithin, rowsFrom, rowsIn}
+use Rattle.table.specs.Search.{judgedTurn, rowTurn, seek, searched}
+use Rattle.table.specs.Table.{stepsBy, entryBy}
+use Rattle.header.specs.Text.{within, remoteAt, stringAt, bytesOf, textAt}
+use Rattle.header.specs.Utf8.{characters, startedBy, begunBy, followed, goesOn, isUtf8}
+use Rattle.table.specs.declared.location.Location.{Location}
 use Rattle.zones.specs.declared.lookup.Zones.{Zones}
 use Rattle.zones.proofs.HowItEnds.{lookup-ends}
 use Rattle.zones.proofs.PlaceIsTheEntry.{place-is-the-entry}
 use Rattle.zones.specs.Places.{EntryOf}
 use Rattle.zones.proofs.WholeMeansWhole.{whole-means-whole, mark-four}
-use Rattle.zones.specs.Rest.{restMark}
-use Rattle.zones.specs.Unstopped.{lookedThroughAll, PassedOver}
+use Rattle.table.specs.Rest.{restMark}
+use Rattle.table.specs.Unstopped.{PassedOver}
+use Rattle.zones.specs.Unstopped.{lookedThroughAll}
 
 abbrev printed : List ℕ
 printed =

@@ -5,9 +5,9 @@ use Prim.Native.Nat.{ℕ, zero, suc, _+_, _-_, _%_, _^_}
 use lib.ListN.{length}
 use Rattle.numbers.specs.Lists.{padded}
 use Rattle.numbers.specs.Reply.{Reply, given, refused, _>>=_}
-use Rattle.zones.specs.Field.{fieldAt}
-use Rattle.zones.specs.declared.header.Head.{Head}
-use Rattle.zones.specs.declared.hits.Hit.{Hit}
+use Rattle.header.specs.Field.{fieldAt}
+use Rattle.header.specs.declared.header.Head.{Head}
+use Rattle.table.specs.declared.hits.Hit.{Hit}
 use Rattle.zones.specs.declared.fields.Fields.{Fields}
 use Rattle.zones.specs.declared.fields.Fields.the-variants as F
 

@@ -1,21 +1,13 @@
--- What goes into lent buffers: how a call's reply goes with what a definition gives, and an entry point's reply with all that it was lent.
+-- What an entry point answers, and what goes into the buffers that it was lent.
 use mathlib.Core.Path.{_≡_}
 use mathlib.Core.List.{List}
 use Prim.Native.Nat.{ℕ}
 use Rattle.numbers.specs.Lists.{zeros, padded}
 use Rattle.numbers.specs.Reply.{Reply, given, refused}
-use Rattle.zones.specs.Hits.{words}
-use Rattle.zones.specs.declared.hits.Hit.{Hit}
+use Rattle.table.specs.Hits.{words}
+use Rattle.table.specs.declared.hits.Hit.{Hit}
 
--- the same refusal, or both give, and what they give goes together; a refusal says nothing of the buffers, which are zeroed after it
-unfoldable pub Agrees : {A B : Type 0} → (A → B → Type 0) → Reply A → Reply B → Type 0
-Agrees so (given a) (given b) = so a b
-Agrees so (refused why) (refused why′) = why ≡ why′
-Agrees so (given a) (refused why) = ⊥
-Agrees so (refused why) (given b) = ⊥
-
--- ---- entry points
--- what one answers, and what it puts into the lent list and the lent text
+-- the answer, and what is put into the lent list and the lent text
 pub record Outcome (A : Type 0) : Type 0 where
   pub answer : A
   pub matches : List Hit

@@ -1,5 +1,5 @@
 -- Lookup, as document 01 has it.
-use mathlib.Core.Bool.{Bool}
+use mathlib.Core.Bool.{Bool, true}
 use mathlib.Core.List.{List, []}
 use Prim.Native.Nat.{ℕ, _/_}
 use lib.IntN.{pos}
@@ -9,13 +9,13 @@ use Rattle.numbers.specs.Answer.{if_then_else_}
 use Rattle.numbers.specs.Float.{toF32, oneShifted, _⊠_, _⊘_}
 use Rattle.numbers.specs.Float.Root.{root}
 use Rattle.numbers.specs.Reply.{Reply, given, refused, _>>=_}
-use Rattle.zones.specs.Header.{headOf, headStrictly}
-use Rattle.zones.specs.Hits.{width}
-use Rattle.zones.specs.declared.header.Head.{Head}
-use Rattle.zones.specs.Find.{ninety, Matched, matchedWith}
+use Rattle.header.specs.Header.{headBy, headOf}
+use Rattle.table.specs.Hits.{width}
+use Rattle.header.specs.declared.header.Head.{Head}
+use Rattle.table.specs.Find.{ninety, Matched, matchedWith}
 use Rattle.zones.specs.Fields.{fieldsOf}
 use Rattle.zones.specs.Lent.{Outcome, Replied, repliedOf}
-use Rattle.zones.specs.declared.location.Location.{Location}
+use Rattle.table.specs.declared.location.Location.{Location}
 use Rattle.zones.specs.declared.lookup.Zones.{Zones}
 use Rattle.zones.specs.declared.lookup.Looked.{Looked}
 use Rattle.zones.specs.declared.lookup.Looked.the-variants as L
@@ -57,13 +57,16 @@ zonesIn file location asked n room = zonesBy (headOf file) file location asked n
 unfoldable pub lookedWith : List ℕ → Head → Location → Bool → ℕ → ℕ → Replied Zones
 lookedWith file head location asked n room = repliedOf n room (zonesWith file head location asked n room)
 
--- and in a file that is opened first
+-- and in a file that is opened first, plainly or strictly
+abbrev pub lookedBy : Bool → List ℕ → Location → Bool → ℕ → ℕ → Replied Zones
+lookedBy strict file location asked n room = repliedOf n room (zonesBy (headBy strict file) file location asked n room)
+
 unfoldable pub lookedUp : List ℕ → Location → Bool → ℕ → ℕ → Replied Zones
 lookedUp file location asked n room = repliedOf n room (zonesIn file location asked n room)
 
 -- request Q-6: opened and read strictly
 unfoldable pub lookedStrictly : List ℕ → Location → Bool → ℕ → ℕ → Replied Zones
-lookedStrictly file location asked n room = repliedOf n room (zonesBy (headStrictly file) file location asked n room)
+lookedStrictly file location asked n room = lookedBy true file location asked n room
 
 abbrev pub toldLooked : Looked → Reply Zones
 toldLooked (L.Zones zones) = given zones

@@ -7,22 +7,22 @@ use Rattle.numbers.specs.Answer.{found}
 use Rattle.numbers.specs.Lists.{zeros, padded}
 use Rattle.numbers.specs.Reply.{Reply, given, refused, _>>=_}
 use Rattle.numbers.specs.Varint.{forwardAt}
-use Rattle.zones.specs.Find.{fixOf, Matched, matchedBy}
-use Rattle.zones.specs.Header.{headOf}
+use Rattle.table.specs.Find.{fixOf, Matched, matchedBy}
+use Rattle.header.specs.Header.{headOf}
 use Rattle.zones.specs.Lent.{Outcome, Replied, replied}
 use Rattle.zones.specs.Lookup.{zonesFrom}
-use Rattle.zones.specs.Rows.{Rows, row, tableEnd, unreadable, rowsIn}
-use Rattle.zones.specs.Rows as T
-use Rattle.zones.specs.Search.{searchedRows}
+use Rattle.table.specs.Rows.{Rows, row, tableEnd, unreadable, rowsIn}
+use Rattle.table.specs.Rows as T
+use Rattle.table.specs.Search.{searchedRows}
 use Rattle.zones.specs.Simple.{describedFrom}
-use Rattle.zones.specs.Table.{entryBy, holds}
-use Rattle.zones.specs.declared.header.Head.{Head}
-use Rattle.zones.specs.declared.hits.Hit.{Hit}
-use Rattle.zones.specs.declared.location.Location.{Location}
+use Rattle.table.specs.Table.{entryBy, holds}
+use Rattle.header.specs.declared.header.Head.{Head}
+use Rattle.table.specs.declared.hits.Hit.{Hit}
+use Rattle.table.specs.declared.location.Location.{Location}
 use Rattle.zones.specs.declared.lookup.Zones.{Zones}
-use Rattle.zones.specs.declared.rows.Row.{Row}
+use Rattle.table.specs.declared.rows.Row.{Row}
 use Rattle.zones.specs.declared.simple.Described.{Described}
-use Rattle.zones.specs.declared.table.Entry.{Entry}
+use Rattle.table.specs.declared.table.Entry.{Entry}
 
 -- ---- the entry behind a match
 -- one of these rows

@@ -9,16 +9,16 @@ use lib.ListN.{length}
 use Rattle.numbers.specs.Answer.{if_then_else_}
 use Rattle.numbers.specs.Lists.{padded}
 use Rattle.numbers.specs.Reply.{Reply, given, refused, plain, demand, _>>=_, _>>_}
-use Rattle.zones.specs.Text.{textAt, bytesOf}
-use Rattle.zones.specs.Header.{blameOf, headOf}
-use Rattle.zones.specs.Hits.{width}
-use Rattle.zones.specs.Find.{Matched, matchedWith}
+use Rattle.header.specs.Text.{textAt, bytesOf}
+use Rattle.header.specs.Header.{blameOf, headOf}
+use Rattle.table.specs.Hits.{width}
+use Rattle.table.specs.Find.{Matched, matchedWith}
 use Rattle.zones.specs.Fields.{fieldsPlace}
 use Rattle.zones.specs.Lent.{Outcome, Replied, repliedOf}
-use Rattle.zones.specs.declared.header.Head.{Head}
-use Rattle.zones.specs.declared.hits.Hit.{Hit}
-use Rattle.zones.specs.declared.location.Location.{Location}
-use Rattle.zones.specs.declared.text.Text.{Text}
+use Rattle.header.specs.declared.header.Head.{Head}
+use Rattle.table.specs.declared.hits.Hit.{Hit}
+use Rattle.table.specs.declared.location.Location.{Location}
+use Rattle.header.specs.declared.text.Text.{Text}
 use Rattle.zones.specs.declared.simple.Value.{Value}
 use Rattle.zones.specs.declared.simple.Value.the-variants as X
 use Rattle.zones.specs.declared.simple.Picked.{Picked}

@@ -1,57 +1,21 @@
--- The lookup whose search never stops early: what mark 1 is held against.
+-- The lookups whose search never stops early: what mark 1 is held against.
+use mathlib.Core.Bool.{Bool, false}
+use mathlib.Core.List.{List}
 use Prim.Native.Nat.{ℕ, _/_}
-use mathlib.Core.Bool.{Bool, true, false}
-use mathlib.Core.List.{List, []}
-use mathlib.Core.Path.{_≡_}
-use Rattle.border.specs.Verdict.{Judgement}
-use Rattle.border.specs.declared.place.Point.{Point}
-use Rattle.zones.specs.Find.{Matched, matchedBy}
-use Rattle.zones.specs.Header.{headOf}
-use Rattle.zones.specs.Hits.{width}
+use Rattle.header.specs.Header.{headOf}
+use Rattle.numbers.specs.Reply.{_>>=_}
+use Rattle.table.specs.Hits.{width}
+use Rattle.table.specs.Unstopped.{matchedAll}
+use Rattle.table.specs.declared.location.Location.{Location}
 use Rattle.zones.specs.Lent.{Replied, repliedOf}
 use Rattle.zones.specs.Lookup.{zonesFrom}
-use Rattle.numbers.specs.Reply.{Reply, plain, _>>=_}
-use Rattle.zones.specs.Rows.{Rows, row, tableEnd, unreadable, rowsIn}
-use Rattle.zones.specs.Search.{Found, ended, afterTurn, rowTurn, judgeIn, farthest}
 use Rattle.zones.specs.Simple.{describedFrom}
-use Rattle.zones.specs.Table.{isAbove, holds}
-use Rattle.zones.specs.declared.header.Head.{Head}
-use Rattle.zones.specs.declared.hits.Hit.{Hit}
-use Rattle.zones.specs.declared.location.Location.{Location}
 use Rattle.zones.specs.declared.lookup.Zones.{Zones}
-use Rattle.zones.specs.declared.rows.Row.{Row}
 use Rattle.zones.specs.declared.simple.Described.{Described}
-use Rattle.numbers.specs.Reply as R
-use Rattle.zones.specs.Rows as T
 
--- as `seek`, but no row stops it because of its lower latitude
-unfoldable pub seekAll : (ℕ → ℕ → Judgement) → Point → ℕ → Rows → ℕ → List Hit → Reply Found
-seekAll judge fix room (row r rows) least hits = afterTurn (rowTurn judge fix r least) hits room (seekAll judge fix room rows)
-seekAll judge fix room tableEnd least hits = ended hits 1 least
-seekAll judge fix room unreadable least hits = ended hits 2 least
-seekAll judge fix room (T.refused n) least hits = R.refused (plain n)
-
--- what it finds in a file with this header
-unfoldable pub matchedAll : List ℕ → Head → Location → Bool → ℕ → Reply Matched
-matchedAll file head location asked room = matchedBy head location (λ fix. seekAll (judgeIn file head fix asked) fix room (rowsIn file head) farthest [])
-
--- lookup and simple lookup over it: the reply and both lent buffers
+-- lookup and simple lookup over that search: the reply and both lent buffers
 unfoldable pub lookedThroughAll : List ℕ → Location → Bool → ℕ → ℕ → Replied Zones
 lookedThroughAll file location asked n room = repliedOf n room (headOf file >>= λ head. zonesFrom file head asked room (matchedAll file head location asked (n / width)))
 
 unfoldable pub simplyLookedThroughAll : List ℕ → Location → ℕ → ℕ → Replied Described
 simplyLookedThroughAll file location n room = repliedOf n room (headOf file >>= λ head. describedFrom file head room (matchedAll file head location false (n / width)))
-
--- ---- a row that an early stop passed over
--- one of these rows holds the location
-pub data SomeHolds (fix : Point) : Rows → Type 0 where
-  this : {r : Row} {rows : Rows} → holds (r .bounds) fix ≡ true → SomeHolds fix (row r rows)
-  later : {r : Row} {rows : Rows} → SomeHolds fix rows → SomeHolds fix (row r rows)
-
--- the search ended at these rows' first, which is above the location, and one behind it holds the location
-pub record PassedOver (fix : Point) (rows : Rows) : Type 0 where
-  pub stop : Row
-  pub rest : Rows
-  pub is : rows ≡ row stop rest
-  pub stops : isAbove (stop .bounds) fix ≡ true
-  pub held : SomeHolds fix rest

@@ -4,15 +4,15 @@ ghost use mathlib.Core.List.{[]};
 ghost use Prim.Native.Nat.{_/_, _≤_};
 ghost use lib.ListN.{length, take};
 ghost use Rattle.numbers.specs.Lists.{zeros, padded};
-ghost use Rattle.zones.specs.Hits.{width, slots};
-ghost use Rattle.zones.specs.Lent.{Agrees};
+ghost use Rattle.table.specs.Hits.{width, slots};
+ghost use Rattle.table.specs.Agreeing.{Agrees};
 ghost use Rattle.zones.specs.Fields.{fieldsPlace, fieldsFrom, fieldsOf, toldFields, Wrote};
-use crate::field::Written;
-use crate::field::write_field;
-use crate::header::Head;
-use crate::hits::hit_at;
+use header::field::Written;
+use header::field::write_field;
+use header::header::Head;
 use numbers::refusal::Refusal;
 use std::num::wrapping_add_u32;
+use table::hits::hit_at;
 
 pub enum Fields {
     // How much of the text is used.

@@ -2,23 +2,24 @@
 ghost use mathlib.Core.Path.{_≡_};
 ghost use lib.ListN.{length};
 ghost use Rattle.numbers.specs.Lists.{zeros};
-ghost use Rattle.zones.specs.Lent.{Agrees, Filled, replied};
-ghost use Rattle.zones.specs.Lookup.{safezoneBits, zonesWith, lookedWith, lookedUp, lookedStrictly, toldLooked};
+ghost use Rattle.table.specs.Agreeing.{Agrees};
+ghost use Rattle.zones.specs.Lent.{Filled, replied};
+ghost use Rattle.zones.specs.Lookup.{safezoneBits, zonesWith, lookedWith, lookedBy, lookedUp, lookedStrictly, toldLooked};
 use crate::fields::Fields;
 use crate::fields::write_fields;
-use crate::find::Found;
-use crate::find::matches_in;
-use crate::header::Head;
-use crate::header::Headed;
-use crate::header::head_by;
-use crate::header::head_of;
-use crate::location::Location;
-use crate::zero::zero_both;
+use header::field::zero;
+use header::header::Head;
+use header::header::Headed;
+use header::header::head_by;
+use header::zero::zero_both;
 use numbers::float::bits::bits_of;
 use numbers::float::fixed::factor;
 use numbers::float::nearest::of_u64;
 use numbers::float::root::sqrt;
 use numbers::refusal::Refusal;
+use table::find::Found;
+use table::find::find_in;
+use table::location::Location;
 
 // How many matches, the end mark, the safezone's bits (0 if not asked), and how much of the text is used.
 pub struct Zones {
@@ -42,7 +43,7 @@ fn safezone(asked: bool, least: u64, precision: u8) -> u32
     0
 }
 
-// In buffers that are zero.
+// In a text that is zero.
 fn look(
     file: &[u8],
     head: Head,
@@ -51,11 +52,11 @@ fn look(
     hits: &mut [u32],
     text: &mut [u8],
 ) -> Looked
-    requires { ⌜ (now hits ≡ zeros (length (now hits))) × (now text ≡ zeros (length (now text))) ⌝ }
+    requires { ⌜ now text ≡ zeros (length (now text)) ⌝ }
     ensures { λ r. ⌜ Agrees (Filled (length (now (hits .entry))) (length (now (text .entry))) (now (hits .exit)) (now (text .exit)))
         (zonesWith (now (file .entry)) head location asked (length (now (hits .entry))) (length (now (text .entry)))) (toldLooked r) ⌝ }
 {
-    let found = match matches_in(file, head, location, asked, hits) {
+    let found = match find_in(file, head, location, asked, hits) {
         Found::Matches(found) => found,
         Found::Refused(why) => return Looked::Refused(why),
     };
@@ -86,7 +87,7 @@ pub fn lookup_in(
     ensures { λ r. ⌜ replied (toldLooked r) (now (hits .exit)) (now (text .exit))
         ≡ lookedWith (now (file .entry)) head location asked (length (now (hits .entry))) (length (now (text .entry))) ⌝ }
 {
-    zero_both(hits, text);
+    zero(text);
     let zones = match look(file, head, location, asked, hits, text) {
         Looked::Zones(zones) => zones,
         Looked::Refused(why) => {
@@ -95,6 +96,28 @@ pub fn lookup_in(
         }
     };
     Looked::Zones(zones)
+}
+
+// In a file whose header is read plainly or strictly.
+fn lookup_by(
+    file: &[u8],
+    strict: bool,
+    location: Location,
+    asked: bool,
+    hits: &mut [u32],
+    text: &mut [u8],
+) -> Looked
+    ensures { λ r. ⌜ replied (toldLooked r) (now (hits .exit)) (now (text .exit))
+        ≡ lookedBy strict (now (file .entry)) location asked (length (now (hits .entry))) (length (now (text .entry))) ⌝ }
+{
+    let head = match head_by(file, strict) {
+        Headed::Head(head) => head,
+        Headed::Refused(why) => {
+            zero_both(hits, text);
+            return Looked::Refused(why);
+        }
+    };
+    lookup_in(file, head, location, asked, hits, text)
 }
 
 pub fn lookup(
@@ -107,14 +130,7 @@ pub fn lookup(
     ensures { λ r. ⌜ replied (toldLooked r) (now (hits .exit)) (now (text .exit))
         ≡ lookedUp (now (file .entry)) location asked (length (now (hits .entry))) (length (now (text .entry))) ⌝ }
 {
-    let head = match head_of(file) {
-        Headed::Head(head) => head,
-        Headed::Refused(why) => {
-            zero_both(hits, text);
-            return Looked::Refused(why);
-        }
-    };
-    lookup_in(file, head, location, asked, hits, text)
+    lookup_by(file, false, location, asked, hits, text)
 }
 
 // The same, but a number that the file's end cuts is refused: 31.
@@ -128,12 +144,5 @@ pub fn lookup_strict(
     ensures { λ r. ⌜ replied (toldLooked r) (now (hits .exit)) (now (text .exit))
         ≡ lookedStrictly (now (file .entry)) location asked (length (now (hits .entry))) (length (now (text .entry))) ⌝ }
 {
-    let head = match head_by(file, true) {
-        Headed::Head(head) => head,
-        Headed::Refused(why) => {
-            zero_both(hits, text);
-            return Looked::Refused(why);
-        }
-    };
-    lookup_in(file, head, location, asked, hits, text)
+    lookup_by(file, true, location, asked, hits, text)
 }

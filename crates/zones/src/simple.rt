@@ -4,32 +4,34 @@ ghost use mathlib.Core.List.{map, _++_};
 ghost use Prim.Native.Nat.{_+_, _/_, _≤_};
 ghost use lib.ListN.{length, take};
 ghost use Rattle.numbers.specs.Lists.{zeros};
-ghost use Rattle.zones.specs.Utf8.{unmasked};
-ghost use Rattle.zones.specs.Text.{bytesOf};
-ghost use Rattle.zones.specs.Hits.{width, slots};
+ghost use Rattle.header.specs.Utf8.{unmasked};
+ghost use Rattle.header.specs.Text.{bytesOf};
+ghost use Rattle.table.specs.Hits.{width, slots};
 ghost use Rattle.zones.specs.Fields.{toldFields, Wrote};
-ghost use Rattle.zones.specs.Lent.{Agrees, Filled, replied};
+ghost use Rattle.table.specs.Agreeing.{Agrees};
+ghost use Rattle.zones.specs.Lent.{Filled, replied};
 ghost use Rattle.zones.specs.Simple.{same, partOf, begun, newer, pickedFrom, checked, fitting, wordedOf, toldPicks, toldChecked, toldWorded, Worded, describedWith, simplyLookedWith, simplyLooked, toldSimple};
-use crate::codes::BAD_FIELD;
-use crate::codes::TEXT_FULL;
-use crate::field::unmask;
 use crate::fields::Fields;
 use crate::fields::fields_place;
-use crate::find::Found;
-use crate::find::matches_in;
-use crate::header::Head;
-use crate::header::Headed;
-use crate::header::head_of;
-use crate::header::read_header_text;
-use crate::hits::hit_at;
-use crate::location::Location;
-use crate::text::Blame;
-use crate::text::Read;
-use crate::text::Text;
-use crate::text::read_text;
-use crate::zero::zero_both;
+use header::codes::BAD_FIELD;
+use header::codes::TEXT_FULL;
+use header::field::unmask;
+use header::field::zero;
+use header::header::Head;
+use header::header::Headed;
+use header::header::head_of;
+use header::header::read_header_text;
+use header::text::Blame;
+use header::text::Read;
+use header::text::Text;
+use header::text::read_text;
+use header::zero::zero_both;
 use numbers::refusal::Refusal;
 use numbers::refusal::plain;
+use table::find::Found;
+use table::find::find_in;
+use table::hits::hit_at;
+use table::location::Location;
 
 pub enum Description {
     // How many bytes of the text it takes.
@@ -255,13 +257,13 @@ fn describe(text: &mut [u8], file: &[u8], head: Head, hits: &[u32], count: usize
     }
 }
 
-// In buffers that are zero.
+// In a text that is zero.
 fn look(file: &[u8], head: Head, location: Location, hits: &mut [u32], text: &mut [u8]) -> Simple
-    requires { ⌜ (now hits ≡ zeros (length (now hits))) × (now text ≡ zeros (length (now text))) ⌝ }
+    requires { ⌜ now text ≡ zeros (length (now text)) ⌝ }
     ensures { λ r. ⌜ Agrees (Filled (length (now (hits .entry))) (length (now (text .entry))) (now (hits .exit)) (now (text .exit)))
         (describedWith (now (file .entry)) head location (length (now (hits .entry))) (length (now (text .entry)))) (toldSimple r) ⌝ }
 {
-    let found = match matches_in(file, head, location, false, hits) {
+    let found = match find_in(file, head, location, false, hits) {
         Found::Matches(found) => found,
         Found::Refused(why) => return Simple::Refused(why),
     };
@@ -292,7 +294,7 @@ pub fn simple_lookup_in(
     ensures { λ r. ⌜ replied (toldSimple r) (now (hits .exit)) (now (text .exit))
         ≡ simplyLookedWith (now (file .entry)) head location (length (now (hits .entry))) (length (now (text .entry))) ⌝ }
 {
-    zero_both(hits, text);
+    zero(text);
     let described = match look(file, head, location, hits, text) {
         Simple::Described(described) => described,
         Simple::Refused(why) => {

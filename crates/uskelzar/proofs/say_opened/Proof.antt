@@ -1,5 +1,5 @@
 use mathlib.Core.Path.{ap}
-use Rattle.zones.specs.Opening.{toldOpened}
+use Rattle.header.specs.Opening.{toldOpened}
 use Rattle.uskelzar.proofs.Saying.{said-given, said-refused}
 use Rattle.uskelzar.specs.Spoken.{openingValues}
 use borrow.Author.Needs.{needs}

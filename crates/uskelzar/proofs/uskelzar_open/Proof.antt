@@ -8,7 +8,7 @@ use Rattle.uskelzar.proofs.uskelzar_open.Reads as reads
 use Rattle.uskelzar.proofs.uskelzar_open.Lts as lts
 use Rattle.uskelzar.proofs.say_opened.Reads as say-opened-reads
 use Rattle.uskelzar.proofs.speak.Reads as speak-reads
-use Rattle.zones.proofs.opening.open.Reads as open-reads
+use Rattle.header.proofs.opening.open.Reads as open-reads
 
 open-requires : tie.Need-open-requires
 open-requires c κs = search needs

@@ -12,22 +12,22 @@ use lib.ListN.{length, getD, take, drop, length-append, drop-of-length-le}
 use lib.Seq.{drop-cons, length-take-le}
 use Rattle.numbers.specs.Lists.{zeros, padded}
 use Rattle.numbers.specs.Reply.{Reply, given, refused, plain, demand, _>>=_, _>>_}
-use Rattle.zones.specs.Text.{bytesOf, textAt}
-use Rattle.zones.specs.Field.{Field, field, fieldAt, toldField, sentOf, textAfter}
-use Rattle.zones.specs.Hits.{noHit}
-use Rattle.zones.specs.Lent.{Agrees}
+use Rattle.header.specs.Text.{bytesOf, textAt}
+use Rattle.header.specs.Field.{Field, field, fieldAt, toldField, sentOf, textAfter}
+use Rattle.table.specs.Hits.{noHit}
+use Rattle.table.specs.Agreeing.{Agrees}
 use Rattle.zones.specs.Fields.{fieldsPlace, fieldsFrom, fieldsOf, toldFields, Wrote}
-use Rattle.zones.specs.declared.header.Head.{Head}
-use Rattle.zones.specs.declared.hits.Hit.{Hit}
+use Rattle.header.specs.declared.header.Head.{Head}
+use Rattle.table.specs.declared.hits.Hit.{Hit}
 use Rattle.numbers.specs.declared.refusal.Refusal.{Refusal}
-use Rattle.zones.specs.declared.field.Sent.{Sent}
-use Rattle.zones.specs.declared.field.Written.{Written}
-use Rattle.zones.specs.declared.field.Written.the-variants as W
+use Rattle.header.specs.declared.field.Sent.{Sent}
+use Rattle.header.specs.declared.field.Written.{Written}
+use Rattle.header.specs.declared.field.Written.the-variants as W
 use Rattle.zones.specs.declared.fields.Fields.{Fields}
 use Rattle.zones.specs.declared.fields.Fields.the-variants as F
 use Rattle.numbers.proofs.Replies.{given-from, carried, onward}
-use Rattle.zones.proofs.Agreeing.{agree-given, agree-refused, gave, refused-so}
-use Rattle.zones.proofs.Buffers.{over-length, tail-back}
+use Rattle.table.proofs.Agreeing.{agree-given, agree-refused, gave, refused-so}
+use Rattle.header.proofs.Buffers.{over-length, tail-back}
 use Rattle.zones.proofs.Holding.{Held, held-length, held-front, remains-length, written, held-all}
 
 -- ---- one field

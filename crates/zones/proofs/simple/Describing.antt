@@ -13,22 +13,22 @@ use lib.ListN.{length, getD, drop}
 use lib.Seq.{drop-cons}
 use Rattle.numbers.specs.Lists.{zeros, padded}
 use Rattle.numbers.specs.Reply.{Reply, given, refused, plain, demand, _>>=_, _>>_}
-use Rattle.zones.specs.Text.{bytesOf}
-use Rattle.zones.specs.Hits.{noHit}
+use Rattle.header.specs.Text.{bytesOf}
+use Rattle.table.specs.Hits.{noHit}
 use Rattle.zones.specs.Fields.{fieldsPlace, Wrote}
-use Rattle.zones.specs.Lent.{Agrees}
+use Rattle.table.specs.Agreeing.{Agrees}
 use Rattle.zones.specs.Simple.{begun, pickedFrom, joined, descriptionOf, bytesIn, fitting, wordedOf, Worded}
-use Rattle.zones.specs.declared.header.Head.{Head}
-use Rattle.zones.specs.declared.hits.Hit.{Hit}
+use Rattle.header.specs.declared.header.Head.{Head}
+use Rattle.table.specs.declared.hits.Hit.{Hit}
 use Rattle.numbers.specs.declared.refusal.Refusal.{Refusal}
-use Rattle.zones.specs.declared.text.Text.{Text}
+use Rattle.header.specs.declared.text.Text.{Text}
 use Rattle.zones.specs.declared.simple.Value.{Value}
 use Rattle.zones.specs.declared.simple.Value.the-variants as X
 use Rattle.zones.specs.declared.simple.Picked.{Picked}
 use Rattle.zones.specs.declared.simple.Description.the-variants as D
 use Rattle.zones.proofs.simple.Value as K
 use Rattle.numbers.proofs.Replies.{carried, onward, met}
-use Rattle.zones.proofs.Agreeing.{agree-given, agree-refused, gave, refused-so}
+use Rattle.table.proofs.Agreeing.{agree-given, agree-refused, gave, refused-so}
 
 pub is-missing : (value : Value) → tagOf (declared K.enum) value ≡ 1 → value ≡ X.Missing
 is-missing (X.At text) t = absurd (omega (arith, t))

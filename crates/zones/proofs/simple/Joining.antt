@@ -8,16 +8,16 @@ use lib.ListN.{length, take, drop, length-append, length-map, length-drop}
 use lib.Seq.{length-take-le}
 use Rattle.numbers.specs.Lists.{zeros, over}
 use Rattle.numbers.specs.Reply.{given, refused, plain}
-use Rattle.zones.specs.Text.{bytesOf}
-use Rattle.zones.specs.Utf8.{unmasked}
+use Rattle.header.specs.Text.{bytesOf}
+use Rattle.header.specs.Utf8.{unmasked}
 use Rattle.zones.specs.Fields.{Wrote}
-use Rattle.zones.specs.Lent.{Agrees}
+use Rattle.table.specs.Agreeing.{Agrees}
 use Rattle.zones.specs.Simple.{fitting}
-use Rattle.zones.specs.declared.text.Text.{Text}
+use Rattle.header.specs.declared.text.Text.{Text}
 use Rattle.numbers.proofs.Replies.{met, unmet}
-use Rattle.zones.proofs.Agreeing.{agree-given, agree-refused}
+use Rattle.table.proofs.Agreeing.{agree-given, agree-refused}
 use Rattle.zones.proofs.Holding.{Held, lent, remains-length, held-first, held-wrote, written}
-use Rattle.zones.proofs.text.Strings.{part, part-is}
+use Rattle.header.proofs.Strings.{part, part-is}
 
 -- a string inside the file has as many bytes as it says
 module _ (file : List ℕ) (text : Text) (inside : text .start + text .size ≤ length file) where

@@ -11,8 +11,8 @@ use lib.Dec.{eqb}
 use lib.ListN.{length, getD, drop, length-map, drop-of-length-le}
 use lib.Seq.{drop-cons}
 use Rattle.zones.specs.Simple.{same, name, timezoneId, timezoneIdPrefix, partOf}
-use Rattle.zones.specs.Utf8.{unmasked}
-use Rattle.zones.proofs.field.Entries.{map-at}
+use Rattle.header.specs.Utf8.{unmasked}
+use Rattle.header.proofs.Buffers.{map-at}
 
 both-false : (t : Bool) {u : Bool} → u ≡ false → (t && u) ≡ false
 both-false true e = e

@@ -12,16 +12,16 @@ use lib.ListN.{length, getD, drop, drop-of-length-le}
 use lib.Seq.{drop-cons}
 use Rattle.numbers.specs.Answer.{if_then_else_}
 use Rattle.numbers.specs.Reply.{Reply, given, refused, _>>=_}
-use Rattle.zones.specs.Text.{textAt, bytesOf}
-use Rattle.zones.specs.Header.{blameOf}
-use Rattle.zones.specs.Hits.{noHit}
+use Rattle.header.specs.Text.{textAt, bytesOf}
+use Rattle.header.specs.Header.{blameOf}
+use Rattle.table.specs.Hits.{noHit}
 use Rattle.zones.specs.Fields.{fieldsPlace}
 use Rattle.zones.specs.Simple.{partOf, begun, newer, pickedFrom, checked, toldPicks}
-use Rattle.zones.specs.declared.header.Head.{Head}
-use Rattle.zones.specs.declared.hits.Hit.{Hit}
+use Rattle.header.specs.declared.header.Head.{Head}
+use Rattle.table.specs.declared.hits.Hit.{Hit}
 use Rattle.numbers.specs.declared.refusal.Refusal.{Refusal}
-use Rattle.zones.specs.declared.text.Text.{Text}
-use Rattle.zones.specs.declared.text.Blame.{Blame}
+use Rattle.header.specs.declared.text.Text.{Text}
+use Rattle.header.specs.declared.text.Blame.{Blame}
 use Rattle.zones.specs.declared.simple.Value.{Value}
 use Rattle.zones.specs.declared.simple.Value.the-variants as X
 use Rattle.zones.specs.declared.simple.Picked.{Picked}
@@ -29,7 +29,7 @@ use Rattle.zones.specs.declared.simple.Picks.{Picks}
 use Rattle.zones.specs.declared.simple.Picks.the-variants as P
 use Rattle.zones.proofs.simple.Picks as K
 use Rattle.numbers.proofs.Replies.{carried, onward, given-from}
-use Rattle.zones.proofs.text.Strings.{text-lies}
+use Rattle.header.proofs.Strings.{text-lies}
 
 abbrev fifteen : Blame
 fifteen = record { number = 15; detail = 0 }

@@ -7,21 +7,22 @@ use native.Mathlib.Omega.{arith}
 use denote.Enum.Declared.{tagOf, declared}
 use lib.ListN.{take}
 use Rattle.numbers.specs.Reply.{Reply, given, refused, _>>_}
-use Rattle.zones.specs.Hits.{width, slots}
-use Rattle.zones.specs.Find.{Matched, matchedWith, Matching}
-use Rattle.zones.specs.Lent.{Agrees, replied, repliedOf, Filled}
+use Rattle.table.specs.Hits.{width, slots}
+use Rattle.table.specs.Find.{Matched, matchedWith, Matching}
+use Rattle.table.specs.Agreeing.{Agrees}
+use Rattle.zones.specs.Lent.{replied, repliedOf, Filled}
 use Rattle.zones.specs.Simple.{checked, wordedOf, Worded, describedWith, toldChecked}
-use Rattle.zones.specs.declared.header.Head.{Head}
+use Rattle.header.specs.declared.header.Head.{Head}
 use Rattle.numbers.specs.declared.refusal.Refusal.{Refusal}
-use Rattle.zones.specs.declared.location.Location.{Location}
-use Rattle.zones.specs.declared.find.Matches.{Matches}
+use Rattle.table.specs.declared.location.Location.{Location}
+use Rattle.table.specs.declared.find.Matches.{Matches}
 use Rattle.zones.specs.declared.simple.Checked.{Checked}
 use Rattle.zones.specs.declared.simple.Checked.the-variants as C
 use Rattle.zones.specs.declared.simple.Description.{Description}
 use Rattle.zones.proofs.simple.Checked as K
 use Rattle.numbers.proofs.Replies.{carried, onward}
-use Rattle.zones.proofs.Agreeing.{Gave, agree-given, agree-refused, gave, refused-so}
-use Rattle.zones.proofs.find.Finding.{count-is, matches-are}
+use Rattle.table.proofs.Agreeing.{Gave, agree-given, agree-refused, gave, refused-so}
+use Rattle.table.proofs.Matches.{count-is, matches-are}
 
 -- a step that gives nothing but that it was passed
 module _ {B : Type 0} {step : Reply (Unit {0})} where

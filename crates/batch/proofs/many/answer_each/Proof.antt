@@ -5,12 +5,12 @@ use lib.Ieee.{nan}
 use lib.ListN.{length}
 use mathlib.Core.Path.{_≡_, refl, sym, ap, _∙_}
 use native.Mathlib.Omega.{arith}
-use Rattle.batch.proofs.Stamping.{taken, came-back, each, Stamping, begins, ends, stops, counted-few, words-on, goes}
+use Rattle.batch.proofs.Stamping.{taken, came-back, each, Stamping, begins, ends, stops, counted-few, words-on, goes, used-is}
 use Rattle.batch.proofs.Window.{left-zero}
 use Rattle.batch.proofs.many.answer_each.Statement.{statement}
 use Rattle.batch.specs.Many.{fixesOf, nothing}
 use Rattle.numbers.specs.Lists.{zeros}
-use Rattle.zones.proofs.Buffers.{of-length}
+use Rattle.header.proofs.Buffers.{of-length}
 use Rattle.zones.proofs.Holding.{held-length, remains-length}
 use Rattle.batch.proofs.many.answer_each.Tie as tie
 
@@ -111,8 +111,9 @@ add-matches c = omega (arith, words-on _ _ _ _ _ _ _ _ (c .before .before .befor
 
 loop-again : tie.Need-loop-again Inv-loop μ-loop
 loop-again c =
-    goes _ _ _ _ _ _ _ _ (c .before .before .before .before .before .before .before .before .before .before .before .before .before .before .before .before .before .before .before .loop .inv) (taken (length (c .before .before .before .before .before .before .before .before .before .before .before .before .before .before .before .before .before .before .before .before .before .before .before .before .before .before .args .lats .now)) (length (c .before .before .before .before .before .before .before .before .before .before .before .before .before .before .before .before .before .before .before .before .before .before .before .before .before .before .args .lons .now)) (length (c .before .before .before .before .before .before .before .before .before .before .before .before .before .before .before .before .before .before .before .before .before .before .before .before .before .before .args .answers .now)) (c .before .before .before .before .before .before .before .before .before .before .before .before .before .before .before .before .before .before .before .before .before .before .before .before .before .before .pre .0) .0) (c .before .before .before .before .before .before .before .before .before .before .before .before .before .before .before .before .before .before .loop-test .taken) nan nan (c .before .before .before .before .before .before .before .before .before .before .before .before .before .answer-one .result) (c .before .before .before .before .before .before .before .before .before .before .before .before .before .answer-one .last .1 .1 .1 .1 .0) (c .before .before .before .before .before .before .before .before .before .before .before .before .before .answer-one .last .1 .1 .1 .1 .1 .0) (c .before .before .before .before .before .before .before .before .before .before .before .before .before .answer-one .ensures) (c .before .before .before .before .before .before .before .zones .given .1) (c .before .before .before .before .put-answer .last .0) (came-back (c .before .before .before .before .before .before .before .before .before .before .before .before .before .before .before .before .before .before .before .loop .inv .words-held) (c .before .before .before .before .before .before .before .before .before .before .before .before .before .answer-one .last .1 .1 .1 .1 .0) (c .before .before .before .before .before .before .before .before .before .before .before .before .hits .given .1)) (came-back (c .before .before .before .before .before .before .before .before .before .before .before .before .before .before .before .before .before .before .before .loop .inv .text-held) (c .before .before .before .before .before .before .before .before .before .before .before .before .before .answer-one .last .1 .1 .1 .1 .1 .0) (c .before .before .before .before .before .before .before .before .before .before .text .given .1))
-    (omega (arith, c .before .before .before .before .before .before .before .before .before .before .before .before .before .before .before .before .before .before .loop-test .taken, taken (length (c .before .before .before .before .before .before .before .before .before .before .before .before .before .before .before .before .before .before .before .before .before .before .before .before .before .before .args .lats .now)) (length (c .before .before .before .before .before .before .before .before .before .before .before .before .before .before .before .before .before .before .before .before .before .before .before .before .before .before .args .lons .now)) (length (c .before .before .before .before .before .before .before .before .before .before .before .before .before .before .before .before .before .before .before .before .before .before .before .before .before .before .args .answers .now)) (c .before .before .before .before .before .before .before .before .before .before .before .before .before .before .before .before .before .before .before .before .before .before .before .before .before .before .pre .0) .1)) (c .before .before .before .before .put-answer .ensures)
+    used-is _ _ _ _ _ _ _ _ (omega arith)
+    (goes _ _ _ _ _ _ _ _ (c .before .before .before .before .before .before .before .before .before .before .before .before .before .before .before .before .before .before .before .loop .inv) (taken (length (c .before .before .before .before .before .before .before .before .before .before .before .before .before .before .before .before .before .before .before .before .before .before .before .before .before .before .args .lats .now)) (length (c .before .before .before .before .before .before .before .before .before .before .before .before .before .before .before .before .before .before .before .before .before .before .before .before .before .before .args .lons .now)) (length (c .before .before .before .before .before .before .before .before .before .before .before .before .before .before .before .before .before .before .before .before .before .before .before .before .before .before .args .answers .now)) (c .before .before .before .before .before .before .before .before .before .before .before .before .before .before .before .before .before .before .before .before .before .before .before .before .before .before .pre .0) .0) (c .before .before .before .before .before .before .before .before .before .before .before .before .before .before .before .before .before .before .loop-test .taken) nan nan (c .before .before .before .before .before .before .before .before .before .before .before .before .before .answer-one .result) (c .before .before .before .before .before .before .before .before .before .before .before .before .before .answer-one .last .1 .1 .1 .1 .0) (c .before .before .before .before .before .before .before .before .before .before .before .before .before .answer-one .last .1 .1 .1 .1 .1 .0) (c .before .before .before .before .before .before .before .before .before .before .before .before .before .answer-one .ensures) (c .before .before .before .before .before .before .before .zones .given .1) (c .before .before .before .before .put-answer .last .0) (came-back (c .before .before .before .before .before .before .before .before .before .before .before .before .before .before .before .before .before .before .before .loop .inv .words-held) (c .before .before .before .before .before .before .before .before .before .before .before .before .before .answer-one .last .1 .1 .1 .1 .0) (c .before .before .before .before .before .before .before .before .before .before .before .before .hits .given .1)) (came-back (c .before .before .before .before .before .before .before .before .before .before .before .before .before .before .before .before .before .before .before .loop .inv .text-held) (c .before .before .before .before .before .before .before .before .before .before .before .before .before .answer-one .last .1 .1 .1 .1 .1 .0) (c .before .before .before .before .before .before .before .before .before .before .text .given .1))
+    (omega (arith, c .before .before .before .before .before .before .before .before .before .before .before .before .before .before .before .before .before .before .loop-test .taken, taken (length (c .before .before .before .before .before .before .before .before .before .before .before .before .before .before .before .before .before .before .before .before .before .before .before .before .before .before .args .lats .now)) (length (c .before .before .before .before .before .before .before .before .before .before .before .before .before .before .before .before .before .before .before .before .before .before .before .before .before .before .args .lons .now)) (length (c .before .before .before .before .before .before .before .before .before .before .before .before .before .before .before .before .before .before .before .before .before .before .before .before .before .before .args .answers .now)) (c .before .before .before .before .before .before .before .before .before .before .before .before .before .before .before .before .before .before .before .before .before .before .before .before .before .before .pre .0) .1)) (c .before .before .before .before .put-answer .ensures))
 
 add-used : tie.Need-add-used Inv-loop μ-loop
 add-used c = omega (arith, loop-again c .text-held .fits, c .before .before .before .before .before .before .before .before .before .before .before .before .before .before .before .before .before .before .before .before .before .before .before .before .before .before .good)

@@ -6,8 +6,8 @@ use mathlib.Core.Path.{sym, ap, _∙_}
 use Rattle.batch.proofs.Opening.{not-taken, not-opened, all-opened}
 use Rattle.batch.proofs.many.lookup_many.Statement.{statement}
 use Rattle.batch.specs.Many.{isTaken}
-use Rattle.zones.proofs.Buffers.{of-length, all-zero}
-use Rattle.zones.specs.Header.{toldHead}
+use Rattle.header.proofs.Buffers.{of-length, all-zero}
+use Rattle.header.specs.Header.{toldHead}
 use Rattle.batch.proofs.many.lookup_many.Tie as tie
 
 returns : tie.Need-returns

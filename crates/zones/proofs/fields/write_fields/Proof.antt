@@ -5,9 +5,9 @@ use mathlib.Core.List.{[]}
 use native.Mathlib.Omega.{arith}
 use Rattle.zones.proofs.fields.Filling.{Writing, begins, writing-length, from-here, all-written, match-refused, match-written}
 use Rattle.zones.proofs.fields.write_fields.Statement.{statement}
-use Rattle.zones.proofs.hits.Words.{count-slots, slot-is}
+use Rattle.table.proofs.Words.{count-slots, slot-is}
 use Rattle.zones.specs.Fields.{fieldsOf}
-use Rattle.zones.specs.Hits.{slots}
+use Rattle.table.specs.Hits.{slots}
 use Rattle.zones.proofs.fields.write_fields.Tie as tie
 
 abbrev Inv-loop : tie.InvT-loop

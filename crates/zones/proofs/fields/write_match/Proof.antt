@@ -8,9 +8,9 @@ use native.Mathlib.Omega.{arith}
 use Rattle.zones.proofs.fields.Filling.{Filling, starts, filling-length, ends, faulted, kept-length, filled}
 use Rattle.zones.proofs.fields.write_match.Statement.{statement}
 use Rattle.zones.specs.Fields.{fieldsFrom}
-use Rattle.zones.specs.declared.header.Head.{Head}
-use Rattle.zones.specs.declared.header.Preamble.{Preamble}
-use Rattle.zones.specs.declared.header.Sections.{Sections}
+use Rattle.header.specs.declared.header.Head.{Head}
+use Rattle.header.specs.declared.header.Preamble.{Preamble}
+use Rattle.header.specs.declared.header.Sections.{Sections}
 use Rattle.zones.proofs.fields.write_match.Tie as tie
 
 abbrev headOf : Preamble → Sections → Bool → Head

@@ -2,7 +2,7 @@
 use lib.Ieee.{ofBits, binary32, mul, div, toBits}
 use mathlib.Core.Path.{ap, _∙_}
 use Rattle.zones.proofs.lookup.safezone.Statement.{statement}
-use Rattle.zones.specs.Find.{ninety}
+use Rattle.table.specs.Find.{ninety}
 use Rattle.zones.specs.Lookup.{safezoneBits}
 use Rattle.numbers.specs.Float.Root as R
 use Rattle.zones.proofs.lookup.safezone.Tie as tie

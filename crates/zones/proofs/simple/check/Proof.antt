@@ -4,10 +4,10 @@ use borrow.Author.Needs.{needs}
 use lib.ListN.{take, drop}
 use mathlib.Core.Path.{_≡_, refl}
 use native.Mathlib.Omega.{arith}
-use Rattle.zones.proofs.hits.Words.{count-slots, slot-is}
+use Rattle.table.proofs.Words.{count-slots, slot-is}
 use Rattle.zones.proofs.simple.Picking.{all-checked, match-good, match-bad}
 use Rattle.zones.proofs.simple.check.Statement.{statement}
-use Rattle.zones.specs.Hits.{slots}
+use Rattle.table.specs.Hits.{slots}
 use Rattle.zones.specs.Simple.{checked}
 use Rattle.zones.proofs.simple.check.Tie as tie
 

@@ -5,12 +5,12 @@ use lib.ListN.{take}
 use mathlib.Core.Path.{_≡_, sym, ap, _∙_}
 use native.Mathlib.Omega.{arith}
 use Rattle.numbers.proofs.Replies.{onward}
-use Rattle.zones.proofs.hits.Words.{count-slots, slot-is}
+use Rattle.table.proofs.Words.{count-slots, slot-is}
 use Rattle.zones.proofs.simple.Describing.{is-missing, no-matches, described, not-picked, no-one, no-two, written, no-room}
 use Rattle.zones.proofs.simple.Picking.{picked-lies, lies-at}
 use Rattle.zones.proofs.simple.describe.Statement.{statement}
 use Rattle.zones.specs.Fields.{toldFields}
-use Rattle.zones.specs.Hits.{slots}
+use Rattle.table.specs.Hits.{slots}
 use Rattle.numbers.specs.Reply.{given, _>>=_}
 use Rattle.zones.specs.Simple.{joined, descriptionOf, toldPicks}
 use Rattle.zones.proofs.simple.describe.Tie as tie

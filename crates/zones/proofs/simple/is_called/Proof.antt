@@ -7,7 +7,7 @@ use native.Mathlib.Omega.{arith}
 use Rattle.zones.proofs.simple.Names.{not-as-long, differs, goes-on, all-same}
 use Rattle.zones.proofs.simple.is_called.Statement.{statement}
 use Rattle.zones.specs.Simple.{same}
-use Rattle.zones.specs.Utf8.{unmasked}
+use Rattle.header.specs.Utf8.{unmasked}
 use Rattle.zones.proofs.simple.is_called.Tie as tie
 
 abbrev Inv-loop : tie.InvT-loop

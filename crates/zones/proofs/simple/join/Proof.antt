@@ -8,7 +8,7 @@ use native.Mathlib.Omega.{arith}
 use Rattle.zones.proofs.Holding.{Held, held-length}
 use Rattle.zones.proofs.simple.Joining.{no-room, one-held, rest-holds, two-held, all-fits}
 use Rattle.zones.proofs.simple.join.Statement.{statement}
-use Rattle.zones.specs.Text.{bytesOf}
+use Rattle.header.specs.Text.{bytesOf}
 use Rattle.zones.proofs.simple.join.Tie as tie
 
 returns : tie.Need-returns

@@ -5,32 +5,27 @@ use lib.ListN.{length}
 use mathlib.Core.Bool.{false}
 use mathlib.Core.Path.{sym, ap, _∙_}
 use native.Mathlib.Omega.{arith}
-use Rattle.zones.proofs.Agreeing.{Gave, gave, refused-so}
-use Rattle.zones.proofs.find.Finding.{matches-room}
+use Rattle.table.proofs.Agreeing.{Gave, gave, refused-so}
+use Rattle.table.proofs.Matches.{found-agrees, matches-room}
 use Rattle.zones.proofs.simple.Replies.{is-good, no-match, not-checked, not-described, described}
 use Rattle.zones.proofs.simple.look.Statement.{statement}
-use Rattle.zones.specs.Find.{matchedWith, toldFound, Matching}
-use Rattle.zones.specs.Hits.{width}
+use Rattle.table.specs.Find.{matchedWith, toldFound, Matching}
+use Rattle.table.specs.Hits.{width}
 use Rattle.zones.specs.Simple.{toldChecked, toldWorded}
 use Rattle.zones.proofs.simple.look.Tie as tie
 
-matches-in-requires : tie.Need-matches-in-requires
-matches-in-requires c κs =
-    let pre = c .before .before .before .before .pre in
-    pre .0
-
 returns : tie.Need-returns
 returns c =
-    let matches-in = c .before .before .before .before .before .matches-in in
+    let find-in = c .before .before .before .before .before .find-in in
     let why = c .before .why in
-    no-match _ _ _ _ _ _ _ (refused-so _ _ (matches-in .ensures) (ap toldFound (why .given .1)))
+    no-match _ _ _ _ _ _ _ (refused-so _ _ (found-agrees _ _ _ _ _ _ _ (find-in .ensures)) (ap toldFound (why .given .1)))
 
 -- where matches were found
 matched : (c : tie.After-found) → let args = c .before .before .before .before .before .before .before .before .before .args in
-    Gave (Matching (length (args .hits .now)) (c .before .before .before .before .matches-in .last .1 .1 .1 .1 .0)) (matchedWith (args .file .now) (args .head) (args .location) false (length (args .hits .now) / width)) (c .found .given .0 .0)
+    Gave (Matching (length (args .hits .now)) (c .before .before .before .before .find-in .last .1 .1 .1 .1 .0)) (matchedWith (args .file .now) (args .head) (args .location) false (length (args .hits .now) / width)) (c .found .given .0 .0)
 matched c =
-    let matches-in = c .before .before .before .before .matches-in in
-    gave _ _ (matches-in .ensures) (ap toldFound (c .found .given .1))
+    let find-in = c .before .before .before .before .find-in in
+    gave _ _ (found-agrees _ _ _ _ _ _ _ (find-in .ensures)) (ap toldFound (c .found .given .1))
 
 check-requires : tie.Need-check-requires
 check-requires c κs =
@@ -50,7 +45,7 @@ describe-requires : tie.Need-describe-requires
 describe-requires c κs =
     let pre = c .before .before .before .before .before .before .before .before .before .before .before .before .before .before .before .before .pre in
     let hits = c .before .before .before .before .before .before .before .before .before .before .hits in
-    (pre .1, matches-room (matched (c .before .before .before .before .before .before .before) .fits) (omega (arith, hits .given)))
+    (pre, matches-room (matched (c .before .before .before .before .before .before .before) .fits) (omega (arith, hits .given)))
 
 returns-3 : tie.Need-returns-3
 returns-3 c =
@@ -70,7 +65,7 @@ pub look-spec : {M : Type 1} → statement M
 look-spec =
     tie.close
     (tie.spec
-    matches-in-requires
+    (λ c κs. tt)
     (λ c. omega arith)
     (λ c. omega arith)
     (λ c. omega arith)

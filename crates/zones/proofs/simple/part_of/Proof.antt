@@ -5,9 +5,9 @@ use mathlib.Core.Path.{sym, ap, _∙_}
 use native.Mathlib.Omega.{arith}
 use Rattle.zones.proofs.simple.Names.{is-prefix, is-id, is-neither, is-name, is-other}
 use Rattle.zones.proofs.simple.part_of.Statement.{statement}
-use Rattle.zones.proofs.text.Strings.{part-is}
+use Rattle.header.proofs.Strings.{part-is}
 use Rattle.zones.specs.Simple.{same, name, timezoneId, timezoneIdPrefix}
-use Rattle.zones.specs.Text.{bytesOf}
+use Rattle.header.specs.Text.{bytesOf}
 use Rattle.zones.proofs.simple.part_of.Tie as tie
 
 returns : tie.Need-returns

@@ -6,10 +6,10 @@ use native.Mathlib.Omega.{arith}
 use Rattle.zones.proofs.simple.Picking.{starts, all-picked, no-name, name-inside, no-value, goes}
 use Rattle.zones.proofs.simple.pick.Statement.{statement}
 use Rattle.zones.specs.Simple.{begun, pickedFrom}
-use Rattle.zones.specs.Text.{toldRead}
-use Rattle.zones.specs.declared.header.Head.{Head}
-use Rattle.zones.specs.declared.header.Preamble.{Preamble}
-use Rattle.zones.specs.declared.header.Sections.{Sections}
+use Rattle.header.specs.Text.{toldRead}
+use Rattle.header.specs.declared.header.Head.{Head}
+use Rattle.header.specs.declared.header.Preamble.{Preamble}
+use Rattle.header.specs.declared.header.Sections.{Sections}
 use Rattle.zones.proofs.simple.pick.Tie as tie
 
 abbrev headOf : Preamble → Sections → Bool → Head

@@ -1,0 +1,161 @@
+-- Opening strictly (request Q-6): refused 31, or as the plain opening. Assumes nothing.
+use Prim.Native.Nat.{ℕ, zero, suc, _+_, _%_, _^_, _≤_}
+use borrow.Author.Tests.{eqb-true}
+use lib.Dec.{ltb, leb, eqb}
+use lib.ListN.{length}
+use mathlib.Core.Bool.{Bool, true, false}
+use mathlib.Core.List.{List}
+use mathlib.Core.Logic.{_⊎_, inl, inr}
+use mathlib.Core.Path.{_≡_, refl, sym, ap, subst, _∙_}
+use native.Mathlib.Omega.{arith}
+use Rattle.numbers.proofs.Readings.{Strictly, cut, same, then-strictly, strictly-either, reading-strictly}
+use Rattle.numbers.proofs.Replies.{given-from, demanded}
+use Rattle.numbers.specs.Answer.{Answer}
+use Rattle.numbers.specs.Reply.{Reply, given, refused, refusal, plain, demand, _orElse_, _>>=_, _>>_}
+use Rattle.numbers.specs.Varint.{Numeral, readingOf}
+use Rattle.numbers.specs.declared.refusal.Refusal.{Refusal}
+use Rattle.header.proofs.Unless.{shown, Unless, refuses, alike, unless-after, unless-demand, unless-then}
+use Rattle.header.specs.Header.{preambleOf, blameOf, Texts, textsFrom, textsOf, sizeAt, sectionsFrom, sectionsAt, Contents, contentsBy, headBy, headOf, headStrictly}
+use Rattle.header.specs.Opening.{fittingOf, Replied, repliedOf, openedBy, openedOf, openedStrictly}
+use Rattle.header.specs.Text.{remoteAt, stringAt, bytesOf, orBlamed, textAt}
+use Rattle.header.specs.declared.header.Head.{Head}
+use Rattle.header.specs.declared.header.Sections.{Sections}
+use Rattle.header.specs.declared.text.Blame.{Blame}
+use Rattle.header.specs.declared.text.Text.{Text}
+
+-- refused 31, or the same
+abbrev pub Or31 : {A : Type 0} → Reply A → Reply A → Type 0
+Or31 {A} = Unless 31 (λ (a : A). a)
+
+-- both go on from the same
+pub then-same : {A B C : Type 0} {look : B → C} (r s : Reply A) {k k′ : A → Reply B} → Or31 r s → ((a : A) → Unless 31 look (k a) (k′ a)) → Unless 31 look (r >>= k) (s >>= k′)
+then-same {A} {look = look} r s {k} {k′} h next = unless-then r s h (λ a b e. subst (λ (x : A). Unless 31 look (k a) (k′ x)) e (next a))
+
+pub shown-same : {A : Type 0} (r : Reply A) → shown (λ (a : A). a) r ≡ r
+shown-same (given a) = refl
+shown-same (refused why) = refl
+
+-- a header says how it was read
+pub head-strict : (strict : Bool) (file : List ℕ) {head : Head} → headBy strict file ≡ given head → head .strict ≡ strict
+unfolding headBy contentsBy
+head-strict strict file {head} e =
+    let c = given-from (contentsBy strict file) _ (sym e) in
+    let p = given-from (preambleOf file) _ (c .is) in
+    let t = given-from (textsOf strict file (p .it .count)) _ (p .onto) in
+    let s = given-from (sectionsAt strict file (t .it .place)) _ (t .onto) in
+    let same : c .it .head ≡ head = cc (c .onto) in
+    let made : record { head = record { preamble = p .it; sections = s .it; strict = strict }; bytes = t .it .bytes } ≡ c .it = cc (s .onto) in
+    rw (← same, ← made) refl
+
+-- ---- strings
+module _ (file : List ℕ) where
+  string-strictly : (metadata place : ℕ) → Strictly (stringAt true file metadata place) (stringAt false file metadata place)
+  unfolding stringAt remoteAt
+  string-strictly metadata place =
+      then-strictly (reading-strictly file place)
+      (λ number. strictly-either (ltb (number .value) 256) same (then-strictly (reading-strictly file _) (λ length. same)))
+
+  blamed : (blame : Blame) {strict plainly : Answer Text} → Strictly strict plainly → Or31 (orBlamed file blame strict) (orBlamed file blame plainly)
+  blamed blame cut = refuses refl
+  blamed blame same = alike refl
+
+  pub text-strictly : (metadata place : ℕ) (blame : Blame) → Or31 (textAt true file metadata place blame) (textAt false file metadata place blame)
+  unfolding textAt
+  text-strictly metadata place blame = blamed blame (string-strictly metadata place)
+
+  -- ---- the header
+  texts-strictly : (names more index place : ℕ) → Or31 (textsFrom true file names more index place) (textsFrom false file names more index place)
+  unfolding textsFrom
+  texts-strictly names zero index place = alike refl
+  texts-strictly names (suc more) index place =
+      then-same (textAt true file 0 place (blameOf names index)) (textAt false file 0 place (blameOf names index)) (text-strictly 0 place (blameOf names index))
+      (λ text. then-same (textsFrom true file names more (index + 1) (text .next)) (textsFrom false file names more (index + 1) (text .next)) (texts-strictly names more (index + 1) (text .next))
+      (λ rest. alike refl))
+
+  or-else : (why : Refusal) {strict plainly : Answer Numeral} → Strictly strict plainly → Or31 (strict orElse why) (plainly orElse why)
+  or-else why cut = refuses refl
+  or-else why same = alike refl
+
+  size-strictly : (place number : ℕ) → Or31 (sizeAt true file place number) (sizeAt false file place number)
+  size-strictly place number = or-else (plain number) (reading-strictly file place)
+
+  sections-strictly : (place : ℕ) → Or31 (sectionsAt true file place) (sectionsAt false file place)
+  unfolding sectionsAt
+  sections-strictly place =
+      then-same (sizeAt true file place 8) (sizeAt false file place 8) (size-strictly place 8)
+      (λ first. then-same (sizeAt true file (first .place) 9) (sizeAt false file (first .place) 9) (size-strictly (first .place) 9)
+      (λ second. unless-demand (ltb (first .value % 2 ^ 32 + second .value % 2 ^ 32) (2 ^ 32)) (plain 13)
+      (then-same (sizeAt true file (second .place) 10) (sizeAt false file (second .place) 10) (size-strictly (second .place) 10) (λ third. alike refl))))
+
+  -- all that a header says but how it was read
+  abbrev pub unstrict : Head → Head
+  unstrict head = record { preamble = head .preamble; sections = head .sections; strict = false }
+
+  abbrev unstrictContents : Contents → Contents
+  unstrictContents contents = record { head = unstrict (contents .head); bytes = contents .bytes }
+
+  contents-strictly : Unless 31 unstrictContents (contentsBy true file) (contentsBy false file)
+  unfolding contentsBy
+  contents-strictly =
+      unless-after (preambleOf file)
+      (λ preamble. then-same (textsOf true file (preamble .count)) (textsOf false file (preamble .count)) (texts-strictly (preamble .count) (preamble .count + 1) 0 7)
+      (λ texts. then-same (sectionsAt true file (texts .place)) (sectionsAt false file (texts .place)) (sections-strictly (texts .place)) (λ sections. alike refl)))
+
+  pub head-strictly : Unless 31 unstrict (headStrictly file) (headOf file)
+  unfolding headBy
+  head-strictly = unless-then (contentsBy true file) (contentsBy false file) contents-strictly (λ a b e. alike (ap (λ (c : Contents). given (c .head)) e))
+
+  -- ---- opening
+  fitting-strictly : (room : ℕ) → Unless 31 unstrictContents (fittingOf true file room) (fittingOf false file room)
+  unfolding fittingOf
+  fitting-strictly room =
+      unless-then (contentsBy true file) (contentsBy false file) contents-strictly
+      (λ a b e. subst (λ (bytes : List ℕ). Unless 31 unstrictContents (demand (leb (length (a .bytes)) room) (plain 18) >> given a) (demand (leb (length bytes) room) (plain 18) >> given b))
+      (ap (λ (c : Contents). c .bytes) e)
+      (unless-demand (leb (length (a .bytes)) room) (plain 18) (alike (ap given e))))
+
+  replied-unstrict : (room : ℕ) (r : Reply Contents) → repliedOf room r ≡ repliedOf room (shown unstrictContents r)
+  replied-unstrict room (given contents) = refl
+  replied-unstrict room (refused why) = refl
+
+  -- `strict-or-plain` of opening: refused 31 with the whole text zero, or the plain opening's reply and text
+  pub strict-open-or-plain : (room : ℕ) → (openedStrictly file room ≡ repliedOf room (refused (plain 31))) ⊎ (openedStrictly file room ≡ openedOf file room)
+  unfolding openedBy
+  strict-open-or-plain room = go (fitting-strictly room)
+    where
+      go : {r s : Reply Contents} → Unless 31 unstrictContents r s → (repliedOf room r ≡ repliedOf room (refused (plain 31))) ⊎ (repliedOf room r ≡ repliedOf room s)
+      go (refuses e) = inl (ap (repliedOf room) e)
+      go {r = r} {s = s} (alike e) = inr (replied-unstrict room r ∙ ap (repliedOf room) e ∙ sym (replied-unstrict room s))
+
+-- ---- a file that opens holds its whole table
+abbrev metadataIn : Reply Sections → ℕ
+metadataIn (given sections) = sections .metadata
+metadataIn (refused why) = 0
+
+within-whole : {metadata length : ℕ} (rest end start more : ℕ) → metadata ≡ end + start → rest + (end + (start + more)) ≡ length → metadata ≤ length
+within-whole rest end start more at exact = omega arith
+
+pub table-within : (strict : Bool) (file : List ℕ) {head : Head} → headBy strict file ≡ given head → head .sections .metadata ≤ length file
+unfolding headBy contentsBy sectionsAt sectionsFrom
+table-within strict file {head} e =
+    let c = given-from (contentsBy strict file) _ (sym e) in
+    let p = given-from (preambleOf file) _ (c .is) in
+    let t = given-from (textsOf strict file (p .it .count)) _ (p .onto) in
+    let s = given-from (sectionsAt strict file (t .it .place)) _ (t .onto) in
+    let made : record { head = record { preamble = p .it; sections = s .it; strict = strict }; bytes = t .it .bytes } ≡ c .it = cc (s .onto) in
+    let head-is : c .it .head ≡ head = cc (c .onto) in
+    let first = given-from (sizeAt strict file (t .it .place) 8) _ (s .is) in
+    let second = given-from (sizeAt strict file (first .it .place) 9) _ (first .onto) in
+    let start = first .it .value % 2 ^ 32 in
+    let sum = start + second .it .value % 2 ^ 32 in
+    let small = demanded (ltb sum (2 ^ 32)) (plain 13) (second .onto) in
+    let third = given-from (sizeAt strict file (second .it .place) 10) _ (small .1) in
+    let end = third .it .place in
+    let whole = third .it .value + (end + sum) in
+    let one = demanded (ltb (end + sum) (2 ^ 32)) (plain 13) (third .onto) in
+    let two = demanded (ltb whole (2 ^ 64)) (plain 13) (one .1) in
+    let three = demanded (eqb whole (length file)) (refusal 11 0 whole) (two .1) in
+    let at : s .it .metadata ≡ end + start = ap metadataIn (three .1) in
+    let exact : whole ≡ length file = eqb-true whole (length file) (three .0) in
+    let within : s .it .metadata ≤ length file = within-whole (third .it .value) end start (second .it .value % 2 ^ 32) at exact in
+    rw (← head-is, ← made) within

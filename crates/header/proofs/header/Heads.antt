@@ -1,0 +1,64 @@
+-- The header by how far it was read. Assumes nothing.
+use mathlib.Core.Bool.{Bool}
+use mathlib.Core.Path.{_≡_, refl, sym, ap, _∙_}
+use mathlib.Core.List.{List}
+use Prim.Native.Nat.{ℕ}
+use Rattle.numbers.specs.Reply.{Reply, given, refused, _>>=_}
+use Rattle.header.specs.Header.{textsOf, placeAfter, preambleOf, sectionsAt, Contents, contentsBy, headBy}
+use Rattle.header.specs.declared.header.Preamble.{Preamble}
+use Rattle.header.specs.declared.header.Sections.{Sections}
+use Rattle.header.specs.declared.header.Head.{Head}
+use Rattle.numbers.specs.declared.refusal.Refusal.{Refusal}
+use Rattle.numbers.proofs.Replies.{From, carried, onward, given-from, refused-from}
+
+module _ (strict : Bool) (file : List ℕ) where
+  -- the head alone
+  so : {contents : Reply Contents} → contents ≡ contentsBy strict file → (contents >>= λ c. given (c .head)) ≡ headBy strict file
+  unfolding headBy
+  so e = ap (λ (r : Reply Contents). r >>= λ c. given (c .head)) e
+
+  pub no-preamble : (why : Refusal) → refused why ≡ preambleOf file → refused why ≡ headBy strict file
+  unfolding contentsBy
+  no-preamble why e = so (carried e _)
+
+  module _ (preamble : Preamble) (p : given preamble ≡ preambleOf file) where
+    pub no-texts : (why : Refusal) → refused why ≡ placeAfter strict file (preamble .count) → refused why ≡ headBy strict file
+    unfolding contentsBy
+    no-texts why e = so (carried (refused-from (textsOf strict file (preamble .count)) (λ t. t .place) e) _ ∙ onward p _)
+
+    module _ (place : ℕ) (t : given place ≡ placeAfter strict file (preamble .count)) where
+      texts : From (textsOf strict file (preamble .count)) (λ t. given (t .place)) place
+      texts = given-from (textsOf strict file (preamble .count)) _ t
+
+      there : {A : Type 0} {x : Reply A} (next : ℕ → Reply A) → x ≡ next place → x ≡ next (texts .it .place)
+      there next e = let same : place ≡ texts .it .place = cc (texts .onto) in e ∙ ap next same
+
+      pub no-sections : (why : Refusal) → refused why ≡ sectionsAt strict file place → refused why ≡ headBy strict file
+      unfolding contentsBy
+      no-sections why e = so (carried (there (sectionsAt strict file) e) _ ∙ onward (texts .is) _ ∙ onward p _)
+
+      pub whole : (sections : Sections) → given sections ≡ sectionsAt strict file place → given (record { preamble = preamble; sections = sections; strict = strict }) ≡ headBy strict file
+      unfolding contentsBy
+      whole sections e = so (onward (there (sectionsAt strict file) e) _ ∙ onward (texts .is) _ ∙ onward p _)
+
+-- ---- a file that has a header has all that goes out at opening
+pub record Whole (strict : Bool) (file : List ℕ) (head : Head) : Type 0 where
+  pub bytes : List ℕ
+  pub place : ℕ
+  pub texts : given (record { bytes = bytes; place = place }) ≡ textsOf strict file (head .preamble .count)
+  pub contents : given (record { head = head; bytes = bytes }) ≡ contentsBy strict file
+
+pub head-whole : (strict : Bool) (file : List ℕ) (head : Head) → given head ≡ headBy strict file → Whole strict file head
+unfolding headBy contentsBy
+head-whole strict file head e =
+    let c = given-from (contentsBy strict file) _ e in
+    let p = given-from (preambleOf file) _ (c .is) in
+    let t = given-from (textsOf strict file (p .it .count)) _ (p .onto) in
+    let s = given-from (sectionsAt strict file (t .it .place)) _ (t .onto) in
+    let same : c .it .head ≡ head = cc (c .onto) in
+    let made : record { head = record { preamble = p .it; sections = s .it; strict = strict }; bytes = t .it .bytes } ≡ c .it = cc (s .onto) in
+    rw (← same, ← made) (record { bytes = t .it .bytes; place = t .it .place; texts = t .is; contents = rw made (c .is) })
+
+pub head-refused : (strict : Bool) (file : List ℕ) (why : Refusal) → refused why ≡ headBy strict file → refused why ≡ contentsBy strict file
+unfolding headBy
+head-refused strict file why e = refused-from (contentsBy strict file) (λ c. c .head) e

@@ -1,0 +1,59 @@
+-- `header::header::skip_texts` meets its contract. Assumes nothing.
+use Prim.Native.Nat.{_+_, _-_}
+use native.Mathlib.Omega.{arith}
+use Rattle.header.proofs.header.Texts.{Skipping, starts, goes, stops, ends}
+use Rattle.header.proofs.header.skip_texts.Statement.{statement}
+use Rattle.header.proofs.header.skip_texts.Tie as tie
+
+abbrev Inv-loop : tie.InvT-loop
+Inv-loop file strict names index₀ place₀ index place = Skipping strict file names index place
+
+abbrev μ-loop : tie.MeasureT-loop
+μ-loop file strict names index₀ place₀ index place = names + 1 - index
+
+loop-holds : tie.Need-loop-holds Inv-loop μ-loop
+loop-holds c = starts _ _ _
+
+returns : tie.Need-returns Inv-loop μ-loop
+returns c =
+    let loop = c .before .before .before .before .before .loop in
+    let loop-test = c .before .before .before .before .loop-test in
+    let why = c .before .why in
+    let read-header-text = c .before .before .before .read-header-text in
+    stops (loop .inv) (loop-test .taken) _ (rw (why .given .1) at (read-header-text .ensures))
+
+add-index : tie.Need-add-index Inv-loop μ-loop
+add-index c =
+    let pre = c .before .before .before .before .before .before .before .pre in
+    let loop = c .before .before .before .before .before .loop in
+    omega (arith, pre, loop .inv .at)
+
+loop-less : tie.Need-loop-less Inv-loop μ-loop
+loop-less c = omega (arith, c .before .before .before .before .loop-test .taken)
+
+loop-again : tie.Need-loop-again Inv-loop μ-loop
+loop-again c =
+    let loop = c .before .before .before .before .before .loop in
+    let loop-test = c .before .before .before .before .loop-test in
+    let text = c .before .text in
+    let read-header-text = c .before .before .before .read-header-text in
+    goes (loop .inv) (loop-test .taken) _ (rw (text .given .1) at (read-header-text .ensures))
+
+returns-2 : tie.Need-returns-2 Inv-loop μ-loop
+returns-2 c = ends (c .before .loop .inv) (c .loop-test .left)
+
+pub skip-texts-spec : {M : Type 1} → statement M
+skip-texts-spec =
+    tie.close
+    (tie.spec
+    Inv-loop
+    μ-loop
+    loop-holds
+    (λ c κs. tt)
+    (λ c. omega arith)
+    (λ c. omega arith)
+    returns
+    add-index
+    loop-less
+    loop-again
+    returns-2)

@@ -1,0 +1,6 @@
+pub mod Utf8
+pub mod Text
+pub mod Field
+pub mod Header
+pub mod Opening
+pub mod Worked

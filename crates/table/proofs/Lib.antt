@@ -1,0 +1,11 @@
+pub mod Agreeing
+pub mod Words
+pub mod Matches
+pub mod TableRows
+pub mod Beside
+pub mod SearchEnds
+pub mod Unstopped
+pub mod InOrder
+mod WorkedTable
+pub mod Joining
+pub mod StrictRows

@@ -1,0 +1,38 @@
+-- The matches that `find_in` leaves in the lent words. Assumes nothing.
+use mathlib.Core.Bool.{Bool}
+use mathlib.Core.List.{List}
+use mathlib.Core.Path.{_≡_, ap, _∙_}
+use Prim.Native.Nat.{ℕ, _/_, _≤_}
+use lib.ListN.{length, take}
+use native.Mathlib.Omega.{arith}
+use Rattle.header.specs.declared.header.Head.{Head}
+use Rattle.numbers.specs.Reply.{Reply, given, refused}
+use Rattle.table.proofs.Words.{padded-slots, padded-room}
+use Rattle.table.specs.Agreeing.{Agrees}
+use Rattle.table.specs.Find.{Matched, matchedWith, Finding, finding, findingOf, foundWith, Matching}
+use Rattle.table.specs.Hits.{width, slots}
+use Rattle.table.specs.declared.find.Matches.{Matches}
+use Rattle.table.specs.declared.location.Location.{Location}
+
+module _ {n : ℕ} {ws : List ℕ} {found : Matched} {matches : Matches} (m : Matching n ws found matches) where
+  pub count-is : matches .count ≡ length (found .matches)
+  count-is = ap (λ (x : Matches). x .count) (m .said)
+
+  pub matches-room : length ws ≡ n → matches .count ≤ length ws / width
+  matches-room same = rw count-is (padded-room n (found .matches) (m .kept) same)
+
+  pub matches-are : take (matches .count) (slots ws) ≡ found .matches
+  matches-are = ap (λ (k : ℕ). take k (slots ws)) count-is ∙ padded-slots n (found .matches) (m .kept)
+
+-- ---- what the reply with the lent words says of both
+finding-agrees : (n : ℕ) (whole : Reply Matched) (reply : Reply Matches) (ws : List ℕ) → finding reply ws ≡ findingOf n whole → Agrees (Matching n ws) whole reply
+unfolding Agrees findingOf
+finding-agrees n (given found) (given matches) ws e = let said = ap (λ (f : Finding). f .reply) e in record { said = cc; kept = ap (λ (f : Finding). f .hits) e }
+finding-agrees n (given found) (refused why) ws e = let said = ap (λ (f : Finding). f .reply) e in let z : _≡_ {A = ℕ} 0 1 = cc in absurd (omega arith)
+finding-agrees n (refused why) (given matches) ws e = let said = ap (λ (f : Finding). f .reply) e in let z : _≡_ {A = ℕ} 0 1 = cc in absurd (omega arith)
+finding-agrees n (refused why) (refused why′) ws e = let said = ap (λ (f : Finding). f .reply) e in cc
+
+pub found-agrees : (file : List ℕ) (head : Head) (location : Location) (asked : Bool) (n : ℕ) (reply : Reply Matches) (ws : List ℕ) → finding reply ws ≡ foundWith file head location asked n
+    → Agrees (Matching n ws) (matchedWith file head location asked (n / width)) reply
+unfolding foundWith
+found-agrees file head location asked n = finding-agrees n (matchedWith file head location asked (n / width))

@@ -1,0 +1,26 @@
+-- `table::rows::row_of` meets its contract: each sum by its own promise. Assumes nothing.
+use Prim.Native.Nat.{_^_}
+use mathlib.Core.Path.{_∙_}
+use native.Mathlib.Nat.{add-mod-mod}
+use native.Mathlib.Omega.{arith}
+use Rattle.table.proofs.rows.row_of.Statement.{statement}
+use Rattle.table.proofs.rows.row_of.Tie as tie
+
+returns : tie.Need-returns
+returns c =
+    let moved-id = c .before .moved-id in
+    let args = c .before .before .before .before .args in
+    let moved-id = moved-id in
+    let wrapping-add-u32 = c .wrapping-add-u32 in
+    let args = args in
+    λ i. record {
+      place = args .at .place;
+      id = args .at .id;
+      metadata = moved-id .ensures i;
+      polygon = (wrapping-add-u32 .ensures ∙ add-mod-mod (args .at .polygon) (args .entry .polygon) (2 ^ 32)) i;
+      bounds = args .entry .bounds;
+      next = args .entry .next;
+    }
+
+pub row-of-spec : {M : Type 1} → statement M
+row-of-spec = tie.close (tie.spec (λ c. omega arith) (λ c κs. tt) (λ c κs. tt) returns)

@@ -1,0 +1,12 @@
+pub mod Hits
+pub mod Table
+pub mod Rows
+pub mod Agreeing
+pub mod Rest
+pub mod Search
+pub mod Merge
+pub mod Joining
+pub mod Find
+pub mod Ending
+pub mod Unstopped
+pub mod Ordered

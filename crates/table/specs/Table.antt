@@ -1,0 +1,64 @@
+-- The box table, as document 01 has it: an entry is six numbers, all read before any is tested.
+use Prim.Native.Nat.{ℕ}
+use lib.IntN.{ℤ}
+use lib.Signed.{ltZ, leZ}
+use mathlib.Core.Bool.{Bool, _&&_}
+use Rattle.border.specs.declared.place.Point.{Point}
+use Rattle.numbers.specs.Answer.{Answer, found, failed, refused, _>>=_}
+use Rattle.numbers.specs.Point.{signedOf}
+use Rattle.numbers.specs.Varint.{Numeral, told}
+use Rattle.numbers.specs.declared.varint.Varint.{Varint}
+use Rattle.table.specs.declared.table.Bounds.{Bounds}
+use Rattle.table.specs.declared.table.Entered.{Entered}
+use Rattle.table.specs.declared.table.Entry.{Entry}
+use Rattle.table.specs.declared.table.Entered.the-variants as E
+
+-- lower latitude, lower longitude, upper latitude, upper longitude, each a signed number
+abbrev pub boundsOf : ℕ → ℕ → ℕ → ℕ → Bounds
+boundsOf a b c d =
+    record {
+      «min_lat» = record { 0 = signedOf a };
+      «min_lon» = record { 0 = signedOf b };
+      «max_lat» = record { 0 = signedOf c };
+      «max_lon» = record { 0 = signedOf d };
+    }
+
+-- over the reading of a number at a place
+module _ (read : ℕ → Answer Numeral) where
+  -- after the bounds: the steps of the metadata id and of the border's place
+  unfoldable pub stepsBy : ℕ → Bounds → Answer Entry
+  stepsBy place bounds = do
+    metadata ← read place
+    polygon ← read (metadata .place)
+    found (record { bounds = bounds; metadata = metadata .value; polygon = polygon .value; next = polygon .place })
+
+  unfoldable pub entryBy : ℕ → Answer Entry
+  unfolding stepsBy
+  entryBy place = do
+    a ← read place
+    b ← read (a .place)
+    c ← read (b .place)
+    d ← read (c .place)
+    stepsBy (d .place) (boundsOf (a .value) (b .value) (c .value) (d .value))
+
+-- ---- boxes
+-- the lower latitude is above the location
+abbrev pub isAbove : Bounds → Point → Bool
+isAbove bounds fix = ltZ (fix .lat .0) (bounds .«min_lat» .0)
+
+abbrev pub between : ℤ → ℤ → ℤ → Bool
+between low n high = leZ low n && leZ n high
+
+-- the box holds the location
+abbrev pub holds : Bounds → Point → Bool
+holds bounds fix = between (bounds .«min_lat» .0) (fix .lat .0) (bounds .«max_lat» .0) && between (bounds .«min_lon» .0) (fix .lon .0) (bounds .«max_lon» .0)
+
+-- ---- the code's answers
+abbrev pub toldEntered : Entered → Answer Entry
+toldEntered (E.Entry entry) = found entry
+toldEntered E.Failed = failed
+toldEntered (E.Refused n) = refused n
+
+-- a number with nothing to follow it
+abbrev pub stoppedBy : Varint → Answer Entry
+stoppedBy answer = told answer >>= λ number. failed

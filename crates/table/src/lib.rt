@@ -1,0 +1,10 @@
+// The box table of a PLB file: its rows, the search of them at a location, the hits and how they are merged into matches.
+pub mod codes;
+pub mod find;
+pub mod hits;
+pub mod location;
+mod merge;
+mod rest;
+pub mod rows;
+pub mod search;
+pub mod table;
