@@ -35,10 +35,23 @@ crates=/usr/share/cargo/registry
 need_crate() { ls -d "$crates/$1"-* >/dev/null 2>&1 || stop "the crate $1 is missing: Debian's $2"; }
 need_crate memmap2 librust-memmap2-dev
 
-# cargo_host COMMAND WORDS..: cargo on host/, for x86-64
-cargo_host() {
+# cargo on host/, with Debian's crates
+cargo_in() {
     command=$1
     shift
     cargo "$command" --quiet --offline --config 'source.crates-io.replace-with="debian"' --config "source.debian.directory=\"$crates\"" \
-        --manifest-path "$root/host/Cargo.toml" --target-dir "$root/target/host" --target "$target" "$@"
+        --manifest-path "$root/host/Cargo.toml" --target-dir "$root/target/host" "$@"
 }
+
+# cargo_host COMMAND WORDS..: for x86-64
+cargo_host() {
+    command=$1
+    shift
+    cargo_in "$command" --target "$target" "$@"
+}
+
+# cargo_here COMMAND WORDS..: with this machine's own Rust, for what makes no program
+cargo_here() { (
+    unset RUSTC
+    cargo_in "$@"
+); }

@@ -1,14 +1,14 @@
 /* uskelzar.h: which zone holds a fix, by a PLB border file; a writer of borders; local time, by a TZif file; and dates.
  *
  * For libuskelzar.a. What its functions answer, write and touch, and that they end, is proved for every input; what it calls
- * is seen to by a test of the archive. What holds for all eight:
+ * is seen to by a test of the archive. What holds for all nine:
  *
  * You bring    pointers that are not null, aligned for their type and good for their length: to read from, or where the
  *              buffer is lent (no const), to write to. Lent buffers and `reply` do not overlap each other or an input, and
  *              nobody else writes to any of them during the call. A length counts elements, and may be 0. Nothing else is
  *              asked: any bytes are a file, any float is a coordinate (NaN and infinities too), any room is a room.
  * You get      0 and the answer's values in `reply`; or the number of a refusal (enum uskelzar_refusal), its cause in
- *              reply[0], its detail in reply[1], and zeros in the other three words.
+ *              reply[0], its detail in reply[1], and zeros in the other three words (of many fixes, the index in reply[2]).
  * Lent buffers are written whole on every call, whatever they held before: the answer at the front and zeros behind it; on
  *              a refusal zeros alone. No call leaves half an answer, or anything of an earlier one.
  * It never     allocates, keeps a pointer or a state between calls, touches anything but its arguments, reads or writes a
@@ -58,6 +58,7 @@ enum uskelzar_refusal {
     USKELZAR_PIECE = 23,              /* piece list; detail: the piece's index */
     USKELZAR_OUTPUT_ROOM = 24,        /* border doesn't fit the output */
     USKELZAR_INCOMPLETE = 31,         /* a number that the file's end cuts; of the two strict functions alone */
+    USKELZAR_FIXES = 33,              /* many fixes: lists of unequal length, over 4,096 fixes, or `answers` too short */
     /* of a TZif file: the rule of RFC 8536 or 9636 that is broken; detail: a place in the file, that of .. */
     USKELZAR_TZIF_MAGIC = 40,         /* a header does not begin with "TZif": the header */
     USKELZAR_TZIF_VERSION = 41,       /* version missing, not 0, '2', '3' or '4', or the second not the first: the octet */
@@ -126,6 +127,12 @@ enum {
     USKELZAR_SIMPLE_DESCRIBED = 2,    /* 1: there is a description; 0: there is none */
     USKELZAR_SIMPLE_LENGTH = 3        /* its bytes */
 };
+enum {
+    USKELZAR_MANY_FIXES = 0,          /* fixes answered */
+    USKELZAR_MANY_MATCHES = 1,        /* matches of all of them */
+    USKELZAR_MANY_USED = 2,           /* bytes of text used */
+    USKELZAR_MANY_INDEX = 2           /* of a refusal: the index of its fix, 0 for 33 and what opening refuses */
+};
 enum { USKELZAR_WRITE_LENGTH = 0 };
 enum {
     USKELZAR_CIVIL_YEAR = 0,
@@ -152,6 +159,9 @@ enum {
     USKELZAR_HIT_PLACE = 3,           /* where that entry begins: its first byte, counted from the file's first */
     USKELZAR_HIT_WORDS = 4
 };
+
+/* ---- what a fix of many was answered, in `answers`: three words */
+enum { USKELZAR_ANSWER_MATCHES = 0, USKELZAR_ANSWER_END = 1, USKELZAR_ANSWER_SAFEZONE = 2, USKELZAR_ANSWER_WORDS = 3, USKELZAR_MOST_FIXES = 4096 };
 
 /* ---- a piece of the writer: five words; words left over are no piece */
 enum {
@@ -192,6 +202,20 @@ uint8_t uskelzar_open_strict(const uint8_t *file, size_t file_length, uint8_t *t
                              uint64_t reply[USKELZAR_REPLY_WORDS]);
 uint8_t uskelzar_lookup_strict(const uint8_t *file, size_t file_length, float lat, float lon, bool asked, uint32_t *hits,
                                size_t hits_length, uint8_t *text, size_t text_length, uint64_t reply[USKELZAR_REPLY_WORDS]);
+
+/* The zones that hold each of many fixes: fix i is lats[i], lons[i]. The file is opened once; each fix is answered as by lookup,
+ * in the room that the earlier ones left.
+ * Answers: fixes, matches of all of them, bytes of text used. No fix is answered with zeros once the file opens.
+ * hits: the matches of the first fix, then those of the second, and so on. Hits that merge away are free again for the next fix.
+ * text: the fields of all matches, in the same order.
+ * answers: of each fix its match count, end mark and safezone bits (0 if not asked), three words; the counts part `hits` and, with
+ *       the number of fields, `text`.
+ * Refuses: 33 before everything else; then what open refuses but for its 18; then as lookup does, at the first fix that is refused:
+ *       16, 12, 13, 17, 14, 15, 18, those of room against what the earlier ones left. reply[2] is the index of that fix. */
+uint8_t uskelzar_lookup_many(const uint8_t *file, size_t file_length, const float *lats, size_t lats_length, const float *lons,
+                             size_t lons_length, bool asked, uint32_t *hits, size_t hits_length, uint8_t *text,
+                             size_t text_length, uint32_t *answers, size_t answers_length,
+                             uint64_t reply[USKELZAR_REPLY_WORDS]);
 
 /* The zone that holds a fix, as one text: of time zones TimezoneIdPrefix and TimezoneId joined ("Europe/" "Berlin"), of
  * countries Name; of the first match, and of fields with one name the last.

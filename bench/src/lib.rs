@@ -14,10 +14,12 @@ pub enum Question {
     Simple,
 }
 
-/// The words `MAP CITIES QUESTION ROUNDS`. In 0 rounds each city is looked up once, with what is read of the map watched.
+/// The words `MAP CITIES QUESTION ROUNDS`. A question may end in `:N`: so many fixes a call, where a program has such a call. In 0 rounds each city is
+/// looked up once, with what is read of the map watched.
 pub struct Task {
     pub map: String,
     pub question: Question,
+    pub together: Option<usize>,
     cities: Vec<(f32, f32)>,
     rounds: u32,
 }
@@ -40,9 +42,13 @@ impl Task {
     pub fn from_args() -> Task {
         let words: Vec<String> = env::args().skip(1).collect();
         let [map, cities, question, rounds] = &words[..] else {
-            panic!("words: MAP CITIES with|without|simple ROUNDS");
+            panic!("words: MAP CITIES with|without|simple[:N] ROUNDS");
         };
-        let question = match &question[..] {
+        let (question, together) = match question.split_once(':') {
+            Some((question, fixes)) => (question, Some(fixes.parse().expect("fixes"))),
+            None => (&question[..], None),
+        };
+        let question = match question {
             "with" => Question::WithSafezone,
             "without" => Question::WithoutSafezone,
             "simple" => Question::Simple,
@@ -51,6 +57,7 @@ impl Task {
         Task {
             map: map.clone(),
             question,
+            together,
             cities: read_cities(cities),
             rounds: rounds.parse().expect("rounds"),
         }
@@ -65,13 +72,18 @@ impl Task {
             }
             return;
         }
+        self.run_together(1, |fixes, sum| ask(fixes[0].0, fixes[0].1, sum));
+    }
+
+    /// The same, so many cities a call.
+    pub fn run_together(&self, size: usize, mut ask: impl FnMut(&[(f32, f32)], Option<&mut Checksum>)) {
         let mut sum = Checksum::new();
-        for &(lat, lon) in &self.cities {
-            ask(lat, lon, Some(&mut sum));
+        for fixes in self.cities.chunks(size) {
+            ask(fixes, Some(&mut sum));
         }
         for _ in 1..self.rounds {
-            for &(lat, lon) in &self.cities {
-                ask(lat, lon, None);
+            for fixes in self.cities.chunks(size) {
+                ask(fixes, None);
             }
         }
         println!("{:016x}", sum.0);

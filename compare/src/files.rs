@@ -15,7 +15,7 @@ pub struct Case {
 
 // ---- locations
 
-fn coordinate(r: &mut Random, limit: f32) -> f32 {
+pub fn coordinate(r: &mut Random, limit: f32) -> f32 {
     let special = [0.0, -0.0, limit, -limit, limit / 2.0, -limit / 2.0, f32::INFINITY, f32::NEG_INFINITY, f32::NAN,
         f32::MIN_POSITIVE, f32::MAX, f32::MIN, f32::from_bits(1), f32::from_bits(0x8000_0001), f32::from_bits(0x7F80_0001),
         f32::from_bits(limit.to_bits() + 1), f32::from_bits(limit.to_bits() - 1)];

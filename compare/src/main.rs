@@ -6,6 +6,7 @@ mod files;
 #[path = "../../host/src/hit.rs"]
 mod hit;
 mod leaves;
+mod many;
 mod ours;
 mod phases;
 mod random;
@@ -27,6 +28,7 @@ struct Options {
     borders: u64,
     leaves: u64,
     writes: u64,
+    many: u64,
     replay: Vec<String>,
     vectors: Vec<String>,
     recorded: Vec<String>,
@@ -35,7 +37,7 @@ struct Options {
 
 fn options() -> Result<Options, String> {
     let mut o = Options {
-        seed: 1, files: 20_000, borders: 10_000, leaves: 10_000, writes: 10_000, replay: Vec::new(), vectors: Vec::new(), recorded: Vec::new(),
+        seed: 1, files: 20_000, borders: 10_000, leaves: 10_000, writes: 10_000, many: 10_000, replay: Vec::new(), vectors: Vec::new(), recorded: Vec::new(),
         marks: HashMap::new(),
     };
     let mut words = std::env::args().skip(1);
@@ -49,6 +51,7 @@ fn options() -> Result<Options, String> {
             "--borders" => o.borders = number()?,
             "--leaves" => o.leaves = number()?,
             "--writes" => o.writes = number()?,
+            "--many" => o.many = number()?,
             "--replay" => o.replay = command(),
             "--vectors" => o.vectors = command(),
             "--recorded" => o.recorded.push(value),
@@ -64,12 +67,13 @@ fn options() -> Result<Options, String> {
 
 fn run(o: Options) -> Result<bool, String> {
     let mut run = Run::new(o.seed, Program { command: o.replay }, Program { command: o.vectors })?;
-    println!("seed {}: {} files, {} borders, {} writings, {} leaves of each kind", o.seed, o.files, o.borders, o.writes, o.leaves);
+    println!("seed {}: {} files, {} borders, {} writings, {} calls of many fixes, {} leaves of each kind", o.seed, o.files, o.borders, o.writes, o.many, o.leaves);
     for path in &o.recorded {
         run.recorded(path, &o.marks)?;
     }
     run.files(o.files)?;
     run.writes(o.writes)?;
+    run.many(o.many)?;
     run.strings(o.leaves)?;
     run.borders(o.borders)?;
     run.leaves(o.leaves)?;

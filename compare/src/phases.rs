@@ -23,15 +23,15 @@ const SHOWN: usize = 10;
 const OPS: usize = STRICT_LOOKUP as usize + 1;
 
 pub struct Run {
-    seed: u64,
-    replay: Program,
+    pub seed: u64,
+    pub replay: Program,
     vectors: Program,
     /// Ops that this replay knows.
     known: [bool; OPS],
-    tally: Tally,
+    pub tally: Tally,
     shown: [usize; OPS],
-    wrong: u64,
-    compared: u64,
+    pub wrong: u64,
+    pub compared: u64,
 }
 
 /// One call, its reply, and the number of the case it came from.
@@ -79,7 +79,7 @@ fn reply_to(call: &mut Call) -> Result<Reply, Refusal> {
 }
 
 /// Around what is needed: often just enough or one too few.
-fn room(r: &mut Random, need: usize) -> usize {
+pub fn room(r: &mut Random, need: usize) -> usize {
     match r.below(40) {
         0 | 1 => need.saturating_sub(1),
         2 => r.below(need + 4),
@@ -89,11 +89,11 @@ fn room(r: &mut Random, need: usize) -> usize {
     }
 }
 
-fn text_need(looked: &Option<Looked>) -> usize {
+pub fn text_need(looked: &Option<Looked>) -> usize {
     looked.as_ref().map_or(0, |l| l.fields.iter().map(|f| 3 + f.2.len()).sum())
 }
 
-fn slots_need(looked: &Option<Looked>) -> usize {
+pub fn slots_need(looked: &Option<Looked>) -> usize {
     looked.as_ref().map_or(0, |l| ZONE_WORDS * l.hits.len())
 }
 

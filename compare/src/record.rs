@@ -10,8 +10,9 @@ pub const STRING: u8 = 5;
 pub const UTF8: u8 = 6;
 pub const STRICT_OPEN: u8 = 7;
 pub const STRICT_LOOKUP: u8 = 8;
+pub const MANY: u8 = 9;
 
-/// The words of a hit with its place left out: the Rust has none, and `replay` leaves it out of ops 2, 3 and 8.
+/// The words of a hit with its place left out: the Rust has none, and `replay` leaves it out of ops 2, 3, 8 and 9.
 pub const ZONE_WORDS: usize = HIT_WORDS - 1;
 
 /// A call on a file. For a string, `lat` is the place and `lon` the metadata offset.
@@ -142,21 +143,24 @@ pub fn readings(file: &[u8], lat: u32, lon: u32) -> Readings {
     Readings { plain: facts(file, lat, lon), strict: strict_facts(file, lat, lon) }
 }
 
-/// Opening, lookup and simple lookup, from what the Rust made of the same file and location.
 pub fn reply(call: &Call, read: &Readings) -> Reply {
+    let strict = [STRICT_OPEN, STRICT_LOOKUP].contains(&call.op);
+    reply_from(call, if strict { &read.strict } else { &read.plain })
+}
+
+/// Opening, lookup and simple lookup, from what the Rust made of the same file and location, read as the call asks.
+pub fn reply_from(call: &Call, facts: &Facts) -> Reply {
     let reply = match call.op {
-        OPEN => reply_open(&read.plain, call.room),
-        STRICT_OPEN => reply_open(&read.strict, call.room),
-        LOOKUP => reply_lookup(&read.plain, call.ask, call.slots, call.room),
-        STRICT_LOOKUP => reply_lookup(&read.strict, call.ask, call.slots, call.room),
-        _ => reply_simple(&read.plain, call.slots, call.room),
+        OPEN | STRICT_OPEN => reply_open(facts, call.room),
+        LOOKUP | STRICT_LOOKUP => reply_lookup(facts, call.ask, call.slots, call.room),
+        _ => reply_simple(facts, call.slots, call.room),
     };
     let mut reply = reply.unwrap_or_else(|why| with_zeros(why, call.slots, call.room));
     reply.slots.resize(call.slots, 0);
     reply
 }
 
-fn sized(body: Vec<u8>) -> Vec<u8> {
+pub fn sized(body: Vec<u8>) -> Vec<u8> {
     let mut out = (body.len() as u32).to_le_bytes().to_vec();
     out.extend(body);
     out

@@ -1,5 +1,6 @@
 //! Recorded cases (`*.bin`): what this harness expects of them must be what was recorded.
-use crate::record::{readings, reply, reply_written, Call, Piece, Reply, Writing, LOOKUP, OPEN, SIMPLE, STRICT_LOOKUP, STRICT_OPEN, WRITE};
+use crate::many::{facts_of, told, Fixes};
+use crate::record::{readings, reply, reply_written, Call, Piece, Reply, Writing, LOOKUP, MANY, OPEN, SIMPLE, STRICT_LOOKUP, STRICT_OPEN, WRITE};
 use crate::writer::written;
 use std::collections::HashMap;
 
@@ -44,6 +45,16 @@ fn expected(op: u8, input: &mut Input) -> Reply {
     reply(&Call { op, lat, lon, ask, slots, room, file }, &read)
 }
 
+/// The bytes of what is expected of many fixes.
+fn expected_many(input: &mut Input) -> Vec<u8> {
+    let ask = input.byte() != 0;
+    let [lats, lons, slots, room, third, size] = [0; 6].map(|_: u8| input.size());
+    let mut list = |n| (0..n).map(|_| input.word()).collect::<Vec<u32>>();
+    let (lats, lons) = (list(lats), list(lons));
+    let call = Fixes { ask, slots, room, third, lats, lons, file: input.take(size).to_vec() };
+    told(&call, &facts_of(&call)).bytes()
+}
+
 /// Id and mark of the cases whose mark the rest of the table decides; recorded of them is mark 1.
 pub fn marks(lines: &str) -> Option<HashMap<u32, u32>> {
     let pair = |line: &str| line.split_once(' ').and_then(|(id, mark)| Some((id.parse().ok()?, mark.parse().ok()?)));
@@ -57,7 +68,11 @@ pub fn compare(records: &[u8], marks: &HashMap<u32, u32>) -> (usize, Vec<u32>) {
         let size = input.size();
         let mut record = Input(input.take(size));
         let (op, id) = (record.byte(), record.word());
+        if op == MANY && expected_many(&mut record) != record.0 {
+            wrong.push(id);
+        }
         if ![OPEN, LOOKUP, SIMPLE, WRITE, STRICT_OPEN, STRICT_LOOKUP].contains(&op) {
+            count += usize::from(op == MANY);
             continue;
         }
         let mut reply = expected(op, &mut record);

@@ -7,46 +7,56 @@
 use std::collections::hash_map::{Entry, HashMap};
 use std::io::{self, BufWriter, Write};
 use std::process::ExitCode;
-use uskelzar::raw::{self, HIT_WORDS};
-use uskelzar::{Error, Map, Table};
+use uskelzar::raw::MOST_FIXES;
+use uskelzar::{Error, Map, Table, Zones};
 
-/// Room for a lookup, used again for each fix.
-struct Buffers {
-    hits: Vec<u32>,
-    text: Vec<u8>,
-}
+/// A latitude and a longitude.
+type Fix = (f32, f32);
 
 /// The middle of a cell of the grid, in degrees.
-fn fix_of(column: u32, row: u32, columns: u32, rows: u32) -> (f32, f32) {
+fn fix_of(column: u32, row: u32, columns: u32, rows: u32) -> Fix {
     let part = |index: u32, count: u32| (f64::from(index) + 0.5) / f64::from(count);
     let lat = 90.0 - 180.0 * part(row, rows);
     let lon = 360.0 * part(column, columns) - 180.0;
     (lat as f32, lon as f32)
 }
 
-fn describe(map: &Map<Vec<u8>>, lat: f32, lon: f32, metadata: u32) -> Result<String, Error> {
+/// The zones that were met, by their metadata ids: each is described once.
+type Known = HashMap<u32, String>;
+
+fn describe(map: &Map<Vec<u8>>, (lat, lon): Fix, metadata: u32) -> Result<String, Error> {
     let found = map.simple_lookup(lat, lon)?;
     Ok(found.description.unwrap_or_else(|| format!("#{metadata}")))
 }
 
-/// The line of a fix. Each zone is described once.
-fn line_of(
-    map: &Map<Vec<u8>>,
-    (lat, lon): (f32, f32),
-    lent: &mut Buffers,
-    known: &mut HashMap<u32, String>,
-) -> Result<String, Error> {
-    let reply = raw::lookup(map.bytes(), lat, lon, false, &mut lent.hits, &mut lent.text)?;
-    let end = reply[1];
-    if reply[0] == 0 {
+/// The line of a fix that was answered.
+fn line_of(map: &Map<Vec<u8>>, fix: Fix, zones: &Zones, known: &mut Known) -> Result<String, Error> {
+    let end = zones.end as u8;
+    let Some(first) = zones.matches.first() else {
         return Ok(format!("{end} 0"));
-    }
-    let (metadata, kind) = (lent.hits[1], lent.hits[2]);
-    let zone = match known.entry(metadata) {
-        Entry::Occupied(named) => named.into_mut(),
-        Entry::Vacant(unnamed) => unnamed.insert(describe(map, lat, lon, metadata)?),
     };
-    Ok(format!("{end} {kind} {zone}"))
+    let zone = match known.entry(first.metadata) {
+        Entry::Occupied(named) => named.into_mut(),
+        Entry::Vacant(unnamed) => unnamed.insert(describe(map, fix, first.metadata)?),
+    };
+    Ok(format!("{end} {} {zone}", first.kind as u8))
+}
+
+/// The lines of fixes in one call, up to the first that is refused; how many were asked.
+fn print_some(out: &mut impl Write, map: &Map<Vec<u8>>, fixes: &[Fix], known: &mut Known) -> Result<usize, Error> {
+    let answers = match map.lookup_many(fixes) {
+        Ok(answers) => answers,
+        Err(stop) if stop.index == 0 => {
+            writeln!(out, "refused {}", stop.why.number as u8)?;
+            return Ok(1);
+        }
+        // those before it are answered by themselves
+        Err(stop) => return print_some(out, map, &fixes[..stop.index], known),
+    };
+    for (fix, zones) in fixes.iter().zip(answers) {
+        writeln!(out, "{}", line_of(map, *fix, &zones?, known)?)?;
+    }
+    Ok(fixes.len())
 }
 
 fn print_grid(map: &Map<Vec<u8>>, columns: u32, rows: u32) -> Result<(), Error> {
@@ -62,24 +72,12 @@ fn print_grid(map: &Map<Vec<u8>>, columns: u32, rows: u32) -> Result<(), Error> 
         "{zones}, version {}, precision {}",
         header.version, header.precision
     )?;
-    let mut lent = Buffers {
-        hits: vec![0; HIT_WORDS * 256],
-        text: vec![0; 8192],
-    };
-    let mut known = HashMap::new();
-    for row in 0..rows {
-        for column in 0..columns {
-            match line_of(
-                map,
-                fix_of(column, row, columns, rows),
-                &mut lent,
-                &mut known,
-            ) {
-                Ok(line) => writeln!(out, "{line}")?,
-                Err(Error::Refused(refusal)) => writeln!(out, "refused {}", refusal.number as u8)?,
-                Err(error) => return Err(error),
-            }
-        }
+    let row_of = |row| (0..columns).map(move |column| fix_of(column, row, columns, rows));
+    let fixes: Vec<Fix> = (0..rows).flat_map(row_of).collect();
+    let (mut known, mut done) = (Known::new(), 0);
+    while done < fixes.len() {
+        let next = fixes.len().min(done + MOST_FIXES);
+        done += print_some(&mut out, map, &fixes[done..next], &mut known)?;
     }
     Ok(out.flush()?)
 }

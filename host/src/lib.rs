@@ -10,7 +10,7 @@
 //! # }
 //! ```
 //!
-//! [`Printer`] has the whole question of a slip: which hour holds at a fix and an instant, or why none is printed. [`raw`] has the eight functions as they are, over lent buffers, and needs no `std` (`default-features = false`); [`Map`] and [`TimeZone`] lend the buffers themselves.
+//! [`Printer`] has the whole question of a slip: which hour holds at a fix and an instant, or why none is printed. [`raw`] has the nine functions as they are, over lent buffers, and needs no `std` (`default-features = false`); [`Map`] and [`TimeZone`] lend the buffers themselves.
 
 #![cfg_attr(not(feature = "std"), no_std)]
 #![deny(unsafe_op_in_unsafe_fn, missing_docs)]
@@ -22,6 +22,8 @@ mod entry;
 mod hit;
 #[cfg(feature = "std")]
 mod local;
+#[cfg(feature = "std")]
+mod many;
 #[cfg(feature = "std")]
 mod map;
 #[cfg(feature = "std")]
@@ -36,12 +38,14 @@ pub use entry::Entry;
 #[cfg(feature = "std")]
 pub use local::{CivilTime, LocalTime, TimeZone};
 #[cfg(feature = "std")]
+pub use many::Answers;
+#[cfg(feature = "std")]
 pub use map::{End, Error, Field, Header, Kind, Map, Match, Room, Simple, Table, Unknown, Zones};
 #[cfg(feature = "std")]
 pub use printer::{Hour, NotStamped, Printer};
 #[cfg(feature = "std")]
 pub use mapping::Mapping;
-pub use refusal::{Cause, Number, Refusal};
+pub use refusal::{Cause, Number, Refusal, Stop};
 
 /// A run of the earlier data that stands for some of a border's moves.
 #[derive(Clone, Copy, Debug, Eq, PartialEq)]

@@ -106,17 +106,17 @@ pub struct Header {
     pub notice: String,
 }
 
-/// How a search ended.
+/// How a search ended, by its mark.
 #[derive(Clone, Copy, Debug, Eq, PartialEq)]
 pub enum End {
     /// It was whole: no table entry that holds the fix was passed over.
-    Whole,
+    Whole = 1,
     /// A table entry could not be read, or behind an early stop one runs past the table.
-    TableUnreadable,
+    TableUnreadable = 2,
     /// It stopped at a border that failed.
-    BorderFailed,
+    BorderFailed = 3,
     /// The table is not in order: an entry behind the one that stopped the search holds the fix and was not looked at.
-    OutOfOrder,
+    OutOfOrder = 4,
 }
 
 impl End {
@@ -135,11 +135,11 @@ impl End {
 #[derive(Clone, Copy, Debug, Eq, PartialEq)]
 pub enum Kind {
     /// Inside.
-    InZone,
+    InZone = 1,
     /// On a vertex of its border.
-    OnBorderVertex,
+    OnBorderVertex = 3,
     /// On its border elsewhere.
-    OnBorderSegment,
+    OnBorderSegment = 4,
 }
 
 impl Kind {
@@ -282,13 +282,17 @@ impl<B: AsRef<[u8]>> Map<B> {
     }
 
     fn lookup_by(&self, call: Lookup, lat: f32, lon: f32) -> Result<Zones, Error> {
-        let (mut hits, mut text) = self.buffers();
+        let (mut hits, mut text) = self.buffers(1);
         let reply = call(self.bytes(), lat, lon, true, &mut hits, &mut text)?;
         let [matches, mark, safezone, used, _] = reply;
         let mut fields = Entries(&text[..used as usize]);
+        Ok(self.zones_of([matches, mark, safezone], &hits, &mut fields)?)
+    }
+
+    /// From match count, end mark and safezone bits, what stands in front of the hits and of the fields.
+    pub(crate) fn zones_of(&self, [matches, mark, safezone]: [u64; 3], hits: &[u32], fields: &mut Entries) -> Result<Zones, Unknown> {
         let hits = hits.chunks_exact(HIT_WORDS).take(matches as usize);
-        let matches: Result<Vec<Match>, Unknown> =
-            hits.map(|hit| self.match_of(hit, &mut fields)).collect();
+        let matches: Result<Vec<Match>, Unknown> = hits.map(|hit| self.match_of(hit, fields)).collect();
         Ok(Zones {
             matches: matches?,
             end: End::of(mark)?,
@@ -298,7 +302,7 @@ impl<B: AsRef<[u8]>> Map<B> {
 
     /// A description of the first zone that holds a fix, in degrees.
     pub fn simple_lookup(&self, lat: f32, lon: f32) -> Result<Simple, Error> {
-        let (mut hits, mut text) = self.buffers();
+        let (mut hits, mut text) = self.buffers(1);
         let reply = raw::simple_lookup(self.bytes(), lat, lon, &mut hits, &mut text)?;
         let [matches, mark, described, length, _] = reply;
         Ok(Simple {
@@ -320,8 +324,9 @@ impl<B: AsRef<[u8]>> Map<B> {
         entry_at(self.bytes(), *version, *precision, names.len(), place)
     }
 
-    fn buffers(&self) -> (Vec<u32>, Vec<u8>) {
-        (vec![0; HIT_WORDS * self.room.hits], vec![0; self.room.text])
+    /// The map's room so many times.
+    pub(crate) fn buffers(&self, times: usize) -> (Vec<u32>, Vec<u8>) {
+        (vec![0; times * HIT_WORDS * self.room.hits], vec![0; times * self.room.text])
     }
 
     fn match_of(&self, hit: &[u32], fields: &mut Entries) -> Result<Match, Unknown> {

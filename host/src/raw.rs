@@ -1,11 +1,17 @@
-//! The library's eight functions over lent buffers (include/uskelzar.h has their contracts). It asks nothing of `std`, and all that is unsafe
+//! The library's nine functions over lent buffers (include/uskelzar.h has their contracts). It asks nothing of `std`, and all that is unsafe
 //! in this crate is here, but for the mapping of files.
 
 pub use crate::hit::HIT_WORDS;
-use crate::refusal::Refusal;
+use crate::refusal::{Refusal, Stop};
 
 /// The five words of a reply.
 pub type Reply = [u64; 5];
+
+/// The third list of many fixes has so many words of each.
+pub const ANSWER_WORDS: usize = 3;
+
+/// Many fixes are at most so many.
+pub const MOST_FIXES: usize = 4096;
 
 mod library {
     extern "C" {
@@ -47,6 +53,22 @@ mod library {
             text_length: usize,
             reply: *mut [u64; 5],
         ) -> u8;
+        pub fn uskelzar_lookup_many(
+            file: *const u8,
+            file_length: usize,
+            lats: *const f32,
+            lats_length: usize,
+            lons: *const f32,
+            lons_length: usize,
+            asked: bool,
+            hits: *mut u32,
+            hits_length: usize,
+            text: *mut u8,
+            text_length: usize,
+            answers: *mut u32,
+            answers_length: usize,
+            reply: *mut [u64; 5],
+        ) -> u8;
         pub fn uskelzar_simple_lookup(
             file: *const u8,
             file_length: usize,
@@ -84,19 +106,24 @@ mod library {
     }
 }
 
-/// The reply of a call that gave 0, or the refusal. Every call begins with a reply that no answer has, to be written over.
-fn answered(call: impl FnOnce(&mut Reply) -> u8) -> Result<Reply, Refusal> {
+/// The reply of a call that gave 0, or the refusal's number and words, of which so many may be other than 0. Every call begins with a reply that no
+/// answer has, to be written over.
+fn replied(call: impl FnOnce(&mut Reply) -> u8, words: usize) -> Result<Reply, (u8, Reply)> {
     let mut reply = [u64::MAX; 5];
     let number = call(&mut reply);
     if number == 0 {
         return Ok(reply);
     }
-    debug_assert_eq!(
-        reply[2..],
-        [0; 3],
-        "a refusal has a cause and a detail alone"
+    debug_assert!(
+        reply[words..].iter().all(|word| *word == 0),
+        "a refusal has zeros behind its words"
     );
-    Err(Refusal::of(number, reply))
+    Err((number, reply))
+}
+
+/// Of a call whose refusals have a cause and a detail alone.
+fn answered(call: impl FnOnce(&mut Reply) -> u8) -> Result<Reply, Refusal> {
+    replied(call, 2).map_err(|(number, reply)| Refusal::of(number, reply))
 }
 
 /// Opening in the library, plain or strict.
@@ -167,6 +194,42 @@ pub fn lookup_strict(
     text: &mut [u8],
 ) -> Result<Reply, Refusal> {
     lookup_by(library::uskelzar_lookup_strict, file, (lat, lon, asked), hits, text)
+}
+
+/// Fixes, matches of all of them, bytes used; the matches of one fix behind those of the other in the hits, their fields in the text, and of each fix
+/// its match count, end mark and safezone bits in the answers. A refusal has the index of its fix, behind its detail.
+pub fn lookup_many(
+    file: &[u8],
+    lats: &[f32],
+    lons: &[f32],
+    asked: bool,
+    hits: &mut [u32],
+    text: &mut [u8],
+    answers: &mut [u32],
+) -> Result<Reply, Stop> {
+    // SAFETY: as in `open_by`.
+    let call = |reply: &mut Reply| unsafe {
+        library::uskelzar_lookup_many(
+            file.as_ptr(),
+            file.len(),
+            lats.as_ptr(),
+            lats.len(),
+            lons.as_ptr(),
+            lons.len(),
+            asked,
+            hits.as_mut_ptr(),
+            hits.len(),
+            text.as_mut_ptr(),
+            text.len(),
+            answers.as_mut_ptr(),
+            answers.len(),
+            reply,
+        )
+    };
+    replied(call, 3).map_err(|(number, reply)| Stop {
+        index: reply[2] as usize,
+        why: Refusal::of(number, reply),
+    })
 }
 
 /// Matches, end mark, described (1) or not (0), the description's length; the description in the text.

@@ -32,6 +32,7 @@ pub enum Number {
     Piece = 23,
     OutputRoom = 24,
     Incomplete = 31,
+    Fixes = 33,
     TzifMagic = 40,
     TzifVersion = 41,
     TzifHeader = 42,
@@ -59,7 +60,7 @@ pub enum Number {
 use Number::*;
 
 /// Each number with document 01's words for it, in order.
-const TABLE: [(Number, &str); 47] = [
+const TABLE: [(Number, &str); 48] = [
     (
         TooLarge,
         "file, or the writer's earlier data, over 1,073,741,824 bytes",
@@ -97,6 +98,10 @@ const TABLE: [(Number, &str); 47] = [
     (Piece, "piece list"),
     (OutputRoom, "border doesn't fit the output"),
     (Incomplete, "a number that the file's end cuts"),
+    (
+        Fixes,
+        "many fixes: lists of unequal length, over 4,096 fixes, or a third list too short",
+    ),
     (TzifMagic, "a header does not begin with TZif"),
     (
         TzifVersion,
@@ -136,7 +141,7 @@ impl Number {
     fn of(number: u8) -> Number {
         let known = TABLE.iter().find(|(known, _)| *known as u8 == number);
         known
-            .expect("the library's refusals are 1 to 24, 31 and 40 to 61")
+            .expect("the library's refusals are 1 to 24, 31, 33 and 40 to 61")
             .0
     }
 
@@ -216,13 +221,31 @@ impl fmt::Display for Refusal {
 #[cfg(feature = "std")]
 impl std::error::Error for Refusal {}
 
+/// The refusal that stopped a call of many fixes, and the index of the fix that met it: 0 for 33 and for what opening refuses.
+#[derive(Clone, Copy, Debug, Eq, PartialEq)]
+pub struct Stop {
+    /// Which fix.
+    pub index: usize,
+    /// Why.
+    pub why: Refusal,
+}
+
+impl fmt::Display for Stop {
+    fn fmt(&self, f: &mut fmt::Formatter) -> fmt::Result {
+        write!(f, "fix {}: {}", self.index, self.why)
+    }
+}
+
+#[cfg(feature = "std")]
+impl std::error::Error for Stop {}
+
 #[cfg(test)]
 mod tests {
     use super::*;
 
     #[test]
     fn the_table_is_in_order() {
-        let numbers: Vec<u8> = (1..=24).chain([31]).chain(40..=61).collect();
+        let numbers: Vec<u8> = (1..=24).chain([31, 33]).chain(40..=61).collect();
         assert_eq!(TABLE.map(|(number, _)| number as u8).to_vec(), numbers);
         for (number, words) in TABLE {
             assert_eq!(Number::of(number as u8), number);
@@ -240,5 +263,7 @@ mod tests {
         assert_eq!(room.to_string(), "refusal 18: text doesn't fit");
         let count = Refusal::of(45, [0, 36, 0, 0, 0]);
         assert_eq!(count.to_string(), "refusal 45: typecnt is 0 (place 36)");
+        let third = Stop { index: 2, why: room };
+        assert_eq!(third.to_string(), "fix 2: refusal 18: text doesn't fit");
     }
 }

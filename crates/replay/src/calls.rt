@@ -82,13 +82,13 @@ fn run_either(record: &[u8], file: &[u8], slots: &mut [u32], text: &mut [u8]) ->
 }
 
 // How many words as many hits take with four words each as they take with three; none of so long a list that no record has it.
-fn in_four(size: usize) -> usize
+pub fn in_four(size: usize) -> usize
     ensures { λ r. ⌜ r ≤ 5464 ⌝ }
 {
     if size <= 4096 { size / 3 * 4 } else { 0 }
 }
 
-fn filled_words() -> [u32; 5464]
+pub fn filled_words() -> [u32; 5464]
     ensures { λ r. ⌜ 5464 ≡ length r ⌝ }
 {
     [0xAAAA_AAAA; 5464]
@@ -100,7 +100,7 @@ fn word_in(words: &[u32], at: usize) -> u32 {
 }
 
 // The list with three words a hit: the place is left out.
-fn leave_out(words: &[u32], slots: &mut [u32]) {
+pub fn leave_out(words: &[u32], slots: &mut [u32]) {
     let mut i = 0;
     while i < slots.len() {
         slots[i] = word_in(words, std::num::wrapping_add_usize(i, i / 3));

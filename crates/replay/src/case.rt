@@ -3,6 +3,8 @@ ghost use mathlib.Core.Path.{_≡_};
 ghost use Prim.Native.Nat.{_+_, _*_, _≤_};
 ghost use lib.ListN.{length};
 use crate::calls::run;
+use crate::many::recorded_many;
+use crate::many::run_many;
 use crate::record::byte_at;
 use crate::record::long_at;
 use crate::record::same_words;
@@ -149,10 +151,115 @@ fn judge_write(record: &[u8]) -> Verdict {
     run_written(record, lats, lons, words, earlier, reply, &mut out[..room])
 }
 
+fn filled_answers() -> [u32; 12291]
+    ensures { λ r. ⌜ 12291 ≡ length r ⌝ }
+{
+    [0xAAAA_AAAA; 12291]
+}
+
+// The three lists, which stand behind the reply.
+fn judge_lists(
+    record: &[u8],
+    got: Reply,
+    words: usize,
+    slots: &[u32],
+    text: &[u8],
+    answers: &[u32],
+) -> Verdict
+    requires { ⌜ words + 4 * length (now slots) + 4 * length (now answers) + length (now text) ≡ length (now «record») ⌝ }
+{
+    let told = words + 4 * slots.len();
+    let bytes = told + 4 * answers.len();
+    if !same_words(slots, &record[words..told]) {
+        return print_wrong(b"slots", record, got);
+    }
+    if !same_words(answers, &record[told..bytes]) {
+        return print_wrong(b"answers", record, got);
+    }
+    if !check::same(text, &record[bytes..]) {
+        return print_wrong(b"text", record, got);
+    }
+    Verdict::Right
+}
+
+// A record of many fixes, whose file ends where its reply begins.
+fn run_fixes(
+    record: &[u8],
+    lats: usize,
+    lons: usize,
+    reply: usize,
+    slots: &mut [u32],
+    text: &mut [u8],
+    answers: &mut [u32],
+) -> Verdict
+    requires { ⌜ (lats ≤ 4097) × (lons ≤ 4097) × (30 + 4 * lats + 4 * lons ≤ reply)
+        × (reply + 30 + 4 * length (now slots) + 4 * length (now answers) + length (now text) ≡ length (now «record»)) ⌝ }
+{
+    let file = 30 + 4 * lats + 4 * lons;
+    let got = run_many(
+        record,
+        lats,
+        lons,
+        &record[file..reply],
+        slots,
+        text,
+        answers,
+    );
+    let words = reply + 30;
+    if !same_reply(got, recorded_many(&record[reply..words])) {
+        return print_wrong(b"reply", record, got);
+    }
+    judge_lists(record, got, words, slots, text, answers)
+}
+
+fn judge_many(record: &[u8]) -> Verdict {
+    let lats = size_at(record, 6);
+    let lons = size_at(record, 10);
+    let count = size_at(record, 14);
+    let room = size_at(record, 18);
+    let third = size_at(record, 22);
+    let size = size_at(record, 26);
+    if 4097 < lats {
+        return Verdict::Skipped;
+    }
+    if 4097 < lons {
+        return Verdict::Skipped;
+    }
+    if 4096 < count {
+        return Verdict::Skipped;
+    }
+    if 16384 < room {
+        return Verdict::Skipped;
+    }
+    if 12291 < third {
+        return Verdict::Skipped;
+    }
+    if 65536 < size {
+        return Verdict::Skipped;
+    }
+    let reply = 30 + 4 * lats + 4 * lons + size;
+    if record.len() != reply + 30 + 4 * count + 4 * third + room {
+        return Verdict::Skipped;
+    }
+    let mut slots = filled_slots();
+    let mut text = filled_text();
+    let mut answers = filled_answers();
+    run_fixes(
+        record,
+        lats,
+        lons,
+        reply,
+        &mut slots[..count],
+        &mut text[..room],
+        &mut answers[..third],
+    )
+}
+
 pub fn judge(record: &[u8]) -> Verdict {
     match byte_at(record, 0) {
         1 | 2 | 3 | 5 | 6 | 7 | 8 | 14 | 15 | 16 | 20 | 21 => judge_file(record),
         4 => judge_write(record),
+        9 | 17 => judge_many(record),
         _ => Verdict::Skipped,
     }
 }

@@ -1,6 +1,7 @@
 // Runs the recorded cases of standard input and prints each that does not come out as recorded.
 mod calls;
 mod case;
+mod many;
 mod record;
 mod reply;
 mod write;
@@ -115,6 +116,8 @@ fn report(tally: &[u64]) {
     print_op(b"write", counted(tally, 4));
     print_op(b"string", counted(tally, 5));
     print_op(b"utf8", counted(tally, 6));
+    print_op(b"many", counted(tally, 17));
+    print_op(b"many in three words", counted(tally, 9));
     print_op(b"local", counted(tally, 20));
     print_op(b"listed", counted(tally, 21));
     io::write_all(STDOUT_FILENO, b"replay: ");

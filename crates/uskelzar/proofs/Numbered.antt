@@ -1,5 +1,5 @@
 -- What a returned 0 means to firmware: the call was answered, whatever it was given. Each exported function's contract fixes what it returns,
--- the number said in `openingSpoken`, `foundSpoken`, `writtenSpoken` or `localSpoken`; here, that this number is 0 exactly where the definition gives an answer. Assumes nothing.
+-- the number said in `openingSpoken`, `foundSpoken`, `manySpoken`, `writtenSpoken` or `localSpoken`; here, that this number is 0 exactly where the definition gives an answer. Assumes nothing.
 use Prim.Native.Nat.{ℕ}
 use mathlib.Core.Bool.{Bool, true, false}
 use mathlib.Core.List.{List, [], _∷_, _++_}
@@ -7,6 +7,11 @@ use mathlib.Core.Logic.{_↔_}
 use mathlib.Core.Path.{_≡_, refl, subst}
 use native.Mathlib.Omega.{arith}
 use lib.IntN.{ℤ}
+use lib.Ieee.{Float}
+use Rattle.batch.proofs.NumberedMany.{manyNumbers, many-refusals}
+use Rattle.batch.specs.Many as B
+use Rattle.batch.specs.Many.{Batch, lookedUpMany}
+use Rattle.batch.specs.declared.many.Totals.{Totals}
 use Rattle.numbers.proofs.Refusals.{Listed}
 use Rattle.border.proofs.NumberedWriter.{writerNumbers, writer-refusals}
 use Rattle.border.specs.Writer.{borderOf, fitted}
@@ -24,6 +29,7 @@ use Rattle.numbers.specs.Reply.{Reply, given, refused}
 use Rattle.zones.specs.Simple.{simplyLooked}
 use Rattle.table.specs.declared.location.Location.{Location}
 use Rattle.numbers.specs.declared.refusal.Refusal.{Refusal}
+use Rattle.uskelzar.specs.Many.{manySaid, manySpoken}
 use Rattle.uskelzar.specs.Spoken.{saidOf, openingValues, zonesValues, describedValues, lengthValue, localValues, localReply, openingSpoken, foundSpoken, writtenSpoken, localSpoken}
 
 -- the reply is an answer, and no refusal
@@ -66,6 +72,21 @@ pub lookup-strict-zero : (file : List ℕ) (location : Location) (asked : Bool) 
 lookup-strict-zero file location asked n room =
     zero-said zonesValues (lookedStrictly file location asked n room .reply)
     (λ why is. never-zero (lookupNumbers ++ 31 ∷ []) (λ z. z) (why .number) (strict-lookup-refusals file location asked n room why is))
+
+-- `uskelzar_lookup_many`
+abbrev pub AnsweredMany : Batch Totals → Type 0
+AnsweredMany reply = (totals : Totals) × (reply ≡ B.given totals)
+
+many-said : (reply : Batch Totals) → ((index : ℕ) (why : Refusal) → reply ≡ B.refused index why → why .number ≡ 0 → ⊥) → (manySaid reply .number ≡ 0) ↔ AnsweredMany reply
+unfolding manySaid
+many-said (B.given totals) never = ((λ zero. (totals, refl)), (λ answered. refl))
+many-said (B.refused index why) never = ((λ zero. absurd (never index why refl zero)), (λ answered. cc))
+
+pub many-zero : (file : List ℕ) (lats lons : List Float) (asked : Bool) (n room third : ℕ)
+    → (manySpoken (lookedUpMany file lats lons asked n room third) .said .number ≡ 0) ↔ AnsweredMany (lookedUpMany file lats lons asked n room third .reply)
+many-zero file lats lons asked n room third =
+    many-said (lookedUpMany file lats lons asked n room third .reply)
+    (λ index why is. never-zero manyNumbers (λ z. z) (why .number) (many-refusals file lats lons asked n room third index why is))
 
 -- `uskelzar_simple_lookup`
 pub simple-lookup-zero : (file : List ℕ) (location : Location) (n room : ℕ)

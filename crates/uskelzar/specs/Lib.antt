@@ -1,2 +1,3 @@
 pub mod Spoken
 pub mod Civil
+pub mod Many

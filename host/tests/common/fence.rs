@@ -47,6 +47,7 @@ pub trait Plain: Copy {}
 impl Plain for u8 {}
 impl Plain for u32 {}
 impl Plain for i32 {}
+impl Plain for f32 {}
 
 pub struct Fence {
     start: *mut u8,

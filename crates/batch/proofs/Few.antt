@@ -1,0 +1,118 @@
+-- A file has fewer rows than bytes before its metadata, so what a lookup counts fits a word. Assumes nothing.
+use mathlib.Core.Path.{_≡_, refl, sym, ap, subst, _∙_}
+use mathlib.Core.Bool.{Bool, true, false}
+use mathlib.Core.List.{List, [], _∷_, _++_}
+use Prim.Native.Nat.{ℕ, zero, suc, _+_, _-_, _/_, _≤_, _<_}
+use borrow.Author.Tests.{ltb-true}
+use native.Mathlib.Omega.{arith}
+use lib.Dec.{ltb, eqb}
+use lib.ListN.{length, length-append}
+use Rattle.border.specs.Verdict.{Judgement}
+use Rattle.border.specs.declared.place.Point.{Point}
+use Rattle.numbers.proofs.Replies.{given-from, demanded}
+use Rattle.numbers.specs.Answer.{Answer, if_then_else_}
+use Rattle.numbers.specs.Answer as A
+use Rattle.numbers.specs.Reply.{Reply, given, plain}
+use Rattle.numbers.specs.Reply as R
+use Rattle.numbers.specs.Varint.{Numeral, readingOf}
+use Rattle.table.proofs.TableRows.{Grows, reading-grows, rows-step, at-end, row-less}
+use Rattle.table.specs.Find.{Matched, isPrecision, fixOf, matchedWith}
+use Rattle.table.specs.Merge.{seen, summary, groupKind, matchOf, mergedAfter, merged}
+use Rattle.table.specs.Rest.{restMark}
+use Rattle.table.specs.Rows.{Rows, row, tableEnd, unreadable, after, startAt, rowsThen, rowBy, rowsFrom, rowsIn}
+use Rattle.table.specs.Rows as T
+use Rattle.table.specs.Search.{Found, ended, farthest, afterTurn, rowTurn, seek, judgeIn, searched}
+use Rattle.table.specs.Table.{isAbove}
+use Rattle.header.specs.declared.header.Head.{Head}
+use Rattle.table.specs.declared.hits.Hit.{Hit}
+use Rattle.table.specs.declared.location.Location.{Location}
+use Rattle.table.specs.declared.rows.Cursor.{Cursor}
+use Rattle.table.specs.declared.rows.Row.{Row}
+use Rattle.table.specs.declared.search.Turn.the-variants.{On, Met, Stopped, Refused}
+use Rattle.table.specs.declared.search.Turn.{Turn}
+
+-- ---- rows
+many : Rows → ℕ
+many (row r rows) = suc (many rows)
+many tableEnd = 0
+many unreadable = 0
+many (T.refused n) = 0
+
+module _ (read : ℕ → Answer Numeral) (grows : Grows read) (end : ℕ) where
+  one-more : (at : Cursor) (answer : Answer Row) → answer ≡ rowBy read at → at .place < end
+      → ((next : Cursor) → end - next .place < end - at .place → many (rowsFrom read end next) ≤ end - next .place) → many (rowsThen answer (rowsFrom read end)) ≤ end - at .place
+  unfolding many rowsThen
+  one-more at (A.found r) e more rest = let less = row-less read grows at more e refl in omega (arith, less, rest (after r) less)
+  one-more at A.failed e more rest = omega arith
+  one-more at (A.refused n) e more rest = omega arith
+
+  rows-few : (fuel : ℕ) (at : Cursor) → end - at .place ≤ fuel → many (rowsFrom read end at) ≤ end - at .place
+  unfolding many
+  rows-few zero at h = rw (at-end read grows {end = end} at (omega arith)) (omega arith)
+  rows-few (suc fuel) at h = rw (rows-step read grows end at) (choose (ltb (at .place) end) refl (λ next less. rows-few fuel next (omega arith)))
+    where
+      choose : (test : Bool) → ltb (at .place) end ≡ test → ((next : Cursor) → end - next .place < end - at .place → many (rowsFrom read end next) ≤ end - next .place)
+          → many (if test then rowsThen (rowBy read at) (rowsFrom read end) else tableEnd) ≤ end - at .place
+      choose true e rest = one-more at (rowBy read at) refl (ltb-true _ _ e) rest
+      choose false e rest = omega arith
+
+-- ---- hits
+inside : {A : Type 0} {a b : A} → given a ≡ given b → a ≡ b
+inside e = cc
+
+turn-few : (turn : Turn) (hits : List Hit) (room left : ℕ) (go : ℕ → List Hit → Reply Found) → ((least : ℕ) (hits : List Hit) (found : Found) → given found ≡ go least hits → length (found .hits) ≤ length hits + left)
+    → (found : Found) → given found ≡ afterTurn turn hits room go → length (found .hits) ≤ length hits + suc left
+turn-few (On least) hits room left go rest found e = omega (arith, rest least hits found e)
+turn-few (Met hit least) hits room left go rest found e = slot (ltb (length hits) room) e
+  where
+    slot : (test : Bool) → given found ≡ (if test then go least (hits ++ hit ∷ []) else R.refused (plain 17)) → length (found .hits) ≤ length hits + suc left
+    slot true e = omega (arith, rest least (hits ++ hit ∷ []) found e, length-append hits (hit ∷ []))
+    slot false e = let z : _≡_ {A = ℕ} 0 1 = cc in absurd (omega arith)
+turn-few (Stopped mark least) hits room left go rest found e = rw (inside e) (omega arith)
+turn-few (Refused n) hits room left go rest found e = let z : _≡_ {A = ℕ} 0 1 = cc in absurd (omega arith)
+
+module _ (judge : ℕ → ℕ → Judgement) (fix : Point) (end room : ℕ) where
+  seek-few : (rows : Rows) (least : ℕ) (hits : List Hit) (found : Found) → given found ≡ seek judge fix end room rows least hits → length (found .hits) ≤ length hits + many rows
+  unfolding seek many
+  seek-few (row r rows) least hits found e = above (isAbove (r .bounds) fix) (seek-few rows) e
+    where
+      above : (test : Bool) → ((least : ℕ) (hits : List Hit) (found : Found) → given found ≡ seek judge fix end room rows least hits → length (found .hits) ≤ length hits + many rows)
+          → given found ≡ (if test then ended hits (restMark end fix (row r rows)) least else afterTurn (rowTurn judge fix r least) hits room (seek judge fix end room rows)) → length (found .hits) ≤ length hits + suc (many rows)
+      above true rest e = rw (inside e) (omega arith)
+      above false rest e = turn-few (rowTurn judge fix r least) hits room (many rows) (seek judge fix end room rows) rest found e
+  seek-few tableEnd least hits found e = rw (inside e) (omega arith)
+  seek-few unreadable least hits found e = rw (inside e) (omega arith)
+  seek-few (T.refused n) least hits found e = let z : _≡_ {A = ℕ} 0 1 = cc in absurd (omega arith)
+
+-- ---- matches
+match-few : (old : Bool) (hit : Hit) (kind : ℕ) → length (if old then [] else matchOf hit kind) ≤ 1
+match-few true hit kind = omega arith
+match-few false hit kind = by-kind (eqb kind 0) _
+  where
+    by-kind : (none : Bool) (match : Hit) → length (if none then [] else (match ∷ [])) ≤ 1
+    by-kind true match = omega arith
+    by-kind false match = omega arith
+
+merged-few : (before hits : List Hit) → length (mergedAfter before hits) ≤ length hits
+unfolding mergedAfter
+merged-few before [] = omega arith
+merged-few before (hit ∷ hits) =
+    omega (
+      arith,
+      length-append (if seen (hit .metadata) before then [] else matchOf hit (groupKind (summary (hit .metadata) (hit ∷ hits)))) (mergedAfter (before ++ hit ∷ []) hits),
+      match-few (seen (hit .metadata) before) hit (groupKind (summary (hit .metadata) (hit ∷ hits))),
+      merged-few (before ++ hit ∷ []) hits,
+    )
+
+module _ (file : List ℕ) (head : Head) (location : Location) (asked : Bool) (room : ℕ) where
+  table-few : many (rowsIn file head) ≤ head .sections .metadata
+  unfolding rowsIn
+  table-few = omega (arith, rows-few (readingOf (head .strict) file) (reading-grows (head .strict) file) (head .sections .metadata) (head .sections .metadata) (startAt (head .sections .table)) (omega arith))
+
+  pub matched-few : {found : Matched} → given found ≡ matchedWith file head location asked room → length (found .matches) ≤ head .sections .metadata
+  unfolding matchedWith searched merged
+  matched-few e =
+      let fix = fixOf location (head .preamble .precision) in
+      let s = given-from (searched file head fix asked room) _ (demanded (isPrecision (head .preamble .precision)) (plain 16) e .1) in
+      let few = seek-few (judgeIn file head fix asked) fix (head .sections .metadata) room (rowsIn file head) farthest [] (s .it) (s .is) in
+      rw (inside (s .onto)) (omega (arith, merged-few [] (s .it .hits), few, table-few))
