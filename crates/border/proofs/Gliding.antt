@@ -13,22 +13,22 @@ use native.Mathlib.Nat.{le-refl}
 use native.Mathlib.Omega.{arith}
 use Rattle.border.proofs.Signs.{differ, both}
 use Rattle.border.proofs.Trace.{gives-trace}
-use Rattle.border.proofs.reader.Turns.{open-packed, turn-move, backward-move, advances}
+use Rattle.border.proofs.reader.Turns.{open-packed, open-plain, turn-move, backward-move, advances, counted-before, pair-read, pair-moves}
 use Rattle.border.specs.Distance.{measured}
 use Rattle.border.specs.Edge.{sameZ, samePoint, straight, between, inBox, quadrantOf}
 use Rattle.border.specs.Encoding.{encodedBy}
-use Rattle.border.specs.Gliding.{sameSide, inOneQuadrant, inSpan, beside, aside, within, Glides, stays, glides, GlidesTo, standing, GlidesForth, GlidesBack, points, GlidesOn}
-use Rattle.border.specs.Place.{pointAt, movedBy, negated}
-use Rattle.border.specs.Reader.{advanced, backwardFrom}
+use Rattle.border.specs.Gliding.{sameSide, inOneQuadrant, inSpan, beside, aside, within, Glides, stays, glides, GlidesTo, standing, GlidesForth, GlidesBack, GlidesPlain, points, GlidesOn}
+use Rattle.border.specs.Place.{pointAt, moveBy, isStill, movedBy, negated}
+use Rattle.border.specs.Reader.{gives, shownBy, advanced, backwardFrom}
 use Rattle.border.specs.Trace.{Trace, point, traceOf}
 use Rattle.border.specs.Verdict.{after, along, passing, thenOn, judge}
 use Rattle.border.specs.Winding.{quarterBy, clearOf, woundBy}
 use Rattle.border.specs.declared.glide.{Span.Span, Field.Field}
 use Rattle.border.specs.declared.place.Point.{Point}
-use Rattle.border.specs.declared.reader.{Reader.Reader, Encoding.Encoding, Version.Version, Version.the-variants.Packed, Run.Run, Run.the-variants.Idle, Run.the-variants.Backward}
+use Rattle.border.specs.declared.reader.{Reader.Reader, Encoding.Encoding, Version.Version, Version.the-variants.Plain, Version.the-variants.Packed, Run.Run, Run.the-variants.Idle, Run.the-variants.Backward}
 use Rattle.border.specs.declared.verdict.Tally.{Tally}
 use Rattle.numbers.specs.Answer.{found, checked, if_then_else_}
-use Rattle.numbers.specs.Point.{pointOf}
+use Rattle.numbers.specs.Point.{signedOf, pointOf}
 use Rattle.numbers.proofs.Answers.{All}
 use Rattle.numbers.proofs.Laws.{Read, Before, backward-read}
 use Rattle.numbers.proofs.Readings.{reading-read}
@@ -306,6 +306,36 @@ module _ (f : List ℕ) (field : Field) (end : ℕ) where
   pub less-below : (place : ℕ) {value next : ℕ} → numeral value next ≡ backwardAt f place → next < place
   less-below place e = let read = subst (All (Before f place)) (sym e) (backward-read f place) in read .falls
 
+-- ---- version 0
+
+module _ (f : List ℕ) (strict : Bool) (field : Field) where
+  pub plain-stays : (place moves : ℕ) (p : Point) → GlidesPlain f strict field place moves p place moves p
+  plain-stays place moves p = record { plainly = λ base first. stays }
+
+  shown-moved : (s : Reader) (by : RawPoint) → isStill by ≡ false → found (shownBy by s) ≡ found (gives s)
+  shown-moved s by h = rw h
+
+  -- a move that is not nothing leads on, inside the field
+  pub plain-on : {start count mid moves : ℕ} {from p : Point} → GlidesPlain f strict field start count from mid moves p → {lat lon middle next : ℕ} {to : Point}
+      → numeral lat middle ≡ readingOf strict f mid → numeral lon next ≡ readingOf strict f middle → 0 < moves
+      → isStill (moveBy (signedOf lat) (signedOf lon)) ≡ false → found to ≡ movedBy p (moveBy (signedOf lat) (signedOf lon)) → within field to ≡ true
+      → GlidesPlain f strict field start count from next (moves - 1) to
+  plain-on {mid = mid} {moves = moves} {p = p} h {lat} {lon} {middle} {next} {to} read second more stirs moved inside =
+      record {
+        plainly = λ base first.
+            let here = standing first mid moves Idle p in
+            let by = moveBy (signedOf lat) (signedOf lon) in
+            let there = standing first next moves Idle p in
+            glides-on (h .plainly base first)
+            (gives-trace f (encodedBy strict Plain base) here (standing first next (moves - 1) Idle to)
+            (sym (open-plain strict f base here refl
+            ∙ counted-before (readingOf strict f) here refl
+            ∙ pair-read (readingOf strict f) f base here read second
+            ∙ pair-moves there by (λ e. omega (arith, e, more)) moved
+            ∙ shown-moved (standing first next (moves - 1) Idle to) by stirs)))
+            inside;
+      }
+
 -- ---- any state
 
 pub on-stays : (f : List ℕ) (encoding : Encoding) (fix : Point) (asked : Bool) (tally : Tally) (s : Reader) → GlidesOn f encoding fix asked tally s s
@@ -313,6 +343,13 @@ on-stays f encoding fix asked tally s = record { alike = refl; onward = le-refl 
 
 pub on-glides : (f : List ℕ) (encoding : Encoding) (s r : Reader) {fix : Point} {asked : Bool} {tally : Tally} {field : Field} → Calm fix asked tally field → within field (s .point) ≡ true → GlidesTo f encoding field s r → GlidesOn f encoding fix asked tally s r
 on-glides f encoding s r calm h g = record { alike = glide-trace calm (s .point) h g; onward = glides-shorter g }
+
+-- where no distance is asked for, with the points that were kept of the two states
+pub carried : (f : List ℕ) (encoding : Encoding) (fix : Point) (asked : Bool) (tally : Tally) (s r : Reader) (p q : Point) → asked ≡ false → GlidesOn f encoding fix false tally s r → p ≡ r .point → q ≡ s .point
+    → judge fix asked (after p) tally (traceOf f encoding r) ≡ judge fix asked (after q) tally (traceOf f encoding s)
+carried f encoding fix asked tally s r p q unasked g h k =
+    subst (λ (t : Bool). judge fix t (after p) tally (traceOf f encoding r) ≡ judge fix t (after q) tally (traceOf f encoding s)) (sym unasked)
+    (ap (λ (o : Point). judge fix false (after o) tally (traceOf f encoding r)) h ∙ g .alike ∙ ap (λ (o : Point). judge fix false (after o) tally (traceOf f encoding s)) (sym k))
 
 module _ (s : Reader) (begun : s .begun ≡ true) (unclosed : s .closed ≡ false) {run : Run} (runs : s .run ≡ run) where
   stands : s ≡ standing (s .first) (s .place) (s .moves) run (s .point)

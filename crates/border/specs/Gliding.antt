@@ -14,7 +14,7 @@ use Rattle.border.specs.Trace.{Trace, point, traceOf}
 use Rattle.border.specs.Verdict.{after, judge}
 use Rattle.border.specs.declared.glide.{Span.Span, Field.Field, Led.Led, Led.the-variants.To, Led.the-variants.Out}
 use Rattle.border.specs.declared.place.Point.{Point}
-use Rattle.border.specs.declared.reader.{Reader.Reader, Encoding.Encoding, Version.the-variants.Packed, Run.Run, Run.the-variants.Idle, Run.the-variants.Backward}
+use Rattle.border.specs.declared.reader.{Reader.Reader, Encoding.Encoding, Version.the-variants.Plain, Version.the-variants.Packed, Run.Run, Run.the-variants.Idle, Run.the-variants.Backward}
 use Rattle.border.specs.declared.verdict.Tally.{Tally}
 
 -- two numbers lie on one side of x, strictly
@@ -67,6 +67,10 @@ pub record GlidesForth (file : List ℕ) (strict : Bool) (field : Field) (place 
 pub record GlidesBack (file : List ℕ) (field : Field) (end next : ℕ) (p : Point) (next′ : ℕ) (p′ : Point) : Type 0 where
   pub back : (strict : Bool) (base place moves : ℕ) (first : Point) →
       GlidesTo file (encodedBy strict Packed base) field (standing first place moves (Backward next end) p) (standing first place moves (Backward next′ end) p′)
+
+-- version 0, between two moves
+pub record GlidesPlain (file : List ℕ) (strict : Bool) (field : Field) (place moves : ℕ) (p : Point) (place′ moves′ : ℕ) (p′ : Point) : Type 0 where
+  pub plainly : (base : ℕ) (first : Point) → GlidesTo file (encodedBy strict Plain base) field (standing first place moves Idle p) (standing first place′ moves′ Idle p′)
 
 -- how many points a trace has
 unfoldable pub points : Trace → ℕ

@@ -5,11 +5,12 @@ ghost use mathlib.Core.Bool.{true, false};
 ghost use Prim.Native.Nat.{_^_, _<_};
 ghost use lib.Signed.{mag};
 ghost use Rattle.border.specs.Encoding.{encodedBy};
-ghost use Rattle.border.specs.Gliding.{inSpan, beside, aside, within, LedTo, GlidesForth, GlidesBack, GlidesTo, GlidesOn, standing};
+ghost use Rattle.border.specs.Gliding.{inSpan, beside, aside, within, LedTo, GlidesForth, GlidesBack, GlidesPlain, GlidesTo, GlidesOn, standing};
 use crate::place::Away;
 use crate::place::FixedLat;
 use crate::place::FixedLon;
 use crate::place::Point;
+use crate::place::is_still;
 use crate::place::negate;
 use crate::reader::Encoding;
 use crate::reader::Reader;
@@ -18,6 +19,7 @@ use crate::reader::Version;
 use crate::verdict::Tally;
 use numbers::point::RawPoint;
 use numbers::point::decode_point;
+use numbers::point::signed;
 use numbers::varint::Varint;
 use numbers::varint::read_backward;
 use numbers::varint::read_number;
@@ -154,6 +156,73 @@ fn glide_back(file: &[u8], field: Field, start: usize, end: usize, from: Point) 
     }
 }
 
+// A place of the border, the moves that are left, and the point there.
+pub(crate) struct Counted {
+    pub place: usize,
+    pub moves: u64,
+    pub point: Point,
+}
+
+// Version 0, up to the closing pair. A move of nothing is left to the reader.
+fn glide_plain(
+    file: &[u8],
+    strict: bool,
+    field: Field,
+    start: usize,
+    count: u64,
+    from: Point,
+) -> Counted
+    ensures { λ r. ⌜ GlidesPlain (now (file .entry)) strict field start count «from» (r .place) (r .moves) (r .point) ⌝ }
+{
+    let mut place = start;
+    let mut moves = count;
+    let mut point = from;
+    while 0 < moves {
+        let n = read_number(file, place, strict);
+        let Varint::Number(lat) = n else {
+            return Counted {
+                place,
+                moves,
+                point,
+            };
+        };
+        let m = read_number(file, lat.place, strict);
+        let Varint::Number(lon) = m else {
+            return Counted {
+                place,
+                moves,
+                point,
+            };
+        };
+        let by = RawPoint {
+            lat: signed(lat.value),
+            lon: signed(lon.value),
+        };
+        if is_still(by) {
+            return Counted {
+                place,
+                moves,
+                point,
+            };
+        }
+        let Led::To(to) = lead(field, point, by) else {
+            return Counted {
+                place,
+                moves,
+                point,
+            };
+        };
+        place = lon.place;
+        moves -= 1;
+        point = to;
+    }
+    Counted {
+        place,
+        moves,
+        point,
+    }
+}
+
 // The state at a place, a run and a point of the border.
 fn stand(reader: Reader, place: usize, moves: u64, run: Run, point: Point) -> Reader
     ensures { λ r. ⌜ r ≡ standing (reader .first) place moves run point ⌝ }
@@ -196,6 +265,28 @@ fn glide_packed(file: &[u8], encoding: Encoding, field: Field, reader: Reader) -
     }
 }
 
+// Version 0.
+fn glide_counted(file: &[u8], encoding: Encoding, field: Field, reader: Reader) -> Reader
+    requires { ⌜ (reader .begun ≡ true) × (reader .closed ≡ false) ⌝ }
+    ensures { λ r. ⌜ GlidesTo (now (file .entry)) (encodedBy (encoding .strict) Version.Plain (encoding .«data»)) field reader r ⌝ }
+{
+    let run = reader.run;
+    let Run::Idle = run else {
+        return reader;
+    };
+    let from = reader.point;
+    let glided = glide_plain(
+        file,
+        encoding.strict,
+        field,
+        reader.place,
+        reader.moves,
+        from,
+    );
+    let point = glided.point;
+    stand(reader, glided.place, glided.moves, Run::Idle, point)
+}
+
 fn glide_within(file: &[u8], encoding: Encoding, field: Field, reader: Reader) -> Reader
     requires { ⌜ (reader .begun ≡ true) × (reader .closed ≡ false) ⌝ }
     ensures { λ r. ⌜ GlidesTo (now (file .entry)) encoding field reader r ⌝ }
@@ -203,7 +294,7 @@ fn glide_within(file: &[u8], encoding: Encoding, field: Field, reader: Reader) -
     let version = encoding.version;
     match version {
         Version::Packed => glide_packed(file, encoding, field, reader),
-        Version::Plain => reader,
+        Version::Plain => glide_counted(file, encoding, field, reader),
     }
 }
 
@@ -212,15 +303,11 @@ pub(crate) fn glide_on(
     file: &[u8],
     encoding: Encoding,
     fix: Point,
-    asked: bool,
     tally: Tally,
     reader: Reader,
 ) -> Reader
-    ensures { λ r. ⌜ GlidesOn (now (file .entry)) encoding fix asked tally reader r ⌝ }
+    ensures { λ r. ⌜ GlidesOn (now (file .entry)) encoding fix false tally reader r ⌝ }
 {
-    if asked {
-        return reader;
-    }
     if reader.closed {
         return reader;
     }

@@ -13,26 +13,24 @@ returns c = on-stays _ _ _ _ _ _
 returns-2 : tie.Need-returns-2
 returns-2 c = on-stays _ _ _ _ _ _
 
-returns-3 : tie.Need-returns-3
-returns-3 c = on-stays _ _ _ _ _ _
-
 field-of-requires : tie.Need-field-of-requires
 field-of-requires c κs = search needs
 
 is-within-requires : tie.Need-is-within-requires
 is-within-requires c κs = search needs
 
-returns-4 : tie.Need-returns-4
-returns-4 c = on-stays _ _ _ _ _ _
+returns-3 : tie.Need-returns-3
+returns-3 c = on-stays _ _ _ _ _ _
 
 glide-within-requires : tie.Need-glide-within-requires
-glide-within-requires c κs = (not-false _ (c .before .before .before .before .if3 .left), c .before .before .before .before .before .before .if2 .left)
+glide-within-requires c κs = (not-false _ (c .before .before .before .before .if2 .left), c .before .before .before .before .before .before .if1 .left)
 
-returns-5 : tie.Need-returns-5
-returns-5 c =
-    let a = c .before .before .before .before .before .before .before .before .before .before .args in
-    let inside = sym (c .before .before .is-within .ensures) ∙ not-false _ (c .before .if4 .left) in
-    rw (c .before .before .before .before .before .before .before .before .if1 .left) (on-glides (now (a .file)) (a .encoding) (a .reader) _ (quadrant-calm (a .fix) (a .tally) _ (c .before .before .before .field-of .ensures)) inside (c .glide-within .ensures))
+returns-4 : tie.Need-returns-4
+returns-4 c =
+    let a = c .before .before .before .before .before .before .before .before .before .args in
+    let field-of = c .before .before .before .field-of in
+    let inside = sym (c .before .before .is-within .ensures) ∙ not-false _ (c .before .if3 .left) in
+    on-glides (now (a .file)) (a .encoding) (a .reader) _ (quadrant-calm (a .fix) (a .tally) _ (field-of .ensures)) inside (c .glide-within .ensures)
 
 pub glide-on-spec : {M : Type 1} → statement M
-glide-on-spec = tie.close (tie.spec returns returns-2 returns-3 field-of-requires is-within-requires returns-4 glide-within-requires returns-5)
+glide-on-spec = tie.close (tie.spec returns returns-2 field-of-requires is-within-requires returns-3 glide-within-requires returns-4)
