@@ -11,6 +11,7 @@ pub mod Winding
 pub mod Distance
 pub mod Verdict
 pub mod Kept
+pub mod Gliding
 pub mod Moves
 pub mod Pieces
 pub mod Writer

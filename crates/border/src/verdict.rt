@@ -10,6 +10,7 @@ use crate::edge::Seen;
 use crate::edge::location_of;
 use crate::edge::same_point;
 use crate::edge::seen_from;
+use crate::glide::glide_on;
 use crate::place::FixedLat;
 use crate::place::FixedLon;
 use crate::place::Point;
@@ -173,9 +174,15 @@ pub fn point_in_polygon(
         let Passed::On(counted) = passed else {
             return stopped(passed, asked, tally.least);
         };
-        reader = later;
         begun = true;
-        last = here;
         tally = counted;
+        if asked {
+            reader = later;
+            last = here;
+        } else {
+            // As long as the border stays in one quadrant about the location, nothing changes.
+            reader = glide_on(file, encoding, fix, counted, later);
+            last = seen_from(fix, at, asked, reader.point);
+        }
     }
 }

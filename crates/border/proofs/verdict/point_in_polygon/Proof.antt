@@ -1,14 +1,16 @@
 -- `border::verdict::point_in_polygon` meets its contract. The loop's invariant: what is left of the border, judged from where it has
--- come to, is what the whole gives; and what is kept of the last point is right. The measure is what can still be read. Assumes nothing.
+-- come to, is what the whole gives; and what is kept of the last point is right. The measure is the points that are to come. Assumes nothing.
 use borrow.Author.Needs.{needs}
 use denote.Ref.{now}
 use lib.IntN.{pos}
 use mathlib.Core.Path.{_≡_, sym, ap, _∙_}
+use native.Mathlib.Nat.{lt-of-le-of-lt}
 use Rattle.border.proofs.Kept.{point-kept, seen-again}
-use Rattle.border.proofs.Room.{left}
-use Rattle.border.proofs.Trace.{trace-step, point-less}
+use Rattle.border.proofs.Gliding.{point-shorter, carried}
+use Rattle.border.proofs.Trace.{trace-step, point-trace}
 use Rattle.border.proofs.verdict.Cases.{judge-end, decides}
 use Rattle.border.proofs.verdict.point_in_polygon.Statement.{statement}
+use Rattle.border.specs.Gliding.{points}
 use Rattle.border.specs.Kept.{seenFrom, lastOf}
 use Rattle.border.specs.Step.{Step, told}
 use Rattle.border.specs.Trace.{Given, point, traceThen, traceOf, borderAt}
@@ -27,7 +29,7 @@ Inv-loop file encoding place asked least fix at reader₀ begun₀ last₀ tally
 
 abbrev μ-loop : tie.MeasureT-loop
 μ-loop file encoding place asked least fix at reader₀ begun₀ last₀ tally₀ reader begun last tally =
-    left file reader
+    points (traceOf file encoding reader)
 
 location-of-requires : tie.Need-location-of-requires Inv-loop μ-loop
 location-of-requires c κs = search needs
@@ -119,20 +121,54 @@ returns-2 c =
 
 loop-less : tie.Need-loop-less Inv-loop μ-loop
 loop-less c =
-    let a = c .before .before .before .before .before .before .before .before .before .before .before .before .before .before .args in
-    let loop = c .before .before .before .before .before .before .before .before .before .loop in
-    let next = c .before .before .before .before .before .before .next in
-    let next-point = c .before .before .before .before .before .before .before .before .next-point in
-    let l = loop in
+    let a = c .before .before .before .before .before .before .before .before .before .before .before .before .before .before .before .args in
+    let l = c .before .before .before .before .before .before .before .before .before .before .loop in
+    let next = c .before .before .before .before .before .before .before .next in
+    let next-point = c .before .before .before .before .before .before .before .before .before .next-point in
     let said = ap R.told (sym (next .given .1)) ∙ next-point .ensures in
-    point-less (now (a .file)) (a .encoding) (l .reader) (next .given .0 .0) said
+    point-shorter (point-trace (now (a .file)) (a .encoding) (l .reader) (next .given .0 .0) said)
 
 loop-again : tie.Need-loop-again Inv-loop μ-loop
 unfolding thenOn
 loop-again c =
-    let passed = c .before .passed in
-    let seen-from2 = c .before .before .before .before .seen-from2 in
-    (rw (passed .given .1) at (stepped (c .before .before .before)), seen-again _ _ _ (seen-from2 .ensures))
+    let passed = c .before .before .passed in
+    let seen-from2 = c .before .before .before .before .before .seen-from2 in
+    (rw (passed .given .1) at (stepped (c .before .before .before .before)), seen-again _ _ _ (seen-from2 .ensures))
+
+glide-on-requires : tie.Need-glide-on-requires Inv-loop μ-loop
+glide-on-requires c κs = search needs
+
+seen-from-requires-3 : tie.Need-seen-from-requires-3 Inv-loop μ-loop
+seen-from-requires-3 c κs =
+    let location-of = c .before .before .before .before .before .before .before .before .before .before .before .before .before .before .location-of in
+    location-of .ensures
+
+loop-less-2 : tie.Need-loop-less-2 Inv-loop μ-loop
+loop-less-2 c =
+    let a = c .before .before .before .before .before .before .before .before .before .before .before .before .before .before .before .before .before .args in
+    let l = c .before .before .before .before .before .before .before .before .before .before .before .before .loop in
+    let next = c .before .before .before .before .before .before .before .before .before .next in
+    let next-point = c .before .before .before .before .before .before .before .before .before .before .before .next-point in
+    let glide-on = c .before .glide-on in
+    let said = ap R.told (sym (next .given .1)) ∙ next-point .ensures in
+    lt-of-le-of-lt (glide-on .ensures .onward) (point-shorter (point-trace (now (a .file)) (a .encoding) (l .reader) (next .given .0 .0) said))
+
+loop-again-2 : tie.Need-loop-again-2 Inv-loop μ-loop
+unfolding thenOn
+loop-again-2 c =
+    let a = c .before .before .before .before .before .before .before .before .before .before .before .before .before .before .before .before .before .args in
+    let fix : Point = record { lat = a .lat; lon = a .lon } in
+    let next = c .before .before .before .before .before .before .before .before .before .next in
+    let passed = c .before .before .before .before .passed in
+    let seen-from2 = c .before .before .before .before .before .before .before .seen-from2 in
+    let if1 = c .before .before .if1 in
+    let glide-on = c .before .glide-on in
+    let seen-from3 = c .seen-from3 in (
+      carried (now (a .file)) (a .encoding) fix (a .asked) (passed .given .0 .0) (next .given .0 .0) (glide-on .result) (seen-from3 .result .point) (seen-from2 .result .point)
+          (if1 .left) (glide-on .ensures) (point-kept _ _ _ (seen-from3 .ensures)) (point-kept _ _ _ (seen-from2 .ensures))
+          ∙ rw (passed .given .1) at (stepped (c .before .before .before .before .before .before)),
+      seen-again _ _ _ (seen-from3 .ensures),
+    )
 
 pub point-in-polygon-spec : {M : Type 1} → statement M
 point-in-polygon-spec =
@@ -154,4 +190,8 @@ point-in-polygon-spec =
     stopped-requires
     returns-2
     loop-less
-    loop-again)
+    loop-again
+    glide-on-requires
+    seen-from-requires-3
+    loop-less-2
+    loop-again-2)
