@@ -5,7 +5,7 @@ use crate::geojson;
 use crate::grid::Grid;
 use crate::output::write_whole;
 use crate::plan::{plan, Form, Plan};
-use crate::words::{count, grouped};
+use crate::words::{count, grouped, length};
 use std::fmt::Write;
 use std::path::Path;
 use uskelzar::Refusal;
@@ -63,9 +63,9 @@ pub fn report(plan: &Plan) -> String {
     let (lat, lon) = report.moved;
     let _ = writeln!(
         out,
-        "grid: a step is {:.7} degrees of latitude ({:.2} m) and {:.7} of longitude; points moved by up to {lat:.7} and {lon:.7}; {} fell on the one before",
+        "grid: a step is {:.7} degrees of latitude ({}) and {:.7} of longitude; points moved by up to {lat:.7} and {lon:.7}; {} fell on the one before",
         grid.step(),
-        grid.metres(),
+        length(grid.metres()),
         2.0 * grid.step(),
         grouped(report.dropped),
     );

@@ -80,6 +80,25 @@ pub fn turned(mut points: Vec<Point>, excluded: bool) -> Vec<Point> {
     points
 }
 
+/// Whether a point is inside a ring, by the even-odd rule; none where it is on it.
+pub fn side(point: Point, ring: &[Point]) -> Option<bool> {
+    let (lat, lon) = (i128::from(point.0), i128::from(point.1));
+    let mut inside = false;
+    let next = ring.iter().cycle().skip(1);
+    for (a, b) in ring.iter().zip(next) {
+        let ((a0, a1), (b0, b1)) = ((i128::from(a.0), i128::from(a.1)), (i128::from(b.0), i128::from(b.1)));
+        let turn = (b0 - a0) * (lon - a1) - (b1 - a1) * (lat - a0);
+        let between = lat >= a0.min(b0) && lat <= a0.max(b0) && lon >= a1.min(b1) && lon <= a1.max(b1);
+        if turn == 0 && between {
+            return None;
+        }
+        if (a0 > lat) != (b0 > lat) && ((turn > 0) == (b0 > a0)) {
+            inside = !inside;
+        }
+    }
+    Some(inside)
+}
+
 #[cfg(test)]
 mod tests {
     use super::*;
@@ -113,5 +132,13 @@ mod tests {
         let grid = Grid { precision: 9 };
         assert_eq!(grid.round(&ring(&[(45.0, 90.0), (45.01, 90.0), (45.01, 90.01)])), None);
         assert_eq!(grid.round(&ring(&[(45.0, 90.0), (46.0, 90.01), (47.0, 90.0)])), None);
+    }
+
+    #[test]
+    fn sides_of_a_ring() {
+        let square = [(0, 0), (10, 0), (10, 10), (0, 10)];
+        assert_eq!(side((5, 5), &square), Some(true));
+        assert_eq!([(5, 11), (5, -1), (-1, 5), (11, 5), (10, 11)].map(|point| side(point, &square)), [Some(false); 5]);
+        assert_eq!([(0, 0), (10, 5), (5, 0), (5, 10), (0, 3)].map(|point| side(point, &square)), [None; 5]);
     }
 }

@@ -10,8 +10,8 @@ const GAP: Move = (0, 0);
 
 /// A run is found by this many of its moves. Fewer take no more bytes than what points to them.
 const WINDOW: usize = 2;
-/// So many places of one window are tried, the latest first.
-const TRIED: usize = 32;
+/// Of one window's places the first is tried, and so many of the latest.
+const TRIED: usize = 16;
 /// A run of so many moves is long enough to look for no longer one.
 const LONG: usize = 32;
 /// A border has so many pieces at most.
@@ -24,10 +24,16 @@ pub struct Lender {
     moves: Vec<Move>,
     /// Where each move begins in the data.
     begins: Vec<u32>,
-    /// The latest place of each window in the moves, and for each place the one before it.
-    latest: HashMap<[Move; WINDOW], usize>,
+    windows: HashMap<[Move; WINDOW], Places>,
+    /// For each place of a window the one before it.
     before: Vec<Option<usize>>,
     saved: Saved,
+}
+
+/// Where a window stands in the moves: first, and latest.
+struct Places {
+    first: usize,
+    latest: usize,
 }
 
 /// What borrowing came to.
@@ -60,7 +66,7 @@ impl Lender {
             data: vec![0],
             moves: vec![GAP],
             begins: vec![0],
-            latest: HashMap::new(),
+            windows: HashMap::new(),
             before: vec![None],
             saved: Saved { bytes: 1, plain: 1, ..Saved::default() },
         }
@@ -120,7 +126,9 @@ impl Lender {
             let first = place + 1 - WINDOW;
             let window = window_at(&self.moves, first);
             if !window.contains(&GAP) {
-                self.before[first] = self.latest.insert(window, first);
+                let places = self.windows.entry(window).or_insert(Places { first, latest: first });
+                self.before[first] = Some(places.latest).filter(|latest| *latest != first);
+                places.latest = first;
             }
         }
         byte
@@ -165,14 +173,13 @@ impl Lender {
         let mut back = ahead.map(negated);
         back.reverse();
         for (window, backward) in [(ahead, false), (back, true)] {
-            let mut place = self.latest.get(&window).copied();
-            for _ in 0..TRIED {
-                let Some(found) = place else { break };
-                let run = self.run(&moves[first..], found, backward);
+            let Some(places) = self.windows.get(&window) else { continue };
+            let latest = std::iter::successors(Some(places.latest), |place| self.before[*place]).take(TRIED);
+            for place in [places.first].into_iter().chain(latest) {
+                let run = self.run(&moves[first..], place, backward);
                 if best.map_or(true, |best| run.count > best.count) {
                     best = Some(run);
                 }
-                place = self.before[found];
             }
         }
         best

@@ -155,7 +155,7 @@ impl Plan {
             }
         }
         if self.yards.len() == before {
-            let words = format!("{}: nothing of it is left on the grid of {:.3} m", feature.name, self.grid().metres());
+            let words = format!("{}: nothing of it is left on the grid, whose step is {}", feature.name, words::length(self.grid().metres()));
             if !self.form.leave_out {
                 return Err(format!("{words}: give a higher --precision, or --leave-out to build without it"));
             }
@@ -228,8 +228,8 @@ fn edge(a: Point, b: Point) -> (Point, Point) {
     (a.min(b), a.max(b))
 }
 
-/// Begins each border where no line is cut that it shares with one other, and not at (0, 0), which the format does not allow. The edge
-/// back to the first point is not written, so that a line across it would be borrowed in two pieces.
+/// Begins each border behind an edge of its own, else where no line is cut that it shares with one other; and not at (0, 0), which the format
+/// does not allow. The edge back to the first point is not written, so that a line across it would be borrowed in two pieces.
 fn rotate(yards: &mut [Yard]) {
     // the sum of the numbers of the borders at each edge: without a border's own number it says which the others are
     let mut owners: HashMap<(Point, Point), u64> = HashMap::new();
@@ -241,10 +241,11 @@ fn rotate(yards: &mut [Yard]) {
     for (number, yard) in (1..).zip(yards.iter_mut()) {
         let others: Vec<u64> = edges(&yard.points).map(|(a, b)| owners[&edge(a, b)].wrapping_sub(number)).collect();
         let into = |i: usize| others[(i + others.len() - 1) % others.len()];
-        let uncut = |i: &usize| into(*i) == 0 || into(*i) != others[*i];
+        let own = |i: &usize| into(*i) == 0;
+        let uncut = |i: &usize| into(*i) != others[*i];
         let allowed = |i: &usize| yard.points[*i] != (0, 0);
         let places = || (0..yard.points.len()).filter(allowed);
-        let first = places().find(uncut).or_else(|| places().next());
+        let first = places().find(own).or_else(|| places().find(uncut)).or_else(|| places().next());
         yard.points.rotate_left(first.unwrap_or(0));
     }
 }
@@ -295,7 +296,7 @@ mod tests {
         let hole = planned(json!([yard("A", json!([square(10.0, 10.0, 3.0), small]))]), form()).unwrap();
         assert_eq!(hole.report.notes, ["feature 1 (A), ring 2: it collapses on the grid and is left out"]);
         let gone = planned(json!([yard("A", json!([small]))]), form()).unwrap_err();
-        assert!(gone.starts_with("feature 1 (A): nothing of it is left on the grid of 305.") && gone.contains("--precision"), "{gone}");
+        assert!(gone.starts_with("feature 1 (A): nothing of it is left on the grid, whose step is 305.42 m") && gone.contains("--precision"), "{gone}");
         let rest = Form { leave_out: true, ..form() };
         let kept = planned(json!([yard("A", json!([small])), yard("B", json!([square(10.0, 10.0, 3.0)]))]), rest).unwrap();
         assert_eq!((kept.yards.len(), kept.yards[0].record), (1, 1));

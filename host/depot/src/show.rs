@@ -1,8 +1,8 @@
 //! `depot show`: what a file holds, in words or as GeoJSON.
 
 use crate::fault::{Fault, Said};
-use crate::grid::{doubled_area, Grid, Point};
-use crate::words::count;
+use crate::grid::{doubled_area, side, Grid, Point};
+use crate::words::{self, count};
 use crate::zone::title;
 use crate::{output, source};
 use serde_json::{json, Value};
@@ -82,8 +82,8 @@ fn head(path: &Path, map: &Map<Vec<u8>>) -> String {
         Table::TimeZones => "time zones (type T)",
         Table::Countries => "countries (type C)",
     };
-    let metres = Grid { precision: header.precision }.metres();
-    let mut text = format!("{}: {kind}, version {}, precision {} (a step is {metres:.2} m), {}\n", path.display(), header.version, header.precision, count(map.bytes().len(), "byte"));
+    let step = words::length(Grid { precision: header.precision }.metres());
+    let mut text = format!("{}: {kind}, version {}, precision {} (a step is {step}), {}\n", path.display(), header.version, header.precision, count(map.bytes().len(), "byte"));
     if let Ok(sizes) = map.sizes() {
         let _ = writeln!(text, "header {}, table {}, metadata {}, data {} bytes", sizes.header, sizes.table, sizes.metadata, sizes.data);
     }
@@ -108,7 +108,7 @@ fn tell(text: &mut String, table: Table, zone: &Zone) {
     }
     for border in &zone.borders {
         let hole = if border.is_hole() { ", a hole" } else { "" };
-        let _ = writeln!(text, "  {}{hole}", border.entry);
+        let _ = writeln!(text, "  {}{hole}", words::entry(&border.entry));
         if let Err(why) = border.points {
             let _ = writeln!(text, "    {why}");
         }
@@ -166,25 +166,6 @@ fn lies_in(inner: &[Point], outer: &[Point]) -> bool {
     place.unwrap_or_else(|| doubled_area(inner).unsigned_abs() <= doubled_area(outer).unsigned_abs())
 }
 
-/// Whether a point is inside a ring, by the even-odd rule; none where it is on it.
-fn side(point: Point, ring: &[Point]) -> Option<bool> {
-    let (lat, lon) = (i128::from(point.0), i128::from(point.1));
-    let mut inside = false;
-    let next = ring.iter().cycle().skip(1);
-    for (a, b) in ring.iter().zip(next) {
-        let ((a0, a1), (b0, b1)) = ((i128::from(a.0), i128::from(a.1)), (i128::from(b.0), i128::from(b.1)));
-        let turn = (b0 - a0) * (lon - a1) - (b1 - a1) * (lat - a0);
-        let between = lat >= a0.min(b0) && lat <= a0.max(b0) && lon >= a1.min(b1) && lon <= a1.max(b1);
-        if turn == 0 && between {
-            return None;
-        }
-        if (a0 > lat) != (b0 > lat) && ((turn > 0) == (b0 > a0)) {
-            inside = !inside;
-        }
-    }
-    Some(inside)
-}
-
 /// A closed ring, [longitude, latitude]; outer ones counterclockwise, holes clockwise, as RFC 7946 has them.
 fn ring_of(map: &Map<Vec<u8>>, points: &[Point]) -> Value {
     let mut points = points.to_vec();
@@ -206,13 +187,6 @@ mod tests {
     use super::*;
 
     const SQUARE: [Point; 4] = [(0, 0), (10, 0), (10, 10), (0, 10)];
-
-    #[test]
-    fn sides_of_a_ring() {
-        assert_eq!(side((5, 5), &SQUARE), Some(true));
-        assert_eq!([(5, 11), (5, -1), (-1, 5), (11, 5), (10, 11)].map(|point| side(point, &SQUARE)), [Some(false); 5]);
-        assert_eq!([(0, 0), (10, 5), (5, 0), (5, 10), (0, 3)].map(|point| side(point, &SQUARE)), [None; 5]);
-    }
 
     #[test]
     fn rings_in_rings() {

@@ -1,6 +1,6 @@
 //! The library's answers in words.
 
-use uskelzar::{End, Kind};
+use uskelzar::{End, Entry, Kind};
 
 /// How a search ended.
 pub fn end(end: End) -> &'static str {
@@ -45,6 +45,21 @@ pub fn grouped(number: usize) -> String {
         out.push(digit);
     }
     out
+}
+
+/// A length in metres or kilometres.
+pub fn length(metres: f64) -> String {
+    if metres < 1000.0 {
+        return format!("{metres:.2} m");
+    }
+    format!("{:.1} km", metres / 1000.0)
+}
+
+/// A table entry, its box to a tenth of a metre.
+pub fn entry(entry: &Entry) -> String {
+    let Entry { number, place, border, lower: (south, west), upper: (north, east), .. } = entry;
+    let points = entry.points.map_or("which can't be read to its end".into(), |points| count(points as usize, "point"));
+    format!("entry {number} at byte {place}: box {south:.6} {west:.6} to {north:.6} {east:.6}, border at byte {border}, {points}")
 }
 
 #[cfg(test)]

@@ -36,7 +36,7 @@ pub fn run(path: &Path, lat: f64, lon: f64, strict: bool, explain: bool) -> Resu
 }
 
 fn behind(map: &Map<Vec<u8>>, place: u32) -> String {
-    map.entry(place).map_or_else(|| format!("no entry begins at byte {place}"), |entry| entry.to_string())
+    map.entry(place).map_or_else(|| format!("no entry begins at byte {place}"), |entry| words::entry(&entry))
 }
 
 /// What a zone is called: as simple lookups do, and by its number where it has no such fields.
