@@ -35,10 +35,34 @@ crates=/usr/share/cargo/registry
 need_crate() { ls -d "$crates/$1"-* >/dev/null 2>&1 || stop "the crate $1 is missing: Debian's $2"; }
 need_crate memmap2 librust-memmap2-dev
 
-# cargo_host COMMAND WORDS..: cargo on host/, for x86-64
-cargo_host() {
-    command=$1
-    shift
+# what host/depot takes besides
+need_depot_crates() {
+    for each in chrono clap csv indicatif png; do
+        need_crate "$each" "librust-$each-dev"
+    done
+    need_crate clap_derive librust-clap-derive-dev
+    need_crate serde_json librust-serde-json-dev
+}
+
+# cargo_plain FOLDER COMMAND WORDS..: cargo on the crate in a folder, with Debian's crates
+cargo_plain() {
+    folder=$1 command=$2
+    shift 2
     cargo "$command" --quiet --offline --config 'source.crates-io.replace-with="debian"' --config "source.debian.directory=\"$crates\"" \
-        --manifest-path "$root/host/Cargo.toml" --target-dir "$root/target/host" --target "$target" "$@"
+        --manifest-path "$root/$folder/Cargo.toml" "$@"
+}
+
+# cargo_in FOLDER COMMAND WORDS..: the same, for x86-64
+cargo_in() {
+    folder=$1 command=$2
+    shift 2
+    cargo_plain "$folder" "$command" --target-dir "$root/target/host" --target "$target" "$@"
+}
+
+# cargo_host COMMAND WORDS..: cargo on host/, for x86-64
+cargo_host() { cargo_in host "$@"; }
+
+# clippy FOLDER: what the compiler's critic says of the crate in a folder. It builds no program, and knows its own compiler alone: so for this machine.
+clippy() {
+    (unset RUSTC; cargo_plain "$1" clippy --target-dir "$root/target/clippy" --all-targets -- -D warnings)
 }

@@ -16,7 +16,7 @@ pub struct Position {
 pub type Ring = Vec<Position>;
 
 /// A feature: its properties in file order, and its polygons, each an outer ring and the rings of its holes.
-#[derive(Debug)]
+#[derive(Clone, Debug)]
 pub struct Feature {
     pub name: FeatureName,
     pub properties: Vec<(String, String)>,
@@ -40,7 +40,7 @@ impl fmt::Display for FeatureName {
 }
 
 /// All features with polygons, and notes on those without.
-#[derive(Debug)]
+#[derive(Clone, Debug)]
 pub struct Collection {
     pub features: Vec<Feature>,
     pub notes: Vec<String>,

