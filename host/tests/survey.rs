@@ -103,7 +103,8 @@ fn where_all_is_read_a_lookup_meets_nothing_wrong() {
 #[test]
 fn what_is_not_read_is_said() {
     let last = |file: &[u8]| Map::open(file.to_vec()).unwrap().entries().unwrap().last().unwrap();
-    assert_eq!(last(&TABLE_CUT).err().map(|why| why.to_string()).as_deref(), Some("no number at byte 45"));
+    assert_eq!(last(&TABLE_CUT).unwrap_err(), Unread::Cut(44));
+    assert_eq!(Unread::Cut(44).to_string(), "the file's end cuts the number at byte 44");
     let border = |file: Vec<u8>| {
         let map = Map::open(file).unwrap();
         let entry = map.entries().unwrap().next().unwrap().unwrap();

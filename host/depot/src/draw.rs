@@ -105,7 +105,7 @@ pub fn run(path: &Path, output: &Path, columns: u32, frame: Option<Frame>) -> Re
     }
     let faults = picture.answers.iter().filter(|answer| !answer.is_whole()).count();
     if faults > 0 {
-        let _ = writeln!(text, "  red or grey: {} whose search was not whole or was refused", count(faults, "fix").replace("fixs", "fixes"));
+        let _ = writeln!(text, "  red or grey: {} whose search was not whole or was refused", count(faults, "fix"));
     }
     Ok(Said { yes: faults == 0, text })
 }

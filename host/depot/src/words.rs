@@ -30,6 +30,7 @@ pub fn count(number: usize, noun: &str) -> String {
 fn plural(noun: &str) -> String {
     match noun.strip_suffix('y') {
         Some(stem) if !stem.ends_with(['a', 'e', 'o', 'u']) => format!("{stem}ies"),
+        None if noun.ends_with('x') => format!("{noun}es"),
         _ => format!("{noun}s"),
     }
 }
@@ -71,6 +72,6 @@ mod tests {
         assert_eq!(count(1, "point"), "1 point");
         assert_eq!(count(0, "yard"), "0 yards");
         assert_eq!(count(1_234_567, "entry"), "1,234,567 entries");
-        assert_eq!(count(12, "byte"), "12 bytes");
+        assert_eq!([count(12, "byte"), count(2, "fix")], ["12 bytes", "2 fixes"]);
     }
 }
