@@ -87,18 +87,11 @@ impl Lender {
         let moves = moves_of(points);
         let pieces = if self.version == 0 { vec![] } else { self.pieces(&moves) };
         let border = write_border(self.version, points, &pieces, &self.data)?;
-        let plain: usize = border.len() - pieces.iter().map(piece_bytes).sum::<usize>() + pieces.iter().map(|piece| piece.bytes as usize).sum::<usize>();
-        self.saved.plain += plain;
-        self.saved.of += moves.len();
-        self.saved.moves += pieces.iter().map(|piece| piece.count as usize).sum::<usize>();
-        let backward = pieces.iter().filter(|piece| piece.backward).count();
-        self.saved.backward += backward;
-        self.saved.forward += pieces.len() - backward;
         if self.version == 1 {
             self.index(&moves, &pieces);
         }
+        self.saved.count(border.len(), moves.len(), &pieces);
         self.data.extend(border);
-        self.saved.bytes = self.data.len();
         Ok(pieces)
     }
 
@@ -194,6 +187,20 @@ impl Lender {
         }
         let same = moves.iter().zip(&self.moves[found..]).take_while(|(ours, theirs)| ours == theirs);
         Run { place: found, backward, count: same.count() }
+    }
+}
+
+impl Saved {
+    /// One border more, of so many bytes and moves.
+    fn count(&mut self, bytes: usize, moves: usize, pieces: &[Piece]) {
+        self.bytes += bytes;
+        self.plain += bytes;
+        self.of += moves;
+        for piece in pieces {
+            self.plain += piece.bytes as usize - piece_bytes(piece);
+            self.moves += piece.count as usize;
+            *(if piece.backward { &mut self.backward } else { &mut self.forward }) += 1;
+        }
     }
 }
 

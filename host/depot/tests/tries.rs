@@ -163,13 +163,24 @@ fn a_day_of_slips() {
     assert!(fs::read_to_string(&out).unwrap().starts_with("latitude,longitude,instant,local,"));
 }
 
+/// A fix on the line that two yards share.
+fn on_the_quay(file: &str) -> (f32, f32) {
+    let map = uskelzar::Map::read(file).unwrap();
+    let near = |middle: f32| (-20..20).map(move |i| middle + i as f32 * 4e-6);
+    let mut fixes = near(0.002).flat_map(|lat| near(109.34449).map(move |lon| (lat, lon)));
+    fixes.find(|(lat, lon)| map.lookup(*lat, *lon).unwrap().matches.len() == 2).unwrap()
+}
+
 #[test]
 fn slips_of_the_yards() {
     let folder = Folder::new("yard-slips");
     let file = yards(&folder);
-    let day = folder.with("day.csv", "lat,lon,time\n0.0035,109.338,2026-07-01T11:59:59Z\n0.002,109.3455,2026-07-01T11:59:59Z\n0.0044,109.3392,2026-07-01T11:59:59Z\n");
+    let (lat, lon) = on_the_quay(&file);
+    let fixes = ["0.0035,109.338".into(), "0.002,109.3455".into(), "0.0044,109.3392".into(), format!("{lat},{lon}")];
+    let lines: String = fixes.iter().map(|fix| format!("{fix},2026-07-01T11:59:59Z\n")).collect();
+    let day = folder.with("day.csv", format!("lat,lon,time\n{lines}"));
     let out = folder.path("slips.csv");
-    said(&depot(&["stamp", &day, "-o", &out, &file, ZONEINFO]), 1, &["3 lines, 2 stamped, 1 no zone"]);
+    said(&depot(&["stamp", &day, "-o", &out, &file, ZONEINFO]), 1, &["4 lines, 2 stamped, 1 no zone, 1 hours differ"]);
     let slips = fs::read_to_string(&out).unwrap();
     assert!(slips.contains("2026-07-01 18:59:59,+07:00,0,WIB,Asia/Pontianak"), "{slips}");
     assert!(slips.contains("2026-07-01 11:59:59,+00:00,0,UTC,Etc/UTC"), "{slips}");
