@@ -62,7 +62,9 @@ cargo_in() {
 # cargo_host COMMAND WORDS..: cargo on host/, for x86-64
 cargo_host() { cargo_in host "$@"; }
 
-# clippy FOLDER: what the compiler's critic says of the crate in a folder. It builds no program, and knows its own compiler alone: so for this machine.
-clippy() {
-    (unset RUSTC; cargo_plain "$1" clippy --target-dir "$root/target/clippy" --all-targets -- -D warnings)
+# cargo_here FOLDER COMMAND WORDS..: cargo for this machine, with the tools that come with it. clippy and rustdoc build no program, and know no compiler but their own.
+cargo_here() {
+    folder=$1 command=$2
+    shift 2
+    (unset RUSTC; cargo_plain "$folder" "$command" --target-dir "$root/target/host/here" "$@")
 }
