@@ -7,6 +7,7 @@ use depot::geojson::{self, Collection};
 use depot::grid::{side, Point};
 use depot::plan::{plan, Plan};
 use depot::show;
+use std::fs;
 use std::path::Path;
 use uskelzar::{End, Kind, Map, Match, Zones};
 
@@ -35,11 +36,12 @@ fn held(plan: &Plan, point: Point) -> Option<Vec<&Vec<String>>> {
 type Part = (f64, f64, f64, f64);
 
 /// The same polygons three ways: one answer at each fix, that of the even-odd rule. Gives how many fixes a yard holds, and the three sizes.
-fn compare(polygons: &Collection, precision: u8, fixes: usize, (south, west, north, east): Part) -> (usize, [usize; 3]) {
+fn compare(name: &str, polygons: &Collection, precision: u8, fixes: usize, (south, west, north, east): Part) -> (usize, [usize; 3]) {
     let drawn = |version| plan(polygons.clone(), form(version, precision)).unwrap();
     let borrowing = drawn(1);
     let files = [built(&drawn(0)), built(&unborrowed(drawn(1))), built(&borrowing)];
     let sizes = [0, 1, 2].map(|i| files[i].len());
+    let mut kept = Kept::new(name, &files);
     let maps = files.map(|file| Map::open_strict(file).unwrap());
     let (mut random, mut met) = (Random(7), 0);
     for _ in 0..fixes {
@@ -48,8 +50,43 @@ fn compare(polygons: &Collection, precision: u8, fixes: usize, (south, west, nor
         let answers = [0, 1, 2].map(|i| seen(&zones[i]));
         assert!(answers[0] == answers[1] && answers[1] == answers[2], "{lat} {lon}: {answers:?}");
         met += usize::from(agrees(&borrowing, &zones[2], (lat, lon)));
+        kept.line(lat, lon, &zones[2]);
     }
+    kept.write();
     (met, sizes)
+}
+
+/// The files and the answers, for compare/yards, in the folder that DEPOT_KEEP names; without it nothing is kept.
+struct Kept {
+    path: Option<String>,
+    lines: String,
+}
+
+impl Kept {
+    fn new(name: &str, files: &[Vec<u8>; 3]) -> Kept {
+        let path = std::env::var("DEPOT_KEEP").ok().map(|folder| format!("{folder}/{name}"));
+        if let Some(path) = &path {
+            for (way, file) in ["version-0", "version-1", "pieces"].iter().zip(files) {
+                fs::write(format!("{path}.{way}.plb"), file).unwrap();
+            }
+        }
+        Kept { path, lines: String::new() }
+    }
+
+    /// Bits of latitude, longitude and safezone, then each match: entry, zone, kind and values.
+    fn line(&mut self, lat: f32, lon: f32, zones: &Zones) {
+        let [lat, lon, safezone] = [lat, lon, zones.safezone].map(f32::to_bits);
+        let values = |zone: &Match| zone.fields.iter().map(|field| field.value.clone()).collect::<Vec<_>>();
+        let one = |zone: &Match| format!("{} {} {:?} {:?}", zone.polygon, zone.metadata, zone.kind, values(zone));
+        let all: Vec<String> = zones.matches.iter().map(one).collect();
+        self.lines += &format!("{lat} {lon} {safezone} {}\n", all.join("|"));
+    }
+
+    fn write(self) {
+        if let Some(path) = self.path {
+            fs::write(format!("{path}.txt"), self.lines).unwrap();
+        }
+    }
 }
 
 /// Holds an answer against the even-odd rule, points on a border aside; gives whether a yard holds the fix.
@@ -85,7 +122,7 @@ fn polygons_of(map: &str, folder: &Folder) -> Collection {
 
 #[test]
 fn the_example_yards() {
-    let (met, [plain, packed, borrowed]) = compare(&geojson::read(Path::new(YARDS)).unwrap(), 25, 2000, (-0.003, 109.335, 0.007, 109.348));
+    let (met, [plain, packed, borrowed]) = compare("yards", &geojson::read(Path::new(YARDS)).unwrap(), 25, 2000, (-0.003, 109.335, 0.007, 109.348));
     assert!(met > 700, "{met}");
     assert!(packed > borrowed + 40, "{plain} {packed} {borrowed}");
 }
@@ -94,7 +131,7 @@ fn the_example_yards() {
 #[test]
 fn the_small_world() {
     let folder = Folder::new("small-world");
-    let (met, [plain, packed, borrowed]) = compare(&polygons_of(WORLD, &folder), 9, 1000, (-90.0, -180.0, 90.0, 180.0));
+    let (met, [plain, packed, borrowed]) = compare("small-world", &polygons_of(WORLD, &folder), 9, 1000, (-90.0, -180.0, 90.0, 180.0));
     assert!(met > 200, "{met}");
     println!("small world: version 0 {plain} bytes, version 1 {packed}, with pieces {borrowed}");
     assert!(plain > packed && packed > borrowed + 3000, "{plain} {packed} {borrowed}");
@@ -116,8 +153,10 @@ fn there_and_back() {
 fn the_real_map() {
     let folder = Folder::new("real-map");
     let polygons = polygons_of(&std::env::var("USKELZAR_MAP").unwrap(), &folder);
-    let (met, [plain, packed, borrowed]) = compare(&polygons, 21, 10_000, (-90.0, -180.0, 90.0, 180.0));
-    assert!(met > 2000, "{met}");
+    // compare/yards asks for more
+    let fixes = std::env::var("DEPOT_FIXES").map_or(1000, |fixes| fixes.parse().unwrap());
+    let (met, [plain, packed, borrowed]) = compare("real-map", &polygons, 21, fixes, (-90.0, -180.0, 90.0, 180.0));
+    assert!(met > fixes / 5, "{met}");
     println!("real map: version 0 {plain} bytes, version 1 {packed}, with pieces {borrowed}");
     assert!(plain > packed && packed > borrowed, "{plain} {packed} {borrowed}");
 }
