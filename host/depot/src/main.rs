@@ -35,8 +35,8 @@ enum Verb {
     /// Make a file from polygons (GeoJSON)
     ///
     /// Polygons and multipolygons become yards, holes are left out of them, and properties become fields. Lines that two yards
-    /// share are written once.
-    #[command(after_help = "Example:\n  depot build examples/yards.geojson -o yards.plb --precision 25 --notice \"Terminal Khatulistiwa\"")]
+    /// share are written once. The library of this release has no builder yet: --dry-run says what would be built.
+    #[command(after_help = "Example:\n  depot build examples/yards.geojson --precision 25 --dry-run")]
     Build {
         /// GeoJSON: a FeatureCollection of Polygons and MultiPolygons
         input: PathBuf,
