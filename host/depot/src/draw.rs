@@ -8,7 +8,7 @@ use std::collections::{BTreeMap, BTreeSet};
 use std::fmt::Write;
 use std::path::Path;
 use uskelzar::raw::{self, HIT_WORDS};
-use uskelzar::Map;
+use uskelzar::{Map, Number};
 
 type Colour = [u8; 3];
 const NOTHING: Colour = [233, 240, 245];
@@ -202,15 +202,38 @@ fn picture_fix(frame: Frame, columns: u32, rows: u32, index: usize) -> (f32, f32
     (lat as f32, lon as f32)
 }
 
+/// Room for a lookup: little at first, since the library writes all of it on every call.
+struct Room {
+    hits: Vec<u32>,
+    text: Vec<u8>,
+}
+
+/// No file that people draw has so many borders about one place.
+const MOST_HITS: usize = 4096;
+
+impl Room {
+    fn of(hits: usize) -> Room {
+        Room { hits: vec![0; HIT_WORDS * hits], text: vec![0; 64 * hits] }
+    }
+
+    /// Asks again with twice the room where it was too little.
+    fn ask(&mut self, file: &[u8], (lat, lon): (f32, f32)) -> Answer {
+        loop {
+            let hits = self.hits.len() / HIT_WORDS;
+            match raw::lookup(file, lat, lon, false, &mut self.hits, &mut self.text) {
+                Err(why) if matches!(why.number, Number::TooManyHits | Number::TextRoom) && hits < MOST_HITS => *self = Room::of(2 * hits),
+                Err(_) => return Answer::Refused,
+                Ok([0, end, ..]) => return Answer::Nothing { end },
+                Ok([_, end, ..]) => return Answer::Found { end, kind: self.hits[2], zone: self.hits[1] },
+            }
+        }
+    }
+}
+
 fn ask_part(file: &[u8], answers: &mut [Answer], fix: impl Fn(usize) -> (f32, f32), bar: &indicatif::ProgressBar) {
-    let (mut hits, mut text) = (vec![0; HIT_WORDS * 256], vec![0; 16_384]);
+    let mut room = Room::of(8);
     for (index, answer) in answers.iter_mut().enumerate() {
-        let (lat, lon) = fix(index);
-        *answer = match raw::lookup(file, lat, lon, false, &mut hits, &mut text) {
-            Err(_) => Answer::Refused,
-            Ok([0, end, ..]) => Answer::Nothing { end },
-            Ok([_, end, ..]) => Answer::Found { end, kind: hits[2], zone: hits[1] },
-        };
+        *answer = room.ask(file, fix(index));
         bar.inc(1);
     }
 }
