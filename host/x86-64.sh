@@ -35,23 +35,36 @@ crates=/usr/share/cargo/registry
 need_crate() { ls -d "$crates/$1"-* >/dev/null 2>&1 || stop "the crate $1 is missing: Debian's $2"; }
 need_crate memmap2 librust-memmap2-dev
 
-# cargo on host/, with Debian's crates
-cargo_in() {
-    command=$1
-    shift
+# what host/depot takes besides
+need_depot_crates() {
+    for each in chrono clap csv indicatif png; do
+        need_crate "$each" "librust-$each-dev"
+    done
+    need_crate clap_derive librust-clap-derive-dev
+    need_crate serde_json librust-serde-json-dev
+}
+
+# cargo_plain FOLDER COMMAND WORDS..: cargo on the crate in a folder, with Debian's crates
+cargo_plain() {
+    folder=$1 command=$2
+    shift 2
     cargo "$command" --quiet --offline --config 'source.crates-io.replace-with="debian"' --config "source.debian.directory=\"$crates\"" \
-        --manifest-path "$root/host/Cargo.toml" --target-dir "$root/target/host" "$@"
+        --manifest-path "$root/$folder/Cargo.toml" "$@"
 }
 
-# cargo_host COMMAND WORDS..: for x86-64
-cargo_host() {
-    command=$1
-    shift
-    cargo_in "$command" --target "$target" "$@"
+# cargo_in FOLDER COMMAND WORDS..: the same, for x86-64
+cargo_in() {
+    folder=$1 command=$2
+    shift 2
+    cargo_plain "$folder" "$command" --target-dir "$root/target/host" --target "$target" "$@"
 }
 
-# cargo_here COMMAND WORDS..: with this machine's own Rust, for what makes no program
-cargo_here() { (
-    unset RUSTC
-    cargo_in "$@"
-); }
+# cargo_host COMMAND WORDS..: cargo on host/, for x86-64
+cargo_host() { cargo_in host "$@"; }
+
+# cargo_here FOLDER COMMAND WORDS..: cargo for this machine, with the tools that come with it. clippy and rustdoc build no program, and know no compiler but their own.
+cargo_here() {
+    folder=$1 command=$2
+    shift 2
+    (unset RUSTC; cargo_plain "$folder" "$command" --target-dir "$root/target/host/here" "$@")
+}

@@ -32,6 +32,8 @@ mod mapping;
 mod printer;
 pub mod raw;
 mod refusal;
+#[cfg(feature = "std")]
+mod survey;
 
 #[cfg(feature = "std")]
 pub use entry::Entry;
@@ -46,6 +48,8 @@ pub use printer::{Hour, NotStamped, Printer};
 #[cfg(feature = "std")]
 pub use mapping::Mapping;
 pub use refusal::{Cause, Number, Refusal, Stop};
+#[cfg(feature = "std")]
+pub use survey::{Sizes, Unread};
 
 /// A run of the earlier data that stands for some of a border's moves.
 #[derive(Clone, Copy, Debug, Eq, PartialEq)]

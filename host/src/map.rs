@@ -320,8 +320,7 @@ impl<B: AsRef<[u8]>> Map<B> {
 
     /// The table entry that begins at a place of the file, as a match has it; none where no entry does.
     pub fn entry(&self, place: u32) -> Option<Entry> {
-        let Header { version, precision, names, .. } = &self.header;
-        entry_at(self.bytes(), *version, *precision, names.len(), place)
+        entry_at(self.bytes(), &self.header, place)
     }
 
     /// The map's room so many times.

@@ -1,0 +1,93 @@
+//! `depot build`: a file from polygons.
+
+use crate::fault::{Fault, Said};
+use crate::geojson;
+use crate::grid::Grid;
+use crate::output::write_whole;
+use crate::plan::{plan, Form, Plan};
+use crate::words::{count, grouped, length};
+use std::fmt::Write;
+use std::path::Path;
+use uskelzar::Refusal;
+
+/// What writes a whole file from a plan.
+pub trait Builder {
+    fn build(&self, plan: &Plan) -> Result<Vec<u8>, NotBuilt>;
+}
+
+/// Why there is no file.
+#[derive(Debug)]
+pub enum NotBuilt {
+    Refused(Refusal),
+    /// The library has no builder yet.
+    Missing,
+}
+
+/// The library's builder. It comes with request Q-4; until then nothing is written.
+pub struct Library;
+
+impl Builder for Library {
+    fn build(&self, _: &Plan) -> Result<Vec<u8>, NotBuilt> {
+        Err(NotBuilt::Missing)
+    }
+}
+
+/// Reads polygons, says what becomes of them on the grid, and writes the file if a place for it is given.
+pub fn run(input: &Path, output: Option<&Path>, form: Form, builder: &dyn Builder) -> Result<Said, Fault> {
+    let collection = geojson::read(input)?;
+    let plan = plan(collection, form).map_err(|words| Fault::No(format!("{}: {words}", input.display())))?;
+    let mut said = report(&plan);
+    if let Some(output) = output {
+        let file = builder.build(&plan).map_err(|why| not_built(&why, &said))?;
+        write_whole(output, |out| out.write_all(&file))?;
+        let _ = writeln!(said, "{}: {}", output.display(), count(file.len(), "byte"));
+    }
+    Ok(Said::yes(said))
+}
+
+fn not_built(why: &NotBuilt, said: &str) -> Fault {
+    match why {
+        NotBuilt::Refused(why) => Fault::No(format!("{said}{why}")),
+        NotBuilt::Missing => Fault::NotRun(format!("{said}not written: this library has no builder yet; --dry-run says the same without asking for it")),
+    }
+}
+
+/// What a plan comes to, in lines.
+pub fn report(plan: &Plan) -> String {
+    let mut out = String::new();
+    let report = &plan.report;
+    let grid = Grid { precision: plan.form.precision };
+    let rings = count(plan.yards.len(), "border");
+    let holes = if report.holes > 0 { format!(" ({} of holes)", report.holes) } else { String::new() };
+    let _ = writeln!(out, "{}, {rings}{holes}, {}; fields: {}", count(report.features, "feature"), count(report.points, "point"), plan.names.join(", "));
+    let (lat, lon) = report.moved;
+    let _ = writeln!(
+        out,
+        "grid: a step is {:.7} degrees of latitude ({}) and {:.7} of longitude; points moved by up to {lat:.7} and {lon:.7}; {} fell on the one before",
+        grid.step(),
+        length(grid.metres()),
+        2.0 * grid.step(),
+        grouped(report.dropped),
+    );
+    let saved = &report.saved;
+    let pieces = saved.forward + saved.backward;
+    if pieces > 0 {
+        let part = 100.0 * (saved.plain - saved.bytes) as f64 / saved.plain as f64;
+        let _ = writeln!(
+            out,
+            "borrowed: {} ({} backward) for {} of {} moves; borders take {} in place of {} ({part:.1}% saved)",
+            count(pieces, "piece"),
+            grouped(saved.backward),
+            grouped(saved.moves),
+            grouped(saved.of),
+            count(saved.bytes, "byte"),
+            grouped(saved.plain),
+        );
+    } else {
+        let _ = writeln!(out, "borders take {}; nothing to borrow", count(saved.bytes, "byte"));
+    }
+    report.notes.iter().for_each(|note| {
+        let _ = writeln!(out, "note: {note}");
+    });
+    out
+}

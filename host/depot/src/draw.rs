@@ -1,0 +1,256 @@
+//! `depot draw`: a picture of a file's yards, each pixel a lookup.
+
+use crate::fault::{Fault, Said};
+use crate::words::count;
+use crate::zone::title;
+use crate::{output, source};
+use std::collections::{BTreeMap, BTreeSet};
+use std::fmt::Write;
+use std::path::Path;
+use uskelzar::raw::{self, HIT_WORDS};
+use uskelzar::{Map, Number};
+
+type Colour = [u8; 3];
+const NOTHING: Colour = [233, 240, 245];
+const REFUSED: Colour = [150, 150, 150];
+const FAULT: Colour = [214, 30, 40];
+const BORDER: Colour = [58, 74, 94];
+const SOFT: [(Colour, &str); 10] = [
+    ([242, 181, 167], "salmon"),
+    ([246, 212, 146], "sand"),
+    ([207, 224, 155], "lime"),
+    ([159, 211, 176], "green"),
+    ([140, 203, 207], "teal"),
+    ([169, 191, 232], "blue"),
+    ([201, 179, 230], "violet"),
+    ([232, 179, 212], "pink"),
+    ([217, 195, 165], "brown"),
+    ([198, 208, 182], "grey-green"),
+];
+const MOST_ROWS: u32 = 16_384;
+
+/// A part of the map in degrees.
+#[derive(Clone, Copy, Debug, PartialEq)]
+pub struct Frame {
+    pub south: f64,
+    pub west: f64,
+    pub north: f64,
+    pub east: f64,
+}
+
+/// What a pixel's fix got: end mark, kind and zone of the first match, or a refusal.
+#[derive(Clone, Copy, PartialEq)]
+enum Answer {
+    Found { end: u64, kind: u32, zone: u32 },
+    Nothing { end: u64 },
+    Refused,
+}
+
+/// A picture's fixes, from north to south, in a row from west to east.
+struct Picture {
+    columns: u32,
+    rows: u32,
+    answers: Vec<Answer>,
+}
+
+impl Frame {
+    /// From four numbers with commas between them.
+    pub fn of(words: &str) -> Result<Frame, String> {
+        let numbers: Vec<f64> = words.split(',').filter_map(|word| word.trim().parse().ok()).collect();
+        match numbers.as_slice() {
+            &[south, west, north, east] if south < north && west < east && words.split(',').count() == 4 => Ok(Frame { south, west, north, east }),
+            _ => Err("four numbers are wanted, SOUTH,WEST,NORTH,EAST, in degrees".into()),
+        }
+    }
+
+    /// About all boxes of a file, with a margin.
+    fn around(map: &Map<Vec<u8>>) -> Option<Frame> {
+        let entries = map.entries().ok()?.map_while(Result::ok);
+        let boxes = entries.map(|entry| Frame { south: entry.lower.0, west: entry.lower.1, north: entry.upper.0, east: entry.upper.1 });
+        let all = boxes.reduce(|a, b| Frame { south: a.south.min(b.south), west: a.west.min(b.west), north: a.north.max(b.north), east: a.east.max(b.east) })?;
+        let (high, wide) = ((all.north - all.south) * 0.04, (all.east - all.west) * 0.04);
+        Some(Frame {
+            south: (all.south - high).max(-90.0),
+            west: (all.west - wide).max(-180.0),
+            north: (all.north + high).min(90.0),
+            east: (all.east + wide).min(180.0),
+        })
+    }
+
+    /// So many rows that a degree is as long upward as a degree of longitude is wide in the middle.
+    fn rows(self, columns: u32) -> u32 {
+        let middle = ((self.south + self.north) / 2.0).to_radians().cos().max(0.2);
+        let high = (self.north - self.south) / ((self.east - self.west) * middle);
+        (f64::from(columns) * high).round().clamp(1.0, f64::from(MOST_ROWS)) as u32
+    }
+}
+
+/// Draws a file, or a part of the map, and says what the colours are.
+pub fn run(path: &Path, output: &Path, columns: u32, frame: Option<Frame>) -> Result<Said, Fault> {
+    let map = source::open(path, false)?;
+    let frame = frame.or_else(|| Frame::around(&map)).ok_or_else(|| Fault::No(format!("{}: there is no yard to draw", path.display())))?;
+    let picture = Picture::ask(&map, columns, frame);
+    let colours = picture.colours();
+    let pixels = picture.pixels(&colours);
+    output::write_whole(output, |out| {
+        let mut encoder = png::Encoder::new(out, picture.columns, picture.rows);
+        encoder.set_color(png::ColorType::Rgb);
+        encoder.set_depth(png::BitDepth::Eight);
+        encoder.write_header()?.write_image_data(&pixels).map_err(Into::into)
+    })?;
+    let mut text = format!("{}: {} by {} pixels, {}\n", output.display(), picture.columns, picture.rows, count(colours.len(), "zone"));
+    for (zone, colour) in &colours {
+        let fields = map.fields(*zone).unwrap_or_default();
+        let _ = writeln!(text, "  {}: {}", SOFT[*colour].1, title(map.header().table, &fields, *zone));
+    }
+    let faults = picture.answers.iter().filter(|answer| !answer.is_whole()).count();
+    if faults > 0 {
+        let _ = writeln!(text, "  red or grey: {} whose search was not whole or was refused", count(faults, "fix"));
+    }
+    Ok(Said { yes: faults == 0, text })
+}
+
+impl Answer {
+    fn is_whole(self) -> bool {
+        matches!(self, Answer::Found { end: 1, .. } | Answer::Nothing { end: 1 })
+    }
+
+    fn zone(self) -> Option<u32> {
+        match self {
+            Answer::Found { zone, .. } => Some(zone),
+            _ => None,
+        }
+    }
+}
+
+impl Picture {
+    /// Asks the library at the middle of each pixel; several threads share the rows.
+    fn ask(map: &Map<Vec<u8>>, columns: u32, frame: Frame) -> Picture {
+        let rows = frame.rows(columns);
+        let mut picture = Picture { columns, rows, answers: vec![Answer::Refused; columns as usize * rows as usize] };
+        let bar = output::progress(picture.answers.len(), "fixes");
+        let threads = std::thread::available_parallelism().map_or(1, usize::from);
+        let share = (rows as usize).div_ceil(threads) * columns as usize;
+        let fixes = |index: usize| picture_fix(frame, columns, rows, index);
+        std::thread::scope(|scope| {
+            for (part, answers) in picture.answers.chunks_mut(share).enumerate() {
+                let (bar, fixes) = (&bar, &fixes);
+                scope.spawn(move || ask_part(map.bytes(), answers, |index| fixes(part * share + index), bar));
+            }
+        });
+        bar.finish_and_clear();
+        picture
+    }
+
+    /// A colour for each zone: of those that no neighbour has, the one used least.
+    fn colours(&self) -> BTreeMap<u32, usize> {
+        let touching = self.neighbours();
+        let (mut colours, mut used) = (BTreeMap::new(), [0; SOFT.len()]);
+        for (zone, others) in &touching {
+            let taken: BTreeSet<usize> = others.iter().filter_map(|other| colours.get(other).copied()).collect();
+            let free = (0..SOFT.len()).filter(|colour| !taken.contains(colour)).min_by_key(|colour| used[*colour]);
+            let colour = free.unwrap_or(*zone as usize % SOFT.len());
+            used[colour] += 1;
+            colours.insert(*zone, colour);
+        }
+        colours
+    }
+
+    /// The zones that touch each zone, at a pixel's right or lower side.
+    fn neighbours(&self) -> BTreeMap<u32, BTreeSet<u32>> {
+        let mut touching: BTreeMap<u32, BTreeSet<u32>> = BTreeMap::new();
+        let columns = self.columns as usize;
+        for (i, here) in self.answers.iter().enumerate() {
+            let Some(here) = here.zone() else { continue };
+            touching.entry(here).or_default();
+            let right = if (i + 1) % columns == 0 { None } else { self.answers.get(i + 1) };
+            for there in [right, self.answers.get(i + columns)].into_iter().flatten().filter_map(|there| there.zone()) {
+                if there != here {
+                    touching.entry(here).or_default().insert(there);
+                    touching.entry(there).or_default().insert(here);
+                }
+            }
+        }
+        touching
+    }
+
+    fn pixels(&self, colours: &BTreeMap<u32, usize>) -> Vec<u8> {
+        let columns = self.columns as usize;
+        let pixel = |(i, answer): (usize, &Answer)| self.pixel(*answer, (i % columns, i / columns), colours);
+        self.answers.iter().enumerate().flat_map(pixel).collect()
+    }
+
+    /// Red lines lie over what a search found that was not whole.
+    fn pixel(&self, answer: Answer, (x, y): (usize, usize), colours: &BTreeMap<u32, usize>) -> Colour {
+        let hatched = |end: u64| end != 1 && (x + y) % 6 < 2;
+        match answer {
+            Answer::Refused => REFUSED,
+            Answer::Found { end, .. } | Answer::Nothing { end } if hatched(end) => FAULT,
+            Answer::Nothing { .. } => NOTHING,
+            Answer::Found { kind: 1, zone, .. } => SOFT[colours[&zone]].0,
+            Answer::Found { .. } => BORDER,
+        }
+    }
+}
+
+/// The middle of a pixel.
+fn picture_fix(frame: Frame, columns: u32, rows: u32, index: usize) -> (f32, f32) {
+    let (column, row) = (index % columns as usize, index / columns as usize);
+    let part = |place: usize, of: u32| (place as f64 + 0.5) / f64::from(of);
+    let lat = frame.north - (frame.north - frame.south) * part(row, rows);
+    let lon = frame.west + (frame.east - frame.west) * part(column, columns);
+    (lat as f32, lon as f32)
+}
+
+/// Room for a lookup: little at first, since the library writes all of it on every call.
+struct Room {
+    hits: Vec<u32>,
+    text: Vec<u8>,
+}
+
+/// No file that people draw has so many borders about one place.
+const MOST_HITS: usize = 4096;
+
+impl Room {
+    fn of(hits: usize) -> Room {
+        Room { hits: vec![0; HIT_WORDS * hits], text: vec![0; 64 * hits] }
+    }
+
+    /// Asks again with twice the room where it was too little.
+    fn ask(&mut self, file: &[u8], (lat, lon): (f32, f32)) -> Answer {
+        loop {
+            let hits = self.hits.len() / HIT_WORDS;
+            match raw::lookup(file, lat, lon, false, &mut self.hits, &mut self.text) {
+                Err(why) if matches!(why.number, Number::TooManyHits | Number::TextRoom) && hits < MOST_HITS => *self = Room::of(2 * hits),
+                Err(_) => return Answer::Refused,
+                Ok([0, end, ..]) => return Answer::Nothing { end },
+                Ok([_, end, ..]) => return Answer::Found { end, kind: self.hits[2], zone: self.hits[1] },
+            }
+        }
+    }
+}
+
+fn ask_part(file: &[u8], answers: &mut [Answer], fix: impl Fn(usize) -> (f32, f32), bar: &indicatif::ProgressBar) {
+    let mut room = Room::of(8);
+    for (index, answer) in answers.iter_mut().enumerate() {
+        *answer = room.ask(file, fix(index));
+        bar.inc(1);
+    }
+}
+
+#[cfg(test)]
+mod tests {
+    use super::*;
+
+    #[test]
+    fn frames() {
+        assert_eq!(Frame::of("-1, 2,3,4.5"), Ok(Frame { south: -1.0, west: 2.0, north: 3.0, east: 4.5 }));
+        for words in ["", "1,2,3", "1,2,3,4,5", "3,2,1,4", "a,b,c,d", "1,2,3,x,4"] {
+            assert!(Frame::of(words).is_err(), "{words}");
+        }
+        let square = Frame { south: -1.0, west: 10.0, north: 1.0, east: 12.0 };
+        assert_eq!(square.rows(300), 300);
+        let far = Frame { south: 59.0, west: 10.0, north: 61.0, east: 12.0 };
+        assert_eq!(far.rows(300), 600);
+    }
+}

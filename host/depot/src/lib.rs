@@ -1,0 +1,16 @@
+//! What the program `depot` does, verb by verb.
+
+pub mod build;
+pub mod check;
+pub mod draw;
+pub mod fault;
+pub mod geojson;
+pub mod grid;
+pub mod output;
+pub mod pieces;
+pub mod plan;
+pub mod show;
+pub mod source;
+pub mod stamp;
+pub mod words;
+pub mod zone;

@@ -1,0 +1,171 @@
+//! depot: the tool for people who have yards.
+
+use clap::{Parser, Subcommand, ValueEnum};
+use depot::build::{self, Library};
+use depot::draw::{self, Frame};
+use depot::fault::{Fault, Said};
+use depot::plan::Form;
+use depot::{check, show, stamp, zone};
+use std::io::Write;
+use std::path::PathBuf;
+use std::process::ExitCode;
+
+/// Builds, shows, checks and draws files of yards, and stamps a day's slips by them.
+///
+/// Exit status: 0 done, or answered yes; 1 answered no; 2 not run. What is written is written whole or not at all.
+#[derive(Parser)]
+#[command(name = "depot", version, arg_required_else_help = true)]
+struct Depot {
+    #[command(subcommand)]
+    verb: Verb,
+}
+
+#[derive(Clone, Copy, ValueEnum)]
+enum Kind {
+    /// Time zones: slips are stamped by such a file
+    #[value(name = "T")]
+    TimeZones,
+    /// Countries, or other named places
+    #[value(name = "C")]
+    Countries,
+}
+
+#[derive(Subcommand)]
+enum Verb {
+    /// Make a file from polygons (GeoJSON)
+    ///
+    /// Polygons and multipolygons become yards, holes are left out of them, and properties become fields. Lines that two yards
+    /// share are written once. The library of this release has no builder yet: --dry-run says what would be built.
+    #[command(after_help = "Example:\n  depot build examples/yards.geojson --precision 25 --dry-run")]
+    Build {
+        /// GeoJSON: a FeatureCollection of Polygons and MultiPolygons
+        input: PathBuf,
+        /// The file to write
+        #[arg(short, long, required_unless_present = "dry_run")]
+        output: Option<PathBuf>,
+        /// Bits of the grid: 21 is 9.5 m, 25 is 0.6 m
+        #[arg(long, default_value_t = 21, value_parser = clap::value_parser!(u8).range(1..=31))]
+        precision: u8,
+        /// How borders are written: 1 can borrow lines, 0 cannot
+        #[arg(long, default_value_t = 1, value_parser = clap::value_parser!(u8).range(0..=1))]
+        version: u8,
+        /// What the yards are
+        #[arg(long = "type", value_enum, default_value = "T")]
+        kind: Kind,
+        /// Whose data it is; at most 255 bytes
+        #[arg(long, default_value = "")]
+        notice: String,
+        /// Leave out features of which the grid leaves nothing, in place of stopping
+        #[arg(long)]
+        leave_out: bool,
+        /// Say what would be built, and write nothing
+        #[arg(long, conflicts_with = "output")]
+        dry_run: bool,
+    },
+    /// Say what a file holds: header, sizes, zones with fields, boxes and points
+    #[command(after_help = "Examples:\n  depot show examples/world-9.plb\n  depot show --geojson examples/world-9.plb -o world.geojson")]
+    Show {
+        file: PathBuf,
+        /// Write the borders as GeoJSON
+        #[arg(long)]
+        geojson: bool,
+        /// Where to write the GeoJSON; without it, to standard output
+        #[arg(short, long, requires = "geojson")]
+        output: Option<PathBuf>,
+    },
+    /// Say which zones hold a fix, and how the search ended
+    #[command(after_help = "Example:\n  depot zone 52.52 13.40 examples/world-9.plb --explain\n\nExit status 0 only if a zone holds the fix and the search was whole.")]
+    Zone {
+        /// Latitude in degrees
+        #[arg(allow_negative_numbers = true, value_parser = latitude)]
+        lat: f64,
+        /// Longitude in degrees
+        #[arg(allow_negative_numbers = true, value_parser = longitude)]
+        lon: f64,
+        file: PathBuf,
+        /// Refuse a number that the file's end cuts
+        #[arg(long)]
+        strict: bool,
+        /// With the table entry behind each match, and the distance to the nearest border
+        #[arg(long)]
+        explain: bool,
+    },
+    /// Read all of a file strictly, and ask what lookups would meet
+    #[command(after_help = "Example:\n  depot check examples/world-9.plb && echo good\n\nExit status 0 only if nothing is wrong.")]
+    Check { file: PathBuf },
+    /// Stamp the local hour on every line of a day
+    ///
+    /// A line has a latitude, a longitude and an instant: seconds from 1970, or like 2026-07-01T11:59:59Z. The first line may name
+    /// the columns; other columns are kept. Each way of not stamping has a column of its own.
+    #[command(after_help = "Example:\n  depot stamp examples/day.csv -o slips.csv examples/world-9.plb /usr/share/zoneinfo\n\nExit status 0 only if every line was stamped.")]
+    Stamp {
+        /// CSV: latitude, longitude, instant
+        day: PathBuf,
+        /// The file to write
+        #[arg(short, long)]
+        output: PathBuf,
+        /// PLB file of time zones
+        map: PathBuf,
+        /// Folder with the zones' TZif files
+        folder: PathBuf,
+    },
+    /// Draw a file's yards, each pixel a lookup
+    #[command(after_help = "Examples:\n  depot draw examples/world-9.plb -o world.png\n  depot draw examples/world-9.plb -o berlin.png --frame 50,10,55,16")]
+    Draw {
+        file: PathBuf,
+        /// The PNG to write
+        #[arg(short, long)]
+        output: PathBuf,
+        /// Pixels in a row
+        #[arg(long, default_value_t = 800, value_parser = clap::value_parser!(u32).range(1..=16384))]
+        columns: u32,
+        /// The part of the map to draw; without it, all boxes of the file
+        #[arg(long, allow_hyphen_values = true, value_name = "SOUTH,WEST,NORTH,EAST", value_parser = Frame::of)]
+        frame: Option<Frame>,
+    },
+}
+
+fn latitude(word: &str) -> Result<f64, String> {
+    degrees(word, 90.0)
+}
+
+fn longitude(word: &str) -> Result<f64, String> {
+    degrees(word, 180.0)
+}
+
+fn degrees(word: &str, most: f64) -> Result<f64, String> {
+    let value = word.parse::<f64>().ok().filter(|value| value.abs() <= most);
+    value.ok_or_else(|| format!("a number of degrees from -{most} to {most} is wanted; the latitude comes first"))
+}
+
+fn run(verb: Verb) -> Result<Said, Fault> {
+    match verb {
+        Verb::Build { input, output, precision, version, kind, notice, leave_out, dry_run: _ } => {
+            let table = match kind {
+                Kind::TimeZones => 'T',
+                Kind::Countries => 'C',
+            };
+            build::run(&input, output.as_deref(), Form { table, version, precision, notice, leave_out }, &Library)
+        }
+        Verb::Show { file, geojson: true, output } => show::geojson(&file, output.as_deref()),
+        Verb::Show { file, .. } => show::run(&file),
+        Verb::Zone { lat, lon, file, strict, explain } => zone::run(&file, lat, lon, strict, explain),
+        Verb::Check { file } => check::run(&file),
+        Verb::Stamp { day, output, map, folder } => stamp::run(&day, &output, &map, &folder),
+        Verb::Draw { file, output, columns, frame } => draw::run(&file, &output, columns, frame),
+    }
+}
+
+fn main() -> ExitCode {
+    match run(Depot::parse().verb) {
+        Ok(said) => {
+            // nobody may be reading on
+            let _ = std::io::stdout().lock().write_all(said.text.as_bytes());
+            ExitCode::from(u8::from(!said.yes))
+        }
+        Err(fault) => {
+            eprintln!("depot: {fault}");
+            ExitCode::from(fault.status())
+        }
+    }
+}

@@ -1,0 +1,165 @@
+//! What the tests of depot share: running the program, folders that go away, and a plain writer of files in the builder's place.
+#![allow(dead_code)] // each test uses some of it
+
+use depot::build::{Builder, NotBuilt};
+use depot::geojson;
+use depot::grid::Point;
+use depot::plan::{plan, Form, Plan};
+use std::fs;
+use std::path::{Path, PathBuf};
+use std::process::Command;
+use uskelzar::{write_border, Zones};
+
+pub const WORLD: &str = concat!(env!("CARGO_MANIFEST_DIR"), "/../../examples/world-9.plb");
+pub const YARDS: &str = concat!(env!("CARGO_MANIFEST_DIR"), "/../../examples/yards.geojson");
+pub const DAY: &str = concat!(env!("CARGO_MANIFEST_DIR"), "/../../examples/day.csv");
+pub const ZONEINFO: &str = "/usr/share/zoneinfo";
+
+/// A folder that goes away with the test.
+pub struct Folder(pub PathBuf);
+
+impl Folder {
+    pub fn new(name: &str) -> Folder {
+        let path = std::env::temp_dir().join(format!("depot-{name}-{}", std::process::id()));
+        fs::create_dir_all(&path).unwrap();
+        Folder(path)
+    }
+
+    pub fn path(&self, name: &str) -> String {
+        self.0.join(name).to_str().unwrap().to_string()
+    }
+
+    pub fn with(&self, name: &str, bytes: impl AsRef<[u8]>) -> String {
+        fs::write(self.0.join(name), bytes).unwrap();
+        self.path(name)
+    }
+
+    pub fn names(&self) -> Vec<String> {
+        let mut names: Vec<String> = fs::read_dir(&self.0).unwrap().map(|entry| entry.unwrap().file_name().into_string().unwrap()).collect();
+        names.sort();
+        names
+    }
+}
+
+impl Drop for Folder {
+    fn drop(&mut self) {
+        fs::remove_dir_all(&self.0).unwrap();
+    }
+}
+
+/// What the program said.
+#[derive(Debug)]
+pub struct Ran {
+    pub status: i32,
+    pub out: String,
+    pub err: String,
+}
+
+/// Runs the program, as cargo runs the tests.
+pub fn depot(words: &[&str]) -> Ran {
+    let runner = std::env::var("CARGO_TARGET_X86_64_UNKNOWN_LINUX_GNU_RUNNER").unwrap_or_default();
+    let all: Vec<&str> = runner.split_whitespace().chain([env!("CARGO_BIN_EXE_depot")]).chain(words.iter().copied()).collect();
+    let ran = Command::new(all[0]).args(&all[1..]).output().unwrap();
+    let text = |bytes| String::from_utf8(bytes).unwrap();
+    Ran { status: ran.status.code().unwrap(), out: text(ran.stdout), err: text(ran.stderr) }
+}
+
+pub fn form(version: u8, precision: u8) -> Form {
+    Form { table: 'T', version, precision, notice: "a notice".into(), leave_out: true }
+}
+
+pub fn plan_of(path: &str, form: Form) -> Plan {
+    plan(geojson::read(Path::new(path)).unwrap(), form).unwrap()
+}
+
+/// Puts a file together in a plain way: values stand in each record, and nothing is proved of it.
+pub struct Plain;
+
+impl Builder for Plain {
+    fn build(&self, plan: &Plan) -> Result<Vec<u8>, NotBuilt> {
+        let (mut metadata, mut places): (Vec<u8>, Vec<usize>) = (vec![], vec![]);
+        for (i, record) in plan.records.iter().enumerate() {
+            let same = plan.records[..i].iter().position(|earlier| earlier == record);
+            places.push(same.map_or(metadata.len(), |same| places[same]));
+            if same.is_none() {
+                metadata.extend(record.iter().flat_map(|value| string(value)));
+            }
+        }
+        let (mut data, mut entries) = (vec![0], vec![]);
+        for yard in &plan.yards {
+            entries.push((bounds(&yard.points), places[yard.record], data.len()));
+            data.extend(write_border(plan.form.version, &yard.points, &yard.pieces, &data).map_err(NotBuilt::Refused)?);
+        }
+        entries.sort_by_key(|(bounds, _, _)| bounds[0]);
+        let (mut table, mut last) = (vec![], (0, 0));
+        for (bounds, record, border) in entries {
+            table.extend(bounds.iter().flat_map(|bound| signed(i64::from(*bound))));
+            table.extend(signed(record as i64 - last.0));
+            table.extend(varint(u64::from((border as u32).wrapping_sub(last.1))));
+            last = (record as i64, border as u32);
+        }
+        Ok([header(plan, [table.len(), metadata.len(), data.len()]), table, metadata, data].concat())
+    }
+}
+
+fn header(plan: &Plan, sizes: [usize; 3]) -> Vec<u8> {
+    let form = &plan.form;
+    let mut file = vec![b'P', b'L', b'B', form.table as u8, form.version, form.precision, plan.names.len() as u8];
+    file.extend(plan.names.iter().chain([&form.notice]).flat_map(|text| string(text)));
+    file.extend(sizes.iter().flat_map(|size| varint(*size as u64)));
+    file
+}
+
+pub fn bounds(points: &[Point]) -> [i32; 4] {
+    let lats = || points.iter().map(|point| point.0);
+    let lons = || points.iter().map(|point| point.1);
+    [lats().min(), lons().min(), lats().max(), lons().max()].map(Option::unwrap)
+}
+
+fn varint(mut value: u64) -> Vec<u8> {
+    let mut bytes = vec![];
+    while value >= 128 {
+        bytes.push(value as u8 | 128);
+        value >>= 7;
+    }
+    bytes.push(value as u8);
+    bytes
+}
+
+fn signed(value: i64) -> Vec<u8> {
+    varint(value.unsigned_abs() * 2 + u64::from(value < 0))
+}
+
+fn string(text: &str) -> Vec<u8> {
+    varint(text.len() as u64).into_iter().chain(text.bytes().map(|byte| byte ^ 0x80)).collect()
+}
+
+pub fn built(plan: &Plan) -> Vec<u8> {
+    Plain.build(plan).unwrap()
+}
+
+/// The same plan without its pieces.
+pub fn unborrowed(mut plan: Plan) -> Plan {
+    plan.yards.iter_mut().for_each(|yard| yard.pieces.clear());
+    plan
+}
+
+/// What a lookup says, but for places in the file.
+pub fn seen(zones: &Zones) -> String {
+    let kinds: Vec<_> = zones.matches.iter().map(|zone| (zone.polygon, zone.kind, &zone.fields)).collect();
+    format!("{kinds:?} {:?} {}", zones.end, zones.safezone)
+}
+
+/// Numbers from 0 to 1 that are the same each time.
+pub struct Random(pub u64);
+
+impl Random {
+    pub fn next(&mut self) -> f64 {
+        self.0 = self.0.wrapping_mul(6_364_136_223_846_793_005).wrapping_add(1_442_695_040_888_963_407);
+        (self.0 >> 11) as f64 / (1u64 << 53) as f64
+    }
+
+    pub fn between(&mut self, low: f64, high: f64) -> f64 {
+        low + (high - low) * self.next()
+    }
+}
