@@ -1,5 +1,6 @@
 //! Small PLB files.
 
+use super::encode::{signed, string, varint};
 use uskelzar::write_border;
 
 /// Document 01's example: one square zone `A`, type C, version 1, precision 16; and its fix.
@@ -42,29 +43,6 @@ pub const LON_STEP: f32 = 180.0 / 32768.0;
 pub struct Zone<'a> {
     pub fields: &'a [&'a str],
     pub borders: &'a [&'a [(i32, i32)]],
-}
-
-/// A number, seven bits a byte.
-pub fn varint(mut value: u64) -> Vec<u8> {
-    let mut bytes = vec![];
-    while value >= 128 {
-        bytes.push(value as u8 | 128);
-        value >>= 7;
-    }
-    bytes.push(value as u8);
-    bytes
-}
-
-fn signed(value: i64) -> Vec<u8> {
-    varint(value.unsigned_abs() * 2 + u64::from(value < 0))
-}
-
-fn string(text: &str) -> Vec<u8> {
-    let masked = text.bytes().map(|byte| byte ^ 0x80);
-    varint(text.len() as u64)
-        .into_iter()
-        .chain(masked)
-        .collect()
 }
 
 fn strings(texts: &[&str]) -> Vec<u8> {

@@ -1,10 +1,14 @@
 //! What the tests of depot share: running the program, folders that go away, and a plain writer of files in the builder's place.
 #![allow(dead_code)] // each test uses some of it
 
+#[path = "../../../tests/common/encode.rs"]
+mod encode;
+
 use depot::build::{Builder, NotBuilt};
 use depot::geojson;
 use depot::grid::Point;
 use depot::plan::{plan, Form, Plan};
+use encode::{signed, string, varint};
 use std::fs;
 use std::path::{Path, PathBuf};
 use std::process::Command;
@@ -114,24 +118,6 @@ pub fn bounds(points: &[Point]) -> [i32; 4] {
     let lats = || points.iter().map(|point| point.0);
     let lons = || points.iter().map(|point| point.1);
     [lats().min(), lons().min(), lats().max(), lons().max()].map(Option::unwrap)
-}
-
-fn varint(mut value: u64) -> Vec<u8> {
-    let mut bytes = vec![];
-    while value >= 128 {
-        bytes.push(value as u8 | 128);
-        value >>= 7;
-    }
-    bytes.push(value as u8);
-    bytes
-}
-
-fn signed(value: i64) -> Vec<u8> {
-    varint(value.unsigned_abs() * 2 + u64::from(value < 0))
-}
-
-fn string(text: &str) -> Vec<u8> {
-    varint(text.len() as u64).into_iter().chain(text.bytes().map(|byte| byte ^ 0x80)).collect()
 }
 
 pub fn built(plan: &Plan) -> Vec<u8> {
