@@ -1,30 +1,16 @@
 -- Many fixes with the distance asked for or not (request Q-2): refused by 13, or the same but for the safezone bits. Assumes nothing.
-use mathlib.Core.Path.{_≡_, refl, sym, ap, subst, _∙_}
-use mathlib.Core.Bool.{Bool, true, false}
-use mathlib.Core.List.{List, [], _∷_, _++_, map}
-use mathlib.Core.Logic.{_⊎_, inl, inr}
+use mathlib.Core.{Path.{_≡_, refl, sym, ap, subst, _∙_}, Bool.{Bool, true, false}, List.{List, [], _∷_, _++_, map}, Logic.{_⊎_, inl, inr}}
 use Prim.Native.Nat.{ℕ, zero, suc, _-_}
 use native.Mathlib.Omega.{arith}
-use lib.Ieee.{Float}
-use lib.ListN.{length, take, length-map}
-use lib.Seq.{take-at}
-use Rattle.numbers.specs.Lists.{zeros, padded}
-use Rattle.numbers.specs.Reply.{Reply, plain, demand}
+use lib.{Ieee.{Float}, ListN.{length, take, length-map}, Seq.{take-at}}
+use Rattle.numbers.specs.{Lists.{zeros, padded}, Reply.{Reply, plain, demand}}
 use Rattle.numbers.specs.Reply as R
 use Rattle.zones.proofs.Asked.{unmeasured, unmeasuredReply, AskedOrNot, asked-or-not-with}
-use Rattle.header.proofs.Unless.{shown}
-use Rattle.table.proofs.Words.{words-length, slots-words}
-use Rattle.header.specs.Header.{headOf}
-use Rattle.table.specs.Hits.{words, slots}
-use Rattle.zones.specs.Lent.{Outcome, Replied, repliedOf}
-use Rattle.zones.specs.Lookup.{zonesWith, lookedWith}
-use Rattle.header.specs.declared.header.Head.{Head}
-use Rattle.table.specs.declared.hits.Hit.{Hit}
-use Rattle.table.specs.declared.location.Location.{Location}
-use Rattle.zones.specs.declared.lookup.Zones.{Zones}
+use Rattle.zones.specs.{Lent.{Outcome, Replied, repliedOf}, Lookup.{zonesWith, lookedWith}, declared.lookup.Zones.{Zones}}
+use Rattle.header.{proofs.Unless.{shown}, specs.{Header.{headOf}, declared.header.Head.{Head}}}
+use Rattle.table.{proofs.Words.{words-length, slots-words}, specs.{Hits.{words, slots}, declared.{hits.Hit.{Hit}, location.Location.{Location}}}}
 use Rattle.batch.specs.Many.{Batch, given, refused, _>>=_, _>>_, metAt, isTaken, fixesOf, Stamped, nothing, withOne, eachOf, stampedMany, answerWords, Left, left, leftOf, lookedUpMany}
-use Rattle.batch.proofs.Counts.{counts}
-use Rattle.batch.proofs.Stamping.{three-words}
+use Rattle.batch.proofs.{Counts.{counts}, Stamping.{three-words}}
 
 -- an outcome without its safezone bits
 abbrev unmeasuredOne : Outcome Zones → Outcome Zones

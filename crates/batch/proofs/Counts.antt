@@ -1,19 +1,11 @@
 -- What an answered lookup counts: its matches, which are fewer than the table has bytes, and its text. Assumes nothing.
-use mathlib.Core.Path.{_≡_, sym, ap, _∙_}
-use mathlib.Core.Bool.{Bool}
-use mathlib.Core.List.{List, []}
+use mathlib.Core.{Path.{_≡_, sym, ap, _∙_}, Bool.{Bool}, List.{List, []}}
 use Prim.Native.Nat.{ℕ, _/_, _≤_}
 use lib.ListN.{length}
-use Rattle.numbers.proofs.Replies.{given-from}
-use Rattle.numbers.specs.Reply.{given}
-use Rattle.zones.specs.Fields.{fieldsOf}
-use Rattle.table.specs.Find.{matchedWith}
-use Rattle.table.specs.Hits.{width}
-use Rattle.zones.specs.Lent.{Outcome}
-use Rattle.zones.specs.Lookup.{zonesWith}
+use Rattle.numbers.{proofs.Replies.{given-from}, specs.Reply.{given}}
+use Rattle.zones.specs.{Fields.{fieldsOf}, Lent.{Outcome}, Lookup.{zonesWith}, declared.lookup.Zones.{Zones}}
+use Rattle.table.specs.{Find.{matchedWith}, Hits.{width}, declared.location.Location.{Location}}
 use Rattle.header.specs.declared.header.Head.{Head}
-use Rattle.table.specs.declared.location.Location.{Location}
-use Rattle.zones.specs.declared.lookup.Zones.{Zones}
 use Rattle.batch.proofs.Few.{matched-few}
 
 inside : {a b : Outcome Zones} → given a ≡ given b → a ≡ b

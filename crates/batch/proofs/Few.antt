@@ -1,35 +1,21 @@
 -- A file has fewer rows than bytes before its metadata, so what a lookup counts fits a word. Assumes nothing.
-use mathlib.Core.Path.{_≡_, refl, sym, ap, subst, _∙_}
-use mathlib.Core.Bool.{Bool, true, false}
-use mathlib.Core.List.{List, [], _∷_, _++_}
+use mathlib.Core.{Path.{_≡_, refl, sym, ap, subst, _∙_}, Bool.{Bool, true, false}, List.{List, [], _∷_, _++_}}
 use Prim.Native.Nat.{ℕ, zero, suc, _+_, _-_, _/_, _≤_, _<_}
 use borrow.Author.Tests.{ltb-true}
 use native.Mathlib.Omega.{arith}
-use lib.Dec.{ltb, eqb}
-use lib.ListN.{length, length-append}
-use Rattle.border.specs.Verdict.{Judgement}
-use Rattle.border.specs.declared.place.Point.{Point}
-use Rattle.numbers.proofs.Replies.{given-from, demanded}
-use Rattle.numbers.specs.Answer.{Answer, if_then_else_}
+use lib.{Dec.{ltb, eqb}, ListN.{length, length-append}}
+use Rattle.border.specs.{Verdict.{Judgement}, declared.place.Point.{Point}}
+use Rattle.numbers.{proofs.Replies.{given-from, demanded}, specs.{Answer.{Answer, if_then_else_}, Reply.{Reply, given, plain}, Varint.{Numeral, readingOf}}}
 use Rattle.numbers.specs.Answer as A
-use Rattle.numbers.specs.Reply.{Reply, given, plain}
 use Rattle.numbers.specs.Reply as R
-use Rattle.numbers.specs.Varint.{Numeral, readingOf}
 use Rattle.table.proofs.TableRows.{Grows, reading-grows, rows-step, at-end, row-less}
-use Rattle.table.specs.Find.{Matched, isPrecision, fixOf, matchedWith}
-use Rattle.table.specs.Merge.{seen, summary, groupKind, matchOf, mergedAfter, merged}
-use Rattle.table.specs.Rest.{restMark}
+use Rattle.table.specs.{Find.{Matched, isPrecision, fixOf, matchedWith}, Merge.{seen, summary, groupKind, matchOf, mergedAfter, merged}, Rest.{restMark}}
 use Rattle.table.specs.Rows.{Rows, row, tableEnd, unreadable, after, startAt, rowsThen, rowBy, rowsFrom, rowsIn}
+use Rattle.table.specs.{Search.{Found, ended, farthest, afterTurn, rowTurn, seek, judgeIn, searched}, Table.{isAbove}}
+use Rattle.table.specs.declared.{hits.Hit.{Hit}, location.Location.{Location}, rows.{Cursor.{Cursor}, Row.{Row}}}
+use Rattle.table.specs.declared.search.Turn.{the-variants.{On, Met, Stopped, Refused}, Turn}
 use Rattle.table.specs.Rows as T
-use Rattle.table.specs.Search.{Found, ended, farthest, afterTurn, rowTurn, seek, judgeIn, searched}
-use Rattle.table.specs.Table.{isAbove}
 use Rattle.header.specs.declared.header.Head.{Head}
-use Rattle.table.specs.declared.hits.Hit.{Hit}
-use Rattle.table.specs.declared.location.Location.{Location}
-use Rattle.table.specs.declared.rows.Cursor.{Cursor}
-use Rattle.table.specs.declared.rows.Row.{Row}
-use Rattle.table.specs.declared.search.Turn.the-variants.{On, Met, Stopped, Refused}
-use Rattle.table.specs.declared.search.Turn.{Turn}
 
 -- ---- rows
 many : Rows → ℕ

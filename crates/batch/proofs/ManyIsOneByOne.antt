@@ -1,33 +1,17 @@
 -- Many fixes are answered as one by one: the reply and all three lists are those of plain lookups, each with the room that the earlier ones left. Assumes nothing.
-use mathlib.Core.Path.{_≡_, refl, sym, ap, _∙_}
-use mathlib.Core.Bool.{Bool, true}
-use mathlib.Core.List.{List, [], _∷_, _++_}
-use mathlib.Core.Logic.{_⊎_, inl, inr}
+use mathlib.Core.{Path.{_≡_, refl, sym, ap, _∙_}, Bool.{Bool, true}, List.{List, [], _∷_, _++_}, Logic.{_⊎_, inl, inr}}
 use Prim.Native.Nat.{ℕ, _+_, _-_, _*_, _<_}
-use native.Mathlib.Nat.{sub-zero}
-use native.Mathlib.Omega.{arith}
-use lib.Ieee.{Float}
-use lib.ListN.{length, take, drop, length-append}
-use lib.Seq.{take-at, drop-at}
-use Rattle.numbers.proofs.Lists.{zeros-drop}
-use Rattle.numbers.specs.Lists.{zeros, padded, over}
-use Rattle.numbers.specs.Reply.{Reply}
+use native.Mathlib.{Nat.{sub-zero}, Omega.{arith}}
+use lib.{Ieee.{Float}, ListN.{length, take, drop, length-append}, Seq.{take-at, drop-at}}
+use Rattle.numbers.{proofs.Lists.{zeros-drop}, specs.{Lists.{zeros, padded, over}, Reply.{Reply}, declared.refusal.Refusal.{Refusal}}}
 use Rattle.numbers.specs.Reply as R
-use Rattle.numbers.specs.declared.refusal.Refusal.{Refusal}
 use Rattle.zones.proofs.GivenHead.{looked-with, not-looked}
-use Rattle.table.proofs.Words.{words-length, words-append}
-use Rattle.header.specs.Header.{headOf}
-use Rattle.table.specs.Hits.{width, words}
-use Rattle.zones.specs.Lent.{Outcome, Replied, repliedOf}
-use Rattle.zones.specs.Lookup.{zonesWith, lookedWith, lookedUp}
-use Rattle.header.specs.declared.header.Head.{Head}
-use Rattle.table.specs.declared.location.Location.{Location}
-use Rattle.zones.specs.declared.lookup.Zones.{Zones}
+use Rattle.zones.specs.{Lent.{Outcome, Replied, repliedOf}, Lookup.{zonesWith, lookedWith, lookedUp}, declared.lookup.Zones.{Zones}}
+use Rattle.table.{proofs.Words.{words-length, words-append}, specs.{Hits.{width, words}, declared.location.Location.{Location}}}
+use Rattle.header.specs.{Header.{headOf}, declared.header.Head.{Head}}
 use Rattle.batch.specs.Many.{given, refused, _>>=_, metAt, isTaken, fixesOf, Stamped, nothing, withOne, eachOf, answerWords, Left, left, leftOf, lookedUpMany}
 use Rattle.batch.specs.OneByOne.{fromOn, unlessRefused, oneByOne}
-use Rattle.batch.proofs.Counts.{counts}
-use Rattle.batch.proofs.Opening.{all-opened, not-opened}
-use Rattle.batch.proofs.Stamping.{on-padded, answer-words, three-words, taken}
+use Rattle.batch.proofs.{Counts.{counts}, Opening.{all-opened, not-opened}, Stamping.{on-padded, answer-words, three-words, taken}}
 
 -- what is written behind the front of a list that is zero beyond it
 behind : (n place : ℕ) (out s : List ℕ) → length out ≡ place → padded n (out ++ s) ≡ fromOn place (padded n out) (padded (n - place) s)

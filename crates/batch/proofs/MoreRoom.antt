@@ -1,38 +1,18 @@
 -- More room changes no answer: a lookup that is answered in some words and bytes is answered alike in more of them. Assumes nothing.
 use Prim.Native.Nat.{ℕ, zero, suc, _+_, _-_, _/_, _≤_, _<_}
 use borrow.Author.Tests.{ltb-true, leb-true, lt-ltb, le-leb}
-use lib.Dec.{ltb, leb}
-use lib.ListN.{length}
-use mathlib.Core.Bool.{Bool, true, false}
-use mathlib.Core.List.{List, [], _∷_, _++_}
-use mathlib.Core.Path.{_≡_, refl, sym, ap, _∙_}
+use lib.{Dec.{ltb, leb}, ListN.{length}}
+use mathlib.Core.{Bool.{Bool, true, false}, List.{List, [], _∷_, _++_}, Path.{_≡_, refl, sym, ap, _∙_}}
 use native.Mathlib.Omega.{arith}
-use Rattle.border.specs.Verdict.{Judgement}
-use Rattle.border.specs.declared.place.Point.{Point}
-use Rattle.numbers.proofs.Replies.{given-from, onward, demanded}
-use Rattle.numbers.specs.Answer.{if_then_else_}
-use Rattle.numbers.specs.Reply.{Reply, given, plain, demand, _>>_, _>>=_}
+use Rattle.border.specs.{Verdict.{Judgement}, declared.place.Point.{Point}}
+use Rattle.numbers.{proofs.Replies.{given-from, onward, demanded}, specs.{Answer.{if_then_else_}, Reply.{Reply, given, plain, demand, _>>_, _>>=_}}}
 use Rattle.numbers.specs.Reply as R
-use Rattle.header.specs.Field.{Field, field, fieldAt}
-use Rattle.zones.specs.Fields.{fieldsPlace, fieldsFrom, fieldsOf}
-use Rattle.table.specs.Find.{Matched, isPrecision, fixOf, matchedWith}
-use Rattle.table.specs.Hits.{width}
-use Rattle.zones.specs.Lent.{Outcome}
-use Rattle.zones.specs.Lookup.{safezoneBits, zonesWith}
-use Rattle.table.specs.Merge.{merged}
-use Rattle.table.specs.Rest.{restMark}
-use Rattle.table.specs.Rows.{Rows, row, tableEnd, unreadable, rowsIn}
+use Rattle.header.specs.{Field.{Field, field, fieldAt}, Text.{textAt, bytesOf}, declared.header.Head.{Head}}
+use Rattle.zones.specs.{Fields.{fieldsPlace, fieldsFrom, fieldsOf}, Lent.{Outcome}, Lookup.{safezoneBits, zonesWith}, declared.lookup.Zones.{Zones}}
+use Rattle.table.specs.{Find.{Matched, isPrecision, fixOf, matchedWith}, Hits.{width}, Merge.{merged}, Rest.{restMark}, Rows.{Rows, row, tableEnd, unreadable, rowsIn}}
+use Rattle.table.specs.{Search.{Found, ended, farthest, afterTurn, rowTurn, seek, judgeIn, searched}, Table.{isAbove}}
+use Rattle.table.specs.declared.{hits.Hit.{Hit}, location.Location.{Location}, rows.Row.{Row}, search.Turn.{the-variants.{On, Met, Stopped, Refused}, Turn}}
 use Rattle.table.specs.Rows as T
-use Rattle.table.specs.Search.{Found, ended, farthest, afterTurn, rowTurn, seek, judgeIn, searched}
-use Rattle.table.specs.Table.{isAbove}
-use Rattle.header.specs.Text.{textAt, bytesOf}
-use Rattle.header.specs.declared.header.Head.{Head}
-use Rattle.table.specs.declared.hits.Hit.{Hit}
-use Rattle.table.specs.declared.location.Location.{Location}
-use Rattle.zones.specs.declared.lookup.Zones.{Zones}
-use Rattle.table.specs.declared.rows.Row.{Row}
-use Rattle.table.specs.declared.search.Turn.the-variants.{On, Met, Stopped, Refused}
-use Rattle.table.specs.declared.search.Turn.{Turn}
 
 -- what one gives, the other gives
 abbrev Still : {A : Type 0} → Reply A → Reply A → Type 0

@@ -1,27 +1,15 @@
 -- Which numbers many fixes can be refused with. Assumes nothing.
-use mathlib.Core.Path.{_≡_, refl, sym, ap, subst, _∙_}
-use mathlib.Core.Bool.{Bool, true, false}
-use mathlib.Core.List.{List, [], _∷_, _++_}
+use mathlib.Core.{Path.{_≡_, refl, sym, ap, subst, _∙_}, Bool.{Bool, true, false}, List.{List, [], _∷_, _++_}}
 use Prim.Native.Nat.{ℕ, _-_}
 use native.Mathlib.Omega.{arith}
-use lib.Ieee.{Float}
-use lib.ListN.{length}
+use lib.{Ieee.{Float}, ListN.{length}}
 use Rattle.border.proofs.Signs.{differ}
-use Rattle.numbers.proofs.Refusals.{Listed, still-listed}
-use Rattle.numbers.proofs.Replies.{number-of}
-use Rattle.numbers.specs.Reply.{Reply, plain, demand}
+use Rattle.numbers.{proofs.{Refusals.{Listed, still-listed}, Replies.{number-of}}, specs.{Reply.{Reply, plain, demand}, declared.refusal.Refusal.{Refusal}}}
 use Rattle.numbers.specs.Reply as R
-use Rattle.numbers.specs.declared.refusal.Refusal.{Refusal}
-use Rattle.zones.proofs.GivenHead.{looked-with}
-use Rattle.header.proofs.Numbered.{headerNumbers, head-numbered}
-use Rattle.zones.proofs.NumberedLookup.{lookupNumbers, lookup-refusals}
-use Rattle.header.specs.Header.{headOf}
-use Rattle.table.specs.Hits.{words}
-use Rattle.zones.specs.Lent.{Outcome, Replied, repliedOf}
-use Rattle.zones.specs.Lookup.{zonesWith, lookedWith, lookedUp}
-use Rattle.header.specs.declared.header.Head.{Head}
-use Rattle.table.specs.declared.location.Location.{Location}
-use Rattle.zones.specs.declared.lookup.Zones.{Zones}
+use Rattle.zones.proofs.{GivenHead.{looked-with}, NumberedLookup.{lookupNumbers, lookup-refusals}}
+use Rattle.zones.specs.{Lent.{Outcome, Replied, repliedOf}, Lookup.{zonesWith, lookedWith, lookedUp}, declared.lookup.Zones.{Zones}}
+use Rattle.header.{proofs.Numbered.{headerNumbers, head-numbered}, specs.{Header.{headOf}, declared.header.Head.{Head}}}
+use Rattle.table.specs.{Hits.{words}, declared.location.Location.{Location}}
 use Rattle.batch.specs.Many.{Batch, given, refused, _>>=_, _>>_, metAt, isTaken, fixesOf, Stamped, nothing, withOne, eachOf, leftOf, stampedMany, lookedUpMany}
 
 -- those of a lookup, and 33

@@ -1,17 +1,11 @@
 -- The call as a whole, by how far it came before the first fix. Assumes nothing.
-use mathlib.Core.Path.{_≡_, refl, ap, _∙_}
-use mathlib.Core.Bool.{Bool, true, false}
-use mathlib.Core.List.{List}
+use mathlib.Core.{Path.{_≡_, refl, ap, _∙_}, Bool.{Bool, true, false}, List.{List}}
 use Prim.Native.Nat.{ℕ}
-use lib.Ieee.{Float}
-use lib.ListN.{length}
-use Rattle.numbers.specs.Lists.{zeros}
-use Rattle.numbers.specs.Reply.{Reply, plain, demand}
+use lib.{Ieee.{Float}, ListN.{length}}
+use Rattle.numbers.specs.{Lists.{zeros}, Reply.{Reply, plain, demand}, declared.refusal.Refusal.{Refusal}}
 use Rattle.numbers.specs.Reply as R
-use Rattle.numbers.specs.declared.refusal.Refusal.{Refusal}
-use Rattle.header.specs.Header.{headOf}
+use Rattle.header.specs.{Header.{headOf}, declared.header.Head.{Head}}
 use Rattle.zones.specs.Lookup.{zonesWith}
-use Rattle.header.specs.declared.header.Head.{Head}
 use Rattle.batch.specs.Many.{Batch, refused, _>>=_, _>>_, metAt, isTaken, fixesOf, Stamped, nothing, eachOf, left, leftOf, stampedMany, lookedUpMany}
 
 module _ (file : List ℕ) (lats lons : List Float) (asked : Bool) (n room third : ℕ) where

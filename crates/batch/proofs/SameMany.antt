@@ -1,16 +1,12 @@
 -- What the promise fixes: two replies that it permits are equal, with all three lists; and a refusal leaves all of them zero. Assumes nothing.
-use mathlib.Core.Path.{_≡_, refl, sym, ap, _∙_}
-use mathlib.Core.Bool.{Bool}
-use mathlib.Core.List.{List}
+use mathlib.Core.{Path.{_≡_, refl, sym, ap, _∙_}, Bool.{Bool}, List.{List}}
 use Prim.Native.Nat.{ℕ}
 use native.Mathlib.Omega.{arith}
 use lib.Ieee.{Float}
-use Rattle.numbers.specs.Lists.{zeros}
-use Rattle.numbers.specs.declared.refusal.Refusal.{Refusal}
+use Rattle.numbers.specs.{Lists.{zeros}, declared.refusal.Refusal.{Refusal}}
 use Rattle.batch.specs.Many.{Batch, given, refused, Stamped, Left, left, leftOf, stampedMany, lookedUpMany, toldMany}
-use Rattle.batch.specs.declared.many.Many.{Many}
+use Rattle.batch.specs.declared.many.{Many.{Many}, Totals.{Totals}}
 use Rattle.batch.specs.declared.many.Many.the-variants as M
-use Rattle.batch.specs.declared.many.Totals.{Totals}
 
 manyBack : Batch Totals → Many
 manyBack (given totals) = M.Totals totals

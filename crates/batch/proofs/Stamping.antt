@@ -1,34 +1,17 @@
 -- What holds before each fix, and what a fix makes of it: the lists hold what the earlier ones came to, and are zero beyond it. Assumes nothing.
-use mathlib.Core.Path.{_≡_, refl, sym, ap, subst, _∙_}
-use mathlib.Core.Bool.{Bool, true, false, _&&_}
-use mathlib.Core.List.{List, [], _∷_, _++_, append-assoc}
+use mathlib.Core.{Path.{_≡_, refl, sym, ap, subst, _∙_}, Bool.{Bool, true, false, _&&_}, List.{List, [], _∷_, _++_, append-assoc}}
 use Prim.Native.Nat.{ℕ, suc, _+_, _-_, _*_, _≤_, _<_}
-use native.Mathlib.Nat.{sub-zero}
-use native.Mathlib.Numerals.{add-one}
-use native.Mathlib.Omega.{arith}
+use native.Mathlib.{Nat.{sub-zero}, Numerals.{add-one}, Omega.{arith}}
 use borrow.Author.Tests.{eqb-true, leb-true}
-use lib.Dec.{leb, eqb}
-use lib.Ieee.{Float}
-use lib.ListN.{length, getD, set, take, drop, length-append, length-replicate, drop-of-length-le}
-use lib.Seq.{drop-cons}
-use Rattle.numbers.specs.Lists.{zeros, padded, over}
-use Rattle.numbers.specs.Reply.{Reply}
+use lib.{Dec.{leb, eqb}, Ieee.{Float}, ListN.{length, getD, set, take, drop, length-append, length-replicate, drop-of-length-le}, Seq.{drop-cons}}
+use Rattle.numbers.specs.{Lists.{zeros, padded, over}, Reply.{Reply}, declared.refusal.Refusal.{Refusal}}
 use Rattle.numbers.specs.Reply as R
-use Rattle.numbers.specs.declared.refusal.Refusal.{Refusal}
-use Rattle.table.proofs.Agreeing.{Gave, gave, refused-so}
-use Rattle.header.proofs.Buffers.{tail-back}
-use Rattle.zones.proofs.Holding.{Held, held-length, held-front, lent, remains-length, written}
-use Rattle.zones.proofs.Replying.{agrees-of}
-use Rattle.table.proofs.Words.{words-length, words-append}
-use Rattle.table.specs.Hits.{width, words}
-use Rattle.table.specs.Agreeing.{Agrees}
-use Rattle.zones.specs.Lent.{Filled, Outcome, Replied, replied, repliedOf}
-use Rattle.zones.specs.Lookup.{zonesWith, lookedWith, toldLooked}
-use Rattle.header.specs.declared.header.Head.{Head}
-use Rattle.table.specs.declared.location.Location.{Location}
-use Rattle.zones.specs.declared.lookup.Looked.{Looked}
+use Rattle.table.proofs.{Agreeing.{Gave, gave, refused-so}, Words.{words-length, words-append}}
+use Rattle.table.specs.{Hits.{width, words}, Agreeing.{Agrees}, declared.location.Location.{Location}}
+use Rattle.header.{proofs.Buffers.{tail-back}, specs.declared.header.Head.{Head}}
+use Rattle.zones.proofs.{Holding.{Held, held-length, held-front, lent, remains-length, written}, Replying.{agrees-of}}
+use Rattle.zones.specs.{Lent.{Filled, Outcome, Replied, replied, repliedOf}, Lookup.{zonesWith, lookedWith, toldLooked}, declared.lookup.{Looked.{Looked}, Zones.{Zones}}}
 use Rattle.zones.specs.declared.lookup.Looked.the-variants as L
-use Rattle.zones.specs.declared.lookup.Zones.{Zones}
 use Rattle.batch.specs.Many.{Batch, given, refused, _>>=_, metAt, isTaken, fixesOf, Stamped, nothing, withOne, eachOf, answerWords, Left, left, totalsOf, leftOf}
 use Rattle.batch.proofs.Counts.{counts, few}
 

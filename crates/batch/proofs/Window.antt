@@ -1,25 +1,14 @@
 -- A fix that is answered in the front of lists that are zero is answered alike in the whole of them. Assumes nothing.
 use Prim.Native.Nat.{ℕ, _+_, _-_, _≤_}
-use lib.ListN.{length, take, drop, length-append, length-replicate, replicate-append-replicate}
-use lib.Seq.{length-take-le, drop-at}
-use mathlib.Core.Bool.{Bool}
-use mathlib.Core.List.{List, _++_, append-assoc}
-use mathlib.Core.Path.{_≡_, sym, ap, _∙_}
+use lib.{ListN.{length, take, drop, length-append, length-replicate, replicate-append-replicate}, Seq.{length-take-le, drop-at}}
+use mathlib.Core.{Bool.{Bool}, List.{List, _++_, append-assoc}, Path.{_≡_, sym, ap, _∙_}}
 use native.Mathlib.Omega.{arith}
-use Rattle.batch.proofs.MoreRoom.{more-room}
-use Rattle.batch.proofs.Stamping.{One, one-given}
-use Rattle.numbers.proofs.Lists.{zeros-drop}
-use Rattle.numbers.specs.Lists.{zeros, padded}
-use Rattle.numbers.specs.Reply.{Reply}
-use Rattle.header.proofs.Buffers.{all-zero, tail-lent}
+use Rattle.batch.proofs.{MoreRoom.{more-room}, Stamping.{One, one-given}}
+use Rattle.numbers.{proofs.Lists.{zeros-drop}, specs.{Lists.{zeros, padded}, Reply.{Reply}}}
+use Rattle.header.{proofs.Buffers.{all-zero, tail-lent}, specs.declared.header.Head.{Head}}
 use Rattle.zones.proofs.Holding.{Held, lent}
-use Rattle.table.specs.Hits.{words}
-use Rattle.zones.specs.Lent.{Outcome, replied, repliedOf}
-use Rattle.zones.specs.Lookup.{zonesWith, lookedWith, toldLooked}
-use Rattle.header.specs.declared.header.Head.{Head}
-use Rattle.table.specs.declared.location.Location.{Location}
-use Rattle.zones.specs.declared.lookup.Looked.{Looked}
-use Rattle.zones.specs.declared.lookup.Zones.{Zones}
+use Rattle.zones.specs.{Lent.{Outcome, replied, repliedOf}, Lookup.{zonesWith, lookedWith, toldLooked}, declared.lookup.{Looked.{Looked}, Zones.{Zones}}}
+use Rattle.table.specs.{Hits.{words}, declared.location.Location.{Location}}
 use Rattle.numbers.specs.Reply as R
 use Rattle.zones.specs.declared.lookup.Looked.the-variants as L
 

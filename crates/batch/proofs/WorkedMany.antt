@@ -1,37 +1,18 @@
 -- A call with two fixes in document 01's printed file, by computation: both are answered, one behind the other. Assumes nothing.
-use mathlib.Core.Bool.{false}
-use mathlib.Core.List.{List, [], _∷_}
-use Prim.Native.Nat.{ℕ}
-use lib.IntN.{negsuc}
-use lib.Ieee.{fin, ofInt, add, sub, mul, div, toSigned}
-use Rattle.numbers.specs.Varint.{readingOf, forwardAt, valueOf, sizeOf, tooLong}
-use Rattle.numbers.specs.Point.{signedOf, evenBits, pointOf}
-use Rattle.numbers.specs.Float.{fixedPoint, oneShifted}
-use Rattle.numbers.specs.Answer.{checked}
-use Rattle.border.specs.Place.{movedBy}
-use Rattle.border.specs.Reader.{advanced, marker, packedTurn, turnOf}
-use Rattle.border.specs.Trace.{roundAgain, nextWithin, nextPoint, traceThen, traceWithin, traceOf}
+use mathlib.Core.{Bool.{false}, List.{List, [], _∷_}, Path.{_≡_, refl, ap}}
+use Prim.Native.Nat.{ℕ, _*_}
+use lib.{IntN.{negsuc}, Ieee.{fin, ofInt, add, sub, mul, div, toSigned, Float}}
+use Rattle.numbers.specs.{Varint.{readingOf, forwardAt, valueOf, sizeOf, tooLong}, Point.{signedOf, evenBits, pointOf}, Float.{fixedPoint, oneShifted}, Answer.{checked}}
+use Rattle.border.specs.{Place.{movedBy}, Reader.{advanced, marker, packedTurn, turnOf}, Trace.{roundAgain, nextWithin, nextPoint, traceThen, traceWithin, traceOf}}
 use Rattle.border.specs.Edge.{samePoint, between, inBox, quadrantOf, slopeOf, edgeOf, straight, closestOn}
-use Rattle.border.specs.Winding.{turned, quarterBy, halfTurn, turnAt, crossingOf, acrossBy, clearOf, woundBy}
-use Rattle.border.specs.Distance.{measured}
-use Rattle.border.specs.Step as S
+use Rattle.border.specs.{Winding.{turned, quarterBy, halfTurn, turnAt, crossingOf, acrossBy, clearOf, woundBy}, Distance.{measured}}
 use Rattle.border.specs.Verdict.{along, passing, closedAt, thenOn, judge, judgedAt}
-use Rattle.header.specs.Field.{fieldAt}
-use Rattle.zones.specs.Fields.{fieldsFrom, fieldsOf}
-use Rattle.table.specs.Find.{fixOf, matchedWith}
-use Rattle.header.specs.Header.{preambleOf, textsFrom, sectionsFrom, sectionsAt, contentsBy, headBy}
-use Rattle.table.specs.Hits.{words}
-use Rattle.table.specs.Merge.{summary, seen, mergedAfter, merged}
-use Rattle.table.specs.Rows.{rowsThen, rowBy, rowsWithin, rowsFrom, rowsIn}
-use Rattle.table.specs.Search.{judgedTurn, rowTurn, seek, searched}
-use Rattle.table.specs.Table.{stepsBy, entryBy}
-use Rattle.header.specs.Text.{within, remoteAt, stringAt, bytesOf, textAt}
-use Rattle.header.specs.Utf8.{characters, startedBy, begunBy, followed, goesOn, isUtf8}
-use mathlib.Core.Path.{_≡_, refl, ap}
-use Prim.Native.Nat.{_*_}
-use lib.Ieee.{Float}
-use Rattle.table.specs.Hits.{width}
-use Rattle.zones.specs.Lookup.{safezoneBits, zonesWith}
+use Rattle.border.specs.Step as S
+use Rattle.header.specs.{Field.{fieldAt}, Header.{preambleOf, textsFrom, sectionsFrom, sectionsAt, contentsBy, headBy}}
+use Rattle.header.specs.{Text.{within, remoteAt, stringAt, bytesOf, textAt}, Utf8.{characters, startedBy, begunBy, followed, goesOn, isUtf8}}
+use Rattle.zones.specs.{Fields.{fieldsFrom, fieldsOf}, Lookup.{safezoneBits, zonesWith}}
+use Rattle.table.specs.{Find.{fixOf, matchedWith}, Hits.{words, width}, Merge.{summary, seen, mergedAfter, merged}, Rows.{rowsThen, rowBy, rowsWithin, rowsFrom, rowsIn}}
+use Rattle.table.specs.{Search.{judgedTurn, rowTurn, seek, searched}, Table.{stepsBy, entryBy}}
 use Rattle.batch.specs.Many.{given, fixesOf, Left, eachOf, stampedMany, answerWords, leftOf, lookedUpMany}
 
 abbrev printed : List ℕ

@@ -1,15 +1,11 @@
 -- The same fixes looked up one by one with plain `lookup`, which opens the file each time, by someone who lends each call what the earlier ones left of the lists.
-use mathlib.Core.Bool.{Bool}
-use mathlib.Core.List.{List, [], _∷_, _++_}
+use mathlib.Core.{Bool.{Bool}, List.{List, [], _∷_, _++_}}
 use Prim.Native.Nat.{ℕ, _+_, _-_, _*_}
 use lib.ListN.{take, drop}
-use Rattle.numbers.specs.Lists.{zeros, over}
+use Rattle.numbers.specs.{Lists.{zeros, over}, Reply.{Reply}}
 use Rattle.numbers.specs.Reply as R
-use Rattle.numbers.specs.Reply.{Reply}
-use Rattle.table.specs.Hits.{width}
-use Rattle.zones.specs.Lookup.{lookedUp}
-use Rattle.table.specs.declared.location.Location.{Location}
-use Rattle.zones.specs.declared.lookup.Zones.{Zones}
+use Rattle.table.specs.{Hits.{width}, declared.location.Location.{Location}}
+use Rattle.zones.specs.{Lookup.{lookedUp}, declared.lookup.Zones.{Zones}}
 use Rattle.batch.specs.Many.{given, refused, answerWords, Left, left}
 
 -- what stands from a place of a list on is now this

@@ -1,12 +1,9 @@
 // Many fixes: matches and texts one after the other in the lent lists, and of each fix its match count, end mark and safezone bits in a third.
-ghost use mathlib.Core.Path.{_≡_};
-ghost use mathlib.Core.Bool.{true};
-ghost use mathlib.Core.List.{[], _∷_};
+ghost use mathlib.Core.{Path.{_≡_}, Bool.{true}, List.{[], _∷_}};
 ghost use Prim.Native.Nat.{_*_, _^_, _≤_, _<_, min};
 ghost use lib.ListN.{length};
 ghost use Rattle.numbers.specs.Lists.{zeros, over};
-ghost use Rattle.zones.specs.Lent.{replied};
-ghost use Rattle.zones.specs.Lookup.{zonesWith, lookedWith, toldLooked};
+ghost use Rattle.zones.specs.{Lent.{replied}, Lookup.{zonesWith, lookedWith, toldLooked}};
 ghost use Rattle.batch.specs.Many.{isTaken, answerWords, fixesOf, nothing, eachOf, toldMany, left, leftOf, lookedUpMany};
 use crate::zero::zero_all;
 use header::header::Head;

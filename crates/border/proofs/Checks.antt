@@ -1,12 +1,8 @@
 -- A result that the checked Rust holds against a range, where it was found inside and where not. Assumes nothing.
 use Prim.Native.Nat.{ℕ, _<_, _^_}
-use mathlib.Core.Path.{_≡_, sym, _∙_}
-use mathlib.Core.Bool.{Bool, true, false}
-use lib.Dec.{ltb}
-use lib.IntN.{ℤ}
-use lib.Signed.{mag}
-use mir.Syntax.{w32}
-use mir.Val.{SFits}
+use mathlib.Core.{Path.{_≡_, sym, _∙_}, Bool.{Bool, true, false}}
+use lib.{Dec.{ltb}, IntN.{ℤ}, Signed.{mag}}
+use mir.{Syntax.{w32}, Val.{SFits}}
 use borrow.Author.Tests.{ltb-true, lt-ltb}
 use Rattle.border.specs.Step.{found, refused, checked}
 

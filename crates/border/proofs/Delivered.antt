@@ -1,24 +1,12 @@
 -- Demand 3, the reader's side: a border that stands in a file is read as its points, then the first one again, closed. Assumes nothing.
 use Prim.Native.Nat.{ℕ, suc, _+_, _^_, _<_, _≤_}
-use lib.IntN.{pos}
-use lib.ListN.{length, drop, length-append}
-use lib.Seq.{drop-at}
-use mathlib.Core.Bool.{false}
-use mathlib.Core.List.{List, [], _∷_, _++_, append-nil}
-use mathlib.Core.Path.{_≡_, refl, sym, ap, _∙_}
+use lib.{IntN.{pos}, ListN.{length, drop, length-append}, Seq.{drop-at}}
+use mathlib.Core.{Bool.{false}, List.{List, [], _∷_, _++_, append-nil}, Path.{_≡_, refl, sym, ap, _∙_}}
 use native.Mathlib.Omega.{arith}
-use Rattle.numbers.specs.declared.point.{RawPoint.RawPoint}
-use Rattle.border.specs.declared.place.{Point.Point}
-use Rattle.border.specs.declared.reader.{Version.Version}
-use Rattle.border.proofs.OnWay.{At, at-first, at-next, Reads}
-use Rattle.border.proofs.Version0.{counted}
-use Rattle.border.proofs.Version1.{packed}
-use Rattle.border.specs.Encoding.{encodedIn}
-use Rattle.border.specs.Place.{pointAt}
-use Rattle.border.specs.Trace.{Trace, traceOf, borderAt}
-use Rattle.border.specs.Written.{Encodes, Leads, Placed, Stands, roundTrip}
-use Rattle.border.specs.declared.reader.Run.the-variants.{Idle}
-use Rattle.border.specs.declared.reader.Version.the-variants.{Plain, Packed}
+use Rattle.numbers.specs.declared.point.RawPoint.{RawPoint}
+use Rattle.border.specs.{declared.{place.Point.{Point}, reader.{Version.{Version, the-variants.{Plain, Packed}}, Run.the-variants.{Idle}}}, Encoding.{encodedIn}}
+use Rattle.border.specs.{Place.{pointAt}, Trace.{Trace, traceOf, borderAt}, Written.{Encodes, Leads, Placed, Stands, roundTrip}}
+use Rattle.border.proofs.{OnWay.{At, at-first, at-next, Reads}, Version0.{counted}, Version1.{packed}}
 use Rattle.border.specs.Written as W
 
 -- a move leads to each point

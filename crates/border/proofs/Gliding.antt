@@ -1,39 +1,23 @@
 -- Points strictly inside one quadrant about a location leave the winding as it is. Assumes nothing.
 use Prim.Native.Nat.{ℕ, suc, _+_, _-_, _%_, _^_, _≤_, _<_}
 use borrow.Author.Tests.{ltb-true, leb-true, le-leb, lt-leb, lt-ltb}
-use lib.IntN.{ℤ, pos, negsuc, _+ℤ_}
-use lib.ListN.{length}
-use lib.Signed.{ltZ, leZ, mag}
-use mir.Syntax.{w32}
-use mir.Val.{SFits}
-use mathlib.Core.Bool.{Bool, true, false, not, _&&_, _||_, and-false}
-use mathlib.Core.List.{List}
-use mathlib.Core.Path.{_≡_, refl, sym, ap, _∙_, subst}
-use native.Mathlib.Nat.{le-refl}
-use native.Mathlib.Omega.{arith}
-use Rattle.border.proofs.Signs.{differ, both}
-use Rattle.border.proofs.Trace.{gives-trace}
+use lib.{IntN.{ℤ, pos, negsuc, _+ℤ_}, ListN.{length}, Signed.{ltZ, leZ, mag}}
+use mir.{Syntax.{w32}, Val.{SFits}}
+use mathlib.Core.{Bool.{Bool, true, false, not, _&&_, _||_, and-false}, List.{List}, Path.{_≡_, refl, sym, ap, _∙_, subst}}
+use native.Mathlib.{Nat.{le-refl}, Omega.{arith}}
+use Rattle.border.proofs.{Signs.{differ, both}, Trace.{gives-trace}}
 use Rattle.border.proofs.reader.Turns.{open-packed, open-plain, turn-move, backward-move, advances, counted-before, pair-read, pair-moves}
-use Rattle.border.specs.Distance.{measured}
-use Rattle.border.specs.Edge.{sameZ, samePoint, straight, between, inBox, quadrantOf}
-use Rattle.border.specs.Encoding.{encodedBy}
+use Rattle.border.specs.{Distance.{measured}, Edge.{sameZ, samePoint, straight, between, inBox, quadrantOf}, Encoding.{encodedBy}}
 use Rattle.border.specs.Gliding.{sameSide, inOneQuadrant, inSpan, beside, aside, within, Glides, stays, glides, GlidesTo, standing, GlidesForth, GlidesBack, GlidesPlain, points, GlidesOn}
-use Rattle.border.specs.Place.{pointAt, moveBy, isStill, movedBy, negated}
-use Rattle.border.specs.Reader.{gives, shownBy, advanced, backwardFrom}
-use Rattle.border.specs.Trace.{Trace, point, traceOf}
-use Rattle.border.specs.Verdict.{after, along, passing, thenOn, judge}
-use Rattle.border.specs.Winding.{quarterBy, clearOf, woundBy}
-use Rattle.border.specs.declared.glide.{Span.Span, Field.Field}
-use Rattle.border.specs.declared.place.Point.{Point}
-use Rattle.border.specs.declared.reader.{Reader.Reader, Encoding.Encoding, Version.Version, Version.the-variants.Plain, Version.the-variants.Packed, Run.Run, Run.the-variants.Idle, Run.the-variants.Backward}
+use Rattle.border.specs.{Place.{pointAt, moveBy, isStill, movedBy, negated}, Reader.{gives, shownBy, advanced, backwardFrom}, Trace.{Trace, point, traceOf}}
+use Rattle.border.specs.{Verdict.{after, along, passing, thenOn, judge}, Winding.{quarterBy, clearOf, woundBy}}
+use Rattle.border.specs.declared.{glide.{Span.{Span}, Field.{Field}}, place.Point.{Point}}
+use Rattle.border.specs.declared.reader.{Reader.{Reader}, Encoding.{Encoding}, Version.{Version, the-variants.{Plain, Packed}}}
+use Rattle.border.specs.declared.reader.Run.{Run, the-variants.{Idle, Backward}}
 use Rattle.border.specs.declared.verdict.Tally.{Tally}
-use Rattle.numbers.specs.Answer.{found, checked, if_then_else_}
-use Rattle.numbers.specs.Point.{signedOf, pointOf}
-use Rattle.numbers.proofs.Answers.{All}
-use Rattle.numbers.proofs.Laws.{Read, Before, backward-read}
-use Rattle.numbers.proofs.Readings.{reading-read}
-use Rattle.numbers.specs.Varint.{Numeral, numeral, readingOf, backwardAt}
-use Rattle.numbers.specs.declared.point.{RawPoint.RawPoint}
+use Rattle.numbers.specs.{Answer.{found, checked, if_then_else_}, Point.{signedOf, pointOf}, Varint.{Numeral, numeral, readingOf, backwardAt}}
+use Rattle.numbers.specs.declared.point.RawPoint.{RawPoint}
+use Rattle.numbers.proofs.{Answers.{All}, Laws.{Read, Before, backward-read}, Readings.{reading-read}}
 use Rattle.border.specs.Step as S
 
 -- ---- the order of whole numbers

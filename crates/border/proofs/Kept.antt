@@ -1,14 +1,9 @@
 -- What is kept of a point: its quadrant, one of four, and its floats where the distance is asked for. Assumes nothing.
 use Prim.Native.Nat.{ℕ, _≤_}
-use mathlib.Core.Path.{_≡_, sym, ap, _∙_}
-use mathlib.Core.Bool.{Bool, true, false}
-use lib.Dec.{lit≤}
-use lib.Signed.{leZ}
+use mathlib.Core.{Path.{_≡_, sym, ap, _∙_}, Bool.{Bool, true, false}}
+use lib.{Dec.{lit≤}, Signed.{leZ}}
 use Rattle.numbers.specs.Answer.{if_then_else_}
-use Rattle.border.specs.Edge.{quadrantOf, locationOf}
-use Rattle.border.specs.Kept.{seenFrom}
-use Rattle.border.specs.declared.place.Point.{Point}
-use Rattle.border.specs.declared.edge.{Location.Location, Seen.Seen}
+use Rattle.border.specs.{Edge.{quadrantOf, locationOf}, Kept.{seenFrom}, declared.{place.Point.{Point}, edge.{Location.{Location}, Seen.{Seen}}}}
 
 one-of-four : (t u : Bool) → (if t then (if u then 0 else 1) else (if u then 3 else 2)) ≤ 3
 one-of-four true true = lit≤ tt

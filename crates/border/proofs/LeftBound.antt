@@ -2,21 +2,13 @@
 -- location, and no edge leads across two quadrants. Assumes nothing.
 use Prim.Native.Nat.{ℕ, suc, _+_, _-_, _%_, _^_, _<_}
 use native.Mathlib.Omega.{arith}
-use mathlib.Core.Path.{_≡_, refl, sym, ap, _∙_}
-use mathlib.Core.Bool.{Bool, true, false, cond}
-use mathlib.Core.Logic.{_⊎_, inl, inr}
-use lib.Dec.{ltb, eqb}
-use lib.IntN.{ℤ, pos, negsuc, _-ℤ_}
-use lib.Signed.{leZ, mag}
-use mir.Syntax.{w32}
-use mir.Val.{SFits}
+use mathlib.Core.{Path.{_≡_, refl, sym, ap, _∙_}, Bool.{Bool, true, false, cond}, Logic.{_⊎_, inl, inr}}
+use lib.{Dec.{ltb, eqb}, IntN.{ℤ, pos, negsuc, _-ℤ_}, Signed.{leZ, mag}}
+use mir.{Syntax.{w32}, Val.{SFits}}
 use borrow.Author.Tests.{le-leb, ltb-true, ltb-false}
 use Rattle.numbers.specs.Answer.{if_then_else_}
-use Rattle.border.specs.Step.{found, checked}
-use Rattle.border.specs.Edge.{quadrantOf}
-use Rattle.border.specs.declared.place.Point.{Point}
-use Rattle.border.proofs.Checks.{checked-fits}
-use Rattle.border.proofs.Signs.{differ}
+use Rattle.border.specs.{Step.{found, checked}, Edge.{quadrantOf}, declared.place.Point.{Point}}
+use Rattle.border.proofs.{Checks.{checked-fits}, Signs.{differ}}
 
 abbrev least : ℤ
 least = negsuc 2147483647

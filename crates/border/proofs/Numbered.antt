@@ -1,40 +1,24 @@
 -- Which numbers a border can be refused with where it is read and judged: 12 and 13, and 31 where it is read strictly. Assumes nothing.
-use mathlib.Core.Bool.{Bool, true, _&&_}
-use mathlib.Core.Path.{_≡_}
-use mathlib.Core.List.{List}
+use mathlib.Core.{Bool.{Bool, true, _&&_}, Path.{_≡_}, List.{List}}
 use Prim.Native.Nat.{ℕ, zero, suc, _+_, _-_, _%_, _^_}
-use lib.Dec.{ltb, eqb}
-use lib.IntN.{ℤ, pos, negsuc}
-use lib.Signed.{mag, ltZ}
-use Rattle.numbers.proofs.Refusals.{Numbered, as-found, as-failed, as-refused, either, then-numbered, backward-numbered}
-use Rattle.numbers.proofs.Readings.{reading-numbered}
-use Rattle.numbers.specs.Answer.{Answer, found}
+use lib.{Dec.{ltb, eqb}, IntN.{ℤ, pos, negsuc}, Signed.{mag, ltZ}}
+use Rattle.numbers.proofs.{Refusals.{Numbered, as-found, as-failed, as-refused, either, then-numbered, backward-numbered}, Readings.{reading-numbered}}
+use Rattle.numbers.specs.{Answer.{Answer, found}, Varint.{readingOf}, declared.point.RawPoint.{RawPoint}}
 use Rattle.numbers.specs.Answer as A
-use Rattle.numbers.specs.Varint.{readingOf}
-use Rattle.numbers.specs.declared.point.{RawPoint.RawPoint}
 use Rattle.border.specs.Distance.{squared, toSegment, toVertex, distanceOf, measured}
-use Rattle.border.specs.Edge.{samePoint, sameZ, inBox, straight, quadrantOf, locationOf, edgeOf, closestOn, cutOf}
-use Rattle.border.specs.Place.{movedBy, negated}
+use Rattle.border.specs.{Edge.{samePoint, sameZ, inBox, straight, quadrantOf, locationOf, edgeOf, closestOn, cutOf}, Place.{movedBy, negated}}
 use Rattle.border.specs.Reader.{Turn, gives, again, ends, advanced, plainMove, plainPair, plainTurn, opened, reference, marker, lent, packedTurn, turnOf}
-use Rattle.border.specs.Step.{Step}
-use Rattle.border.specs.Step as S
-use Rattle.border.specs.Trace.{Given, reaches, ended, roundAgain, turns, nextWithin, nextPoint, Trace, traceThen, traceWithin, traceOf}
-use Rattle.border.specs.Trace as T
+use Rattle.border.specs.{Step.{Step}, Trace.{Given, reaches, ended, roundAgain, turns, nextWithin, nextPoint, Trace, traceThen, traceWithin, traceOf}}
 use Rattle.border.specs.Verdict.{Judgement, Last, none, after, along, passing, closedAt, thenOn, judge, judgedAt}
-use Rattle.border.specs.Verdict as J
 use Rattle.border.specs.Winding.{turned, quarterBy, turnAt, acrossBy, clearOf, woundBy}
-use Rattle.border.specs.declared.edge.Edge.{Edge}
-use Rattle.border.specs.declared.edge.Edge.the-variants.{Sloped, EqualLongitude, EqualLatitude}
-use Rattle.border.specs.declared.edge.Location.{Location}
-use Rattle.border.specs.declared.place.{FixedLat.FixedLat, FixedLon.FixedLon, Point.Point}
-use Rattle.border.specs.declared.reader.Encoding.{Encoding}
-use Rattle.border.specs.declared.reader.Reader.{Reader}
-use Rattle.border.specs.declared.reader.Run.{Run}
-use Rattle.border.specs.declared.reader.Run.the-variants.{Idle, Forward, Backward}
-use Rattle.border.specs.declared.reader.Version.{Version}
-use Rattle.border.specs.declared.reader.Version.the-variants.{Plain, Packed}
-use Rattle.border.specs.declared.verdict.Tally.{Tally}
-use Rattle.border.specs.declared.verdict.Verdict.{Verdict}
+use Rattle.border.specs.declared.edge.{Edge.{Edge, the-variants.{Sloped, EqualLongitude, EqualLatitude}}, Location.{Location}}
+use Rattle.border.specs.declared.place.{FixedLat.{FixedLat}, FixedLon.{FixedLon}, Point.{Point}}
+use Rattle.border.specs.declared.reader.{Encoding.{Encoding}, Reader.{Reader}, Run.{Run, the-variants.{Idle, Forward, Backward}}}
+use Rattle.border.specs.declared.reader.Version.{Version, the-variants.{Plain, Packed}}
+use Rattle.border.specs.declared.verdict.{Tally.{Tally}, Verdict.{Verdict}}
+use Rattle.border.specs.Step as S
+use Rattle.border.specs.Trace as T
+use Rattle.border.specs.Verdict as J
 
 -- a number that it is refused with has the property: a step along a border, a trace, a judgement
 pub data NumberedStep (P : ℕ → Type 0) {A : Type 0} : Step A → Type 0 where

@@ -1,19 +1,10 @@
 -- Which numbers a border can be refused with where it is written. Assumes nothing.
-use mathlib.Core.Path.{_≡_, refl}
-use mathlib.Core.Bool.{_&&_}
-use mathlib.Core.List.{List, [], _∷_}
+use mathlib.Core.{Path.{_≡_, refl}, Bool.{_&&_}, List.{List, [], _∷_}}
 use Prim.Native.Nat.{ℕ, _^_}
-use lib.Dec.{ltb, leb, eqb}
-use lib.IntN.{ℤ}
-use lib.ListN.{length, take, drop}
-use Rattle.numbers.proofs.Refusals.{Listed, either}
-use Rattle.numbers.proofs.Replies.{NumberedReply, answers, refuses, and-then, demands, number-of}
-use Rattle.numbers.specs.Reply.{Reply, refused, refusal, plain}
-use Rattle.numbers.specs.declared.refusal.Refusal.{Refusal}
-use Rattle.numbers.specs.declared.point.{RawPoint.RawPoint}
-use Rattle.border.specs.Moves.{movesOf, isMove}
-use Rattle.border.specs.Pieces.{goodPieces}
-use Rattle.border.specs.Writer.{every, sized, near, checks, plainBorder, packedBorder, borderOf, Replied, fitted}
+use lib.{Dec.{ltb, leb, eqb}, IntN.{ℤ}, ListN.{length, take, drop}}
+use Rattle.numbers.proofs.{Refusals.{Listed, either}, Replies.{NumberedReply, answers, refuses, and-then, demands, number-of}}
+use Rattle.numbers.specs.{Reply.{Reply, refused, refusal, plain}, declared.{refusal.Refusal.{Refusal}, point.RawPoint.{RawPoint}}}
+use Rattle.border.specs.{Moves.{movesOf, isMove}, Pieces.{goodPieces}, Writer.{every, sized, near, checks, plainBorder, packedBorder, borderOf, Replied, fitted}}
 use Rattle.border.specs.declared.writer.Piece.{Piece}
 
 -- the numbers that document 01 gives to the writer

@@ -1,28 +1,13 @@
 -- Bytes that stand at a place of a file, and a reader on its way through a border: what one turn delivers, and what the turns after it. Assumes nothing.
 use Prim.Native.Nat.{ℕ, suc, _+_, _-_, _<_, _≤_}
-use lib.ListN.{length, getD, drop}
-use lib.Seq.{drop-drop, drop-append-seam, getD-drop}
-use mathlib.Core.Bool.{Bool, true, false}
-use mathlib.Core.List.{List, [], _∷_, _++_, append-assoc}
-use mathlib.Core.Path.{_≡_, refl, sym, ap, _∙_}
-use native.Mathlib.Nat.{add-zero}
-use native.Mathlib.Omega.{arith}
-use Rattle.numbers.specs.declared.point.{RawPoint.RawPoint}
-use Rattle.border.specs.declared.place.{Point.Point}
-use Rattle.border.specs.declared.reader.{Reader.Reader, Run.Run, Version.Version}
-use Rattle.numbers.proofs.Wholes.{whole-forward, whole-clear, whole-backward, whole-some}
-use Rattle.numbers.proofs.Readings.{plain-reading}
-use Rattle.border.proofs.Trace.{gives-trace, again-trace, ends-trace}
-use Rattle.border.proofs.reader.Turns.{closed-ends}
-use Rattle.border.specs.Encoding.{encodedIn}
-use Rattle.border.specs.Place.{movedBy}
-use Rattle.border.specs.Reader.{gives, again, closing, turnOf}
-use Rattle.border.specs.Trace.{point, closed, traceOf}
-use Rattle.border.specs.Written.{Leads, pointsThen}
-use Rattle.border.specs.declared.reader.Run.the-variants.{Idle}
-use Rattle.numbers.specs.Answer.{found, if_then_else_}
-use Rattle.numbers.specs.Spelling.{Whole}
-use Rattle.numbers.specs.Varint.{numeral, readingOf, backwardAt}
+use lib.{ListN.{length, getD, drop}, Seq.{drop-drop, drop-append-seam, getD-drop}}
+use mathlib.Core.{Bool.{Bool, true, false}, List.{List, [], _∷_, _++_, append-assoc}, Path.{_≡_, refl, sym, ap, _∙_}}
+use native.Mathlib.{Nat.{add-zero}, Omega.{arith}}
+use Rattle.numbers.specs.{declared.point.RawPoint.{RawPoint}, Answer.{found, if_then_else_}, Spelling.{Whole}, Varint.{numeral, readingOf, backwardAt}}
+use Rattle.numbers.proofs.{Wholes.{whole-forward, whole-clear, whole-backward, whole-some}, Readings.{plain-reading}}
+use Rattle.border.specs.{declared.{place.Point.{Point}, reader.{Reader.{Reader}, Run.{Run, the-variants.{Idle}}, Version.{Version}}}, Encoding.{encodedIn}}
+use Rattle.border.specs.{Place.{movedBy}, Reader.{gives, again, closing, turnOf}, Trace.{point, closed, traceOf}, Written.{Leads, pointsThen}}
+use Rattle.border.proofs.{Trace.{gives-trace, again-trace, ends-trace}, reader.Turns.{closed-ends}}
 use Rattle.border.specs.Written as W
 
 -- ---- bytes at a place

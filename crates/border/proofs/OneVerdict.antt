@@ -1,18 +1,11 @@
 -- Demand 3, "one border, one verdict": written as version 0, version 1, or version 1 with borrowed runs, a border reads back as the same points, so every location
 -- gets the same verdict and distance. Assumes nothing.
 use Prim.Native.Nat.{ℕ}
-use mathlib.Core.Path.{_≡_}
-use mathlib.Core.Bool.{Bool}
-use mathlib.Core.List.{List}
+use mathlib.Core.{Path.{_≡_}, Bool.{Bool}, List.{List}}
 use lib.IntN.{ℤ, pos}
-use Rattle.border.specs.Verdict.{none, judge, judgedAt}
-use Rattle.border.specs.Written.{Stands}
-use Rattle.border.specs.Encoding.{encodedIn, encodingOf}
-use Rattle.border.specs.WrittenAt.{WrittenAt}
-use Rattle.border.specs.declared.place.{Point.Point, FixedLat.FixedLat, FixedLon.FixedLon}
-use Rattle.border.specs.declared.reader.{Version.Version}
-use Rattle.border.proofs.Delivered.{one-border-one-judgement}
-use Rattle.border.proofs.WrittenTrace.{written-stands}
+use Rattle.border.specs.{Verdict.{none, judge, judgedAt}, Written.{Stands}, Encoding.{encodedIn, encodingOf}, WrittenAt.{WrittenAt}}
+use Rattle.border.specs.declared.{place.{Point.{Point}, FixedLat.{FixedLat}, FixedLon.{FixedLon}}, reader.Version.{Version}}
+use Rattle.border.proofs.{Delivered.{one-border-one-judgement}, WrittenTrace.{written-stands}}
 
 -- One border stands in two files, in whatever way it was written. At every fixed latitude and longitude, with the distance asked for or not, and after every least
 -- distance so far, `point_in_polygon` replies the same.

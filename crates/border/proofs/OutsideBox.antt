@@ -2,32 +2,16 @@
 -- quadrants, and back at its first point the border has turned back as often as on. It holds for coordinates of any size, and for no points too. Assumes nothing.
 use Prim.Native.Nat.{ℕ, _+_, _-_, _%_}
 use native.Mathlib.Omega.{arith}
-use mathlib.Core.Path.{_≡_, refl, sym, ap, _∙_}
-use mathlib.Core.Bool.{Bool, true, false, not, _&&_, and-false}
-use mathlib.Core.Logic.{_⊎_, inl, inr}
-use mathlib.Core.List.{List, [], _∷_}
-use lib.Dec.{eqb}
-use lib.IntN.{ℤ, pos, negsuc}
-use lib.Signed.{leZ}
+use mathlib.Core.{Path.{_≡_, refl, sym, ap, _∙_}, Bool.{Bool, true, false, not, _&&_, and-false}, Logic.{_⊎_, inl, inr}, List.{List, [], _∷_}}
+use lib.{Dec.{eqb}, IntN.{ℤ, pos, negsuc}, Signed.{leZ}}
 use borrow.Author.Tests.{leb-true, leb-false, le-leb}
 use Rattle.numbers.specs.Answer.{if_then_else_}
-use Rattle.border.specs.Encoding.{encodedIn}
-use Rattle.border.specs.Place.{pointAt}
-use Rattle.border.specs.Trace.{point, closed}
-use Rattle.border.specs.Step.{Step, found, _>>=_, checked}
-use Rattle.border.specs.Edge.{samePoint, between, inBox, quadrantOf}
-use Rattle.border.specs.Winding.{turned, quarterBy, clearOf, woundBy}
-use Rattle.border.specs.Distance.{measured}
+use Rattle.border.specs.{Encoding.{encodedIn}, Place.{pointAt}, Trace.{point, closed}, Step.{Step, found, _>>=_, checked}}
+use Rattle.border.specs.{Edge.{samePoint, between, inBox, quadrantOf}, Winding.{turned, quarterBy, clearOf, woundBy}, Distance.{measured}}
 use Rattle.border.specs.Verdict.{Judgement, reached, failed, refused, none, after, along, passing, closedAt, thenOn, judge, judgedAt}
-use Rattle.border.specs.Written.{Stands, pointsThen, roundTrip}
-use Rattle.border.specs.Box.{Box, minZ, maxZ, grown, boxOver, boxOf, holds}
-use Rattle.border.specs.declared.place.Point.{Point}
-use Rattle.border.specs.declared.reader.Version.{Version}
-use Rattle.border.specs.declared.verdict.Tally.{Tally}
-use Rattle.border.specs.declared.verdict.Verdict.the-variants.{NotInZone}
-use Rattle.border.proofs.Signs.{differ}
-use Rattle.border.proofs.Unasked.{Agrees, asked-or-not}
-use Rattle.border.proofs.Delivered.{delivered}
+use Rattle.border.specs.{Written.{Stands, pointsThen, roundTrip}, Box.{Box, minZ, maxZ, grown, boxOver, boxOf, holds}}
+use Rattle.border.specs.declared.{place.Point.{Point}, reader.Version.{Version}, verdict.{Tally.{Tally}, Verdict.the-variants.{NotInZone}}}
+use Rattle.border.proofs.{Signs.{differ}, Unasked.{Agrees, asked-or-not}, Delivered.{delivered}}
 
 -- ---- the order of whole numbers
 

@@ -1,22 +1,15 @@
 -- A promise permits one reply: what an answer says determines it. Assumes nothing.
-use mathlib.Core.Path.{_≡_, refl, sym, ap, _∙_}
-use mathlib.Core.List.{List}
+use mathlib.Core.{Path.{_≡_, refl, sym, ap, _∙_}, List.{List}}
 use Prim.Native.Nat.{ℕ}
-use Rattle.numbers.specs.Answer.{Answer, found, failed, refused}
-use Rattle.border.specs.Told.{told, steppedBy}
-use Rattle.border.specs.Trace.{Given, reaches, ended}
+use Rattle.numbers.specs.{Answer.{Answer, found, failed, refused}, Reply.{given}}
+use Rattle.border.specs.{Told.{told, steppedBy}, Trace.{Given, reaches, ended}, Verdict.{Judgement, reached}, Writer.{Replied, replied}}
+use Rattle.border.specs.declared.{verdict.Judged.{Judged}, writer.Written.{Written}}
+use Rattle.border.specs.declared.reader.{Reader.{Reader}, Next.{Next, the-variants.{Point, Ended, Failed, Refused}}, Reply.{Reply}}
 use Rattle.border.specs.Verdict as Judge
-use Rattle.border.specs.Verdict.{Judgement, reached}
 use Rattle.border.specs.Writer as Writer
 use Rattle.numbers.specs.Reply as R
-use Rattle.numbers.specs.Reply.{given}
-use Rattle.border.specs.Writer.{Replied, replied}
-use Rattle.border.specs.declared.verdict.Judged.{Judged}
 use Rattle.border.specs.declared.verdict.Judged.the-variants as J
-use Rattle.border.specs.declared.writer.Written.{Written}
 use Rattle.border.specs.declared.writer.Written.the-variants as W
-use Rattle.border.specs.declared.reader.{Reader.Reader, Next.Next, Reply.Reply}
-use Rattle.border.specs.declared.reader.Next.the-variants.{Point, Ended, Failed, Refused}
 
 untold : Answer Given → Next
 untold (found (reaches s)) = Point s

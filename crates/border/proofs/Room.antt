@@ -1,24 +1,14 @@
 -- How much can still be read. Each turn that gives a point or goes round again leaves less. Assumes nothing.
 use Prim.Native.Nat.{ℕ, suc, _+_, _-_, _*_, _<_, _≤_, min}
-use native.Mathlib.Nat.{mul-le-mul-right, min-le-right, le-refl, suc-mul}
-use native.Mathlib.Omega.{arith}
-use mathlib.Core.Path.{_≡_, refl}
-use mathlib.Core.Bool.{Bool, true, false}
-use mathlib.Core.List.{List}
-use lib.Dec.{leb, eqb}
-use lib.ListN.{length}
-use Rattle.numbers.specs.Answer.{Answer, found, failed, refused, if_then_else_, _>>=_}
-use Rattle.numbers.specs.Varint.{Numeral, readingOf, backwardAt}
-use Rattle.numbers.specs.Point.{pointOf, signedOf}
-use Rattle.numbers.specs.declared.point.{RawPoint.RawPoint}
+use native.Mathlib.{Nat.{mul-le-mul-right, min-le-right, le-refl, suc-mul}, Omega.{arith}}
+use mathlib.Core.{Path.{_≡_, refl}, Bool.{Bool, true, false}, List.{List}}
+use lib.{Dec.{leb, eqb}, ListN.{length}}
+use Rattle.numbers.specs.{Answer.{Answer, found, failed, refused, if_then_else_, _>>=_}, Varint.{Numeral, readingOf, backwardAt}, Point.{pointOf, signedOf}}
+use Rattle.numbers.specs.declared.point.RawPoint.{RawPoint}
+use Rattle.numbers.proofs.{Answers.{All, then-all, any}, Laws.{Read, Before, backward-read}, Readings.{reading-read}}
 use Rattle.border.specs.Place.{moveBy, isStill, movedBy, negated}
 use Rattle.border.specs.Reader.{Turn, Reading, gives, again, ends, onward, arrived, closing, advanced, shownBy, plainMove, plainPair, plainTurn, asI64, opened, reference, marker, lent, forwardFrom, backwardFrom, packedTurn, turnOf}
-use Rattle.border.specs.declared.reader.{Reader.Reader, Run.Run, Version.Version}
-use Rattle.border.specs.declared.reader.Version.the-variants.{Plain, Packed}
-use Rattle.border.specs.declared.reader.Run.the-variants.{Idle, Forward, Backward}
-use Rattle.numbers.proofs.Answers.{All, then-all, any}
-use Rattle.numbers.proofs.Laws.{Read, Before, backward-read}
-use Rattle.numbers.proofs.Readings.{reading-read}
+use Rattle.border.specs.declared.reader.{Reader.{Reader}, Run.{Run, the-variants.{Idle, Forward, Backward}}, Version.{Version, the-variants.{Plain, Packed}}}
 
 -- ---- the measure
 

@@ -1,15 +1,9 @@
 -- Coordinates and windings are i32: read back from their bits, widened, compared. Assumes nothing.
 use Prim.Native.Nat.{ℕ, zero, suc, _+_, _-_, _≤_, _<_, _^_}
-use native.Mathlib.Nat.{lt-of-le-of-lt, le-refl}
-use native.Mathlib.Omega.{arith}
-use mathlib.Core.Path.{_≡_, refl, sym, ap, _∙_, subst}
-use mathlib.Core.Bool.{Bool, true, false, cond, _&&_}
-use lib.Dec.{T, ltb, leb, eqb}
-use lib.IntN.{ℤ, pos, negsuc, negℤ, _+ℤ_, _-ℤ_}
-use lib.Signed.{mag, leZ, ltZ}
-use mir.Syntax.{w32, w64}
-use mir.Val.{SFits, toZ, ofZ}
-use mir.Facts.{toZ-ofZ, sfits-widen}
+use native.Mathlib.{Nat.{lt-of-le-of-lt, le-refl}, Omega.{arith}}
+use mathlib.Core.{Path.{_≡_, refl, sym, ap, _∙_, subst}, Bool.{Bool, true, false, cond, _&&_}}
+use lib.{Dec.{T, ltb, leb, eqb}, IntN.{ℤ, pos, negsuc, negℤ, _+ℤ_, _-ℤ_}, Signed.{mag, leZ, ltZ}}
+use mir.{Syntax.{w32, w64}, Val.{SFits, toZ, ofZ}, Facts.{toZ-ofZ, sfits-widen}}
 use borrow.Author.Tests.{ltb-true, leb-true, lt-ltb, le-leb, eq-eqb, ne-eqb, eqb-true}
 use Rattle.border.specs.Edge.{sameZ, between}
 use Rattle.border.proofs.place.Whole.{widened, sum-fits, difference-fits}

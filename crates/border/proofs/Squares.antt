@@ -1,15 +1,10 @@
 -- Squares that fit an i64: those of the numbers up to 3,037,000,499 in size. Assumes nothing.
 use Prim.Native.Nat.{ℕ, suc, _+_, _*_, _/_, _%_, _^_, _≤_, _<_}
-use native.Mathlib.Nat.{mul-le-mul, lt-of-le-of-lt, le-trans, add-mul-mod-self-left}
-use native.Mathlib.Omega.{arith}
-use mathlib.Core.Path.{_≡_, refl, sym, ap, _∙_}
-use mathlib.Core.Bool.{Bool, true, false, _&&_}
-use lib.Dec.{T, ltb, leb, lit<, lit≤}
-use lib.IntN.{ℤ, pos, negsuc, natAbs, _*ℤ_}
-use lib.Signed.{mag, leZ, nonNeg}
+use native.Mathlib.{Nat.{mul-le-mul, lt-of-le-of-lt, le-trans, add-mul-mod-self-left}, Omega.{arith}}
+use mathlib.Core.{Path.{_≡_, refl, sym, ap, _∙_}, Bool.{Bool, true, false, _&&_}}
+use lib.{Dec.{T, ltb, leb, lit<, lit≤}, IntN.{ℤ, pos, negsuc, natAbs, _*ℤ_}, Signed.{mag, leZ, nonNeg}}
 use borrow.Author.Tests.{leb-true, leb-false, lt-ltb, le-ltb}
-use mir.Syntax.{w32}
-use mir.Val.{SFits}
+use mir.{Syntax.{w32}, Val.{SFits}}
 use Rattle.border.proofs.Signs.{and-true}
 
 square-fits : (n : ℕ) → n ≤ 3037000499 → n * n < 2 ^ 63

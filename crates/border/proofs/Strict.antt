@@ -1,28 +1,19 @@
 -- A border read strictly (request Q-6): refused 31, or judged as in the plain reading. Assumes nothing.
 use Prim.Native.Nat.{ℕ, zero, suc}
-use lib.Dec.{eqb}
-use lib.IntN.{pos}
-use mathlib.Core.Bool.{Bool, true, false}
-use mathlib.Core.List.{List}
+use lib.{Dec.{eqb}, IntN.{pos}}
+use mathlib.Core.{Bool.{Bool, true, false}, List.{List}}
 use Rattle.numbers.proofs.Readings.{Strictly, cut, same, then-strictly, strictly-either, reading-strictly}
-use Rattle.numbers.specs.Answer.{Answer, found}
+use Rattle.numbers.specs.{Answer.{Answer, found}, Varint.{readingOf, backwardAt}}
 use Rattle.numbers.specs.Answer as A
-use Rattle.numbers.specs.Varint.{readingOf, backwardAt}
-use Rattle.border.specs.Encoding.{encodedBy}
-use Rattle.border.specs.Reader.{Turn, gives, again, ends, onward, plainPair, plainTurn, reference, marker, packedTurn, turnOf}
-use Rattle.border.specs.Step as S
-use Rattle.border.specs.Step.{Step}
-use Rattle.border.specs.Trace as T
+use Rattle.border.specs.{Encoding.{encodedBy}, Reader.{Turn, gives, again, ends, onward, plainPair, plainTurn, reference, marker, packedTurn, turnOf}, Step.{Step}}
 use Rattle.border.specs.Trace.{Given, reaches, ended, roundAgain, turns, nextWithin, nextPoint, Trace, traceThen, traceWithin, traceOf, borderAt}
-use Rattle.border.specs.Verdict as J
 use Rattle.border.specs.Verdict.{Judgement, Last, none, after, passing, thenOn, judge, judgedAt}
-use Rattle.border.specs.declared.place.{FixedLat.FixedLat, FixedLon.FixedLon, Point.Point}
-use Rattle.border.specs.declared.reader.Reader.{Reader}
-use Rattle.border.specs.declared.reader.Run.{Run}
-use Rattle.border.specs.declared.reader.Run.the-variants.{Idle, Forward, Backward}
-use Rattle.border.specs.declared.reader.Version.{Version}
-use Rattle.border.specs.declared.reader.Version.the-variants.{Plain, Packed}
+use Rattle.border.specs.declared.place.{FixedLat.{FixedLat}, FixedLon.{FixedLon}, Point.{Point}}
+use Rattle.border.specs.declared.reader.{Reader.{Reader}, Run.{Run, the-variants.{Idle, Forward, Backward}}, Version.{Version, the-variants.{Plain, Packed}}}
 use Rattle.border.specs.declared.verdict.Tally.{Tally}
+use Rattle.border.specs.Step as S
+use Rattle.border.specs.Trace as T
+use Rattle.border.specs.Verdict as J
 
 -- ---- one turn
 module _ (f : List ℕ) where

@@ -1,15 +1,13 @@
 -- The next point and the trace, turn by turn: the turns that their definitions allow are never used up. Assumes nothing.
 use Prim.Native.Nat.{ℕ, zero, suc, _*_, _<_, _≤_}
 use native.Mathlib.Nat.{lt-of-lt-of-le, le-refl, le-of-lt, le-of-suc-le-suc, not-suc-le-zero, lt-trans, lt-suc-self}
-use mathlib.Core.Path.{_≡_, refl, sym, ap, _∙_, subst}
-use mathlib.Core.List.{List}
+use mathlib.Core.{Path.{_≡_, refl, sym, ap, _∙_, subst}, List.{List}}
 use lib.ListN.{length}
 use Rattle.numbers.specs.Answer as A
-use Rattle.numbers.specs.Answer.{Answer, found, _>>=_}
+use Rattle.numbers.{specs.Answer.{Answer, found, _>>=_}, proofs.Answers.{All}}
 use Rattle.border.specs.Reader.{Turn, gives, again, ends, turnOf}
 use Rattle.border.specs.Trace.{Given, reaches, ended, roundAgain, turns, nextWithin, nextPoint, Trace, point, closed, failed, refused, traceThen, traceWithin, traceOf}
-use Rattle.border.specs.declared.reader.{Reader.Reader, Encoding.Encoding}
-use Rattle.numbers.proofs.Answers.{All}
+use Rattle.border.specs.declared.reader.{Reader.{Reader}, Encoding.{Encoding}}
 use Rattle.border.proofs.Room.{left, room-most, Less, turn-lowers}
 
 -- where there is a next point, there is less room than b

@@ -1,29 +1,18 @@
 -- The distance, asked for or not, does not change the verdict: where the border is answered with it, it is answered without it, and alike.
 -- Assumes nothing.
 use Prim.Native.Nat.{ℕ, _+_, _-_, _%_, _^_, min}
-use mathlib.Core.Path.{_≡_, refl, sym, subst, ap, _∙_}
-use mathlib.Core.Bool.{Bool, true, false, _&&_}
-use mathlib.Core.List.{List}
-use mathlib.Core.Logic.{_⊎_, inl, inr}
-use lib.Dec.{ltb, eqb}
-use lib.IntN.{ℤ, pos, negsuc, _+ℤ_, _-ℤ_, _*ℤ_}
-use lib.Signed.{mag}
+use mathlib.Core.{Path.{_≡_, refl, sym, subst, ap, _∙_}, Bool.{Bool, true, false, _&&_}, List.{List}, Logic.{_⊎_, inl, inr}}
+use lib.{Dec.{ltb, eqb}, IntN.{ℤ, pos, negsuc, _+ℤ_, _-ℤ_, _*ℤ_}, Signed.{mag}}
 use Rattle.numbers.specs.Answer.{if_then_else_}
 use Rattle.border.specs.Trace as T
-use Rattle.border.specs.Trace.{Trace, point, closed}
-use Rattle.border.specs.Step as S
-use Rattle.border.specs.Step.{Step, found, meets, _>>=_, checked}
+use Rattle.border.specs.{Trace.{Trace, point, closed}, Step.{Step, found, meets, _>>=_, checked}}
 use Rattle.border.specs.Edge.{sameZ, samePoint, straight, inBox, quadrantOf, locationOf, edgeOf, closestOn, cutOf}
-use Rattle.border.specs.Winding.{turned, quarterBy, turnAt, crossingOf, acrossBy, clearOf, woundBy}
-use Rattle.border.specs.Distance.{squared, toSegment, toVertex, distanceOf, measured}
+use Rattle.border.specs.{Winding.{turned, quarterBy, turnAt, crossingOf, acrossBy, clearOf, woundBy}, Distance.{squared, toSegment, toVertex, distanceOf, measured}}
 use Rattle.border.specs.Verdict.{Judgement, reached, failed, refused, Last, none, after, along, passing, onBorder, closedAt, thenOn, judge, judgedAt}
-use Rattle.border.specs.declared.place.{Point.Point, FixedLat.FixedLat, FixedLon.FixedLon}
-use Rattle.border.specs.declared.reader.Encoding.{Encoding}
-use Rattle.border.specs.declared.edge.Edge.{Edge}
-use Rattle.border.specs.declared.edge.Edge.the-variants.{Sloped, EqualLongitude, EqualLatitude}
-use Rattle.border.specs.declared.verdict.Tally.{Tally}
-use Rattle.border.specs.declared.verdict.Verdict.{Verdict}
-use Rattle.border.specs.declared.verdict.Verdict.the-variants.{NotInZone, InZone, InExcludedZone, OnBorderVertex, OnBorderSegment}
+use Rattle.border.specs.declared.{place.{Point.{Point}, FixedLat.{FixedLat}, FixedLon.{FixedLon}}, reader.Encoding.{Encoding}}
+use Rattle.border.specs.declared.edge.Edge.{Edge, the-variants.{Sloped, EqualLongitude, EqualLatitude}}
+use Rattle.border.specs.declared.verdict.{Tally.{Tally}, Verdict.{Verdict, the-variants.{NotInZone, InZone, InExcludedZone, OnBorderVertex, OnBorderSegment}}}
+use Rattle.border.specs.Step as S
 
 -- ---- a distance is found or refused by 13, and meets no border
 

@@ -1,23 +1,14 @@
 -- Document 01's worked verdicts: the border (2,2) (10,2) (10,10) (2,10), in both versions, and its points reversed. Assumes nothing.
 use Prim.Native.Nat.{ℕ, _-_, _^_}
-use mathlib.Core.Path.{_≡_, refl, ap, _∙_}
-use mathlib.Core.Bool.{true}
-use mathlib.Core.List.{List, [], _∷_}
-use lib.IntN.{pos}
-use lib.Ieee.{ofInt, add, sub, mul, div, toSigned}
-use Rattle.border.specs.Encoding.{encodedIn}
-use Rattle.border.specs.Place.{pointAt}
-use Rattle.border.specs.Trace.{Trace, point, closed}
-use Rattle.border.specs.Step.{checked}
+use mathlib.Core.{Path.{_≡_, refl, ap, _∙_}, Bool.{true}, List.{List, [], _∷_}}
+use lib.{IntN.{pos}, Ieee.{ofInt, add, sub, mul, div, toSigned}}
+use Rattle.border.specs.{Encoding.{encodedIn}, Place.{pointAt}, Trace.{Trace, point, closed}, Step.{checked}}
 use Rattle.border.specs.Edge.{samePoint, between, inBox, quadrantOf, slopeOf, edgeOf, straight, closestOn}
 use Rattle.border.specs.Winding.{turned, quarterBy, halfTurn, turnAt, crossingOf, acrossBy, clearOf, woundBy}
 use Rattle.border.specs.Distance.{squared, toSegment, toVertex, distanceOf, measured}
 use Rattle.border.specs.Verdict.{Judgement, reached, none, along, passing, closedAt, thenOn, judge, judgedAt}
-use Rattle.border.specs.declared.place.Point.{Point}
-use Rattle.border.specs.declared.reader.Version.{Version}
-use Rattle.border.specs.declared.reader.Version.the-variants.{Plain, Packed}
-use Rattle.border.specs.declared.verdict.{Tally.Tally}
-use Rattle.border.specs.declared.verdict.Verdict.the-variants.{InZone, InExcludedZone, OnBorderVertex, OnBorderSegment}
+use Rattle.border.specs.declared.{place.Point.{Point}, reader.Version.{Version, the-variants.{Plain, Packed}}}
+use Rattle.border.specs.declared.verdict.{Tally.{Tally}, Verdict.the-variants.{InZone, InExcludedZone, OnBorderVertex, OnBorderSegment}}
 use Rattle.border.proofs.Worked.{square, packed-square, plain-square}
 
 abbrev start : Tally

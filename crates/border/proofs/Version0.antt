@@ -1,24 +1,13 @@
 -- A version 0 border is delivered: the count, the moves, the guard pair. Assumes nothing.
 use Prim.Native.Nat.{ℕ, suc, _+_, _<_}
 use lib.ListN.{length}
-use mathlib.Core.Bool.{Bool, true, false}
-use mathlib.Core.List.{List, [], _∷_, _++_, append-assoc}
-use mathlib.Core.Path.{_≡_, refl, _∙_}
-use native.Mathlib.Numerals.{sub-one}
-use native.Mathlib.Omega.{arith}
-use Rattle.numbers.specs.declared.point.{RawPoint.RawPoint}
-use Rattle.border.specs.declared.place.{Point.Point}
+use mathlib.Core.{Bool.{Bool, true, false}, List.{List, [], _∷_, _++_, append-assoc}, Path.{_≡_, refl, _∙_}}
+use native.Mathlib.{Numerals.{sub-one}, Omega.{arith}}
+use Rattle.numbers.specs.{declared.point.RawPoint.{RawPoint}, Answer.{found, if_then_else_}, Point.{signedOf}, Spelling.{Whole}, Varint.{readingOf}}
+use Rattle.border.specs.{declared.{place.Point.{Point}, reader.{Run.the-variants.{Idle}, Version.the-variants.{Plain}}}, Place.{moveBy, isStill, movedBy}}
+use Rattle.border.specs.{Reader.{gives, closing, plainMove, plainPair, plainTurn, turnOf}, Written.{Pairs, Version0}}
 use Rattle.border.proofs.OnWay.{At, at-first, at-next, reads, onWay, Reads, steps, closes-with}
 use Rattle.border.proofs.reader.Turns.{pair-read, pair-closes, pair-moves, counted-before, count-read}
-use Rattle.border.specs.Place.{moveBy, isStill, movedBy}
-use Rattle.border.specs.Reader.{gives, closing, plainMove, plainPair, plainTurn, turnOf}
-use Rattle.border.specs.Written.{Pairs, Version0}
-use Rattle.border.specs.declared.reader.Run.the-variants.{Idle}
-use Rattle.border.specs.declared.reader.Version.the-variants.{Plain}
-use Rattle.numbers.specs.Answer.{found, if_then_else_}
-use Rattle.numbers.specs.Point.{signedOf}
-use Rattle.numbers.specs.Spelling.{Whole}
-use Rattle.numbers.specs.Varint.{readingOf}
 use Rattle.border.specs.Written as W
 
 -- a pair that is no zero move

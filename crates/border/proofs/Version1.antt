@@ -1,29 +1,16 @@
 -- A version 1 border is delivered: moves of its own, and moves borrowed forward and backward. Assumes nothing.
 use Prim.Native.Nat.{ℕ, zero, suc, _+_, _-_, _^_, _<_, _≤_, _%_}
 use borrow.Author.Tests.{le-leb, lt-leb}
-use lib.Dec.{lit<}
-use lib.IntN.{pos, negℤ}
-use lib.ListN.{length, getD, length-append}
-use mathlib.Core.Bool.{Bool, true, false}
-use mathlib.Core.List.{List, [], _∷_, _++_, append-assoc}
-use mathlib.Core.Path.{_≡_, refl, sym, ap, _∙_}
-use native.Mathlib.Nat.{add-zero, suc-add, add-assoc, mod-eq-of-lt}
-use native.Mathlib.Numerals.{add-one}
-use native.Mathlib.Omega.{arith}
-use Rattle.numbers.specs.declared.point.{RawPoint.RawPoint}
-use Rattle.border.specs.declared.place.{Point.Point}
-use Rattle.border.specs.declared.reader.{Reader.Reader, Run.Run}
+use lib.{Dec.{lit<}, IntN.{pos, negℤ}, ListN.{length, getD, length-append}}
+use mathlib.Core.{Bool.{Bool, true, false}, List.{List, [], _∷_, _++_, append-assoc}, Path.{_≡_, refl, sym, ap, _∙_}}
+use native.Mathlib.{Nat.{add-zero, suc-add, add-assoc, mod-eq-of-lt}, Numerals.{add-one}, Omega.{arith}}
+use Rattle.numbers.{specs.{declared.point.RawPoint.{RawPoint}, Answer.{found}, Point.{signedOf, pointOf}, Varint.{numeral, readingOf}}, proofs.Spelling.{one-byte}}
+use Rattle.border.specs.declared.{place.Point.{Point}, reader.{Reader.{Reader}, Run.{Run, the-variants.{Idle, Forward, Backward}}, Version.the-variants.{Packed}}}
+use Rattle.border.specs.Reader.{onward, advanced, dataPlace, asI64, opened, marker, forwardFrom, backwardFrom, packedTurn, turnOf}
+use Rattle.border.specs.Written.{Splits, Turned, Borrowed, Version1}
 use Rattle.border.proofs.OnWay.{At, at-first, at-next, at-head, some-bytes, reads, reads-back, stays-clear, onWay, Reads, steps, reads-on, closes-with}
 use Rattle.border.proofs.reader.Places.{none-opened, forward-opened, backward-opened}
 use Rattle.border.proofs.reader.Turns.{turn-move, turn-marker, mark-closes, mark-opens, reference-opens, forward-move, backward-move, advances}
-use Rattle.border.specs.Reader.{onward, advanced, dataPlace, asI64, opened, marker, forwardFrom, backwardFrom, packedTurn, turnOf}
-use Rattle.border.specs.Written.{Splits, Turned, Borrowed, Version1}
-use Rattle.border.specs.declared.reader.Run.the-variants.{Idle, Forward, Backward}
-use Rattle.border.specs.declared.reader.Version.the-variants.{Packed}
-use Rattle.numbers.proofs.Spelling.{one-byte}
-use Rattle.numbers.specs.Answer.{found}
-use Rattle.numbers.specs.Point.{signedOf, pointOf}
-use Rattle.numbers.specs.Varint.{numeral, readingOf}
 use Rattle.border.specs.Written as W
 
 -- what is left of a run

@@ -1,14 +1,10 @@
 -- Document 01's border (2,2) (10,2) (10,10) (2,10), in both versions, and with its moves borrowed in both directions: its points, then the first again, closed. Assumes nothing.
-use mathlib.Core.Path.{_≡_, refl}
-use mathlib.Core.List.{[], _∷_}
+use mathlib.Core.{Path.{_≡_, refl}, List.{[], _∷_}}
 use lib.IntN.{pos}
-use Rattle.numbers.specs.Varint.{readingOf, forwardAt, valueOf, sizeOf, tooLong, startOf, backwardAt}
-use Rattle.numbers.specs.Point.{signedOf, evenBits, pointOf}
-use Rattle.numbers.specs.Answer.{checked}
+use Rattle.numbers.specs.{Varint.{readingOf, forwardAt, valueOf, sizeOf, tooLong, startOf, backwardAt}, Point.{signedOf, evenBits, pointOf}, Answer.{checked}}
 use Rattle.border.specs.Place.{pointAt, isStill, movedBy, negated}
 use Rattle.border.specs.Reader.{advanced, plainMove, plainPair, plainTurn, opened, reference, marker, lent, forwardFrom, backwardFrom, packedTurn, turnOf}
-use Rattle.border.specs.Trace.{roundAgain, nextWithin, nextPoint, Trace, point, closed, traceThen, traceWithin, traceOf, borderAt}
-use Rattle.border.specs.Encoding.{encodedIn}
+use Rattle.border.specs.{Trace.{roundAgain, nextWithin, nextPoint, Trace, point, closed, traceThen, traceWithin, traceOf, borderAt}, Encoding.{encodedIn}}
 use Rattle.border.specs.declared.reader.Version.the-variants.{Plain, Packed}
 
 abbrev pub square : Trace

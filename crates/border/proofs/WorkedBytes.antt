@@ -1,17 +1,12 @@
 -- Document 01's border (2,2) (10,2) (10,10) (2,10) as the writer writes it, in both versions; borrowed backward behind a clear byte; and refused at data byte 0. Assumes nothing.
 use Prim.Native.Nat.{ℕ}
-use mathlib.Core.Path.{_≡_, refl}
-use mathlib.Core.List.{List, [], _∷_, flatMap, zipWith}
+use mathlib.Core.{Path.{_≡_, refl}, List.{List, [], _∷_, flatMap, zipWith}}
 use lib.IntN.{ℤ, pos}
-use Rattle.numbers.specs.Varint.{forwardAt, valueOf, sizeOf, tooLong}
-use Rattle.numbers.specs.Point.{signedOf, evenBits, pointOf}
-use Rattle.border.specs.Place.{isStill}
-use Rattle.numbers.specs.Spelling.{digitsOf, varintOf, signedForm, interleaved}
-use Rattle.border.specs.Moves.{plainMoveBytes, packedNumber, packedMoveBytes, moveTo, movesFrom, pointsOf, movesOf, sameMove}
-use Rattle.border.specs.Pieces.{lentMoves, readAnd, spells, clearBefore, accepted, goodPieces, pieceBytes, packedFrom}
+use Rattle.numbers.specs.{Varint.{forwardAt, valueOf, sizeOf, tooLong}, Point.{signedOf, evenBits, pointOf}, Spelling.{digitsOf, varintOf, signedForm, interleaved}}
 use Rattle.numbers.specs.Reply.{given, refused, plain}
-use Rattle.border.specs.Writer.{every, sized, near, checks, plainBorder, packedBorder, borderOf}
-use Rattle.border.specs.declared.writer.Piece.{Piece}
+use Rattle.border.specs.{Place.{isStill}, Moves.{plainMoveBytes, packedNumber, packedMoveBytes, moveTo, movesFrom, pointsOf, movesOf, sameMove}}
+use Rattle.border.specs.Pieces.{lentMoves, readAnd, spells, clearBefore, accepted, goodPieces, pieceBytes, packedFrom}
+use Rattle.border.specs.{Writer.{every, sized, near, checks, plainBorder, packedBorder, borderOf}, declared.writer.Piece.{Piece}}
 
 abbrev lats : List ℤ
 lats = pos 2 ∷ pos 10 ∷ pos 10 ∷ pos 2 ∷ []

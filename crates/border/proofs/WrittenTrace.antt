@@ -1,25 +1,12 @@
 -- A border that the writer wrote stands in a file, and is read as its points, whatever way it was written. Assumes nothing.
 use Prim.Native.Nat.{ℕ, _-_}
 use native.Mathlib.Omega.{arith}
-use mathlib.Core.Path.{_≡_, sym, ap, _∙_}
-use mathlib.Core.Bool.{Bool, true, false}
-use mathlib.Core.List.{List, _++_}
-use lib.Dec.{leb}
-use lib.IntN.{ℤ}
-use lib.ListN.{length, take}
-use lib.Seq.{take-at}
-use Rattle.numbers.specs.Answer.{if_then_else_}
-use Rattle.numbers.specs.Lists.{zeros, padded}
-use Rattle.numbers.specs.Reply.{Reply, given, refused, plain}
-use Rattle.border.specs.Moves.{pointsOf}
-use Rattle.border.specs.Trace.{traceOf, borderAt}
-use Rattle.border.specs.Encoding.{versionOf, encodingOf}
-use Rattle.border.specs.Writer.{Replied, replied, fitted}
-use Rattle.border.specs.Written.{Stands, roundTrip}
-use Rattle.border.specs.WrittenAt.{WrittenAt}
-use Rattle.border.specs.declared.writer.Written.the-variants.{Wrote}
-use Rattle.border.proofs.Delivered.{delivered}
-use Rattle.border.proofs.writer.Standing.{written-border}
+use mathlib.Core.{Path.{_≡_, sym, ap, _∙_}, Bool.{Bool, true, false}, List.{List, _++_}}
+use lib.{Dec.{leb}, IntN.{ℤ}, ListN.{length, take}, Seq.{take-at}}
+use Rattle.numbers.specs.{Answer.{if_then_else_}, Lists.{zeros, padded}, Reply.{Reply, given, refused, plain}}
+use Rattle.border.specs.{Moves.{pointsOf}, Trace.{traceOf, borderAt}, Encoding.{versionOf, encodingOf}, Writer.{Replied, replied, fitted}}
+use Rattle.border.specs.{Written.{Stands, roundTrip}, WrittenAt.{WrittenAt}, declared.writer.Written.the-variants.{Wrote}}
+use Rattle.border.proofs.{Delivered.{delivered}, writer.Standing.{written-border}}
 
 -- what a reply with a length says: the border was accepted, and its bytes are the front of the output
 pub wrote : (room size : ℕ) (out : List ℕ) (answer : Reply (List ℕ)) → replied (Wrote size) out ≡ fitted room answer → answer ≡ given (take size out)

@@ -2,15 +2,9 @@
 use Prim.Native.Nat.{ℕ, _+_, _*_, _%_, _^_, min}
 use mathlib.Core.Bool.{Bool}
 use lib.IntN.{ℤ, _-ℤ_, _*ℤ_, natAbs}
-use Rattle.numbers.specs.Answer.{if_then_else_}
-use Rattle.numbers.specs.Float.{cut64, _⊟_}
-use Rattle.border.specs.Step.{Step, found, refused, _>>=_, checked}
-use Rattle.border.specs.Edge.{inBox, locationOf, edgeOf, closestOn, cutOf}
-use Rattle.border.specs.declared.place.Point.{Point}
-use Rattle.border.specs.declared.edge.Location.{Location}
-use Rattle.border.specs.declared.verdict.Tally.{Tally}
-use Rattle.border.specs.declared.distance.Distance.{Distance}
-use Rattle.border.specs.declared.distance.Distance.the-variants.{Is, Over}
+use Rattle.numbers.specs.{Answer.{if_then_else_}, Float.{cut64, _⊟_}}
+use Rattle.border.specs.{Step.{Step, found, refused, _>>=_, checked}, Edge.{inBox, locationOf, edgeOf, closestOn, cutOf}}
+use Rattle.border.specs.declared.{place.Point.{Point}, edge.Location.{Location}, verdict.Tally.{Tally}, distance.Distance.{Distance, the-variants.{Is, Over}}}
 
 -- what the enum's cases say
 abbrev pub told : Distance → Step ℕ

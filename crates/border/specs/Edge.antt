@@ -1,15 +1,10 @@
 -- Edges of a border in f32, each operation rounded once, in the Rust's order; boxes; quadrants.
 use Prim.Native.Nat.{ℕ}
 use mathlib.Core.Bool.{Bool, false, _&&_, _||_}
-use lib.IntN.{ℤ, pos}
-use lib.Ieee.{Float, fin}
-use lib.Signed.{leZ}
-use Rattle.numbers.specs.Answer.{if_then_else_}
-use Rattle.numbers.specs.Float.{toF32, cut32, _⊞_, _⊟_, _⊠_, _⊘_}
+use lib.{IntN.{ℤ, pos}, Ieee.{Float, fin}, Signed.{leZ}}
+use Rattle.numbers.specs.{Answer.{if_then_else_}, Float.{toF32, cut32, _⊞_, _⊟_, _⊠_, _⊘_}}
 use Rattle.border.specs.Place.{pointAt}
-use Rattle.border.specs.declared.place.Point.{Point}
-use Rattle.border.specs.declared.edge.{Location.Location, Slope.Slope, Edge.Edge}
-use Rattle.border.specs.declared.edge.Edge.the-variants.{Sloped, EqualLongitude, EqualLatitude}
+use Rattle.border.specs.declared.{place.Point.{Point}, edge.{Location.{Location}, Slope.{Slope}, Edge.{Edge, the-variants.{Sloped, EqualLongitude, EqualLatitude}}}}
 
 -- ---- points
 

@@ -3,7 +3,7 @@ use Prim.Native.Nat.{ℕ}
 use mathlib.Core.Bool.{Bool, false}
 use lib.Dec.{eqb}
 use Rattle.numbers.specs.Answer.{if_then_else_}
-use Rattle.border.specs.declared.reader.{Encoding.Encoding, Version.Version, Version.the-variants.Plain, Version.the-variants.Packed}
+use Rattle.border.specs.declared.reader.{Encoding.{Encoding}, Version.{Version, the-variants.{Plain, Packed}}}
 
 -- a version by its number
 abbrev pub versionOf : ℕ → Version

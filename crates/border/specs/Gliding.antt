@@ -1,21 +1,13 @@
 -- Points of a border that change nothing about a location. No promise of a public function speaks of it.
 use Prim.Native.Nat.{ℕ, suc, _≤_}
-use mathlib.Core.Path.{_≡_}
-use mathlib.Core.Bool.{Bool, true, false, _&&_, _||_}
-use mathlib.Core.List.{List}
-use lib.IntN.{ℤ}
-use lib.Signed.{leZ, ltZ}
-use Rattle.numbers.specs.Answer.{found}
-use Rattle.numbers.specs.declared.point.{RawPoint.RawPoint}
-use Rattle.border.specs.Encoding.{encodedBy}
-use Rattle.border.specs.Place.{movedBy}
-use Rattle.border.specs.Trace as T
-use Rattle.border.specs.Trace.{Trace, point, traceOf}
-use Rattle.border.specs.Verdict.{after, judge}
-use Rattle.border.specs.declared.glide.{Span.Span, Field.Field, Led.Led, Led.the-variants.To, Led.the-variants.Out}
-use Rattle.border.specs.declared.place.Point.{Point}
-use Rattle.border.specs.declared.reader.{Reader.Reader, Encoding.Encoding, Version.the-variants.Plain, Version.the-variants.Packed, Run.Run, Run.the-variants.Idle, Run.the-variants.Backward}
+use mathlib.Core.{Path.{_≡_}, Bool.{Bool, true, false, _&&_, _||_}, List.{List}}
+use lib.{IntN.{ℤ}, Signed.{leZ, ltZ}}
+use Rattle.numbers.specs.{Answer.{found}, declared.point.RawPoint.{RawPoint}}
+use Rattle.border.specs.{Encoding.{encodedBy}, Place.{movedBy}, Trace.{Trace, point, traceOf}, Verdict.{after, judge}}
+use Rattle.border.specs.declared.{glide.{Span.{Span}, Field.{Field}, Led.{Led, the-variants.{To, Out}}}, place.Point.{Point}}
+use Rattle.border.specs.declared.reader.{Reader.{Reader}, Encoding.{Encoding}, Version.the-variants.{Plain, Packed}, Run.{Run, the-variants.{Idle, Backward}}}
 use Rattle.border.specs.declared.verdict.Tally.{Tally}
+use Rattle.border.specs.Trace as T
 
 -- two numbers lie on one side of x, strictly
 unfoldable pub sameSide : ℤ → ℤ → ℤ → Bool

@@ -1,14 +1,9 @@
 -- What inner functions of the verdict keep from edge to edge and say to each other. No promise of a public function speaks of it.
-use mathlib.Core.Path.{_≡_}
-use mathlib.Core.Bool.{Bool}
+use mathlib.Core.{Path.{_≡_}, Bool.{Bool}}
 use Rattle.numbers.specs.Answer.{if_then_else_}
-use Rattle.border.specs.Edge.{quadrantOf, locationOf}
-use Rattle.border.specs.Verdict.{Judgement, failed, refused, Last, none, after, closedAt}
-use Rattle.border.specs.declared.place.Point.{Point}
-use Rattle.border.specs.declared.edge.{Location.Location, Seen.Seen}
-use Rattle.border.specs.declared.reader.Next.{Next}
+use Rattle.border.specs.{Edge.{quadrantOf, locationOf}, Verdict.{Judgement, failed, refused, Last, none, after, closedAt}}
+use Rattle.border.specs.declared.{place.Point.{Point}, edge.{Location.{Location}, Seen.{Seen}}, reader.Next.{Next}, verdict.Tally.{Tally}}
 use Rattle.border.specs.declared.reader.Next.the-variants as N
-use Rattle.border.specs.declared.verdict.Tally.{Tally}
 
 -- a point with its quadrant, and with its floats if the distance is asked for
 unfoldable pub seenFrom : Point → Bool → Point → Seen

@@ -1,13 +1,9 @@
 -- How a border's moves are written: document 01, "Moves as in the reader, shortest varints, odd only for negatives".
 use Prim.Native.Nat.{ℕ}
-use mathlib.Core.Bool.{Bool, not, _&&_}
-use mathlib.Core.List.{List, [], _∷_, _++_, zipWith}
-use lib.Dec.{eqb}
-use lib.IntN.{ℤ, pos, negℤ, _-ℤ_}
-use Rattle.numbers.specs.Spelling.{varintOf, signedForm, interleaved}
-use Rattle.numbers.specs.declared.point.{RawPoint.RawPoint}
-use Rattle.border.specs.Place.{pointAt, moveBy, isStill}
-use Rattle.border.specs.declared.place.{Point.Point}
+use mathlib.Core.{Bool.{Bool, not, _&&_}, List.{List, [], _∷_, _++_, zipWith}}
+use lib.{Dec.{eqb}, IntN.{ℤ, pos, negℤ, _-ℤ_}}
+use Rattle.numbers.specs.{Spelling.{varintOf, signedForm, interleaved}, declared.point.RawPoint.{RawPoint}}
+use Rattle.border.specs.{Place.{pointAt, moveBy, isStill}, declared.place.Point.{Point}}
 
 -- a move in version 0, two numbers
 unfoldable pub plainMoveBytes : RawPoint → List ℕ

@@ -1,17 +1,10 @@
 -- Pieces: runs of the earlier data that stand for moves of a version 1 border.
 use Prim.Native.Nat.{ℕ, zero, suc, _+_, _-_, _*_, _/_}
-use mathlib.Core.Bool.{Bool, false, not, _&&_, _||_}
-use mathlib.Core.List.{List, [], _∷_, _++_, map, reverse, flatMap}
-use lib.Dec.{ltb, leb, eqb}
-use lib.ListN.{length, take, drop, getD}
-use lib.Seq.{slice}
-use Rattle.numbers.specs.Answer.{Answer, found, failed, refused, if_then_else_}
-use Rattle.numbers.specs.Varint.{Numeral, isLast, forwardAt}
-use Rattle.numbers.specs.Point.{pointOf}
-use Rattle.numbers.specs.declared.point.{RawPoint.RawPoint}
-use Rattle.numbers.specs.Spelling.{varintOf}
-use Rattle.border.specs.Moves.{packedMoveBytes, turnedBack, sameMove}
-use Rattle.border.specs.declared.writer.{Piece.Piece}
+use mathlib.Core.{Bool.{Bool, false, not, _&&_, _||_}, List.{List, [], _∷_, _++_, map, reverse, flatMap}}
+use lib.{Dec.{ltb, leb, eqb}, ListN.{length, take, drop, getD}, Seq.{slice}}
+use Rattle.numbers.specs.{Answer.{Answer, found, failed, refused, if_then_else_}, Varint.{Numeral, isLast, forwardAt}, Point.{pointOf}}
+use Rattle.numbers.specs.{declared.point.RawPoint.{RawPoint}, Spelling.{varintOf}}
+use Rattle.border.specs.{Moves.{packedMoveBytes, turnedBack, sameMove}, declared.writer.Piece.{Piece}}
 
 -- direction 0 is forward, others backward
 abbrev pub isForward : Piece → Bool

@@ -1,10 +1,8 @@
 -- Fixed points and the moves between them, as document 01 has them.
 use mathlib.Core.Bool.{Bool, false, _&&_}
-use lib.Dec.{eqb}
-use lib.IntN.{ℤ, pos, negsuc, negℤ, _+ℤ_}
-use Rattle.numbers.specs.Answer.{Answer, found, checked, _>>=_}
-use Rattle.numbers.specs.declared.point.{RawPoint.RawPoint}
-use Rattle.border.specs.declared.place.{Point.Point}
+use lib.{Dec.{eqb}, IntN.{ℤ, pos, negsuc, negℤ, _+ℤ_}}
+use Rattle.numbers.specs.{Answer.{Answer, found, checked, _>>=_}, declared.point.RawPoint.{RawPoint}}
+use Rattle.border.specs.declared.place.Point.{Point}
 
 -- a point and a move by their numbers
 abbrev pub pointAt : ℤ → ℤ → Point

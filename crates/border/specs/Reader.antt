@@ -1,17 +1,12 @@
 -- The points of a border, one turn of the reader's loop at a time: document 01, "Points, verdict, merge".
 use Prim.Native.Nat.{ℕ, zero, suc, _+_, _-_, _%_, _^_}
-use mathlib.Core.Bool.{Bool, true}
-use mathlib.Core.List.{List}
-use lib.Dec.{ltb, leb, eqb}
-use lib.IntN.{ℤ, pos, negsuc, _+ℤ_, _-ℤ_}
-use Rattle.numbers.specs.Answer.{Answer, found, failed, checked, if_then_else_, _>>=_}
-use Rattle.numbers.specs.Varint.{Numeral, readingOf, backwardAt}
-use Rattle.numbers.specs.Point.{low32, signedOf, pointOf}
-use Rattle.numbers.specs.declared.point.{RawPoint.RawPoint}
+use mathlib.Core.{Bool.{Bool, true}, List.{List}}
+use lib.{Dec.{ltb, leb, eqb}, IntN.{ℤ, pos, negsuc, _+ℤ_, _-ℤ_}}
+use Rattle.numbers.specs.{Answer.{Answer, found, failed, checked, if_then_else_, _>>=_}, Varint.{Numeral, readingOf, backwardAt}, Point.{low32, signedOf, pointOf}}
+use Rattle.numbers.specs.declared.point.RawPoint.{RawPoint}
 use Rattle.border.specs.Place.{moveBy, isStill, movedBy, negated}
-use Rattle.border.specs.declared.place.{Point.Point}
-use Rattle.border.specs.declared.reader.{Reader.Reader, Version.Version, Version.the-variants.Plain, Version.the-variants.Packed}
-use Rattle.border.specs.declared.reader.{Run.Run, Run.the-variants.Idle, Run.the-variants.Forward, Run.the-variants.Backward}
+use Rattle.border.specs.declared.place.Point.{Point}
+use Rattle.border.specs.declared.reader.{Reader.{Reader}, Version.{Version, the-variants.{Plain, Packed}}, Run.{Run, the-variants.{Idle, Forward, Backward}}}
 
 -- what a turn comes to: a point, which is the state's own; another turn; the border's end
 pub data Turn : Type 0 where

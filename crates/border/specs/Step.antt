@@ -2,8 +2,7 @@
 use Prim.Native.Nat.{ℕ}
 use lib.IntN.{ℤ}
 use Rattle.numbers.specs.Answer.{inRange, if_then_else_}
-use Rattle.border.specs.declared.verdict.{Verdict.Verdict, Tally.Tally, Passed.Passed}
-use Rattle.border.specs.declared.verdict.Passed.the-variants.{On, Meets, Over}
+use Rattle.border.specs.declared.verdict.{Verdict.{Verdict}, Tally.{Tally}, Passed.{Passed, the-variants.{On, Meets, Over}}}
 
 -- it goes on with what was found, or meets the location on the border, or is refused by a number
 pub data Step (A : Type 0) : Type 0 where

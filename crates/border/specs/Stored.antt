@@ -1,16 +1,9 @@
 -- What the writer's inner functions say of each other.
 use Prim.Native.Nat.{ℕ, _+_, _≤_, min}
-use mathlib.Core.Path.{_≡_}
-use mathlib.Core.List.{List, [], _∷_}
-use lib.IntN.{ℤ, pos, _-ℤ_}
-use lib.ListN.{length, take, getD}
-use lib.Seq.{sets}
-use Rattle.numbers.specs.Answer.{if_then_else_}
-use Rattle.numbers.specs.declared.point.{RawPoint.RawPoint}
-use Rattle.border.specs.Place.{moveBy}
-use Rattle.border.specs.Pieces.{goodPieces}
-use Rattle.border.specs.declared.writer.{Piece.Piece}
-use Rattle.border.specs.declared.writer.pieces.{Check.Check}
+use mathlib.Core.{Path.{_≡_}, List.{List, [], _∷_}}
+use lib.{IntN.{ℤ, pos, _-ℤ_}, ListN.{length, take, getD}, Seq.{sets}}
+use Rattle.numbers.specs.{Answer.{if_then_else_}, declared.point.RawPoint.{RawPoint}}
+use Rattle.border.specs.{Place.{moveBy}, Pieces.{goodPieces}, declared.writer.{Piece.{Piece}, pieces.Check.{Check}}}
 
 -- the bytes were stored from a place on, as many as fit, and the next place is behind all of them
 pub record Stored (before : List ℕ) (place : ℕ) (bytes after : List ℕ) (next : ℕ) : Type 0 where

@@ -1,19 +1,13 @@
 -- What the cases of the reader's answers say, and what the thin form answers and leaves.
 use Prim.Native.Nat.{ℕ}
-use lib.Dec.{eqb}
-use lib.IntN.{ℤ}
-use Rattle.numbers.specs.Answer.{Answer, found, failed, refused, if_then_else_, _>>=_}
+use lib.{Dec.{eqb}, IntN.{ℤ}}
+use Rattle.numbers.specs.{Answer.{Answer, found, failed, refused, if_then_else_, _>>=_}, Varint.{Numeral}, declared.{point.RawPoint.{RawPoint}, varint.Varint.{Varint}}}
 use Rattle.numbers.specs.Varint as varint
-use Rattle.numbers.specs.Varint.{Numeral}
-use Rattle.numbers.specs.declared.point.{RawPoint.RawPoint}
-use Rattle.numbers.specs.declared.varint.{Varint.Varint}
-use Rattle.border.specs.Reader.{Turn, gives, again, ends, Reading}
-use Rattle.border.specs.Trace.{Given, reaches, ended, roundAgain}
-use Rattle.border.specs.declared.place.{Point.Point, Moved.Moved, Away.Away}
-use Rattle.border.specs.declared.place.{Moved.the-variants.To, Away.the-variants.By}
+use Rattle.border.specs.{Reader.{Turn, gives, again, ends, Reading}, Trace.{Given, reaches, ended, roundAgain}}
+use Rattle.border.specs.declared.place.{Point.{Point}, Moved.{Moved, the-variants.{To}}, Away.{Away, the-variants.{By}}}
+use Rattle.border.specs.declared.reader.{Reader.{Reader}, Run.{Run}, Opened.{Opened}, Next.{Next}, Stepped.{Stepped}}
 use Rattle.border.specs.declared.place.Moved.the-variants as M
 use Rattle.border.specs.declared.place.Away.the-variants as W
-use Rattle.border.specs.declared.reader.{Reader.Reader, Run.Run, Opened.Opened, Next.Next, Stepped.Stepped}
 use Rattle.border.specs.declared.reader.Opened.the-variants as O
 use Rattle.border.specs.declared.reader.Turn as code
 use Rattle.border.specs.declared.reader.Turn.the-variants as T

@@ -1,20 +1,15 @@
 -- A border's verdict on a location: a judge over the trace of its points, which may answer before the trace ends.
 use Prim.Native.Nat.{ℕ}
-use mathlib.Core.Bool.{Bool}
-use mathlib.Core.List.{List}
+use mathlib.Core.{Bool.{Bool}, List.{List}}
 use lib.IntN.{ℤ, pos, negsuc}
 use Rattle.numbers.specs.Answer.{if_then_else_}
 use Rattle.border.specs.Trace as T
-use Rattle.border.specs.Trace.{Trace, point, closed, traceOf, borderAt}
-use Rattle.border.specs.Step as S
-use Rattle.border.specs.Step.{Step, found, meets, _>>=_}
-use Rattle.border.specs.Edge.{sameZ, samePoint}
-use Rattle.border.specs.Winding.{woundBy}
+use Rattle.border.specs.{Trace.{Trace, point, closed, traceOf, borderAt}, Step.{Step, found, meets, _>>=_}, Edge.{sameZ, samePoint}, Winding.{woundBy}}
 use Rattle.border.specs.Distance.{measured}
-use Rattle.border.specs.declared.place.{FixedLat.FixedLat, FixedLon.FixedLon, Point.Point}
-use Rattle.border.specs.declared.reader.Encoding.{Encoding}
-use Rattle.border.specs.declared.verdict.{Tally.Tally, Verdict.Verdict, Judged.Judged}
-use Rattle.border.specs.declared.verdict.Verdict.the-variants.{NotInZone, InZone, InExcludedZone, OnBorderVertex, OnBorderSegment}
+use Rattle.border.specs.declared.{place.{FixedLat.{FixedLat}, FixedLon.{FixedLon}, Point.{Point}}, reader.Encoding.{Encoding}}
+use Rattle.border.specs.declared.verdict.{Tally.{Tally}, Verdict.{Verdict, the-variants.{NotInZone, InZone, InExcludedZone, OnBorderVertex, OnBorderSegment}}}
+use Rattle.border.specs.declared.verdict.Judged.{Judged}
+use Rattle.border.specs.Step as S
 use Rattle.border.specs.declared.verdict.Judged.the-variants as J
 
 -- A border comes to a verdict with the least squared distance, to a failure, whose distances count too, or to a refusal by its number.

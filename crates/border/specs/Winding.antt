@@ -1,20 +1,13 @@
 -- How often a border winds about a location, in quarter turns.
 use Prim.Native.Nat.{ℕ, _+_, _-_, _%_}
 use mathlib.Core.Bool.{Bool, true, false, _&&_}
-use lib.Dec.{ltb, eqb}
-use lib.IntN.{ℤ, pos, negsuc, _+ℤ_, _-ℤ_}
-use lib.Signed.{ltZ}
-use Rattle.numbers.specs.Answer.{if_then_else_}
-use Rattle.numbers.specs.Float.{toF32, cut32, _⊟_, _⊘_}
-use Rattle.border.specs.Step.{Step, found, meets, refused, _>>=_, checked}
-use Rattle.border.specs.Edge.{straight, inBox, quadrantOf, edgeOf}
-use Rattle.border.specs.declared.place.{FixedLon.FixedLon, Point.Point}
-use Rattle.border.specs.declared.edge.{Edge.Edge, Slope.Slope}
-use Rattle.border.specs.declared.edge.Edge.the-variants.{Sloped, EqualLongitude, EqualLatitude}
-use Rattle.border.specs.declared.verdict.Tally.{Tally}
-use Rattle.border.specs.declared.verdict.Verdict.the-variants.{OnBorderSegment}
-use Rattle.border.specs.declared.winding.Crossing.{Crossing}
-use Rattle.border.specs.declared.winding.Crossing.the-variants.{Turns, OnSegment, Over}
+use lib.{Dec.{ltb, eqb}, IntN.{ℤ, pos, negsuc, _+ℤ_, _-ℤ_}, Signed.{ltZ}}
+use Rattle.numbers.specs.{Answer.{if_then_else_}, Float.{toF32, cut32, _⊟_, _⊘_}}
+use Rattle.border.specs.{Step.{Step, found, meets, refused, _>>=_, checked}, Edge.{straight, inBox, quadrantOf, edgeOf}}
+use Rattle.border.specs.declared.place.{FixedLon.{FixedLon}, Point.{Point}}
+use Rattle.border.specs.declared.edge.{Edge.{Edge, the-variants.{Sloped, EqualLongitude, EqualLatitude}}, Slope.{Slope}}
+use Rattle.border.specs.declared.verdict.{Tally.{Tally}, Verdict.the-variants.{OnBorderSegment}}
+use Rattle.border.specs.declared.winding.Crossing.{Crossing, the-variants.{Turns, OnSegment, Over}}
 
 -- what the enum's cases say
 abbrev pub told : Crossing → Step ℤ

@@ -1,18 +1,10 @@
 -- What the writer writes, and when it refuses: document 01, "The writer".
 use Prim.Native.Nat.{ℕ, _^_}
-use mathlib.Core.Bool.{Bool, true, false, _&&_}
-use mathlib.Core.List.{List, [], _∷_, _++_, flatMap}
-use lib.Dec.{ltb, leb, eqb}
-use lib.IntN.{ℤ, natAbs}
-use lib.ListN.{length, take, drop}
-use Rattle.numbers.specs.Answer.{if_then_else_}
-use Rattle.numbers.specs.Lists.{zeros, padded}
-use Rattle.numbers.specs.Reply.{Reply, given, refused, refusal, plain, demand, _>>_}
-use Rattle.numbers.specs.declared.point.{RawPoint.RawPoint}
+use mathlib.Core.{Bool.{Bool, true, false, _&&_}, List.{List, [], _∷_, _++_, flatMap}}
+use lib.{Dec.{ltb, leb, eqb}, IntN.{ℤ, natAbs}, ListN.{length, take, drop}}
+use Rattle.numbers.specs.{Answer.{if_then_else_}, Lists.{zeros, padded}, Reply.{Reply, given, refused, refusal, plain, demand, _>>_}, declared.point.RawPoint.{RawPoint}}
 use Rattle.numbers.specs.Spelling.{varintOf}
-use Rattle.border.specs.Moves.{plainMoveBytes, movesOf, isMove}
-use Rattle.border.specs.Pieces.{goodPieces, packedFrom}
-use Rattle.border.specs.declared.writer.{Piece.Piece, Written.Written}
+use Rattle.border.specs.{Moves.{plainMoveBytes, movesOf, isMove}, Pieces.{goodPieces, packedFrom}, declared.writer.{Piece.{Piece}, Written.{Written}}}
 use Rattle.border.specs.declared.writer.Written.the-variants as W
 
 -- each element of the list is good

@@ -1,18 +1,10 @@
 -- What stands in a file as a written border: document 01, "The writer". It says what the bytes are, not how they are read.
 use Prim.Native.Nat.{ℕ, _+_, _%_, _^_, _<_, _≤_}
-use mathlib.Core.Path.{_≡_}
-use mathlib.Core.Bool.{false}
-use mathlib.Core.List.{List, [], _∷_, _++_}
-use lib.IntN.{pos, negℤ}
-use lib.ListN.{length}
-use Rattle.numbers.specs.Answer.{found}
-use Rattle.numbers.specs.Spelling.{Whole}
-use Rattle.numbers.specs.Point.{signedOf, pointOf}
-use Rattle.numbers.specs.declared.point.{RawPoint.RawPoint}
-use Rattle.border.specs.Place.{pointAt, moveBy, isStill, movedBy, negated}
-use Rattle.border.specs.Trace.{Trace, point, closed}
-use Rattle.border.specs.declared.place.{Point.Point}
-use Rattle.border.specs.declared.reader.{Version.Version, Version.the-variants.Plain, Version.the-variants.Packed}
+use mathlib.Core.{Path.{_≡_}, Bool.{false}, List.{List, [], _∷_, _++_}}
+use lib.{IntN.{pos, negℤ}, ListN.{length}}
+use Rattle.numbers.specs.{Answer.{found}, Spelling.{Whole}, Point.{signedOf, pointOf}, declared.point.RawPoint.{RawPoint}}
+use Rattle.border.specs.{Place.{pointAt, moveBy, isStill, movedBy, negated}, Trace.{Trace, point, closed}}
+use Rattle.border.specs.declared.{place.Point.{Point}, reader.Version.{Version, the-variants.{Plain, Packed}}}
 
 -- a run "splits into whole varints, none 0": the moves that they are
 pub data Splits : List ℕ → List RawPoint → Type 0 where

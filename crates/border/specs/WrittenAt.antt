@@ -1,12 +1,9 @@
 -- A border that the writer wrote, at a place of a file.
 use Prim.Native.Nat.{ℕ}
-use mathlib.Core.Path.{_≡_}
-use mathlib.Core.List.{List}
+use mathlib.Core.{Path.{_≡_}, List.{List}}
 use lib.IntN.{ℤ}
 use Rattle.numbers.specs.Reply.{given}
-use Rattle.border.specs.Writer.{borderOf}
-use Rattle.border.specs.Written.{Placed}
-use Rattle.border.specs.declared.writer.{Piece.Piece}
+use Rattle.border.specs.{Writer.{borderOf}, Written.{Placed}, declared.writer.Piece.{Piece}}
 
 -- the border of two lists, accepted in some version with some pieces behind some earlier data, and written at a place of a file behind the same data
 pub record WrittenAt (version : ℕ) (lats lons : List ℤ) (file : List ℕ) (base place : ℕ) : Type 0 where

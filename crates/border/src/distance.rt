@@ -1,13 +1,9 @@
 // The squared distance of a location from an edge. The longitude counts twice: it has half the scale.
-ghost use mathlib.Core.Path.{_≡_};
-ghost use mathlib.Core.Bool.{true};
+ghost use mathlib.Core.{Path.{_≡_}, Bool.{true}};
 ghost use Prim.Native.Nat.{_+_, _*_, _%_, _^_, _<_};
-ghost use lib.Dec.{ltb};
-ghost use lib.IntN.{_-ℤ_, _*ℤ_, natAbs};
-ghost use lib.Signed.{mag};
+ghost use lib.{Dec.{ltb}, IntN.{_-ℤ_, _*ℤ_, natAbs}, Signed.{mag}};
 ghost use Rattle.numbers.specs.Float.{cut64, _⊟_};
-ghost use Rattle.border.specs.Edge.{locationOf};
-ghost use Rattle.border.specs.Distance.{told, toSegment, toVertex, distanceOf, measured};
+ghost use Rattle.border.specs.{Edge.{locationOf}, Distance.{told, toSegment, toVertex, distanceOf, measured}};
 ghost use Rattle.border.specs.Step as step;
 use crate::edge::Location;
 use crate::edge::Seen;

@@ -1,9 +1,7 @@
 // Edges of a border in f32, each operation rounded once, in the order of the Rust; boxes; quadrants.
-ghost use mathlib.Core.Path.{_≡_};
-ghost use mathlib.Core.Bool.{_&&_};
+ghost use mathlib.Core.{Path.{_≡_}, Bool.{_&&_}};
 ghost use lib.Signed.{leZ};
-ghost use Rattle.border.specs.Edge.{samePoint, between, inBox, quadrantOf, locationOf, slopeOf, edgeOf, closestOn, cutOf, straight};
-ghost use Rattle.border.specs.Kept.{seenFrom};
+ghost use Rattle.border.specs.{Edge.{samePoint, between, inBox, quadrantOf, locationOf, slopeOf, edgeOf, closestOn, cutOf, straight}, Kept.{seenFrom}};
 use crate::place::FixedLat;
 use crate::place::FixedLon;
 use crate::place::Point;

@@ -1,7 +1,6 @@
 // Points that change nothing: while a border stays in a field that lies strictly on one side of the location's latitude and of its
 // longitude, it neither turns about the location nor meets it. A reader of the verdict may skip this file: it only hurries.
-ghost use mathlib.Core.Path.{_≡_};
-ghost use mathlib.Core.Bool.{true, false};
+ghost use mathlib.Core.{Path.{_≡_}, Bool.{true, false}};
 ghost use Prim.Native.Nat.{_^_, _<_};
 ghost use lib.Signed.{mag};
 ghost use Rattle.border.specs.Encoding.{encodedBy};

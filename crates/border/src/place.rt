@@ -1,10 +1,8 @@
 // Fixed coordinates. Their scales differ by two, so each has a type of its own.
 ghost use mathlib.Core.Path.{_≡_};
 ghost use Prim.Native.Nat.{_^_};
-ghost use lib.Dec.{ltb};
-ghost use lib.Signed.{mag};
-ghost use Rattle.border.specs.Place.{isStill, movedBy, negated};
-ghost use Rattle.border.specs.Told.{toldMoved, toldAway};
+ghost use lib.{Dec.{ltb}, Signed.{mag}};
+ghost use Rattle.border.specs.{Place.{isStill, movedBy, negated}, Told.{toldMoved, toldAway}};
 use numbers::point::RawPoint;
 
 pub struct FixedLat(pub i32);

@@ -1,12 +1,10 @@
 // Reading a border's points, one at a time. The state is plain data; the file's bytes and its encoding stand beside it.
 ghost use mathlib.Core.Path.{_≡_};
 ghost use lib.IntN.{pos, negsuc};
-ghost use Rattle.numbers.specs.Answer.{found};
+ghost use Rattle.numbers.specs.{Answer.{found}, Varint.{readingOf}};
 ghost use Rattle.numbers.specs.Varint as varint;
-ghost use Rattle.numbers.specs.Varint.{readingOf};
 ghost use Rattle.border.specs.Reader.{onward, arrived, closing, advanced, shownBy, plainMove, plainPair, plainTurn, dataPlace, asI64, opened, reference, marker, forwardFrom, backwardFrom, packedTurn, turnOf};
-ghost use Rattle.border.specs.Told.{counted, stopped, toldRun, toldTurn, told, settledBy, steppedBy};
-ghost use Rattle.border.specs.Trace.{nextPoint, borderAt};
+ghost use Rattle.border.specs.{Told.{counted, stopped, toldRun, toldTurn, told, settledBy, steppedBy}, Trace.{nextPoint, borderAt}};
 use crate::place::Away;
 use crate::place::FixedLat;
 use crate::place::FixedLon;

@@ -1,8 +1,7 @@
 // How often a border winds about a location, in quarter turns.
 ghost use mathlib.Core.Path.{_≡_};
 ghost use Rattle.border.specs.Step as step;
-ghost use Rattle.border.specs.Edge.{quadrantOf, locationOf};
-ghost use Rattle.border.specs.Winding.{told, turned, quarterBy, halfTurn, turnAt, crossingOf, acrossBy, clearOf, woundBy};
+ghost use Rattle.border.specs.{Edge.{quadrantOf, locationOf}, Winding.{told, turned, quarterBy, halfTurn, turnAt, crossingOf, acrossBy, clearOf, woundBy}};
 use crate::edge::Edge;
 use crate::edge::Location;
 use crate::edge::Seen;

@@ -1,16 +1,9 @@
 // The border writer: document 01, "The writer".
-ghost use mathlib.Core.Path.{_≡_};
-ghost use mathlib.Core.List.{List, [], _∷_, _++_, flatMap};
+ghost use mathlib.Core.{Path.{_≡_}, List.{List, [], _∷_, _++_, flatMap}};
 ghost use Prim.Native.Nat.{_≤_, min};
-ghost use lib.ListN.{length, take};
-ghost use lib.Dec.{leb};
-ghost use Rattle.numbers.specs.Answer.{if_then_else_};
-ghost use Rattle.numbers.specs.Lists.{zeros};
-ghost use Rattle.numbers.specs.Spelling.{varintOf};
-ghost use Rattle.border.specs.Moves.{plainMoveBytes, movesOf};
-ghost use Rattle.border.specs.Pieces.{packedFrom, piecesOf};
-ghost use Rattle.border.specs.Stored.{Stored, Checked};
-ghost use Rattle.border.specs.Writer.{borderOf, replied, fitted};
+ghost use lib.{ListN.{length, take}, Dec.{leb}};
+ghost use Rattle.numbers.specs.{Answer.{if_then_else_}, Lists.{zeros}, Spelling.{varintOf}};
+ghost use Rattle.border.specs.{Moves.{plainMoveBytes, movesOf}, Pieces.{packedFrom, piecesOf}, Stored.{Stored, Checked}, Writer.{borderOf, replied, fitted}};
 use crate::writer::bytes::put_two;
 use crate::writer::bytes::put_varint;
 use crate::writer::bytes::zero_bytes;

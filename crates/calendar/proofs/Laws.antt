@@ -2,8 +2,7 @@
 use Prim.Native.Nat.{ℕ, zero, suc, _+_, _-_, _*_, _/_, _%_, _≤_}
 use borrow.Author.Tests.{eqb-true, eqb-false}
 use lib.Dec.{eqb}
-use mathlib.Core.Bool.{Bool, true, false}
-use mathlib.Core.Path.{_≡_, refl, sym}
+use mathlib.Core.{Bool.{Bool, true, false}, Path.{_≡_, refl, sym}}
 use native.Mathlib.Omega.{arith}
 use Rattle.calendar.specs.Calendar.{isLeap, yearLength, daysOfYears, nextWeekday, weekdayOf}
 use Rattle.numbers.specs.Answer.{if_then_else_}

@@ -2,21 +2,14 @@
 use Prim.Native.Nat.{ℕ, zero, suc, _+_, _-_, _*_, _/_, _%_, _≤_, _<_}
 use borrow.Author.Tests.{ltb-true, ltb-false, lt-ltb, le-ltb}
 use lib.Dec.{ltb}
-use mathlib.Core.Bool.{Bool, true, false}
-use mathlib.Core.Path.{_≡_, refl, ap, sym, _∙_}
-use native.Mathlib.Numerals.{sub-one}
-use native.Mathlib.Omega.{arith}
-use Rattle.calendar.proofs.Laws.{weekday-closed}
-use Rattle.calendar.proofs.Months.{month-more, months-up, month-long, month-short, months-closed, in-january, in-leap, in-common}
-use Rattle.calendar.proofs.Rising.{rises}
-use Rattle.calendar.proofs.Weeks.{week-apart, count-closed}
+use mathlib.Core.{Bool.{Bool, true, false}, Path.{_≡_, refl, ap, sym, _∙_}}
+use native.Mathlib.{Numerals.{sub-one}, Omega.{arith}}
+use Rattle.calendar.proofs.{Laws.{weekday-closed}, Months.{month-more, months-up, month-long, month-short, months-closed, in-january, in-leap, in-common}}
+use Rattle.calendar.proofs.{Rising.{rises, Between, passes}, Weeks.{week-apart, count-closed}, Within.{weeks-long, week-back}}
 use Rattle.calendar.specs.Calendar.{isLeap, monthLength, daysOfYears, daysOfMonths, dayNumber, weekdayOf, InMonths}
-use Rattle.numbers.specs.Answer.{if_then_else_}
-use Rattle.calendar.specs.Rules.{countOn, Within, WeekdayOf, JulianDay}
-use Rattle.calendar.proofs.Rising.{Between, passes}
-use Rattle.calendar.proofs.Within.{weeks-long, week-back}
-use Rattle.calendar.specs.Rules.{leapDay, lastOn, firstOf, weeksOf, dayOf, IsMonth}
+use Rattle.calendar.specs.Rules.{countOn, Within, WeekdayOf, JulianDay, leapDay, lastOn, firstOf, weeksOf, dayOf, IsMonth}
 use Rattle.calendar.specs.declared.rule.When.the-variants.{Julian, Zero, Month}
+use Rattle.numbers.specs.Answer.{if_then_else_}
 
 -- so many days back, the weekday is met
 back-on : (weekday day : ℕ) → weekday ≤ 6 → 6 ≤ day → (day - ((day + 1) % 7 + 7 - weekday) % 7 + 1) % 7 ≡ weekday

@@ -1,16 +1,11 @@
 -- The days of the months in closed form, and how they go on. Assumes nothing.
 use Prim.Native.Nat.{ℕ, zero, suc, _+_, _-_, _*_, _/_, _≤_, _<_}
 use borrow.Author.Tests.{lt-ltb, le-ltb}
-use lib.Dec.{eqb, ltb, leb, eqb→eq, leb→le}
-use lib.ListN.{getD}
-use mathlib.Core.Bool.{Bool, true, false}
-use mathlib.Core.Path.{_≡_, refl, ap, sym, _∙_}
-use native.Mathlib.Nat.{le-refl}
-use native.Mathlib.Numerals.{sub-one}
-use native.Mathlib.Omega.{arith}
+use lib.{Dec.{eqb, ltb, leb, eqb→eq, leb→le}, ListN.{getD}}
+use mathlib.Core.{Bool.{Bool, true, false}, Path.{_≡_, refl, ap, sym, _∙_}}
+use native.Mathlib.{Nat.{le-refl}, Numerals.{sub-one}, Omega.{arith}}
 use Rattle.calendar.proofs.Below.{below}
-use Rattle.calendar.specs.Dates.{PlaceOf}
-use Rattle.calendar.specs.Calendar.{isLeap, yearLength, daysOfYears, monthLengths, monthLength, daysOfMonths}
+use Rattle.calendar.specs.{Dates.{PlaceOf}, Calendar.{isLeap, yearLength, daysOfYears, monthLengths, monthLength, daysOfMonths}}
 use Rattle.numbers.specs.Answer.{if_then_else_}
 
 -- the days of the months from January to this one, in closed form

@@ -2,10 +2,8 @@
 use Prim.Native.Nat.{ℕ, zero, suc, _+_, _-_, _≤_, _<_}
 use borrow.Author.Tests.{ltb-true, ltb-false}
 use lib.Dec.{ltb}
-use mathlib.Core.Bool.{Bool, true, false}
-use mathlib.Core.Path.{_≡_, refl, subst}
-use native.Mathlib.Nat.{add-zero, add-suc, le-refl, le-trans}
-use native.Mathlib.Omega.{arith}
+use mathlib.Core.{Bool.{Bool, true, false}, Path.{_≡_, refl, subst}}
+use native.Mathlib.{Nat.{add-zero, add-suc, le-refl, le-trans}, Omega.{arith}}
 
 module _ (f : ℕ → ℕ) (up : (n : ℕ) → f n ≤ f (suc n)) where
   later : (n d : ℕ) → f n ≤ f (n + d)

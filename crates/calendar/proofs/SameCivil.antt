@@ -3,15 +3,9 @@ use Prim.Native.Nat.{ℕ, _+_, _*_, _<_}
 use lib.IntN.{ℤ, _+ℤ_}
 use mathlib.Core.Path.{_≡_, refl, ap, sym, _∙_}
 use native.Mathlib.Omega.{arith}
-use Rattle.calendar.proofs.Dates.{unique, number-short}
-use Rattle.calendar.proofs.Laws.{days-in-all}
-use Rattle.calendar.proofs.Unique.{one-moment}
-use Rattle.calendar.specs.Calendar.{dayNumber, weekdayOf}
-use Rattle.calendar.specs.Civil.{Shows, CivilOf}
-use Rattle.calendar.specs.Moments.{InDays, MomentOf}
-use Rattle.calendar.specs.declared.civil.Civil.{Civil}
-use Rattle.calendar.specs.declared.civil.Civil.the-variants.{Shown, Outside}
-use Rattle.calendar.specs.declared.civil.Reading.{Reading}
+use Rattle.calendar.proofs.{Dates.{unique, number-short}, Laws.{days-in-all}, Unique.{one-moment}}
+use Rattle.calendar.specs.{Calendar.{dayNumber, weekdayOf}, Civil.{Shows, CivilOf}, Moments.{InDays, MomentOf}}
+use Rattle.calendar.specs.declared.civil.{Civil.{Civil, the-variants.{Shown, Outside}}, Reading.{Reading}}
 
 -- a reading is of a second of these days
 in-days : (local : ℤ) (r : Reading) → Shows local r → InDays (dayNumber (r .year) (r .month) (r .day)) (3600 * r .hour + 60 * r .minute + r .second)

@@ -2,18 +2,12 @@
 use Prim.Native.Nat.{ℕ, zero, suc, _+_, _-_, _*_, _≤_, _<_}
 use borrow.Author.Tests.{lt-ltb, le-ltb}
 use lib.Dec.{ltb}
-use mathlib.Core.Bool.{Bool, true, false}
-use mathlib.Core.Path.{_≡_, refl, ap, sym, subst, _∙_}
+use mathlib.Core.{Bool.{Bool, true, false}, Path.{_≡_, refl, ap, sym, subst, _∙_}}
 use native.Mathlib.Omega.{arith}
-use Rattle.calendar.proofs.Months.{month-short, months-up, year-length}
-use Rattle.calendar.proofs.Rising.{rises}
-use Rattle.calendar.specs.Calendar.{isLeap, monthLength, daysOfYears, daysOfMonths}
+use Rattle.calendar.proofs.{Months.{month-short, months-up, year-length}, Rising.{rises}, Laws.{mean-high}, Within.{weeks-long}}
+use Rattle.calendar.specs.{Calendar.{isLeap, monthLength, daysOfYears, daysOfMonths}, Rules.{leapDay, lastOn, firstOf, weeksOf, dayOf, IsMonth, IsWhen}}
+use Rattle.calendar.specs.declared.rule.When.{When, the-variants.{Julian, Zero, Month}}
 use Rattle.numbers.specs.Answer.{if_then_else_}
-use Rattle.calendar.proofs.Laws.{mean-high}
-use Rattle.calendar.proofs.Within.{weeks-long}
-use Rattle.calendar.specs.Rules.{leapDay, lastOn, firstOf, weeksOf, dayOf, IsMonth, IsWhen}
-use Rattle.calendar.specs.declared.rule.When.{When}
-use Rattle.calendar.specs.declared.rule.When.the-variants.{Julian, Zero, Month}
 
 next : (year : ℕ) → year + 1 ≡ suc year
 next year = omega arith

@@ -1,19 +1,11 @@
 -- What the calendar promises, by name. Assumes nothing.
 use Prim.Native.Nat.{ℕ, suc, _+_, _-_, _%_, _≤_, _<_}
-use mathlib.Core.Bool.{Bool}
-use mathlib.Core.Path.{_≡_, refl, ap, sym, subst, _∙_}
-use native.Mathlib.Numerals.{sub-one}
-use native.Mathlib.Omega.{arith}
-use Rattle.calendar.proofs.Dates.{place-short, placed-date, unique, years-up}
-use Rattle.calendar.proofs.Laws.{weekday-closed, epoch}
-use Rattle.calendar.proofs.Meant.{month-meant, julian-meant}
-use Rattle.calendar.proofs.Months.{months-up, placed}
-use Rattle.calendar.proofs.Rising.{Between, passes, rises}
-use Rattle.calendar.proofs.Unique.{one-weekday, one-julian}
-use Rattle.calendar.specs.Calendar.{isLeap, daysOfYears, daysOfMonths, dayNumber, monthLength, weekdayOf, InYear}
-use Rattle.calendar.specs.Dates.{PlaceOf, DateOf}
-use Rattle.calendar.specs.Rules.{firstOf, dayOf, IsMonth, WeekdayOf, JulianDay, Meant, Only}
-use Rattle.calendar.specs.declared.rule.When.the-variants.{Julian, Zero, Month}
+use mathlib.Core.{Bool.{Bool}, Path.{_≡_, refl, ap, sym, subst, _∙_}}
+use native.Mathlib.{Numerals.{sub-one}, Omega.{arith}}
+use Rattle.calendar.proofs.{Dates.{place-short, placed-date, unique, years-up}, Laws.{weekday-closed, epoch}, Meant.{month-meant, julian-meant}}
+use Rattle.calendar.proofs.{Months.{months-up, placed}, Rising.{Between, passes, rises}, Unique.{one-weekday, one-julian}}
+use Rattle.calendar.specs.{Calendar.{isLeap, daysOfYears, daysOfMonths, dayNumber, monthLength, weekdayOf, InYear}, Dates.{PlaceOf, DateOf}}
+use Rattle.calendar.specs.{Rules.{firstOf, dayOf, IsMonth, WeekdayOf, JulianDay, Meant, Only}, declared.rule.When.the-variants.{Julian, Zero, Month}}
 
 -- a date, and no other
 pub record OneDate (number : ℕ) : Type 0 where

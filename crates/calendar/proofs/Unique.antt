@@ -2,15 +2,10 @@
 use Prim.Native.Nat.{ℕ, suc, _+_, _-_, _≤_, _<_}
 use borrow.Author.Tests.{eq-eqb}
 use lib.IntN.{natAbs}
-use mathlib.Core.Bool.{false}
-use mathlib.Core.Path.{_≡_, refl, ap, sym, _∙_}
+use mathlib.Core.{Bool.{false}, Path.{_≡_, refl, ap, sym, _∙_}}
 use native.Mathlib.Omega.{arith}
-use Rattle.calendar.proofs.Dates.{place, same-month}
-use Rattle.calendar.proofs.Rising.{rises}
-use Rattle.calendar.proofs.moment.Shift.{seconds-of}
-use Rattle.calendar.specs.Calendar.{weekdayOf, dayNumber}
-use Rattle.calendar.specs.Moments.{instantOf, InDays}
-use Rattle.calendar.specs.Rules.{countOn, WeekdayOf, JulianDay}
+use Rattle.calendar.proofs.{Dates.{place, same-month}, Rising.{rises}, moment.Shift.{seconds-of}}
+use Rattle.calendar.specs.{Calendar.{weekdayOf, dayNumber}, Moments.{instantOf, InDays}, Rules.{countOn, WeekdayOf, JulianDay}}
 
 module _ (first length week weekday : ℕ) where
   count-up : (n : ℕ) → countOn weekday first n ≤ countOn weekday first (suc n)

@@ -2,13 +2,11 @@
 use Prim.Native.Nat.{ℕ, zero, suc, _+_, _-_, _*_, _/_, _%_, _≤_, _<_}
 use borrow.Author.Tests.{eqb-true, eqb-false}
 use lib.Dec.{eqb}
-use mathlib.Core.Bool.{Bool, true, false}
-use mathlib.Core.Path.{_≡_, refl, ap, sym, _∙_}
+use mathlib.Core.{Bool.{Bool, true, false}, Path.{_≡_, refl, ap, sym, _∙_}}
 use native.Mathlib.Omega.{arith}
 use Rattle.calendar.proofs.Laws.{weekday-closed}
-use Rattle.calendar.specs.Calendar.{weekdayOf}
+use Rattle.calendar.specs.{Calendar.{weekdayOf}, Rules.{countOn}}
 use Rattle.numbers.specs.Answer.{if_then_else_}
-use Rattle.calendar.specs.Rules.{countOn}
 
 pub weekday-small : (day : ℕ) → weekdayOf day ≤ 6
 weekday-small day = omega (arith, weekday-closed day)

@@ -2,17 +2,12 @@
 use Prim.Native.Nat.{ℕ, zero, suc, _+_, _-_, _*_, _/_, _%_, _≤_, _<_}
 use borrow.Author.Tests.{ltb-true, ltb-false}
 use lib.Dec.{ltb}
-use mathlib.Core.Bool.{Bool, true, false}
-use mathlib.Core.Path.{_≡_, refl, ap, sym, _∙_}
-use native.Mathlib.Numerals.{sub-one}
-use native.Mathlib.Omega.{arith}
-use Rattle.calendar.proofs.Months.{month-long, month-more, months-up, year-length}
-use Rattle.calendar.proofs.Rising.{rises}
+use mathlib.Core.{Bool.{Bool, true, false}, Path.{_≡_, refl, ap, sym, _∙_}}
+use native.Mathlib.{Numerals.{sub-one}, Omega.{arith}}
+use Rattle.calendar.proofs.{Months.{month-long, month-more, months-up, year-length}, Rising.{rises}}
 use Rattle.calendar.specs.Calendar.{isLeap, yearLength, monthLength, daysOfYears, daysOfMonths, weekdayOf}
+use Rattle.calendar.specs.{Rules.{leapDay, lastOn, firstOf, weeksOf, dayOf, IsMonth, IsWhen}, declared.rule.When.{When, the-variants.{Julian, Zero, Month}}}
 use Rattle.numbers.specs.Answer.{if_then_else_}
-use Rattle.calendar.specs.Rules.{leapDay, lastOn, firstOf, weeksOf, dayOf, IsMonth, IsWhen}
-use Rattle.calendar.specs.declared.rule.When.{When}
-use Rattle.calendar.specs.declared.rule.When.the-variants.{Julian, Zero, Month}
 
 -- the length of a year, by cases
 length-cases : (leap : Bool) → (365 ≤ (if leap then 366 else 365)) × ((if leap then 366 else 365) ≤ 366)

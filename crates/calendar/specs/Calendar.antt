@@ -1,9 +1,7 @@
 -- The Gregorian calendar, counted day by day. Day 0 is Monday, 1 January of the year 1; 1 January 1970, a Thursday, is day 719162.
 use Prim.Native.Nat.{ℕ, zero, suc, _+_, _-_, _%_, _≤_, _<_}
-use lib.Dec.{eqb}
-use lib.ListN.{getD}
-use mathlib.Core.Bool.{Bool}
-use mathlib.Core.List.{List, [], _∷_}
+use lib.{Dec.{eqb}, ListN.{getD}}
+use mathlib.Core.{Bool.{Bool}, List.{List, [], _∷_}}
 use Rattle.numbers.specs.Answer.{if_then_else_}
 
 -- every fourth year is a leap year, but of the full centuries only every fourth

@@ -2,11 +2,8 @@
 use Prim.Native.Nat.{ℕ, _+_, _*_, _≤_}
 use lib.IntN.{ℤ, _+ℤ_}
 use mathlib.Core.Path.{_≡_}
-use Rattle.calendar.specs.Calendar.{dayNumber, weekdayOf, IsDate}
-use Rattle.calendar.specs.Moments.{instantOf, MomentOf}
-use Rattle.calendar.specs.declared.civil.Civil.{Civil}
+use Rattle.calendar.specs.{Calendar.{dayNumber, weekdayOf, IsDate}, Moments.{instantOf, MomentOf}, declared.civil.{Civil.{Civil}, Reading.{Reading}}}
 use Rattle.calendar.specs.declared.civil.Civil.the-variants as civil
-use Rattle.calendar.specs.declared.civil.Reading.{Reading}
 use Rattle.calendar.specs.declared.moment.Moment.the-variants as moments
 
 -- what the clock shows at an instant of its own

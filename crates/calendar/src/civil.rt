@@ -1,8 +1,7 @@
 // The date and the time of day that a clock shows.
 ghost use Prim.Native.Nat.{_<_};
 ghost use lib.IntN.{_+ℤ_};
-ghost use Rattle.calendar.specs.Civil.{Shows, CivilOf};
-ghost use Rattle.calendar.specs.Moments.{MomentOf, instantOf, InDays};
+ghost use Rattle.calendar.specs.{Civil.{Shows, CivilOf}, Moments.{MomentOf, instantOf, InDays}};
 use crate::date::date_at;
 use crate::date::weekday_of;
 use crate::moment::Moment;

@@ -1,6 +1,5 @@
 // Days: their weekdays and their dates.
-ghost use Rattle.calendar.specs.Calendar.{weekdayOf};
-ghost use Rattle.calendar.specs.Dates.{DateOf};
+ghost use Rattle.calendar.specs.{Calendar.{weekdayOf}, Dates.{DateOf}};
 ghost use Prim.Native.Nat.{_<_};
 ghost use mathlib.Core.Path.{_≡_};
 use crate::month::month_at;

@@ -1,8 +1,7 @@
 // Months: the days up to each, its length, and the month of a day of the year.
 ghost use mathlib.Core.Path.{_≡_};
 ghost use Prim.Native.Nat.{_≤_, _<_};
-ghost use Rattle.calendar.specs.Calendar.{monthLength, daysOfMonths};
-ghost use Rattle.calendar.specs.Dates.{PlaceOf};
+ghost use Rattle.calendar.specs.{Calendar.{monthLength, daysOfMonths}, Dates.{PlaceOf}};
 
 // A month of the year and a day of the month, each counted from 1.
 pub struct MonthDay {

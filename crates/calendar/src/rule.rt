@@ -1,8 +1,7 @@
 // The day that a rule of a TZ string means in a year, which is told by how many come before it.
 ghost use mathlib.Core.Path.{_≡_};
 ghost use Prim.Native.Nat.{_≤_, _<_};
-ghost use Rattle.calendar.specs.Rules.{leapDay, lastOn, firstOf, weeksOf, dayOf, IsMonth, IsWhen};
-ghost use Rattle.calendar.specs.declared.rule.When.the-variants.{Month};
+ghost use Rattle.calendar.specs.{Rules.{leapDay, lastOn, firstOf, weeksOf, dayOf, IsMonth, IsWhen}, declared.rule.When.the-variants.{Month}};
 use crate::date::weekday_of;
 use crate::month::days_of_months;
 use crate::month::month_length;

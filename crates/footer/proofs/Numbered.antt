@@ -1,33 +1,21 @@
 -- Which numbers a call can be refused with. Assumes nothing.
 use Prim.Native.Nat.{ℕ}
-use lib.Dec.{ltb, leb, eqb}
-use lib.IntN.{ℤ}
-use mathlib.Core.Bool.{Bool, true, false}
-use mathlib.Core.List.{List, [], _∷_, _++_}
-use mathlib.Core.Path.{_≡_, refl, subst}
+use lib.{Dec.{ltb, leb, eqb}, IntN.{ℤ}}
+use mathlib.Core.{Bool.{Bool, true, false}, List.{List, [], _∷_, _++_}, Path.{_≡_, refl, subst}}
 use native.Mathlib.Omega.{arith}
 use Rattle.footer.specs.Local.{askIn, agrees, orSixty, stringIn, rulesIn, isRuled, byRule, answerBy, answerAt, localTimeBy, localTime}
 use Rattle.footer.specs.declared.rule.Rules.{Rules}
 use Rattle.footer.specs.declared.rule.Rules.the-variants as R
 use Rattle.numbers.proofs.Refusals.{Listed, still-listed}
 use Rattle.tzif.proofs.Numbered.{NumberedReply, answers, refuses, then-reply, and-then, demands, either, zone-numbered, of-lent, localNumbers}
-use Rattle.tzif.specs.Header.{rfc9636}
-use Rattle.tzif.specs.Local.{byTable, Replied, replied, lent}
-use Rattle.tzif.specs.Number.{lift}
-use Rattle.tzif.specs.Reply.{Reply, given, refused, refusal, if_then_else_}
+use Rattle.tzif.specs.{Header.{rfc9636}, Local.{byTable, Replied, replied, lent}, Number.{lift}, Reply.{Reply, given, refused, refusal, if_then_else_}}
 use Rattle.tzif.specs.Text.{slice, zeros, padded}
-use Rattle.tzif.specs.declared.block.Block.{Block}
-use Rattle.tzif.specs.declared.local.Answer.{Answer}
+use Rattle.tzif.specs.declared.{block.Block.{Block}, local.{Answer.{Answer}, LocalTime.{LocalTime}}, refusal.Refusal.{Refusal}, zone.Zone.{Zone}}
 use Rattle.tzif.specs.declared.local.Answer.the-variants as A
-use Rattle.tzif.specs.declared.local.LocalTime.{LocalTime}
 use Rattle.tzif.specs.declared.local.LocalTime.the-variants as L
-use Rattle.tzif.specs.declared.refusal.Refusal.{Refusal}
-use Rattle.tzif.specs.declared.zone.Zone.{Zone}
 use Rattle.tzrule.specs.Answer as T
-use Rattle.tzrule.specs.String.{stringOf}
-use Rattle.tzrule.specs.declared.ask.Asked.{Asked}
+use Rattle.tzrule.specs.{String.{stringOf}, declared.{ask.Asked.{Asked}, rule.Tz.{Tz}}}
 use Rattle.tzrule.specs.declared.ask.Asked.the-variants as K
-use Rattle.tzrule.specs.declared.rule.Tz.{Tz}
 
 -- those of Q-9, and 60 for the string, 61 for the year
 abbrev pub footerNumbers : List ℕ

@@ -1,14 +1,9 @@
 -- What a TZ string gives as a local time, and whether it is the same as another.
 use Prim.Native.Nat.{ℕ, zero, suc, _+_, _-_, _≤_}
-use lib.Dec.{eqb}
-use lib.IntN.{ℤ, pos, _-ℤ_}
-use mathlib.Core.Bool.{Bool, true, false}
-use mathlib.Core.List.{List}
-use mir.Syntax.{w32}
-use mir.Val.{ofZ}
-use Rattle.tzif.specs.Reply.{if_then_else_}
-use Rattle.tzif.specs.Number.{octet}
-use Rattle.tzif.specs.declared.local.Found.{Found}
+use lib.{Dec.{eqb}, IntN.{ℤ, pos, _-ℤ_}}
+use mathlib.Core.{Bool.{Bool, true, false}, List.{List}}
+use mir.{Syntax.{w32}, Val.{ofZ}}
+use Rattle.tzif.specs.{Reply.{if_then_else_}, Number.{octet}, declared.local.Found.{Found}}
 use Rattle.tzrule.specs.declared.ask.Time.{Time}
 
 -- seconds east, of seconds west more 604800

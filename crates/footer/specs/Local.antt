@@ -1,37 +1,18 @@
 -- Local time with the footer's TZ string.
 use Prim.Native.Nat.{ℕ, _+_, _-_, _^_}
-use lib.Dec.{ltb, eqb}
-use lib.IntN.{ℤ}
-use lib.ListN.{length}
-use mathlib.Core.Bool.{Bool, true}
-use mathlib.Core.List.{List}
-use Rattle.footer.specs.Found.{foundOf, sameFound}
-use Rattle.footer.specs.declared.local.Said.{Said}
+use lib.{Dec.{ltb, eqb}, IntN.{ℤ}, ListN.{length}}
+use mathlib.Core.{Bool.{Bool, true}, List.{List}}
+use Rattle.footer.specs.{Found.{foundOf, sameFound}, declared.{local.Said.{Said}, rule.{Rules.{Rules}, Stated.{Stated}}}}
 use Rattle.footer.specs.declared.local.Said.the-variants as S
-use Rattle.footer.specs.declared.rule.Rules.{Rules}
 use Rattle.footer.specs.declared.rule.Rules.the-variants as R
-use Rattle.footer.specs.declared.rule.Stated.{Stated}
 use Rattle.footer.specs.declared.rule.Stated.the-variants as Q
-use Rattle.tzif.specs.Reply.{if_then_else_}
-use Rattle.tzif.specs.Block.{endOf}
-use Rattle.tzif.specs.Check.{correctionAt}
-use Rattle.tzif.specs.Header.{Rfc, rfc9636}
-use Rattle.tzif.specs.Local.{typeIn, typeBehind, isAfterLast, byTable, lent, Replied, Good, Held}
-use Rattle.tzif.specs.Number.{lift}
-use Rattle.tzif.specs.Reply.{Reply, given, refused, refusal, demand, _>>=_, _>>_}
-use Rattle.tzif.specs.Times.{timeIn, transitionsOf, occurrencesOf, Rises}
-use Rattle.tzif.specs.Zone.{readZoneBy}
-use Rattle.tzif.specs.declared.block.Block.{Block}
-use Rattle.tzif.specs.declared.local.Answer.{Answer}
+use Rattle.tzif.specs.{Reply.{if_then_else_, Reply, given, refused, refusal, demand, _>>=_, _>>_}, Block.{endOf}, Check.{correctionAt}, Header.{Rfc, rfc9636}}
+use Rattle.tzif.specs.{Local.{typeIn, typeBehind, isAfterLast, byTable, lent, Replied, Good, Held}, Number.{lift}, Times.{timeIn, transitionsOf, occurrencesOf, Rises}}
+use Rattle.tzif.specs.{Zone.{readZoneBy}, declared.{block.Block.{Block}, local.{Answer.{Answer}, Found.{Found}}, zone.Zone.{Zone}}}
 use Rattle.tzif.specs.declared.local.Answer.the-variants as A
-use Rattle.tzif.specs.declared.local.Found.{Found}
-use Rattle.tzif.specs.declared.zone.Zone.{Zone}
 use Rattle.tzrule.specs.Answer as T
-use Rattle.tzrule.specs.Ask.{corrected, ask}
-use Rattle.tzrule.specs.String.{stringOf, IsClock, IsTz}
-use Rattle.tzrule.specs.declared.ask.Asked.{Asked}
+use Rattle.tzrule.specs.{Ask.{corrected, ask}, String.{stringOf, IsClock, IsTz}, declared.{ask.Asked.{Asked}, rule.Tz.{Tz}}}
 use Rattle.tzrule.specs.declared.ask.Asked.the-variants as K
-use Rattle.tzrule.specs.declared.rule.Tz.{Tz}
 
 -- the string is in UNIX time, the file's own scale less its leap seconds
 unfoldable pub askIn : List ℕ → Block → Tz → ℕ → Asked

@@ -2,9 +2,7 @@
 ghost use mathlib.Core.Path.{_≡_};
 ghost use lib.ListN.{length};
 ghost use Rattle.footer.specs.Local.{isRuled, byRule, answerBy, answerAt, localTime, toldSaid, Sound, HeldRules, HeldAsked, HeldSaid};
-ghost use Rattle.tzif.specs.Header.{rfc9636};
-ghost use Rattle.tzif.specs.Local.{byTable, replied, Good};
-ghost use Rattle.tzif.specs.Reply.{given};
+ghost use Rattle.tzif.specs.{Header.{rfc9636}, Local.{byTable, replied, Good}, Reply.{given}};
 use crate::found::found_of;
 use crate::rule::Rules;
 use crate::rule::Stated;

@@ -1,18 +1,11 @@
 -- Two replies that a promise permits are equal. Assumes nothing.
-use mathlib.Core.Bool.{Bool}
-use mathlib.Core.Path.{_≡_, refl, sym, ap, _∙_}
-use mathlib.Core.List.{List}
+use mathlib.Core.{Bool.{Bool}, Path.{_≡_, refl, sym, ap, _∙_}, List.{List}}
 use Prim.Native.Nat.{ℕ}
-use Rattle.numbers.specs.Answer.{Answer, found, failed}
+use Rattle.numbers.specs.{Answer.{Answer, found, failed}, Reply.{Reply, given, refused}}
 use Rattle.numbers.specs.Answer as A
-use Rattle.numbers.specs.Reply.{Reply, given, refused}
-use Rattle.header.specs.Text.{toldText, stringAt}
-use Rattle.header.specs.Opening.{Replied, replied, toldOpened, openedOf, openedStrictly}
-use Rattle.header.specs.declared.text.Text.{Text}
-use Rattle.header.specs.declared.text.String.{String}
+use Rattle.header.specs.{Text.{toldText, stringAt}, Opening.{Replied, replied, toldOpened, openedOf, openedStrictly}}
+use Rattle.header.specs.declared.{text.{Text.{Text}, String.{String}}, opening.{Opening.{Opening}, Opened.{Opened}}}
 use Rattle.header.specs.declared.text.String.the-variants as S
-use Rattle.header.specs.declared.opening.Opening.{Opening}
-use Rattle.header.specs.declared.opening.Opened.{Opened}
 use Rattle.header.specs.declared.opening.Opened.the-variants as O
 
 -- what is told can be told back, so it determines the answer

@@ -1,27 +1,16 @@
 -- Opening strictly (request Q-6): refused 31, or as the plain opening. Assumes nothing.
 use Prim.Native.Nat.{ℕ, zero, suc, _+_, _%_, _^_, _≤_}
 use borrow.Author.Tests.{eqb-true}
-use lib.Dec.{ltb, leb, eqb}
-use lib.ListN.{length}
-use mathlib.Core.Bool.{Bool, true, false}
-use mathlib.Core.List.{List}
-use mathlib.Core.Logic.{_⊎_, inl, inr}
-use mathlib.Core.Path.{_≡_, refl, sym, ap, subst, _∙_}
+use lib.{Dec.{ltb, leb, eqb}, ListN.{length}}
+use mathlib.Core.{Bool.{Bool, true, false}, List.{List}, Logic.{_⊎_, inl, inr}, Path.{_≡_, refl, sym, ap, subst, _∙_}}
 use native.Mathlib.Omega.{arith}
-use Rattle.numbers.proofs.Readings.{Strictly, cut, same, then-strictly, strictly-either, reading-strictly}
-use Rattle.numbers.proofs.Replies.{given-from, demanded}
-use Rattle.numbers.specs.Answer.{Answer}
-use Rattle.numbers.specs.Reply.{Reply, given, refused, refusal, plain, demand, _orElse_, _>>=_, _>>_}
-use Rattle.numbers.specs.Varint.{Numeral, readingOf}
+use Rattle.numbers.proofs.{Readings.{Strictly, cut, same, then-strictly, strictly-either, reading-strictly}, Replies.{given-from, demanded}}
+use Rattle.numbers.specs.{Answer.{Answer}, Reply.{Reply, given, refused, refusal, plain, demand, _orElse_, _>>=_, _>>_}, Varint.{Numeral, readingOf}}
 use Rattle.numbers.specs.declared.refusal.Refusal.{Refusal}
 use Rattle.header.proofs.Unless.{shown, Unless, refuses, alike, unless-after, unless-demand, unless-then}
 use Rattle.header.specs.Header.{preambleOf, blameOf, Texts, textsFrom, textsOf, sizeAt, sectionsFrom, sectionsAt, Contents, contentsBy, headBy, headOf, headStrictly}
-use Rattle.header.specs.Opening.{fittingOf, Replied, repliedOf, openedBy, openedOf, openedStrictly}
-use Rattle.header.specs.Text.{remoteAt, stringAt, bytesOf, orBlamed, textAt}
-use Rattle.header.specs.declared.header.Head.{Head}
-use Rattle.header.specs.declared.header.Sections.{Sections}
-use Rattle.header.specs.declared.text.Blame.{Blame}
-use Rattle.header.specs.declared.text.Text.{Text}
+use Rattle.header.specs.{Opening.{fittingOf, Replied, repliedOf, openedBy, openedOf, openedStrictly}, Text.{remoteAt, stringAt, bytesOf, orBlamed, textAt}}
+use Rattle.header.specs.declared.{header.{Head.{Head}, Sections.{Sections}}, text.{Blame.{Blame}, Text.{Text}}}
 
 -- refused 31, or the same
 abbrev pub Or31 : {A : Type 0} → Reply A → Reply A → Type 0

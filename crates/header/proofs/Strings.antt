@@ -1,27 +1,15 @@
 -- Strings: where a remote one stands, and how the bytes of one go out. Assumes nothing.
-use mathlib.Core.Path.{_≡_, refl, sym, ap, _∙_}
-use mathlib.Core.Bool.{Bool, true, false}
-use mathlib.Core.List.{List, map}
+use mathlib.Core.{Path.{_≡_, refl, sym, ap, _∙_}, Bool.{Bool, true, false}, List.{List, map}}
 use Prim.Native.Nat.{ℕ, _+_, _-_, _%_, _^_, _≤_}
-use native.Mathlib.Nat.{add-mod-mod}
-use native.Mathlib.Omega.{arith}
+use native.Mathlib.{Nat.{add-mod-mod}, Omega.{arith}}
 use borrow.Author.Tests.{leb-true, ltb-true}
 use denote.Enum.Declared.{tagOf, declared}
-use lib.Dec.{ltb, leb, eqb}
-use lib.ListN.{length, take, drop, length-drop}
-use lib.Seq.{length-take-le}
-use Rattle.numbers.specs.Answer.{Answer, found, failed, refused, if_then_else_, _>>=_}
-use Rattle.numbers.proofs.Answers.{not-failed, All}
-use Rattle.numbers.proofs.Laws.{Read}
-use Rattle.numbers.proofs.Readings.{reading-read}
-use Rattle.numbers.specs.Varint.{Numeral, readingOf}
-use Rattle.numbers.specs.Reply.{given, refusal}
+use lib.{Dec.{ltb, leb, eqb}, ListN.{length, take, drop, length-drop}, Seq.{length-take-le}}
+use Rattle.numbers.specs.{Answer.{Answer, found, failed, refused, if_then_else_, _>>=_}, Varint.{Numeral, readingOf}, Reply.{given, refusal}}
+use Rattle.numbers.proofs.{Answers.{not-failed, All}, Laws.{Read}, Readings.{reading-read}}
 use Rattle.numbers.specs.Reply as R
-use Rattle.header.specs.Text.{within, remoteAt, stringAt, bytesOf, orBlamed, textAt}
-use Rattle.header.specs.Utf8.{unmasked, isUtf8}
-use Rattle.header.specs.declared.text.Blame.{Blame}
-use Rattle.header.specs.declared.text.Text.{Text}
-use Rattle.header.specs.declared.text.String.{String}
+use Rattle.header.specs.{Text.{within, remoteAt, stringAt, bytesOf, orBlamed, textAt}, Utf8.{unmasked, isUtf8}}
+use Rattle.header.specs.declared.text.{Blame.{Blame}, Text.{Text}, String.{String}}
 use Rattle.header.specs.declared.text.String.the-variants as S
 use Rattle.header.proofs.text.String as N
 

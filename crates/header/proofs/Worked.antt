@@ -1,18 +1,11 @@
 -- Document 01's worked examples of UTF-8, those of RFC 3629, its strings, and the header of its printed file, and a name whose length the file's end cuts, as one table. Assumes nothing.
-use mathlib.Core.Path.{_≡_, refl}
-use mathlib.Core.Bool.{Bool, true, false}
-use mathlib.Core.List.{List, [], _∷_, _++_, map}
+use mathlib.Core.{Path.{_≡_, refl}, Bool.{Bool, true, false}, List.{List, [], _∷_, _++_, map}}
 use Prim.Native.Nat.{ℕ}
 use lib.ListN.{replicate}
 use Rattle.numbers.specs.Answer as A
-use Rattle.numbers.specs.Answer.{Answer}
-use Rattle.numbers.specs.Varint.{readingOf, wholeOf, valueOf, sizeOf, tooLong, forwardAt}
-use Rattle.header.specs.Utf8.{characters, startedBy, begunBy, followed, goesOn, isUtf8}
-use Rattle.header.specs.Text.{within, remoteAt, stringAt, bytesOf, textAt}
-use Rattle.header.specs.Header.{preambleOf, textsFrom, sectionsFrom, sectionsAt, contentsBy}
-use Rattle.numbers.specs.Reply.{given, refused, plain, refusal}
-use Rattle.header.specs.Opening.{Replied, fittingOf, openedBy}
-use Rattle.header.specs.declared.text.Text.{Text}
+use Rattle.numbers.specs.{Answer.{Answer}, Varint.{readingOf, wholeOf, valueOf, sizeOf, tooLong, forwardAt}, Reply.{given, refused, plain, refusal}}
+use Rattle.header.specs.{Utf8.{characters, startedBy, begunBy, followed, goesOn, isUtf8}, Text.{within, remoteAt, stringAt, bytesOf, textAt}}
+use Rattle.header.specs.{Header.{preambleOf, textsFrom, sectionsFrom, sectionsAt, contentsBy}, Opening.{Replied, fittingOf, openedBy}, declared.text.Text.{Text}}
 
 -- a row: what is read, and what the document says of it
 data Row : Type 0 where

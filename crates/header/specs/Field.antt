@@ -1,14 +1,9 @@
 -- Strings as they go out, and what a lent text then holds.
-use mathlib.Core.Bool.{Bool}
-use mathlib.Core.List.{List, _∷_}
+use mathlib.Core.{Bool.{Bool}, List.{List, _∷_}}
 use Prim.Native.Nat.{ℕ, _/_, _%_}
-use lib.Dec.{leb}
-use lib.ListN.{length}
-use Rattle.numbers.specs.Lists.{over}
-use Rattle.numbers.specs.Reply.{Reply, given, refused, plain, demand, _>>=_, _>>_}
-use Rattle.header.specs.Text.{bytesOf, textAt}
-use Rattle.header.specs.declared.field.Sent.{Sent}
-use Rattle.header.specs.declared.field.Written.{Written}
+use lib.{Dec.{leb}, ListN.{length}}
+use Rattle.numbers.specs.{Lists.{over}, Reply.{Reply, given, refused, plain, demand, _>>=_, _>>_}}
+use Rattle.header.specs.{Text.{bytesOf, textAt}, declared.field.{Sent.{Sent}, Written.{Written}}}
 use Rattle.header.specs.declared.field.Written.the-variants as W
 
 -- its length in two bytes, the high one first, and its bytes

@@ -1,28 +1,17 @@
 -- The header, in document 01's order, its numbers read strictly or not.
-use mathlib.Core.Bool.{Bool, true, false, _||_}
-use mathlib.Core.List.{List, [], _++_}
+use mathlib.Core.{Bool.{Bool, true, false, _||_}, List.{List, [], _++_}}
 use Prim.Native.Nat.{ℕ, zero, suc, _+_, _*_, _%_, _^_}
-use lib.Dec.{ltb, leb, eqb}
-use lib.ListN.{length, getD}
-use Rattle.numbers.specs.Answer.{if_then_else_}
-use Rattle.numbers.specs.Varint.{Numeral, readingOf}
-use Rattle.numbers.specs.declared.varint.Varint.{Varint}
+use lib.{Dec.{ltb, leb, eqb}, ListN.{length, getD}}
+use Rattle.numbers.specs.{Answer.{if_then_else_}, Varint.{Numeral, readingOf}, declared.varint.Varint.{Varint}}
 use Rattle.numbers.specs.Reply.{Reply, given, refused, refusal, plain, demand, _orElse_, _>>=_, _>>_}
-use Rattle.header.specs.Text.{stoppedOf, textAt, bytesOf}
-use Rattle.header.specs.Field.{entry}
+use Rattle.header.specs.{Text.{stoppedOf, textAt, bytesOf}, Field.{entry}}
 use Rattle.header.specs.declared.text.Blame.{Blame}
-use Rattle.header.specs.declared.header.Preamble.{Preamble}
-use Rattle.header.specs.declared.header.Sections.{Sections}
-use Rattle.header.specs.declared.header.Head.{Head}
-use Rattle.header.specs.declared.header.Begun.{Begun}
-use Rattle.header.specs.declared.header.Begun.the-variants as B
-use Rattle.header.specs.declared.header.Placed.{Placed}
-use Rattle.header.specs.declared.header.Placed.the-variants as P
-use Rattle.header.specs.declared.header.Headed.{Headed}
-use Rattle.header.specs.declared.header.Headed.the-variants as H
-use Rattle.header.specs.declared.header.Reached.{Reached}
-use Rattle.header.specs.declared.header.Reached.the-variants as A
+use Rattle.header.specs.declared.header.{Preamble.{Preamble}, Sections.{Sections}, Head.{Head}, Begun.{Begun}, Placed.{Placed}, Headed.{Headed}, Reached.{Reached}}
 use Rattle.header.specs.declared.header.Size.{Size}
+use Rattle.header.specs.declared.header.Begun.the-variants as B
+use Rattle.header.specs.declared.header.Placed.the-variants as P
+use Rattle.header.specs.declared.header.Headed.the-variants as H
+use Rattle.header.specs.declared.header.Reached.the-variants as A
 use Rattle.header.specs.declared.header.Size.the-variants as Z
 
 -- ---- refusals 1 to 5

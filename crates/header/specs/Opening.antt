@@ -1,17 +1,10 @@
 -- Opening: the reply and the whole lent text.
-use mathlib.Core.Path.{_≡_}
-use mathlib.Core.Bool.{Bool, true, false}
-use mathlib.Core.List.{List}
+use mathlib.Core.{Path.{_≡_}, Bool.{Bool, true, false}, List.{List}}
 use Prim.Native.Nat.{ℕ, _≤_, _<_}
-use lib.Dec.{leb}
-use lib.ListN.{length}
-use Rattle.numbers.specs.Lists.{zeros, padded}
-use Rattle.numbers.specs.Reply.{Reply, given, refused, plain, demand, _>>=_, _>>_}
-use Rattle.header.specs.Header.{Texts, Contents, contentsBy}
-use Rattle.header.specs.declared.opening.Opening.{Opening}
-use Rattle.header.specs.declared.opening.Opened.{Opened}
+use lib.{Dec.{leb}, ListN.{length}}
+use Rattle.numbers.specs.{Lists.{zeros, padded}, Reply.{Reply, given, refused, plain, demand, _>>=_, _>>_}}
+use Rattle.header.specs.{Header.{Texts, Contents, contentsBy}, declared.opening.{Opening.{Opening}, Opened.{Opened}, Wrote.{Wrote}}}
 use Rattle.header.specs.declared.opening.Opened.the-variants as O
-use Rattle.header.specs.declared.opening.Wrote.{Wrote}
 use Rattle.header.specs.declared.opening.Wrote.the-variants as W
 
 -- the header with names and notice; 18 last, where these have no room

@@ -1,20 +1,12 @@
 -- Strings of the file, as document 01 has them, their numbers read strictly or not.
-use mathlib.Core.Bool.{Bool}
-use mathlib.Core.List.{List, map}
+use mathlib.Core.{Bool.{Bool}, List.{List, map}}
 use Prim.Native.Nat.{ℕ, _+_, _-_, _%_, _^_}
-use lib.Dec.{ltb, leb, eqb}
-use lib.ListN.{length, take, drop}
-use Rattle.numbers.specs.Answer.{Answer, found, failed, refused, if_then_else_, _>>=_}
-use Rattle.numbers.specs.Varint.{told, readingOf}
-use Rattle.numbers.specs.declared.varint.Varint.{Varint}
+use lib.{Dec.{ltb, leb, eqb}, ListN.{length, take, drop}}
+use Rattle.numbers.specs.{Answer.{Answer, found, failed, refused, if_then_else_, _>>=_}, Varint.{told, readingOf}, declared.varint.Varint.{Varint}}
 use Rattle.numbers.specs.Reply.{Reply, given, encoding, notUtf8, refusal, plain}
 use Rattle.numbers.specs.Reply as R
-use Rattle.header.specs.Utf8.{unmasked, isUtf8}
-use Rattle.header.specs.declared.text.Text.{Text}
-use Rattle.header.specs.declared.text.Blame.{Blame}
-use Rattle.header.specs.declared.text.String.{String}
+use Rattle.header.specs.{Utf8.{unmasked, isUtf8}, declared.text.{Text.{Text}, Blame.{Blame}, String.{String}, Read.{Read}}}
 use Rattle.header.specs.declared.text.String.the-variants as S
-use Rattle.header.specs.declared.text.Read.{Read}
 use Rattle.header.specs.declared.text.Read.the-variants as T
 
 -- 14 where a byte is past the end; an empty string has none, and counts as standing at 0

@@ -1,14 +1,9 @@
 -- UTF-8, after the grammar of RFC 3629, section 4.
-use mathlib.Core.Bool.{Bool, true, false, _&&_}
-use mathlib.Core.List.{List, [], _∷_, _++_}
-use mathlib.Core.Path.{_≡_}
+use mathlib.Core.{Bool.{Bool, true, false, _&&_}, List.{List, [], _∷_, _++_}, Path.{_≡_}}
 use Prim.Native.Nat.{ℕ, _-_}
-use lib.Bits.{bitXor}
-use lib.Dec.{leb, eqb}
-use lib.ListN.{replicate}
+use lib.{Bits.{bitXor}, Dec.{leb, eqb}, ListN.{replicate}}
 use Rattle.numbers.specs.Answer.{if_then_else_}
-use Rattle.header.specs.declared.utf8.Due.{Due}
-use Rattle.header.specs.declared.utf8.Step.{Step}
+use Rattle.header.specs.declared.utf8.{Due.{Due}, Step.{Step}}
 use Rattle.header.specs.declared.utf8.Step.the-variants as S
 
 -- each byte is stored XOR 0x80

@@ -1,11 +1,9 @@
 // Strings as they go out into a lent text.
-ghost use mathlib.Core.Path.{_≡_};
-ghost use mathlib.Core.List.{map};
+ghost use mathlib.Core.{Path.{_≡_}, List.{map}};
 ghost use Prim.Native.Nat.{_+_, _≤_, _<_};
 ghost use lib.ListN.{length};
 ghost use Rattle.numbers.specs.Lists.{zeros, over};
-ghost use Rattle.header.specs.Utf8.{unmasked};
-ghost use Rattle.header.specs.Field.{entry, field, fieldAt, toldField, sentOf, textAfter};
+ghost use Rattle.header.specs.{Utf8.{unmasked}, Field.{entry, field, fieldAt, toldField, sentOf, textAfter}};
 use crate::codes::BAD_FIELD;
 use crate::codes::TEXT_FULL;
 use crate::text::Blame;

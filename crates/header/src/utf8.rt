@@ -1,6 +1,5 @@
 // UTF-8 as RFC 3629 has it, over bytes that are stored XOR 0x80.
-ghost use mathlib.Core.Path.{_≡_};
-ghost use mathlib.Core.List.{map};
+ghost use mathlib.Core.{Path.{_≡_}, List.{map}};
 ghost use Rattle.header.specs.Utf8.{pendingOf, toldStep, begunBy, followed, isUtf8, unmasked};
 
 // What a character that has begun still lacks: so many bytes, the first of them in a range, the others tails.

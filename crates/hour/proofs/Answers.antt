@@ -1,31 +1,17 @@
 -- The line for an answer: which it is, that there is one, and that it has room. Assumes nothing.
 use Prim.Native.Nat.{ℕ, zero, suc, _+_, _-_, _≤_, _<_}
 use borrow.Author.Tests.{lt-ltb, le-ltb}
-use lib.IntN.{ℤ, pos, negsuc}
-use lib.ListN.{length, take, drop, length-append, length-drop, length-map, length-replicate}
-use lib.Seq.{take-all}
-use native.Mathlib.Nat.{le-refl}
-use mathlib.Core.List.{List, [], _∷_, _++_, map}
-use mathlib.Core.Path.{_≡_, refl, sym, ap, subst, _∙_}
-use native.Mathlib.Omega.{arith}
-use Rattle.calendar.proofs.SameCivil.{same-civil}
-use Rattle.calendar.specs.Civil.{CivilOf}
-use Rattle.calendar.specs.declared.civil.Civil.{Civil}
+use lib.{IntN.{ℤ, pos, negsuc}, ListN.{length, take, drop, length-append, length-drop, length-map, length-replicate}, Seq.{take-all}}
+use native.Mathlib.{Nat.{le-refl}, Omega.{arith}}
+use mathlib.Core.{List.{List, [], _∷_, _++_, map}, Path.{_≡_, refl, sym, ap, subst, _∙_}}
+use Rattle.calendar.{proofs.SameCivil.{same-civil}, specs.{Civil.{CivilOf}, declared.civil.{Civil.{Civil}, Reading.{Reading}}}}
 use Rattle.calendar.specs.declared.civil.Civil.the-variants as C
-use Rattle.calendar.specs.declared.civil.Reading.{Reading}
 use Rattle.footer.specs.Local.{localTime}
 use Rattle.hour.specs.Hour.{instantOf, answerOf, civilLine, LineFor, Answered, Printed}
 use Rattle.hour.specs.Line.{dateText, timeText, clockText, signedText, shown, hourLine, unknownLine, refusedLine}
-use Rattle.line.proofs.Decimals.{decimal-short}
-use Rattle.line.proofs.Puts.{put-length, put-front}
-use Rattle.line.specs.Put.{Put, decimal}
-use Rattle.tzif.specs.Local.{Replied, replied}
-use Rattle.tzif.specs.Reply.{refusal}
-use Rattle.tzif.specs.Text.{zeros}
-use Rattle.tzif.specs.declared.local.Local.{Local}
-use Rattle.tzif.specs.declared.local.LocalTime.{LocalTime}
+use Rattle.line.{proofs.{Decimals.{decimal-short}, Puts.{put-length, put-front}}, specs.Put.{Put, decimal}}
+use Rattle.tzif.specs.{Local.{Replied, replied}, Reply.{refusal}, Text.{zeros}, declared.{local.{Local.{Local}, LocalTime.{LocalTime}}, refusal.Refusal.{Refusal}}}
 use Rattle.tzif.specs.declared.local.LocalTime.the-variants as L
-use Rattle.tzif.specs.declared.refusal.Refusal.{Refusal}
 
 -- two lines that the promise permits are equal
 pub one-line : (instant : ℤ) (reply : LocalTime) (text a b : List ℕ) → LineFor instant reply text a → LineFor instant reply text b → a ≡ b

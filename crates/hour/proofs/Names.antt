@@ -1,15 +1,9 @@
 -- An abbreviation as it is printed. Assumes nothing.
 use Prim.Native.Nat.{ℕ, _+_, _≤_, _<_, min}
-use borrow.Author.Tests.{lt-ltb, le-ltb}
-use lib.ListN.{length, getD, take}
-use lib.Seq.{take-suc, take-all}
-use mathlib.Core.Bool.{Bool, true, false}
-use mathlib.Core.List.{List, [], _∷_, _++_, map, map-append}
-use mathlib.Core.Path.{_≡_, refl, ap, sym, _∙_}
-use native.Mathlib.Numerals.{add-one}
-use native.Mathlib.Omega.{arith}
-use lib.Dec.{leb}
-use borrow.Author.Tests.{leb-true, leb-false}
+use borrow.Author.Tests.{lt-ltb, le-ltb, leb-true, leb-false}
+use lib.{ListN.{length, getD, take}, Seq.{take-suc, take-all}, Dec.{leb}}
+use mathlib.Core.{Bool.{Bool, true, false}, List.{List, [], _∷_, _++_, map, map-append}, Path.{_≡_, refl, ap, sym, _∙_}}
+use native.Mathlib.{Numerals.{add-one}, Omega.{arith}}
 use Rattle.hour.specs.Line.{shown}
 
 -- ---- one byte

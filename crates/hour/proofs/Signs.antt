@@ -1,14 +1,9 @@
 -- Signed numbers by their bits. Assumes nothing.
 use Prim.Native.Nat.{ℕ, suc, _-_, _^_, _<_, _≤_}
 use borrow.Author.Tests.{ltb-true, le-ltb}
-use lib.IntN.{ℤ, pos, negsuc, _-ℤ_}
-use lib.Signed.{ltZ}
-use mathlib.Core.Bool.{true, false}
-use mathlib.Core.List.{_∷_}
-use mathlib.Core.Path.{_≡_, refl, ap, _∙_}
-use mir.Syntax.{w32, w64}
-use mir.Val.{SFits, toZ, ofZ}
-use mir.ValLaws.{toZ-ofZ, ofZ-fits}
+use lib.{IntN.{ℤ, pos, negsuc, _-ℤ_}, Signed.{ltZ}}
+use mathlib.Core.{Bool.{true, false}, List.{_∷_}, Path.{_≡_, refl, ap, _∙_}}
+use mir.{Syntax.{w32, w64}, Val.{SFits, toZ, ofZ}, ValLaws.{toZ-ofZ, ofZ-fits}}
 use native.Mathlib.Omega.{arith}
 use Rattle.hour.specs.Line.{signedText}
 use Rattle.line.specs.Put.{decimal}

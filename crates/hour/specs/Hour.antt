@@ -1,24 +1,14 @@
 -- What the program prints for each input: an instant in eight bytes, low byte first, then a TZif file.
 use Prim.Native.Nat.{ℕ, _+_, _*_, _^_, _≤_}
-use lib.Dec.{ltb}
-use lib.IntN.{ℤ}
-use lib.ListN.{length, take, drop}
-use mathlib.Core.List.{List}
-use mathlib.Core.Path.{_≡_}
-use mir.Syntax.{w64}
-use mir.Val.{toZ}
-use Rattle.calendar.specs.Civil.{CivilOf}
-use Rattle.calendar.specs.declared.civil.Civil.{Civil}
+use lib.{Dec.{ltb}, IntN.{ℤ}, ListN.{length, take, drop}}
+use mathlib.Core.{List.{List}, Path.{_≡_}}
+use mir.{Syntax.{w64}, Val.{toZ}}
+use Rattle.calendar.specs.{Civil.{CivilOf}, declared.civil.Civil.{Civil}}
 use Rattle.calendar.specs.declared.civil.Civil.the-variants as C
 use Rattle.footer.specs.Local.{localTime}
 use Rattle.hour.specs.Line.{hourLine, unknownLine, refusedLine}
-use Rattle.line.specs.Bytes.{wordAt}
-use Rattle.line.specs.Put.{Put}
-use Rattle.tzif.specs.Local.{Replied, replied}
-use Rattle.tzif.specs.Reply.{refusal, if_then_else_}
-use Rattle.tzif.specs.Text.{zeros}
-use Rattle.tzif.specs.declared.local.Local.{Local}
-use Rattle.tzif.specs.declared.local.LocalTime.{LocalTime}
+use Rattle.line.specs.{Bytes.{wordAt}, Put.{Put}}
+use Rattle.tzif.specs.{Local.{Replied, replied}, Reply.{refusal, if_then_else_}, Text.{zeros}, declared.local.{Local.{Local}, LocalTime.{LocalTime}}}
 use Rattle.tzif.specs.declared.local.LocalTime.the-variants as L
 
 -- in two's complement

@@ -1,14 +1,10 @@
 -- The lines that are printed: "hour 2026-07-01 13:59:59 3 7200 1 CEST", "unknown", "refused 60 685".
 use Prim.Native.Nat.{ℕ, suc, _/_}
-use lib.Dec.{ltb}
-use lib.IntN.{ℤ, pos, negsuc}
-use mathlib.Core.Bool.{_&&_}
-use mathlib.Core.List.{List, [], _∷_, _++_, map}
+use lib.{Dec.{ltb}, IntN.{ℤ, pos, negsuc}}
+use mathlib.Core.{Bool.{_&&_}, List.{List, [], _∷_, _++_, map}}
 use Rattle.calendar.specs.declared.civil.Reading.{Reading}
 use Rattle.line.specs.Put.{decimal, twoDigits}
-use Rattle.tzif.specs.Reply.{if_then_else_}
-use Rattle.tzif.specs.declared.local.Local.{Local}
-use Rattle.tzif.specs.declared.refusal.Refusal.{Refusal}
+use Rattle.tzif.specs.{Reply.{if_then_else_}, declared.{local.Local.{Local}, refusal.Refusal.{Refusal}}}
 
 -- a year's four digits, "-", the month's two, "-", the day's
 unfoldable pub dateText : Reading → List ℕ

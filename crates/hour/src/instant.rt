@@ -2,8 +2,7 @@
 ghost use mathlib.Core.Path.{_≡_};
 ghost use Prim.Native.Nat.{_≤_};
 ghost use lib.ListN.{length};
-ghost use mir.Syntax.{w64};
-ghost use mir.Val.{toZ};
+ghost use mir.{Syntax.{w64}, Val.{toZ}};
 ghost use Rattle.hour.specs.Hour.{instantOf};
 use line::bytes::word_at;
 

@@ -1,10 +1,8 @@
 // The lines that are printed, into a lent buffer.
-ghost use mathlib.Core.List.{_∷_, map};
-ghost use mathlib.Core.Path.{_≡_};
+ghost use mathlib.Core.{List.{_∷_, map}, Path.{_≡_}};
 ghost use lib.ListN.{length, take};
 ghost use Prim.Native.Nat.{_≤_, min};
-ghost use Rattle.hour.specs.Hour.{Answered};
-ghost use Rattle.hour.specs.Line.{dateText, timeText, clockText, signedText, shown, hourLine, refusedLine};
+ghost use Rattle.hour.specs.{Hour.{Answered}, Line.{dateText, timeText, clockText, signedText, shown, hourLine, refusedLine}};
 ghost use Rattle.line.specs.Put.{Put};
 ghost use Rattle.tzif.specs.Local.{replied};
 ghost use Rattle.tzif.specs.declared.local.LocalTime.the-variants as L;

@@ -1,12 +1,8 @@
 -- A number's decimal digits, as `io::decimal` has them. Assumes nothing.
 use Prim.Native.Nat.{ℕ, zero, suc, _+_, _-_, _/_, _%_, _^_, _≤_, _<_}
-use native.Mathlib.Nat.{pow-suc}
-use native.Mathlib.Omega.{arith}
-use mathlib.Core.Bool.{Bool, true, false, cond}
-use mathlib.Core.Path.{_≡_, refl, sym, ap, _∙_, subst}
-use mathlib.Core.List.{List, [], _∷_, _++_}
-use lib.Dec.{ltb}
-use lib.ListN.{length, length-append}
+use native.Mathlib.{Nat.{pow-suc}, Omega.{arith}}
+use mathlib.Core.{Bool.{Bool, true, false, cond}, Path.{_≡_, refl, sym, ap, _∙_, subst}, List.{List, [], _∷_, _++_}}
+use lib.{Dec.{ltb}, ListN.{length, length-append}}
 use borrow.Author.Tests.{lt-ltb, le-ltb}
 use Rattle.io.specs.Digits.{glyph, digits, Fewest}
 use Rattle.line.specs.Put.{digit, decimalOf, decimal}

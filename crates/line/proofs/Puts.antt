@@ -1,14 +1,8 @@
 -- Bytes that go into a lent buffer one after another. Assumes nothing.
 use Prim.Native.Nat.{ℕ, suc, _+_, _≤_, _<_}
-use native.Mathlib.Nat.{add-zero}
-use native.Mathlib.Numerals.{add-one}
-use native.Mathlib.Omega.{arith}
-use mathlib.Core.Path.{_≡_, refl, sym, ap, _∙_, subst}
-use mathlib.Core.Bool.{Bool, true, false}
-use mathlib.Core.List.{List, [], _∷_, _++_}
-use lib.Dec.{leb}
-use lib.ListN.{length, set, getD, take, drop, length-append}
-use lib.Seq.{sets, length-sets, set-out, sets-eq, take-suc, take-at}
+use native.Mathlib.{Nat.{add-zero}, Numerals.{add-one}, Omega.{arith}}
+use mathlib.Core.{Path.{_≡_, refl, sym, ap, _∙_, subst}, Bool.{Bool, true, false}, List.{List, [], _∷_, _++_}}
+use lib.{Dec.{leb}, ListN.{length, set, getD, take, drop, length-append}, Seq.{sets, length-sets, set-out, sets-eq, take-suc, take-at}}
 use borrow.Author.Tests.{leb-true, leb-false}
 use Rattle.line.specs.Put.{Put}
 

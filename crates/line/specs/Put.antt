@@ -1,11 +1,7 @@
 -- Bytes that stand in a lent buffer, and numbers as they are printed.
 use Prim.Native.Nat.{ℕ, zero, suc, _+_, _/_, _%_, min, max}
-use lib.Dec.{ltb}
-use lib.ListN.{length}
-use lib.Seq.{sets}
-use mathlib.Core.Bool.{cond}
-use mathlib.Core.List.{List, [], _∷_, _++_}
-use mathlib.Core.Path.{_≡_}
+use lib.{Dec.{ltb}, ListN.{length}, Seq.{sets}}
+use mathlib.Core.{Bool.{cond}, List.{List, [], _∷_, _++_}, Path.{_≡_}}
 
 -- the bytes stand from a place on, as many as fit; the next place is the one behind them, or the buffer's end
 pub record Put (before : List ℕ) (at : ℕ) (bytes after : List ℕ) (next : ℕ) : Type 0 where

@@ -1,7 +1,6 @@
 // Bytes into a lent buffer, one after another. Each function puts something at a place, as much of it as fits, and answers the place after it.
-ghost use mathlib.Core.List.{[], _∷_};
+ghost use mathlib.Core.{List.{[], _∷_}, Path.{_≡_}};
 ghost use Prim.Native.Nat.{_<_, _+_, _%_};
-ghost use mathlib.Core.Path.{_≡_};
 ghost use Rattle.line.specs.Put.{Put, decimal, twoDigits};
 
 pub fn put(out: &mut [u8], at: usize, byte: u8) -> usize

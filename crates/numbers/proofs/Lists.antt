@@ -1,8 +1,7 @@
 -- Lists of zeros. Assumes nothing.
 use mathlib.Core.Path.{_≡_}
 use Prim.Native.Nat.{ℕ, zero, suc, _-_}
-use native.Mathlib.Nat.{sub-zero}
-use native.Mathlib.Omega.{arith}
+use native.Mathlib.{Nat.{sub-zero}, Omega.{arith}}
 use lib.ListN.{drop}
 use Rattle.numbers.specs.Lists.{zeros}
 

@@ -1,18 +1,12 @@
 -- The two readings of a file's numbers (request Q-6): what holds of both, and how the strict one differs from the plain one. Assumes nothing.
 use Prim.Native.Nat.{ℕ, _<_, _≤_}
 use borrow.Author.Tests.{le-leb, lt-leb, leb-false}
-use lib.Dec.{leb}
-use lib.ListN.{length}
-use mathlib.Core.Bool.{Bool, true, false}
-use mathlib.Core.List.{List}
-use mathlib.Core.Path.{_≡_, refl, sym, ap, _∙_}
+use lib.{Dec.{leb}, ListN.{length}}
+use mathlib.Core.{Bool.{Bool, true, false}, List.{List}, Path.{_≡_, refl, sym, ap, _∙_}}
 use native.Mathlib.Omega.{arith}
-use Rattle.numbers.proofs.Answers.{All}
-use Rattle.numbers.proofs.Laws.{Read, forward-read}
-use Rattle.numbers.proofs.Refusals.{Numbered, as-found, as-failed, as-refused, forward-numbered}
+use Rattle.numbers.proofs.{Answers.{All}, Laws.{Read, forward-read}, Refusals.{Numbered, as-found, as-failed, as-refused, forward-numbered}}
 use Rattle.numbers.proofs.varint.Strict as S
-use Rattle.numbers.specs.Answer.{Answer, found, failed, refused, if_then_else_, _>>=_}
-use Rattle.numbers.specs.Varint.{Numeral, numeral, forwardAt, isComplete, wholeOf, readingOf}
+use Rattle.numbers.specs.{Answer.{Answer, found, failed, refused, if_then_else_, _>>=_}, Varint.{Numeral, numeral, forwardAt, isComplete, wholeOf, readingOf}}
 
 -- ---- refused 31, or the same
 -- the strict answer beside the plain one

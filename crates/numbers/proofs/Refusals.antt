@@ -1,12 +1,8 @@
 -- Which numbers an answer can be refused with. Assumes nothing.
-use mathlib.Core.Path.{_≡_, refl}
-use mathlib.Core.Bool.{Bool, true, false, _&&_, _||_}
-use mathlib.Core.List.{List, [], _∷_, _++_}
+use mathlib.Core.{Path.{_≡_, refl}, Bool.{Bool, true, false, _&&_, _||_}, List.{List, [], _∷_, _++_}}
 use Prim.Native.Nat.{ℕ}
-use lib.Dec.{ltb, eqb}
-use lib.ListN.{length, getD, drop}
-use Rattle.numbers.specs.Answer.{Answer, found, failed, refused, if_then_else_, _>>=_}
-use Rattle.numbers.specs.Varint.{isLast, tooLong, forwardAt, startOf, backwardAt}
+use lib.{Dec.{ltb, eqb}, ListN.{length, getD, drop}}
+use Rattle.numbers.specs.{Answer.{Answer, found, failed, refused, if_then_else_, _>>=_}, Varint.{isLast, tooLong, forwardAt, startOf, backwardAt}}
 
 -- ---- lists of numbers
 abbrev pub oneOf : List ℕ → ℕ → Bool

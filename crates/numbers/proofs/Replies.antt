@@ -1,12 +1,9 @@
 -- What a reply that was taken apart says of the reply that follows it, and which numbers it can be refused with. Assumes nothing.
-use mathlib.Core.Path.{_≡_, refl, ap, subst}
+use mathlib.Core.{Path.{_≡_, refl, ap, subst}, Bool.{Bool, true, false}}
 use Prim.Native.Nat.{ℕ}
 use native.Mathlib.Omega.{arith}
-use mathlib.Core.Bool.{Bool, true, false}
 use Rattle.numbers.proofs.Refusals.{Numbered, as-found, as-failed, as-refused}
-use Rattle.numbers.specs.Answer.{Answer}
-use Rattle.numbers.specs.Reply.{Reply, given, refused, demand, _orElse_, _>>=_, _>>_}
-use Rattle.numbers.specs.declared.refusal.Refusal.{Refusal}
+use Rattle.numbers.specs.{Answer.{Answer}, Reply.{Reply, given, refused, demand, _orElse_, _>>=_, _>>_}, declared.refusal.Refusal.{Refusal}}
 
 module _ {A B : Type 0} {answer : Reply A} where
   pub carried : {why : Refusal} → refused why ≡ answer → (next : A → Reply B) → refused why ≡ (answer >>= next)

@@ -3,11 +3,8 @@ use mathlib.Core.Path.{_≡_, refl, ap, _∙_}
 use Prim.Native.Nat.{ℕ, zero, suc, _^_, _≤_, _<_}
 use native.Mathlib.Nat.{zero-add, lt-of-lt-of-le}
 use borrow.Author.Needs.{sfits-of}
-use lib.IntN.{ℤ, pos, negsuc, _-ℤ_}
-use lib.Pow.{pow-mono}
-use mir.Syntax.{Width}
-use mir.Val.{SFits, hbits, toZ}
-use mir.ValLaws.{toZ-pos}
+use lib.{IntN.{ℤ, pos, negsuc, _-ℤ_}, Pow.{pow-mono}}
+use mir.{Syntax.{Width}, Val.{SFits, hbits, toZ}, ValLaws.{toZ-pos}}
 
 -- -1 less a number without a sign is its complement, and fits
 minus-one-less : (k : ℕ) → negsuc 0 -ℤ pos k ≡ negsuc k

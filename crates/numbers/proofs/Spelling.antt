@@ -1,19 +1,11 @@
 -- What is written is read back: varints, signed numbers, and two numbers in one. Assumes nothing.
 use Prim.Native.Nat.{ℕ, zero, suc, _+_, _-_, _*_, _/_, _%_, _^_, _<_, _≤_}
-use native.Mathlib.Nat.{pow-suc}
-use native.Mathlib.Omega.{arith}
-use mathlib.Core.Path.{_≡_, refl, sym, ap, _∙_}
-use mathlib.Core.Bool.{Bool, true, false}
-use mathlib.Core.List.{List, [], _∷_}
-use lib.Dec.{ltb, lit≤}
-use lib.IntN.{ℤ, pos, negsuc, negℤ, natAbs, _-ℤ_}
-use lib.ListN.{length}
+use native.Mathlib.{Nat.{pow-suc}, Omega.{arith}}
+use mathlib.Core.{Path.{_≡_, refl, sym, ap, _∙_}, Bool.{Bool, true, false}, List.{List, [], _∷_}}
+use lib.{Dec.{ltb, lit≤}, IntN.{ℤ, pos, negsuc, negℤ, natAbs, _-ℤ_}, ListN.{length}}
 use borrow.Author.Tests.{ltb-true, lt-ltb, le-ltb}
-use Rattle.numbers.specs.Answer.{if_then_else_}
-use Rattle.numbers.specs.Varint.{valueOf, sizeOf}
-use Rattle.numbers.specs.Point.{low32, readI32, halfOf, signedOf, evenBits, pointOf}
-use Rattle.numbers.specs.Spelling.{digitsOf, varintOf, signedForm, interleaved, Whole, Put}
-use Rattle.numbers.specs.declared.point.RawPoint.{RawPoint}
+use Rattle.numbers.specs.{Answer.{if_then_else_}, Varint.{valueOf, sizeOf}, Point.{low32, readI32, halfOf, signedOf, evenBits, pointOf}}
+use Rattle.numbers.specs.{Spelling.{digitsOf, varintOf, signedForm, interleaved, Whole, Put}, declared.point.RawPoint.{RawPoint}}
 use Rattle.numbers.proofs.write.Digits.{digits-last, digits-few, interleaved-small}
 
 -- ---- varints

@@ -1,17 +1,11 @@
 -- A whole number at a place of a file: how it reads forward and backward, and that a number that was read to its end is one. Assumes nothing.
 use Prim.Native.Nat.{ℕ, zero, suc, _+_, _-_, _*_, _%_, _^_, _<_, _≤_, min}
 use borrow.Author.Tests.{ltb-true, ltb-false, lt-ltb, le-ltb}
-use lib.Dec.{ltb}
-use lib.ListN.{length, getD, drop, length-append, length-drop, List·getD-append}
-use lib.Seq.{getD-drop, drop-drop, drop-append-seam}
-use mathlib.Core.Bool.{Bool, true, false}
-use mathlib.Core.List.{List, [], _∷_, _++_}
-use mathlib.Core.Path.{_≡_, refl, sym, ap, _∙_}
-use native.Mathlib.Nat.{add-suc, add-zero}
-use native.Mathlib.Omega.{arith}
+use lib.{Dec.{ltb}, ListN.{length, getD, drop, length-append, length-drop, List·getD-append}, Seq.{getD-drop, drop-drop, drop-append-seam}}
+use mathlib.Core.{Bool.{Bool, true, false}, List.{List, [], _∷_, _++_}, Path.{_≡_, refl, sym, ap, _∙_}}
+use native.Mathlib.{Nat.{add-suc, add-zero}, Omega.{arith}}
 use Rattle.numbers.proofs.Answers.{found-one, not-failed, not-refused}
-use Rattle.numbers.specs.Answer.{if_then_else_}
-use Rattle.numbers.specs.Varint.{Numeral, numeral, isLast, valueOf, sizeOf, tooLong, forwardAt, startOf, backwardAt}
+use Rattle.numbers.specs.{Answer.{if_then_else_}, Varint.{Numeral, numeral, isLast, valueOf, sizeOf, tooLong, forwardAt, startOf, backwardAt}}
 
 -- the high bit is clear in its last byte and set in the others
 data Digits : List ℕ → Type 0 where

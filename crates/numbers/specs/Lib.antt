@@ -5,4 +5,3 @@ pub mod Varint
 pub mod Point
 pub mod Spelling
 pub mod Float
-pub mod Marked

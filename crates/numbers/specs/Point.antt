@@ -1,9 +1,7 @@
 -- Signed numbers and points, as document 01 has them.
 use Prim.Native.Nat.{ℕ, zero, suc, _+_, _-_, _*_, _/_, _%_, _^_}
-use lib.Dec.{ltb, eqb}
-use lib.IntN.{ℤ, pos, negsuc, negℤ, _-ℤ_}
-use Rattle.numbers.specs.Answer.{if_then_else_}
-use Rattle.numbers.specs.declared.point.RawPoint.{RawPoint}
+use lib.{Dec.{ltb, eqb}, IntN.{ℤ, pos, negsuc, negℤ, _-ℤ_}}
+use Rattle.numbers.specs.{Answer.{if_then_else_}, declared.point.RawPoint.{RawPoint}}
 
 -- the residue modulo 2 ^ 32
 abbrev pub low32 : ℤ → ℕ

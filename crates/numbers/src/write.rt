@@ -1,10 +1,8 @@
 // Numbers into a lent buffer, and two numbers into one.
 ghost use mathlib.Core.Path.{_≡_};
 ghost use Prim.Native.Nat.{_+_};
-ghost use lib.Dec.{ltb};
-ghost use lib.ListN.{length, set};
-ghost use Rattle.numbers.specs.Answer.{if_then_else_};
-ghost use Rattle.numbers.specs.Spelling.{varintOf, interleaved, Put};
+ghost use lib.{Dec.{ltb}, ListN.{length, set}};
+ghost use Rattle.numbers.specs.{Answer.{if_then_else_}, Spelling.{varintOf, interleaved, Put}};
 
 // A byte at a place, or none past the buffer's end; and the place behind it, where there is one.
 fn put(out: &mut [u8], place: usize, byte: u8) -> usize

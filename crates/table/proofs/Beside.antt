@@ -2,20 +2,13 @@
 -- ends behind the file. Assumes nothing.
 use Prim.Native.Nat.{ℕ, _≤_, _<_}
 use borrow.Author.Tests.{leb-true, leb-false}
-use lib.Dec.{leb}
-use lib.ListN.{length}
-use mathlib.Core.Bool.{Bool, true, false}
-use mathlib.Core.List.{List}
-use mathlib.Core.Path.{_≡_, refl, sym, _∙_}
+use lib.{Dec.{leb}, ListN.{length}}
+use mathlib.Core.{Bool.{Bool, true, false}, List.{List}, Path.{_≡_, refl, sym, _∙_}}
 use native.Mathlib.Omega.{arith}
 use Rattle.border.proofs.Signs.{differ}
-use Rattle.numbers.proofs.Answers.{All, then-all}
-use Rattle.numbers.proofs.Laws.{Read, forward-read}
-use Rattle.numbers.specs.Answer.{Answer, found, failed, refused, if_then_else_, _>>=_}
-use Rattle.numbers.specs.Varint.{Numeral, forwardAt, isComplete, wholeOf, readingOf, nowhere, endOf}
-use Rattle.table.specs.Rest.{fiveBy}
-use Rattle.table.specs.Table.{stepsBy, entryBy}
-use Rattle.table.specs.declared.table.Entry.{Entry}
+use Rattle.numbers.proofs.{Answers.{All, then-all}, Laws.{Read, forward-read}}
+use Rattle.numbers.specs.{Answer.{Answer, found, failed, refused, if_then_else_, _>>=_}, Varint.{Numeral, forwardAt, isComplete, wholeOf, readingOf, nowhere, endOf}}
+use Rattle.table.specs.{Rest.{fiveBy}, Table.{stepsBy, entryBy}, declared.table.Entry.{Entry}}
 
 pub data Beside (file : List ℕ) {A : Type 0} (end : A → ℕ) : Answer A → Answer A → Type 0 where
   held : {a : A} → end a ≤ length file → Beside file end (found a) (found a)

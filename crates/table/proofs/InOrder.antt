@@ -1,37 +1,19 @@
 -- In a table in order an early stop loses nothing, and boxes of the borders' own points change no verdict. Assumes nothing.
 use Prim.Native.Nat.{ℕ, _+_, _%_, _^_}
 use borrow.Author.Tests.{ltb-true, leb-true, lt-ltb}
-use lib.Dec.{ltb}
-use lib.IntN.{ℤ, pos, negsuc}
-use lib.ListN.{length}
-use lib.Signed.{leZ, ltZ}
-use mathlib.Core.Bool.{Bool, true, false, _&&_}
-use mathlib.Core.List.{List, _∷_, [], _++_}
-use mathlib.Core.Path.{_≡_, refl, sym, ap, subst, _∙_}
+use lib.{Dec.{ltb}, IntN.{ℤ, pos, negsuc}, ListN.{length}, Signed.{leZ, ltZ}}
+use mathlib.Core.{Bool.{Bool, true, false, _&&_}, List.{List, _∷_, [], _++_}, Path.{_≡_, refl, sym, ap, subst, _∙_}}
 use native.Mathlib.Omega.{arith}
-use Rattle.border.proofs.OutsideBox.{standing-outside-box}
-use Rattle.border.proofs.Signs.{differ}
-use Rattle.border.specs.Box.{boxOf}
-use Rattle.border.specs.Encoding.{versionOf, encodedBy}
-use Rattle.border.specs.Verdict.{Judgement, reached, judgedAt}
-use Rattle.border.specs.declared.place.Point.{Point}
-use Rattle.border.specs.declared.verdict.Verdict.the-variants.{NotInZone}
-use Rattle.numbers.specs.Answer.{if_then_else_}
-use Rattle.numbers.specs.Reply.{Reply, plain}
-use Rattle.table.proofs.Unstopped.{unchanged}
-use Rattle.table.proofs.rest.Remaining.{not-held}
+use Rattle.border.proofs.{OutsideBox.{standing-outside-box}, Signs.{differ}}
+use Rattle.border.specs.{Box.{boxOf}, Encoding.{versionOf, encodedBy}, Verdict.{Judgement, reached, judgedAt}}
+use Rattle.border.specs.declared.{place.Point.{Point}, verdict.Verdict.the-variants.{NotInZone}}
+use Rattle.numbers.specs.{Answer.{if_then_else_}, Reply.{Reply, plain}}
+use Rattle.table.proofs.{Unstopped.{unchanged}, rest.Remaining.{not-held}}
 use Rattle.table.proofs.search.Turns as W
-use Rattle.table.specs.Ordered.{lowest, Ordered, ends, next, Thinned, done, kept, left, boundsAround, Boxed, AllBoxed, none, one, seekAlone}
-use Rattle.table.specs.Rest.{restMark}
-use Rattle.table.specs.Rows.{Rows, row}
-use Rattle.table.specs.Search.{Found, ended, afterTurn, judgedTurn, rowTurn, seek, judgeIn}
-use Rattle.table.specs.Table.{isAbove, holds}
-use Rattle.table.specs.Unstopped.{seekAll}
+use Rattle.table.specs.{Ordered.{lowest, Ordered, ends, next, Thinned, done, kept, left, boundsAround, Boxed, AllBoxed, none, one, seekAlone}, Rest.{restMark}}
+use Rattle.table.specs.{Rows.{Rows, row}, Search.{Found, ended, afterTurn, judgedTurn, rowTurn, seek, judgeIn}, Table.{isAbove, holds}, Unstopped.{seekAll}}
+use Rattle.table.specs.declared.{hits.Hit.{Hit}, rows.Row.{Row}, search.Turn.{the-variants.{On, Met, Stopped, Refused}, Turn}}
 use Rattle.header.specs.declared.header.Head.{Head}
-use Rattle.table.specs.declared.hits.Hit.{Hit}
-use Rattle.table.specs.declared.rows.Row.{Row}
-use Rattle.table.specs.declared.search.Turn.the-variants.{On, Met, Stopped, Refused}
-use Rattle.table.specs.declared.search.Turn.{Turn}
 use Rattle.numbers.specs.Reply as R
 
 -- what follows a turn is followed alike

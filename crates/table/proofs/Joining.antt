@@ -1,17 +1,12 @@
 -- Joining what two boards found, each in its half of a table (request Q-12). Assumes nothing.
 use Prim.Native.Nat.{ℕ}
 use borrow.Author.Tests.{eqb-true}
-use lib.Dec.{eqb}
-use lib.IntN.{+ℤ-comm}
-use mathlib.Core.Bool.{Bool, true, false}
-use mathlib.Core.List.{List, [], _∷_, _++_, append-assoc, append-nil, map}
-use mathlib.Core.Path.{_≡_, refl, sym, ap, _∙_}
+use lib.{Dec.{eqb}, IntN.{+ℤ-comm}}
+use mathlib.Core.{Bool.{Bool, true, false}, List.{List, [], _∷_, _++_, append-assoc, append-nil, map}, Path.{_≡_, refl, sym, ap, _∙_}}
 use Rattle.numbers.specs.Answer.{if_then_else_}
 use Rattle.table.proofs.merge.Summaries.{join-associative, join-empty-left, seen-joined}
-use Rattle.table.specs.Hits.{hitOf}
-use Rattle.table.specs.Joining.{Group, groupOf, groupsAfter, groupsOf, groupFor, among, sumFor, takesIn, onlyRight, _⋈_, matchesOf}
-use Rattle.table.specs.Merge.{Summary, empty, _⊕_, single, summary, groupKind, seen, matchOf, mergedAfter, merged}
-use Rattle.table.specs.declared.hits.Hit.{Hit}
+use Rattle.table.specs.{Hits.{hitOf}, Joining.{Group, groupOf, groupsAfter, groupsOf, groupFor, among, sumFor, takesIn, onlyRight, _⋈_, matchesOf}}
+use Rattle.table.specs.{Merge.{Summary, empty, _⊕_, single, summary, groupKind, seen, matchOf, mergedAfter, merged}, declared.hits.Hit.{Hit}}
 
 -- ---- summaries
 -- the summary of two hit lists, one behind the other, is the join of their summaries

@@ -1,18 +1,13 @@
 -- The matches that `find_in` leaves in the lent words. Assumes nothing.
-use mathlib.Core.Bool.{Bool}
-use mathlib.Core.List.{List}
-use mathlib.Core.Path.{_≡_, ap, _∙_}
+use mathlib.Core.{Bool.{Bool}, List.{List}, Path.{_≡_, ap, _∙_}}
 use Prim.Native.Nat.{ℕ, _/_, _≤_}
 use lib.ListN.{length, take}
 use native.Mathlib.Omega.{arith}
 use Rattle.header.specs.declared.header.Head.{Head}
 use Rattle.numbers.specs.Reply.{Reply, given, refused}
 use Rattle.table.proofs.Words.{padded-slots, padded-room}
-use Rattle.table.specs.Agreeing.{Agrees}
-use Rattle.table.specs.Find.{Matched, matchedWith, Finding, finding, findingOf, foundWith, Matching}
-use Rattle.table.specs.Hits.{width, slots}
-use Rattle.table.specs.declared.find.Matches.{Matches}
-use Rattle.table.specs.declared.location.Location.{Location}
+use Rattle.table.specs.{Agreeing.{Agrees}, Find.{Matched, matchedWith, Finding, finding, findingOf, foundWith, Matching}, Hits.{width, slots}}
+use Rattle.table.specs.declared.{find.Matches.{Matches}, location.Location.{Location}}
 
 module _ {n : ℕ} {ws : List ℕ} {found : Matched} {matches : Matches} (m : Matching n ws found matches) where
   pub count-is : matches .count ≡ length (found .matches)

@@ -1,34 +1,18 @@
 -- An answered search went through every row up to where it ended, and its mark says why it ended there. Assumes nothing.
-use mathlib.Core.Path.{_≡_, refl, sym, ap, subst, _∙_}
-use mathlib.Core.Bool.{Bool, true, false}
-use mathlib.Core.List.{List, [], _∷_, _++_, append-assoc, append-nil}
+use mathlib.Core.{Path.{_≡_, refl, sym, ap, subst, _∙_}, Bool.{Bool, true, false}, List.{List, [], _∷_, _++_, append-assoc, append-nil}}
 use Prim.Native.Nat.{ℕ}
 use native.Mathlib.Omega.{arith}
-use lib.Dec.{ltb, eqb}
-use lib.ListN.{length}
-use Rattle.numbers.proofs.Refusals.{Listed}
-use Rattle.numbers.proofs.Replies.{given-from}
-use Rattle.numbers.specs.Answer.{if_then_else_}
-use Rattle.numbers.specs.Reply.{Reply, given, plain, demand, _>>_}
+use lib.{Dec.{ltb, eqb}, ListN.{length}}
+use Rattle.numbers.{proofs.{Refusals.{Listed}, Replies.{given-from}}, specs.{Answer.{if_then_else_}, Reply.{Reply, given, plain, demand, _>>_}}}
 use Rattle.numbers.specs.Reply as R
-use Rattle.border.specs.Verdict.{Judgement, reached}
+use Rattle.border.specs.{Verdict.{Judgement, reached}, declared.{place.Point.{Point}, verdict.Verdict.{Verdict}}}
 use Rattle.border.specs.Verdict as J
-use Rattle.border.specs.declared.place.Point.{Point}
-use Rattle.border.specs.declared.verdict.Verdict.{Verdict}
-use Rattle.header.specs.Header.{headOf}
-use Rattle.header.specs.declared.header.Head.{Head}
+use Rattle.header.specs.{Header.{headOf}, declared.header.Head.{Head}}
 use Rattle.table.specs.Ending.{hitsOf, Through, here, outside, judged, Ends, at-the-end, above, unread, broken, Ending, Behind}
-use Rattle.table.specs.Find.{fixOf, isPrecision, Matched, matchedWith}
-use Rattle.table.specs.Merge.{merged}
-use Rattle.table.specs.Rest.{restMark}
-use Rattle.table.specs.Rows.{Rows, row, tableEnd, unreadable, rowsIn}
+use Rattle.table.specs.{Find.{fixOf, isPrecision, Matched, matchedWith}, Merge.{merged}, Rest.{restMark}, Rows.{Rows, row, tableEnd, unreadable, rowsIn}}
+use Rattle.table.specs.{Search.{kindOf, rowHit, judgedTurn, rowTurn, Found, ended, afterTurn, seek, judgeIn, farthest, searched}, Table.{isAbove, holds}}
+use Rattle.table.specs.declared.{hits.Hit.{Hit}, location.Location.{Location}, rows.Row.{Row}, search.Turn.the-variants.{On, Met}}
 use Rattle.table.specs.Rows as T
-use Rattle.table.specs.Search.{kindOf, rowHit, judgedTurn, rowTurn, Found, ended, afterTurn, seek, judgeIn, farthest, searched}
-use Rattle.table.specs.Table.{isAbove, holds}
-use Rattle.table.specs.declared.hits.Hit.{Hit}
-use Rattle.table.specs.declared.location.Location.{Location}
-use Rattle.table.specs.declared.rows.Row.{Row}
-use Rattle.table.specs.declared.search.Turn.the-variants.{On, Met}
 
 -- ---- the search of rows
 module _ (judge : ℕ → ℕ → Judgement) (fix : Point) (end room : ℕ) where

@@ -1,25 +1,17 @@
 -- A table read strictly (request Q-6): the same rows up to one that is refused 31, and behind an early stop the same mark. Assumes nothing.
 use Prim.Native.Nat.{ℕ, zero, suc, _-_, _≤_, _<_}
 use borrow.Author.Tests.{lt-ltb}
-use lib.Dec.{ltb}
-use lib.ListN.{length}
-use mathlib.Core.Bool.{Bool, true, false}
-use mathlib.Core.List.{List}
-use mathlib.Core.Path.{_≡_, refl, ap}
+use lib.{Dec.{ltb}, ListN.{length}}
+use mathlib.Core.{Bool.{Bool, true, false}, List.{List}, Path.{_≡_, refl, ap}}
 use native.Mathlib.Omega.{arith}
 use Rattle.border.specs.declared.place.Point.{Point}
 use Rattle.numbers.proofs.Readings.{Strictly, cut, same, then-strictly, reading-strictly}
-use Rattle.numbers.specs.Answer.{Answer, found, failed, if_then_else_, _>>=_}
+use Rattle.numbers.specs.{Answer.{Answer, found, failed, if_then_else_, _>>=_}, Varint.{readingOf}}
 use Rattle.numbers.specs.Answer as A
-use Rattle.numbers.specs.Varint.{readingOf}
 use Rattle.table.proofs.Beside.{Beside, held, gone, none, entry-beside}
-use Rattle.table.specs.Rest.{restMark}
-use Rattle.table.specs.Rows.{Rows, tableEnd, unreadable, rowOf, after, rowsThen, rowBy, rowsWithin, rowsFrom}
+use Rattle.table.specs.{Rest.{restMark}, Rows.{Rows, tableEnd, unreadable, rowOf, after, rowsThen, rowBy, rowsWithin, rowsFrom}, Table.{stepsBy, entryBy, holds}}
+use Rattle.table.specs.declared.{rows.{Cursor.{Cursor}, Row.{Row}}, table.Entry.{Entry}}
 use Rattle.table.specs.Rows as T
-use Rattle.table.specs.Table.{stepsBy, entryBy, holds}
-use Rattle.table.specs.declared.rows.Cursor.{Cursor}
-use Rattle.table.specs.declared.rows.Row.{Row}
-use Rattle.table.specs.declared.table.Entry.{Entry}
 
 -- strict rows beside the plain ones; a mark says the same from each row on
 pub data StrictRows (mark : Rows → ℕ) : Rows → Rows → Type 0 where

@@ -2,21 +2,12 @@
 use Prim.Native.Nat.{ℕ, zero, suc, _-_, _≤_, _<_}
 use borrow.Author.Tests.{ltb-true, lt-ltb, le-ltb}
 use lib.Dec.{ltb}
-use mathlib.Core.Bool.{Bool, true, false}
-use mathlib.Core.List.{List}
-use mathlib.Core.Path.{_≡_, refl, sym, ap, _∙_}
-use native.Mathlib.Nat.{le-refl, le-of-lt}
-use native.Mathlib.Omega.{arith}
-use Rattle.numbers.proofs.Answers.{All, then-all}
-use Rattle.numbers.proofs.Laws.{Read}
-use Rattle.numbers.proofs.Readings.{reading-read}
-use Rattle.numbers.specs.Answer.{Answer, found, if_then_else_, _>>=_}
-use Rattle.numbers.specs.Varint.{Numeral, readingOf}
-use Rattle.table.specs.Rows.{after, Rows, row, tableEnd, unreadable, refused, rowsThen, rowBy, rowsWithin, rowsFrom}
-use Rattle.table.specs.Table.{stepsBy, entryBy}
-use Rattle.table.specs.declared.rows.Cursor.{Cursor}
-use Rattle.table.specs.declared.rows.Row.{Row}
-use Rattle.table.specs.declared.table.Entry.{Entry}
+use mathlib.Core.{Bool.{Bool, true, false}, List.{List}, Path.{_≡_, refl, sym, ap, _∙_}}
+use native.Mathlib.{Nat.{le-refl, le-of-lt}, Omega.{arith}}
+use Rattle.numbers.proofs.{Answers.{All, then-all}, Laws.{Read}, Readings.{reading-read}}
+use Rattle.numbers.specs.{Answer.{Answer, found, if_then_else_, _>>=_}, Varint.{Numeral, readingOf}}
+use Rattle.table.specs.{Rows.{after, Rows, row, tableEnd, unreadable, refused, rowsThen, rowBy, rowsWithin, rowsFrom}, Table.{stepsBy, entryBy}}
+use Rattle.table.specs.declared.{rows.{Cursor.{Cursor}, Row.{Row}}, table.Entry.{Entry}}
 use Rattle.numbers.specs.Answer as A
 
 -- a reading whose numbers end after their place

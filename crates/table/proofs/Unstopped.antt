@@ -1,35 +1,19 @@
 -- Mark 1 means that nothing was missed: the search finds what one finds that never stops early. Mark 4 means that something may have been. Assumes nothing.
 use Prim.Native.Nat.{ℕ}
-use lib.Dec.{ltb}
-use lib.ListN.{length}
-use mathlib.Core.Bool.{Bool, true, false}
-use mathlib.Core.List.{List, [], _∷_, _++_}
-use mathlib.Core.Path.{_≡_, refl, sym, ap, _∙_}
+use lib.{Dec.{ltb}, ListN.{length}}
+use mathlib.Core.{Bool.{Bool, true, false}, List.{List, [], _∷_, _++_}, Path.{_≡_, refl, sym, ap, _∙_}}
 use native.Mathlib.Omega.{arith}
-use Rattle.border.specs.Verdict.{Judgement}
-use Rattle.border.specs.declared.place.Point.{Point}
+use Rattle.border.specs.{Verdict.{Judgement}, declared.place.Point.{Point}}
 use Rattle.header.specs.declared.header.Head.{Head}
-use Rattle.numbers.proofs.Replies.{given-from}
-use Rattle.numbers.specs.Answer.{if_then_else_}
-use Rattle.numbers.specs.Reply.{Reply, given, plain, demand, _>>=_, _>>_}
+use Rattle.numbers.{proofs.Replies.{given-from}, specs.{Answer.{if_then_else_}, Reply.{Reply, given, plain, demand, _>>=_, _>>_}}}
 use Rattle.numbers.specs.Reply as R
-use Rattle.table.proofs.SearchEnds.{met-check}
-use Rattle.table.proofs.rest.Remaining.{not-held}
+use Rattle.table.proofs.{SearchEnds.{met-check}, rest.Remaining.{not-held}}
 use Rattle.table.proofs.search.Turns as W
-use Rattle.table.specs.Ending.{Ends, at-the-end, above, unread, broken}
-use Rattle.table.specs.Find.{fixOf, isPrecision, Matched, matchedWith}
-use Rattle.table.specs.Merge.{merged}
-use Rattle.table.specs.Rest.{restMark}
-use Rattle.table.specs.Rows.{Rows, row, tableEnd, unreadable, rowsIn}
+use Rattle.table.specs.{Ending.{Ends, at-the-end, above, unread, broken}, Find.{fixOf, isPrecision, Matched, matchedWith}, Merge.{merged}, Rest.{restMark}}
+use Rattle.table.specs.{Rows.{Rows, row, tableEnd, unreadable, rowsIn}, Search.{rowTurn, Found, ended, afterTurn, seek, judgeIn, farthest, searched}}
+use Rattle.table.specs.{Table.{isAbove, holds}, Unstopped.{seekAll, matchedAll, SomeHolds, this, later, PassedOver}}
+use Rattle.table.specs.declared.{hits.Hit.{Hit}, location.Location.{Location}, rows.Row.{Row}, search.Turn.{the-variants.{On, Met, Stopped, Refused}, Turn}}
 use Rattle.table.specs.Rows as T
-use Rattle.table.specs.Search.{rowTurn, Found, ended, afterTurn, seek, judgeIn, farthest, searched}
-use Rattle.table.specs.Table.{isAbove, holds}
-use Rattle.table.specs.Unstopped.{seekAll, matchedAll, SomeHolds, this, later, PassedOver}
-use Rattle.table.specs.declared.hits.Hit.{Hit}
-use Rattle.table.specs.declared.location.Location.{Location}
-use Rattle.table.specs.declared.rows.Row.{Row}
-use Rattle.table.specs.declared.search.Turn.the-variants.{On, Met, Stopped, Refused}
-use Rattle.table.specs.declared.search.Turn.{Turn}
 
 -- ---- the rest of a table
 -- what a rest's mark says of its first row, by its two tests

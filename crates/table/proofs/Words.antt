@@ -1,13 +1,10 @@
 -- Hits and their words. Assumes nothing.
-use mathlib.Core.Path.{_≡_, refl, sym, ap, _∙_}
-use mathlib.Core.List.{List, [], _∷_, _++_}
+use mathlib.Core.{Path.{_≡_, refl, sym, ap, _∙_}, List.{List, [], _∷_, _++_}}
 use Prim.Native.Nat.{ℕ, zero, suc, _+_, _-_, _*_, _/_, _≤_, _<_}
 use native.Mathlib.Omega.{arith}
-use lib.ListN.{length, getD, set, take, length-append, length-replicate}
-use lib.Seq.{length-take-le, getD-take}
+use lib.{ListN.{length, getD, set, take, length-append, length-replicate}, Seq.{length-take-le, getD-take}}
 use Rattle.numbers.specs.Lists.{zeros, padded}
-use Rattle.table.specs.Hits.{width, wordsOf, words, slots, Real, noHit, hitAt, putHit}
-use Rattle.table.specs.declared.hits.Hit.{Hit}
+use Rattle.table.specs.{Hits.{width, wordsOf, words, slots, Real, noHit, hitAt, putHit}, declared.hits.Hit.{Hit}}
 
 pub words-length : (hits : List Hit) → length (words hits) ≡ width * length hits
 unfolding words

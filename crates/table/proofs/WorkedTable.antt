@@ -1,23 +1,14 @@
 -- Document 01's printed file has a table in order whose box is that of its one border, (2,2) (10,2) (10,10) (2,10). So its search is that of the border alone. Assumes nothing.
 use Prim.Native.Nat.{ℕ}
 use lib.IntN.{pos}
-use mathlib.Core.Bool.{false}
-use mathlib.Core.List.{List, [], _∷_, _++_, zipWith}
-use mathlib.Core.Path.{_≡_, refl, _∙_}
+use mathlib.Core.{Bool.{false}, List.{List, [], _∷_, _++_, zipWith}, Path.{_≡_, refl, _∙_}}
 use native.Mathlib.Omega.{arith}
-use Rattle.border.proofs.WorkedBytes.{packed-bytes}
-use Rattle.border.proofs.WrittenTrace.{written-stands}
-use Rattle.border.specs.Box.{minZ, maxZ, boxOver, boxOf}
-use Rattle.border.specs.Moves.{pointsOf}
-use Rattle.border.specs.Written.{Placed}
-use Rattle.border.specs.declared.place.Point.{Point}
-use Rattle.numbers.specs.Point.{signedOf}
-use Rattle.numbers.specs.Varint.{readingOf, forwardAt, valueOf, sizeOf, tooLong}
+use Rattle.border.proofs.{WorkedBytes.{packed-bytes}, WrittenTrace.{written-stands}}
+use Rattle.border.specs.{Box.{minZ, maxZ, boxOver, boxOf}, Moves.{pointsOf}, Written.{Placed}, declared.place.Point.{Point}}
+use Rattle.numbers.specs.{Point.{signedOf}, Varint.{readingOf, forwardAt, valueOf, sizeOf, tooLong}}
 use Rattle.table.proofs.InOrder.{early-stop-loses-nothing, boxes-change-nothing}
-use Rattle.table.specs.Ordered.{Ordered, ends, next, AllBoxed, none, one, seekAlone}
-use Rattle.table.specs.Rows.{rowsThen, rowBy, rowsWithin, rowsFrom, rowsIn}
-use Rattle.table.specs.Search.{judgeIn, farthest, searched}
-use Rattle.table.specs.Table.{stepsBy, entryBy}
+use Rattle.table.specs.{Ordered.{Ordered, ends, next, AllBoxed, none, one, seekAlone}, Rows.{rowsThen, rowBy, rowsWithin, rowsFrom, rowsIn}}
+use Rattle.table.specs.{Search.{judgeIn, farthest, searched}, Table.{stepsBy, entryBy}}
 use Rattle.header.specs.declared.header.Head.{Head}
 
 abbrev front : List ℕ

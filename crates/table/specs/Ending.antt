@@ -1,29 +1,14 @@
 -- How a search of rows ends: what it went through, and why it ended there.
-use mathlib.Core.Path.{_≡_}
-use mathlib.Core.Bool.{Bool, true, false}
-use mathlib.Core.List.{List, [], _∷_, _++_}
+use mathlib.Core.{Path.{_≡_}, Bool.{Bool, true, false}, List.{List, [], _∷_, _++_}}
 use Prim.Native.Nat.{ℕ}
-use lib.Dec.{eqb}
-use lib.ListN.{length}
-use Rattle.numbers.specs.Answer.{if_then_else_}
-use Rattle.border.specs.Verdict.{Judgement, reached}
+use lib.{Dec.{eqb}, ListN.{length}}
+use Rattle.numbers.specs.{Answer.{if_then_else_}, Lists.{padded}, Reply.{given}}
+use Rattle.border.specs.{Verdict.{Judgement, reached}, declared.{place.Point.{Point}, verdict.Verdict.{Verdict}}}
 use Rattle.border.specs.Verdict as J
-use Rattle.border.specs.declared.place.Point.{Point}
-use Rattle.border.specs.declared.verdict.Verdict.{Verdict}
-use Rattle.table.specs.Find.{fixOf}
-use Rattle.header.specs.Header.{headOf}
-use Rattle.table.specs.Hits.{words}
-use Rattle.numbers.specs.Lists.{padded}
-use Rattle.table.specs.Merge.{merged}
-use Rattle.numbers.specs.Reply.{given}
-use Rattle.table.specs.Rows.{Rows, row, tableEnd, unreadable, rowsIn}
-use Rattle.table.specs.Search.{kindOf, rowHit, Found, judgeIn, farthest}
-use Rattle.table.specs.Table.{isAbove, holds}
-use Rattle.header.specs.declared.header.Head.{Head}
-use Rattle.table.specs.declared.hits.Hit.{Hit}
-use Rattle.table.specs.declared.location.Location.{Location}
-use Rattle.table.specs.declared.rows.Row.{Row}
-use Rattle.table.specs.Rest.{restMark}
+use Rattle.table.specs.{Find.{fixOf}, Hits.{words}, Merge.{merged}, Rows.{Rows, row, tableEnd, unreadable, rowsIn}}
+use Rattle.table.specs.{Search.{kindOf, rowHit, Found, judgeIn, farthest}, Table.{isAbove, holds}}
+use Rattle.table.specs.{declared.{hits.Hit.{Hit}, location.Location.{Location}, rows.Row.{Row}}, Rest.{restMark}}
+use Rattle.header.specs.{Header.{headOf}, declared.header.Head.{Head}}
 
 -- the hit of a row by its border's verdict; none where the location is not in the zone
 abbrev pub hitsOf : Row → Verdict → List Hit

@@ -1,24 +1,12 @@
 -- What both lookups do in a file whose header was read: its precision is looked at, its table searched, and the hits merged.
-use mathlib.Core.Path.{_≡_}
-use mathlib.Core.Bool.{Bool, false, _&&_}
-use mathlib.Core.List.{List}
+use mathlib.Core.{Path.{_≡_}, Bool.{Bool, false, _&&_}, List.{List}}
 use Prim.Native.Nat.{ℕ, _/_}
-use lib.Dec.{leb}
-use lib.IntN.{pos}
-use lib.Ieee.{Float, fin}
-use lib.ListN.{length}
-use Rattle.numbers.specs.Float.{fixedPoint}
-use Rattle.numbers.specs.Lists.{zeros, padded}
-use Rattle.numbers.specs.Reply.{Reply, given, refused, plain, demand, _>>=_, _>>_}
-use Rattle.table.specs.Hits.{width, words}
-use Rattle.table.specs.Search.{searched}
-use Rattle.table.specs.Merge.{merged}
+use lib.{Dec.{leb}, IntN.{pos}, Ieee.{Float, fin}, ListN.{length}}
+use Rattle.numbers.specs.{Float.{fixedPoint}, Lists.{zeros, padded}, Reply.{Reply, given, refused, plain, demand, _>>=_, _>>_}}
+use Rattle.table.specs.{Hits.{width, words}, Search.{searched}, Merge.{merged}}
+use Rattle.table.specs.declared.{hits.Hit.{Hit}, location.Location.{Location}, find.{Matches.{Matches}, Found.{Found}}}
 use Rattle.header.specs.declared.header.Head.{Head}
-use Rattle.table.specs.declared.hits.Hit.{Hit}
 use Rattle.border.specs.declared.place.Point.{Point}
-use Rattle.table.specs.declared.location.Location.{Location}
-use Rattle.table.specs.declared.find.Matches.{Matches}
-use Rattle.table.specs.declared.find.Found.{Found}
 use Rattle.table.specs.declared.find.Found.the-variants as F
 use Rattle.table.specs.Search as S
 

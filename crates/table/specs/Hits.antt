@@ -1,6 +1,5 @@
 -- Hits in the lent words. A slot with kind 0 holds none.
-use mathlib.Core.Path.{_≡_}
-use mathlib.Core.List.{List, [], _∷_, _++_}
+use mathlib.Core.{Path.{_≡_}, List.{List, [], _∷_, _++_}}
 use Prim.Native.Nat.{ℕ, _+_, _*_}
 use lib.ListN.{getD, set}
 use Rattle.table.specs.declared.hits.Hit.{Hit}

@@ -1,11 +1,9 @@
 -- Two boards each search half of a table: what a board has of each metadata id, and how the two are joined (request Q-12).
-use mathlib.Core.Bool.{Bool, true, false}
-use mathlib.Core.List.{List, [], _∷_, _++_, map}
+use mathlib.Core.{Bool.{Bool, true, false}, List.{List, [], _∷_, _++_, map}}
 use Prim.Native.Nat.{ℕ}
 use lib.Dec.{eqb}
 use Rattle.numbers.specs.Answer.{if_then_else_}
-use Rattle.table.specs.Merge.{Summary, empty, _⊕_, summary, groupKind, seen, matchOf}
-use Rattle.table.specs.declared.hits.Hit.{Hit}
+use Rattle.table.specs.{Merge.{Summary, empty, _⊕_, summary, groupKind, seen, matchOf}, declared.hits.Hit.{Hit}}
 
 -- a group on a board: the first hit that it has there, and its summary
 pub record Group : Type 0 where

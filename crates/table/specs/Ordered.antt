@@ -1,24 +1,12 @@
 -- Tables in order, and tables whose boxes are those of their borders' points: what a built file has.
 use Prim.Native.Nat.{ℕ, _+_, _%_, _^_}
-use lib.Dec.{ltb}
-use lib.IntN.{ℤ}
-use lib.Signed.{leZ}
-use mathlib.Core.Bool.{true, false}
-use mathlib.Core.List.{List, [], _∷_}
-use mathlib.Core.Path.{_≡_}
-use Rattle.border.specs.Box.{Box, boxOf}
-use Rattle.border.specs.Encoding.{versionOf}
-use Rattle.border.specs.Verdict.{Judgement}
-use Rattle.border.specs.Written.{Stands}
-use Rattle.border.specs.declared.place.Point.{Point}
+use lib.{Dec.{ltb}, IntN.{ℤ}, Signed.{leZ}}
+use mathlib.Core.{Bool.{true, false}, List.{List, [], _∷_}, Path.{_≡_}}
+use Rattle.border.specs.{Box.{Box, boxOf}, Encoding.{versionOf}, Verdict.{Judgement}, Written.{Stands}, declared.place.Point.{Point}}
 use Rattle.numbers.specs.Reply.{Reply, plain}
-use Rattle.table.specs.Rows.{Rows, row, tableEnd, unreadable}
-use Rattle.table.specs.Search.{Found, ended, afterTurn, judgedTurn}
-use Rattle.table.specs.Table.{holds}
+use Rattle.table.specs.{Rows.{Rows, row, tableEnd, unreadable}, Search.{Found, ended, afterTurn, judgedTurn}, Table.{holds}}
+use Rattle.table.specs.declared.{hits.Hit.{Hit}, rows.Row.{Row}, table.Bounds.{Bounds}}
 use Rattle.header.specs.declared.header.Head.{Head}
-use Rattle.table.specs.declared.hits.Hit.{Hit}
-use Rattle.table.specs.declared.rows.Row.{Row}
-use Rattle.table.specs.declared.table.Bounds.{Bounds}
 use Rattle.numbers.specs.Reply as R
 use Rattle.table.specs.Rows as T
 

@@ -3,10 +3,8 @@ use Prim.Native.Nat.{ℕ}
 use lib.Dec.{ltb}
 use mathlib.Core.Bool.{Bool, false}
 use Rattle.border.specs.declared.place.Point.{Point}
-use Rattle.numbers.specs.Answer.{Answer, found, failed, refused, if_then_else_, _>>=_}
-use Rattle.numbers.specs.Varint.{Numeral}
-use Rattle.table.specs.Rows.{Rows, row, tableEnd, unreadable}
-use Rattle.table.specs.Table.{boundsOf, holds}
+use Rattle.numbers.specs.{Answer.{Answer, found, failed, refused, if_then_else_, _>>=_}, Varint.{Numeral}}
+use Rattle.table.specs.{Rows.{Rows, row, tableEnd, unreadable}, Table.{boundsOf, holds}}
 use Rattle.table.specs.Rows as T
 
 -- the rows from the stopping one on: mark 2 at the first that can't be read or runs past the table's end, mark 4 at the first that holds the location,

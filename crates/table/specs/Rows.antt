@@ -2,15 +2,9 @@
 use Prim.Native.Nat.{ℕ, zero, suc, _+_, _-_, _%_, _^_}
 use lib.Dec.{ltb}
 use mathlib.Core.List.{List}
-use Rattle.numbers.specs.Answer.{Answer, found, if_then_else_, _>>=_}
-use Rattle.numbers.specs.Point.{low32, halfOf}
-use Rattle.numbers.specs.Varint.{Numeral, readingOf}
-use Rattle.table.specs.Table.{entryBy}
+use Rattle.numbers.specs.{Answer.{Answer, found, if_then_else_, _>>=_}, Point.{low32, halfOf}, Varint.{Numeral, readingOf}}
+use Rattle.table.specs.{Table.{entryBy}, declared.{rows.{Cursor.{Cursor}, Reading.{Reading}, Row.{Row}}, table.Entry.{Entry}}}
 use Rattle.header.specs.declared.header.Head.{Head}
-use Rattle.table.specs.declared.rows.Cursor.{Cursor}
-use Rattle.table.specs.declared.rows.Reading.{Reading}
-use Rattle.table.specs.declared.rows.Row.{Row}
-use Rattle.table.specs.declared.table.Entry.{Entry}
 use Rattle.numbers.specs.Answer as A
 use Rattle.table.specs.declared.rows.Reading.the-variants as R
 

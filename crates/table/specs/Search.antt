@@ -1,29 +1,13 @@
 -- The search, as document 01 has it: a fold over the rows of the table.
 use Prim.Native.Nat.{ℕ, _+_, _-_, _%_, _^_}
-use lib.Dec.{ltb, eqb}
-use lib.ListN.{length}
-use mathlib.Core.Bool.{Bool}
-use mathlib.Core.List.{List, [], _∷_, _++_}
-use mathlib.Core.Path.{_≡_}
-use Rattle.border.specs.Encoding.{versionOf, encodedBy}
-use Rattle.border.specs.Verdict.{Judgement, reached, judgedAt}
-use Rattle.border.specs.declared.place.Point.{Point}
-use Rattle.border.specs.declared.verdict.Verdict.the-variants.{NotInZone, InZone, InExcludedZone, OnBorderVertex, OnBorderSegment}
-use Rattle.border.specs.declared.verdict.Verdict.{Verdict}
-use Rattle.numbers.specs.Answer.{if_then_else_}
-use Rattle.table.specs.Hits.{hitOf, words, Real}
-use Rattle.numbers.specs.Lists.{padded}
-use Rattle.numbers.specs.Reply.{Reply, given, plain}
-use Rattle.table.specs.Rest.{restMark}
-use Rattle.table.specs.Rows.{Rows, row, tableEnd, unreadable, rowsIn}
-use Rattle.table.specs.Table.{isAbove, holds}
+use lib.{Dec.{ltb, eqb}, ListN.{length}}
+use mathlib.Core.{Bool.{Bool}, List.{List, [], _∷_, _++_}, Path.{_≡_}}
+use Rattle.border.specs.{Encoding.{versionOf, encodedBy}, Verdict.{Judgement, reached, judgedAt}}
+use Rattle.border.specs.declared.{place.Point.{Point}, verdict.Verdict.{the-variants.{NotInZone, InZone, InExcludedZone, OnBorderVertex, OnBorderSegment}, Verdict}}
+use Rattle.numbers.specs.{Answer.{if_then_else_}, Lists.{padded}, Reply.{Reply, given, plain}}
+use Rattle.table.specs.{Hits.{hitOf, words, Real}, Rest.{restMark}, Rows.{Rows, row, tableEnd, unreadable, rowsIn}, Table.{isAbove, holds}}
+use Rattle.table.specs.declared.{hits.Hit.{Hit}, rows.Row.{Row}, search.{Ended.{Ended}, Searched.{Searched}, Turn.{the-variants.{On, Met, Stopped, Refused}, Turn}}}
 use Rattle.header.specs.declared.header.Head.{Head}
-use Rattle.table.specs.declared.hits.Hit.{Hit}
-use Rattle.table.specs.declared.rows.Row.{Row}
-use Rattle.table.specs.declared.search.Ended.{Ended}
-use Rattle.table.specs.declared.search.Searched.{Searched}
-use Rattle.table.specs.declared.search.Turn.the-variants.{On, Met, Stopped, Refused}
-use Rattle.table.specs.declared.search.Turn.{Turn}
 use Rattle.border.specs.Verdict as J
 use Rattle.numbers.specs.Reply as R
 use Rattle.table.specs.Rows as T

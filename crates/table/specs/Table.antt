@@ -2,16 +2,10 @@
 use Prim.Native.Nat.{ℕ}
 use lib.Signed.{ltZ}
 use mathlib.Core.Bool.{Bool}
-use Rattle.border.specs.Box.{Box}
+use Rattle.border.specs.{Box.{Box}, declared.place.Point.{Point}}
 use Rattle.border.specs.Box as B
-use Rattle.border.specs.declared.place.Point.{Point}
-use Rattle.numbers.specs.Answer.{Answer, found, failed, refused, _>>=_}
-use Rattle.numbers.specs.Point.{signedOf}
-use Rattle.numbers.specs.Varint.{Numeral, told}
-use Rattle.numbers.specs.declared.varint.Varint.{Varint}
-use Rattle.table.specs.declared.table.Bounds.{Bounds}
-use Rattle.table.specs.declared.table.Entered.{Entered}
-use Rattle.table.specs.declared.table.Entry.{Entry}
+use Rattle.numbers.specs.{Answer.{Answer, found, failed, refused, _>>=_}, Point.{signedOf}, Varint.{Numeral, told}, declared.varint.Varint.{Varint}}
+use Rattle.table.specs.declared.table.{Bounds.{Bounds}, Entered.{Entered}, Entry.{Entry}}
 use Rattle.table.specs.declared.table.Entered.the-variants as E
 
 -- lower latitude, lower longitude, upper latitude, upper longitude, each a signed number

@@ -1,21 +1,13 @@
 -- The search that never stops early: what mark 1 is held against.
-use mathlib.Core.Bool.{Bool, true}
-use mathlib.Core.List.{List, []}
-use mathlib.Core.Path.{_≡_}
+use mathlib.Core.{Bool.{Bool, true}, List.{List, []}, Path.{_≡_}}
 use Prim.Native.Nat.{ℕ}
-use Rattle.border.specs.Verdict.{Judgement}
-use Rattle.border.specs.declared.place.Point.{Point}
+use Rattle.border.specs.{Verdict.{Judgement}, declared.place.Point.{Point}}
 use Rattle.header.specs.declared.header.Head.{Head}
 use Rattle.numbers.specs.Reply.{Reply, plain}
 use Rattle.numbers.specs.Reply as R
-use Rattle.table.specs.Find.{Matched, matchedBy}
-use Rattle.table.specs.Rows.{Rows, row, tableEnd, unreadable, rowsIn}
+use Rattle.table.specs.{Find.{Matched, matchedBy}, Rows.{Rows, row, tableEnd, unreadable, rowsIn}, Search.{Found, ended, afterTurn, rowTurn, judgeIn, farthest}}
+use Rattle.table.specs.{Table.{isAbove, holds}, declared.{hits.Hit.{Hit}, location.Location.{Location}, rows.Row.{Row}}}
 use Rattle.table.specs.Rows as T
-use Rattle.table.specs.Search.{Found, ended, afterTurn, rowTurn, judgeIn, farthest}
-use Rattle.table.specs.Table.{isAbove, holds}
-use Rattle.table.specs.declared.hits.Hit.{Hit}
-use Rattle.table.specs.declared.location.Location.{Location}
-use Rattle.table.specs.declared.rows.Row.{Row}
 
 -- as `seek`, but no row stops it because of its lower latitude
 unfoldable pub seekAll : (ℕ → ℕ → Judgement) → Point → ℕ → Rows → ℕ → List Hit → Reply Found

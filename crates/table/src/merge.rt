@@ -1,11 +1,9 @@
 // Merging in place: hits with one metadata id become one match, where the first of them stood in order.
-ghost use mathlib.Core.Path.{_≡_};
+ghost use mathlib.Core.{Path.{_≡_}, List.{_++_}};
 ghost use Prim.Native.Nat.{_+_, _/_, _^_, _≤_, _<_};
-ghost use mathlib.Core.List.{_++_};
 ghost use lib.ListN.{length, take, drop};
 ghost use Rattle.numbers.specs.Lists.{padded};
-ghost use Rattle.table.specs.Hits.{width, words, slots, Real};
-ghost use Rattle.table.specs.Merge.{later, _⊕_, single, summary, groupKind, merged, tallied, cleared};
+ghost use Rattle.table.specs.{Hits.{width, words, slots, Real}, Merge.{later, _⊕_, single, summary, groupKind, merged, tallied, cleared}};
 use crate::codes::EXCLUDED;
 use crate::codes::IN_ZONE;
 use crate::codes::NO_KIND;

@@ -2,10 +2,8 @@
 ghost use mathlib.Core.Path.{_≡_};
 ghost use lib.Dec.{ltb};
 ghost use Prim.Native.Nat.{_<_};
-ghost use Rattle.numbers.specs.Answer.{if_then_else_};
-ghost use Rattle.numbers.specs.Varint.{nowhere, readingOf, endOf};
-ghost use Rattle.table.specs.Rows.{rowsFrom, startAt};
-ghost use Rattle.table.specs.Rest.{restMark, fiveBy, heldBy, isHeld};
+ghost use Rattle.numbers.specs.{Answer.{if_then_else_}, Varint.{nowhere, readingOf, endOf}};
+ghost use Rattle.table.specs.{Rows.{rowsFrom, startAt}, Rest.{restMark, fiveBy, heldBy, isHeld}};
 use crate::codes::OUT_OF_ORDER;
 use crate::codes::UNREADABLE;
 use crate::codes::WHOLE;

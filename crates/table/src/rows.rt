@@ -1,8 +1,7 @@
 // The rows of the box table: each entry with its place, its number and the sums of metadata id and border place up to it.
 ghost use mathlib.Core.Path.{_≡_};
 ghost use Prim.Native.Nat.{_+_, _%_, _^_};
-ghost use Rattle.numbers.specs.Point.{low32, halfOf};
-ghost use Rattle.numbers.specs.Varint.{readingOf};
+ghost use Rattle.numbers.specs.{Point.{low32, halfOf}, Varint.{readingOf}};
 ghost use Rattle.table.specs.Rows.{rowOf, after, startAt, rowBy, toldReading};
 use crate::table::Bounds;
 use crate::table::Entered;

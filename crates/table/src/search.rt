@@ -2,12 +2,9 @@
 ghost use mathlib.Core.Path.{_≡_};
 ghost use Prim.Native.Nat.{_/_};
 ghost use lib.ListN.{length};
-ghost use Rattle.border.specs.Encoding.{versionOf};
-ghost use Rattle.border.specs.Verdict.{told};
+ghost use Rattle.border.specs.{Encoding.{versionOf}, Verdict.{told}};
 ghost use Rattle.numbers.specs.Lists.{zeros};
-ghost use Rattle.table.specs.Hits.{width};
-ghost use Rattle.table.specs.Agreeing.{Agrees};
-ghost use Rattle.table.specs.Search.{kindOf, judgedTurn, rowTurn, judgeIn, searched, toldSearched, Sought};
+ghost use Rattle.table.specs.{Hits.{width}, Agreeing.{Agrees}, Search.{kindOf, judgedTurn, rowTurn, judgeIn, searched, toldSearched, Sought}};
 use crate::codes::BROKEN;
 use crate::codes::EXCLUDED;
 use crate::codes::HITS_FULL;

@@ -1,28 +1,16 @@
 -- Two files of one length that are the same from a place on: what is read and answered behind it is the same. Assumes nothing.
 use Prim.Native.Nat.{ℕ, zero, suc, _+_, _-_, _*_, _<_, _≤_}
-use lib.Dec.{ltb, leb, eqb}
-use lib.ListN.{length, drop, take}
-use mathlib.Core.Bool.{Bool, true, false, _&&_}
-use mathlib.Core.List.{List}
-use mathlib.Core.Path.{_≡_, refl, ap, ap₂, _∙_}
-use mir.Syntax.{w32}
-use mir.Val.{toZ}
+use lib.{Dec.{ltb, leb, eqb}, ListN.{length, drop, take}}
+use mathlib.Core.{Bool.{Bool, true, false, _&&_}, List.{List}, Path.{_≡_, refl, ap, ap₂, _∙_}}
+use mir.{Syntax.{w32}, Val.{toZ}}
 use native.Mathlib.Omega.{arith}
-use Rattle.tzif.proofs.Alike.{Same, be32-same, time-same, first-same}
-use Rattle.tzif.proofs.Lasts.{last-same}
-use Rattle.tzif.specs.Block.{timePlace, indicesOf, typesOf, designationsOf}
-use Rattle.tzif.specs.Check.{typePlace, leapPlace, correctionOf, correctionBefore, correctionAt}
-use Rattle.tzif.specs.Local.{typeIn, typeBehind, isAfterLast, byTable, named, lent}
-use Rattle.tzif.specs.Number.{octet, be32, raised}
-use Rattle.tzif.specs.Reply.{Reply, given, refused, refusal, demand, if_then_else_, _>>_}
-use Rattle.tzif.specs.Text.{isStop, runTo}
-use Rattle.tzif.specs.Times.{timeIn, transitionsOf, occurrencesOf, lastNotAfter}
-use Rattle.tzif.specs.Zone.{stringSize, newlineAt, readFooter}
-use Rattle.tzif.specs.declared.block.Block.{Block}
-use Rattle.tzif.specs.declared.local.Answer.{Answer}
+use Rattle.tzif.proofs.{Alike.{Same, be32-same, time-same, first-same}, Lasts.{last-same}}
+use Rattle.tzif.specs.{Block.{timePlace, indicesOf, typesOf, designationsOf}, Check.{typePlace, leapPlace, correctionOf, correctionBefore, correctionAt}}
+use Rattle.tzif.specs.{Local.{typeIn, typeBehind, isAfterLast, byTable, named, lent}, Number.{octet, be32, raised}}
+use Rattle.tzif.specs.{Reply.{Reply, given, refused, refusal, demand, if_then_else_, _>>_}, Text.{isStop, runTo}}
+use Rattle.tzif.specs.{Times.{timeIn, transitionsOf, occurrencesOf, lastNotAfter}, Zone.{stringSize, newlineAt, readFooter}}
+use Rattle.tzif.specs.declared.{block.Block.{Block}, local.{Answer.{Answer}, Found.{Found}}, refusal.Refusal.{Refusal}}
 use Rattle.tzif.specs.declared.local.Answer.the-variants as A
-use Rattle.tzif.specs.declared.local.Found.{Found}
-use Rattle.tzif.specs.declared.refusal.Refusal.{Refusal}
 
 pub record Beyond (file other : List ℕ) (from : ℕ) : Type 0 where
   pub size : length file ≡ length other

@@ -2,10 +2,8 @@
 use Prim.Native.Nat.{ℕ, zero, suc, _+_, _-_, _≤_, _<_}
 use lib.ListN.{length, getD, set, take, drop, length-append, length-drop, length-replicate}
 use lib.Seq.{length-take-le, drop-cons, take-suc, set-at, append-snoc, take-length, drop-length}
-use mathlib.Core.List.{List, [], _∷_, _++_, append-nil}
-use mathlib.Core.Path.{_≡_, refl, sym, ap, _∙_}
-use native.Mathlib.Numerals.{add-one}
-use native.Mathlib.Omega.{arith}
+use mathlib.Core.{List.{List, [], _∷_, _++_, append-nil}, Path.{_≡_, refl, sym, ap, _∙_}}
+use native.Mathlib.{Numerals.{add-one}, Omega.{arith}}
 use Rattle.tzif.specs.Text.{zeros, padded}
 
 -- what stands after i octets

@@ -2,19 +2,10 @@
 use Prim.Native.Nat.{ℕ, suc, _+_, _-_, _<_, _≤_}
 use borrow.Author.Tests.{ltb-true, ltb-false, eqb-true, eqb-false, eq-eqb}
 use lib.Dec.{ltb, eqb}
-use mathlib.Core.Bool.{Bool, true, false, _||_}
-use mathlib.Core.List.{List}
-use mathlib.Core.Path.{_≡_, refl, ap, _∙_}
+use mathlib.Core.{Bool.{Bool, true, false, _||_}, List.{List}, Path.{_≡_, refl, ap, _∙_}}
 use native.Mathlib.Omega.{arith}
-use Rattle.tzif.proofs.Firsts.{first-before, first-holds}
-use Rattle.tzif.proofs.Goods.{ReadBlock, type-ended}
-use Rattle.tzif.proofs.Lasts.{last-within, last-holds, last-fails}
-use Rattle.tzif.specs.Block.{designationsOf}
-use Rattle.tzif.specs.Check.{typePlace, isNul, nulEnd}
-use Rattle.tzif.specs.Local.{typeIn}
-use Rattle.tzif.specs.Number.{octet}
-use Rattle.tzif.specs.Text.{firstWith, isStop, runTo}
-use Rattle.tzif.specs.Times.{lastWith}
+use Rattle.tzif.proofs.{Firsts.{first-before, first-holds}, Goods.{ReadBlock, type-ended}, Lasts.{last-within, last-holds, last-fails}}
+use Rattle.tzif.specs.{Block.{designationsOf}, Check.{typePlace, isNul, nulEnd}, Local.{typeIn}, Number.{octet}, Text.{firstWith, isStop, runTo}, Times.{lastWith}}
 use Rattle.tzif.specs.declared.block.Block.{Block}
 
 -- a NUL of the designations at or after an index

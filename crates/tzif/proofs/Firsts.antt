@@ -2,12 +2,9 @@
 use Prim.Native.Nat.{ℕ, zero, suc, _+_, _<_, _≤_}
 use borrow.Author.Tests.{ltb-true, ltb-false, le-ltb}
 use lib.Dec.{ltb}
-use mathlib.Core.Bool.{Bool, true, false}
-use mathlib.Core.Path.{_≡_, refl, sym, ap, _∙_}
-use native.Mathlib.Numerals.{add-one}
-use native.Mathlib.Omega.{arith}
-use Rattle.tzif.specs.Reply.{if_then_else_}
-use Rattle.tzif.specs.Text.{firstWith}
+use mathlib.Core.{Bool.{Bool, true, false}, Path.{_≡_, refl, sym, ap, _∙_}}
+use native.Mathlib.{Numerals.{add-one}, Omega.{arith}}
+use Rattle.tzif.specs.{Reply.{if_then_else_}, Text.{firstWith}}
 
 module _ (holds : ℕ → Bool) where
   pub none-yet : firstWith 0 holds ≡ 0

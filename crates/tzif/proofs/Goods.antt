@@ -1,30 +1,16 @@
 -- What the checks leave behind: a block that was read is good, and its abbreviations lie within the file. Assumes nothing.
 use Prim.Native.Nat.{ℕ, _+_, _-_, _^_, _<_, _≤_}
 use borrow.Author.Tests.{ltb-true, leb-true, eqb-false, not-true}
-use lib.Dec.{eqb}
-use lib.ListN.{length}
-use mathlib.Core.Bool.{Bool, true, false}
-use mathlib.Core.List.{List}
-use mathlib.Core.Path.{_≡_, refl}
+use lib.{Dec.{eqb}, ListN.{length}}
+use mathlib.Core.{Bool.{Bool, true, false}, List.{List}, Path.{_≡_, refl}}
 use native.Mathlib.Omega.{arith}
-use Rattle.tzif.proofs.Firsts.{first-within}
-use Rattle.tzif.proofs.Lasts.{last-within}
-use Rattle.tzif.proofs.Rises.{both-given, each-passed, held, transitions-rise, occurrences-rise}
-use Rattle.tzif.proofs.Widths.{four-at-least}
-use Rattle.tzif.proofs.Zones.{ReadFrom, zone-from}
-use Rattle.tzif.specs.Block.{Within, indicesOf, designationsOf, endOf}
-use Rattle.tzif.specs.Check.{typePlace, nulEnd, checkIndex, checkType, checkLeaps}
-use Rattle.tzif.specs.Header.{rfc9636, isFourth, blockAt, checkCounts, checkBlock, readBlock}
-use Rattle.tzif.specs.Local.{typeIn, typeBehind, isAfterLast, byTable, Good, Held}
-use Rattle.tzif.specs.Number.{octet}
-use Rattle.tzif.specs.Part.{countOf, checkOf, checkPart}
-use Rattle.tzif.specs.Reply.{given, if_then_else_}
-use Rattle.tzif.specs.Text.{isStop, runTo}
-use Rattle.tzif.specs.Times.{transitionsOf, occurrencesOf, lastNotAfter, Rises}
-use Rattle.tzif.specs.Zone.{readZoneBy}
-use Rattle.tzif.specs.declared.block.Block.{Block}
-use Rattle.tzif.specs.declared.local.Found.{Found}
-use Rattle.tzif.specs.declared.zone.Zone.{Zone}
+use Rattle.tzif.proofs.{Firsts.{first-within}, Lasts.{last-within}, Rises.{both-given, each-passed, held, transitions-rise, occurrences-rise}}
+use Rattle.tzif.proofs.{Widths.{four-at-least}, Zones.{ReadFrom, zone-from}}
+use Rattle.tzif.specs.{Block.{Within, indicesOf, designationsOf, endOf}, Check.{typePlace, nulEnd, checkIndex, checkType, checkLeaps}}
+use Rattle.tzif.specs.{Header.{rfc9636, isFourth, blockAt, checkCounts, checkBlock, readBlock}, Local.{typeIn, typeBehind, isAfterLast, byTable, Good, Held}}
+use Rattle.tzif.specs.{Number.{octet}, Part.{countOf, checkOf, checkPart}, Reply.{given, if_then_else_}, Text.{isStop, runTo}}
+use Rattle.tzif.specs.{Times.{transitionsOf, occurrencesOf, lastNotAfter, Rises}, Zone.{readZoneBy}}
+use Rattle.tzif.specs.declared.{block.Block.{Block}, local.Found.{Found}, zone.Zone.{Zone}}
 use Rattle.tzif.specs.declared.local.Answer.the-variants as A
 use Rattle.tzif.specs.declared.part.Part.the-variants as P
 

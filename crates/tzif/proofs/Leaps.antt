@@ -2,14 +2,10 @@
 use Prim.Native.Nat.{ℕ, zero, suc, _^_, _≤_, _<_}
 use borrow.Author.Tests.{eq-eqb}
 use lib.Dec.{eqb}
-use mathlib.Core.Bool.{Bool, true, false, not, _&&_}
-use mathlib.Core.List.{List}
-use mathlib.Core.Path.{_≡_, refl}
+use mathlib.Core.{Bool.{Bool, true, false, not, _&&_}, List.{List}, Path.{_≡_, refl}}
 use native.Mathlib.Omega.{arith}
 use Rattle.tzif.proofs.Lasts.{last-within}
-use Rattle.tzif.specs.Check.{correctionBefore, correctionAt, isExpiry}
-use Rattle.tzif.specs.Times.{occurrencesOf, lastNotAfter}
-use Rattle.tzif.specs.declared.block.Block.{Block}
+use Rattle.tzif.specs.{Check.{correctionBefore, correctionAt, isExpiry}, Times.{occurrencesOf, lastNotAfter}, declared.block.Block.{Block}}
 
 -- an expiry has a record before it
 not-first : (i : ℕ) (rest : Bool) → (not (eqb i 0) && rest) ≡ true → 0 < i

@@ -1,21 +1,12 @@
 -- The reply to a call, by how far it came. Assumes nothing.
 use Prim.Native.Nat.{ℕ, _+_, _-_, _<_, _≤_}
 use borrow.Author.Tests.{le-leb, lt-leb}
-use lib.IntN.{ℤ}
-use lib.ListN.{length}
-use mathlib.Core.List.{List, []}
-use mathlib.Core.Path.{_≡_, ap}
-use native.Mathlib.Nat.{sub-zero}
-use native.Mathlib.Omega.{arith}
-use Rattle.tzif.specs.Local.{byTable, replied, named, lent, localTimeBy, localTime}
-use Rattle.tzif.specs.Number.{lift}
-use Rattle.tzif.specs.Reply.{given, refused, refusal, _>>=_}
-use Rattle.tzif.specs.Text.{slice, zeros, padded}
-use Rattle.tzif.specs.Zone.{readZone}
-use Rattle.tzif.specs.declared.local.Found.{Found}
-use Rattle.tzif.specs.declared.local.LocalTime.{LocalTime}
-use Rattle.tzif.specs.declared.refusal.Refusal.{Refusal}
-use Rattle.tzif.specs.declared.zone.Zone.{Zone}
+use lib.{IntN.{ℤ}, ListN.{length}}
+use mathlib.Core.{List.{List, []}, Path.{_≡_, ap}}
+use native.Mathlib.{Nat.{sub-zero}, Omega.{arith}}
+use Rattle.tzif.specs.{Local.{byTable, replied, named, lent, localTimeBy, localTime}, Number.{lift}, Reply.{given, refused, refusal, _>>=_}}
+use Rattle.tzif.specs.{Text.{slice, zeros, padded}, Zone.{readZone}}
+use Rattle.tzif.specs.declared.{local.{Found.{Found}, LocalTime.{LocalTime}}, refusal.Refusal.{Refusal}, zone.Zone.{Zone}}
 use Rattle.tzif.specs.declared.local.Answer.the-variants as A
 use Rattle.tzif.specs.declared.local.LocalTime.the-variants as L
 

@@ -1,30 +1,17 @@
 -- Which numbers a call can be refused with. Assumes nothing.
 use Prim.Native.Nat.{ℕ, zero, suc}
-use lib.Dec.{leb, eqb}
-use lib.IntN.{ℤ}
-use lib.ListN.{length}
-use mathlib.Core.Bool.{Bool, true, false, _&&_}
-use mathlib.Core.List.{List, [], _∷_}
-use mathlib.Core.Path.{_≡_, refl, subst}
+use lib.{Dec.{leb, eqb}, IntN.{ℤ}, ListN.{length}}
+use mathlib.Core.{Bool.{Bool, true, false, _&&_}, List.{List, [], _∷_}, Path.{_≡_, refl, subst}}
 use native.Mathlib.Omega.{arith}
 use Rattle.numbers.proofs.Refusals.{Listed}
-use Rattle.tzif.specs.Block.{endOf}
-use Rattle.tzif.specs.Check.{isExpiry, nulEnd, checkTime, checkIndex, checkType, checkLeap, checkLeaps, checkStandard, checkUt}
-use Rattle.tzif.specs.Header.{rfc9636, isFourth, checkHeader, blockAt, checkCounts, checkBlock, readBlock}
-use Rattle.tzif.specs.Local.{Replied, replied, lent, localTimeBy, localTime}
-use Rattle.tzif.specs.Number.{octet}
-use Rattle.tzif.specs.Part.{countOf, checkOf, checkPart}
-use Rattle.tzif.specs.Reply.{Reply, given, refused, refusal, demand, each, if_then_else_, _>>=_, _>>_}
-use Rattle.tzif.specs.Text.{slice, zeros, padded}
-use Rattle.tzif.specs.Zone.{readFooter, readShort, readLong, readZoneBy}
-use Rattle.tzif.specs.declared.block.Block.{Block}
-use Rattle.tzif.specs.declared.local.Answer.{Answer}
+use Rattle.tzif.specs.{Block.{endOf}, Check.{isExpiry, nulEnd, checkTime, checkIndex, checkType, checkLeap, checkLeaps, checkStandard, checkUt}}
+use Rattle.tzif.specs.{Header.{rfc9636, isFourth, checkHeader, blockAt, checkCounts, checkBlock, readBlock}, Local.{Replied, replied, lent, localTimeBy, localTime}}
+use Rattle.tzif.specs.{Number.{octet}, Part.{countOf, checkOf, checkPart}, Reply.{Reply, given, refused, refusal, demand, each, if_then_else_, _>>=_, _>>_}}
+use Rattle.tzif.specs.{Text.{slice, zeros, padded}, Zone.{readFooter, readShort, readLong, readZoneBy}}
+use Rattle.tzif.specs.declared.{block.Block.{Block}, local.{Answer.{Answer}, LocalTime.{LocalTime}}, part.Part.{Part}, refusal.Refusal.{Refusal}}
 use Rattle.tzif.specs.declared.local.Answer.the-variants as A
-use Rattle.tzif.specs.declared.local.LocalTime.{LocalTime}
 use Rattle.tzif.specs.declared.local.LocalTime.the-variants as L
-use Rattle.tzif.specs.declared.part.Part.{Part}
 use Rattle.tzif.specs.declared.part.Part.the-variants as P
-use Rattle.tzif.specs.declared.refusal.Refusal.{Refusal}
 
 -- 1 for the length, 18 for the room, and one for each rule of the RFC
 abbrev pub localNumbers : List ℕ

@@ -1,14 +1,9 @@
 -- The 32 bits of a signed number. Assumes nothing.
 use Prim.Native.Nat.{ℕ, suc, _-_, _^_, _<_}
 use borrow.Author.Tests.{ltb-true, le-ltb}
-use lib.Dec.{T}
-use lib.IntN.{ℤ, pos, negsuc, natAbs, _-ℤ_}
-use lib.Signed.{mag, ltZ, nonNeg}
-use mathlib.Core.Bool.{true, false}
-use mathlib.Core.Path.{_≡_, refl, ap, _∙_}
-use mir.Syntax.{w32}
-use mir.Val.{SFits, toZ, ofZ}
-use mir.ValLaws.{toZ-ofZ}
+use lib.{Dec.{T}, IntN.{ℤ, pos, negsuc, natAbs, _-ℤ_}, Signed.{mag, ltZ, nonNeg}}
+use mathlib.Core.{Bool.{true, false}, Path.{_≡_, refl, ap, _∙_}}
+use mir.{Syntax.{w32}, Val.{SFits, toZ, ofZ}, ValLaws.{toZ-ofZ}}
 use native.Mathlib.Omega.{arith}
 
 -- a negative one: -1 less it is what its bits lack of 2 ^ 32 - 1

@@ -2,17 +2,11 @@
 use Prim.Native.Nat.{ℕ, zero, suc, _+_, _-_, _<_, _≤_}
 use borrow.Author.Tests.{ltb-true, ltb-false, leb-true, ne-eqb}
 use lib.Dec.{ltb, eqb}
-use mathlib.Core.Bool.{Bool, true, false, _&&_, _||_}
-use mathlib.Core.List.{List}
-use mathlib.Core.Path.{_≡_, refl}
+use mathlib.Core.{Bool.{Bool, true, false, _&&_, _||_}, List.{List}, Path.{_≡_, refl}}
 use native.Mathlib.Omega.{arith}
 use Rattle.tzif.specs.Check.{leapPlace, correctionOf, correctionBefore, oneApart, occursLater, isExpiry, checkTime, checkLeap, checkLeaps}
-use Rattle.tzif.specs.Part.{countOf, checkOf, checkPart}
-use Rattle.tzif.specs.Reply.{Reply, given, refused, refusal, demand, each, if_then_else_, _>>_}
-use Rattle.tzif.specs.Times.{timeIn, transitionsOf, occurrencesOf, Rises}
-use Rattle.tzif.specs.declared.block.Block.{Block}
-use Rattle.tzif.specs.declared.refusal.Refusal.{Refusal}
-use Rattle.tzif.specs.declared.times.Times.{Times}
+use Rattle.tzif.specs.{Part.{countOf, checkOf, checkPart}, Reply.{Reply, given, refused, refusal, demand, each, if_then_else_, _>>_}}
+use Rattle.tzif.specs.{Times.{timeIn, transitionsOf, occurrencesOf, Rises}, declared.{block.Block.{Block}, refusal.Refusal.{Refusal}, times.Times.{Times}}}
 use Rattle.tzif.specs.declared.part.Part.the-variants as P
 
 -- ---- one check after another

@@ -1,20 +1,12 @@
 -- Signed numbers and their form more 2 ^ 63, which keeps the order. Assumes nothing.
 use Prim.Native.Nat.{ℕ, zero, suc, _+_, _-_, _*_, _^_, _<_, _≤_}
 use borrow.Author.Tests.{ltb-true, ltb-false, lt-ltb, le-ltb}
-use lib.Dec.{T, ltb, eqb}
-use lib.IntN.{ℤ, pos, negsuc, natAbs, _-ℤ_}
-use lib.ListN.{getD}
-use lib.Signed.{mag, ltZ, nonNeg}
-use mathlib.Core.Bool.{Bool, true, false, _&&_}
-use mathlib.Core.List.{List, [], _∷_}
-use mathlib.Core.Path.{_≡_, refl, ap, _∙_}
-use mir.Syntax.{w32, w64}
-use mir.Val.{SFits, toZ, ofZ}
-use mir.ValLaws.{toZ-ofZ, toZ-fits}
+use lib.{Dec.{T, ltb, eqb}, IntN.{ℤ, pos, negsuc, natAbs, _-ℤ_}, ListN.{getD}, Signed.{mag, ltZ, nonNeg}}
+use mathlib.Core.{Bool.{Bool, true, false, _&&_}, List.{List, [], _∷_}, Path.{_≡_, refl, ap, _∙_}}
+use mir.{Syntax.{w32, w64}, Val.{SFits, toZ, ofZ}, ValLaws.{toZ-ofZ, toZ-fits}}
 use native.Mathlib.Omega.{arith}
 use Rattle.numbers.proofs.Signed.{complement, complement-fits, widens}
-use Rattle.tzif.specs.Number.{be32, raised, timeAt, signedAt, lift}
-use Rattle.tzif.specs.Reply.{if_then_else_}
+use Rattle.tzif.specs.{Number.{be32, raised, timeAt, signedAt, lift}, Reply.{if_then_else_}}
 
 -- ---- an instant of the code
 -- -1 less a negative number is what its form lacks of 2 ^ 63 - 1

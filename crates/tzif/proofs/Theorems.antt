@@ -1,35 +1,18 @@
 -- What the promise of `local_time` means. Assumes nothing.
 use Prim.Native.Nat.{ℕ, zero, suc, _+_, _-_, _<_}
 use borrow.Author.Tests.{leb-true, leb-false, lt-ltb, le-ltb, ne-eqb}
-use lib.Dec.{ltb, leb, eqb}
-use lib.IntN.{ℤ}
-use lib.ListN.{length}
-use lib.Signed.{ltZ}
-use mathlib.Core.Bool.{Bool, true, false, _&&_}
-use mathlib.Core.List.{List}
-use mathlib.Core.Logic.{_↔_}
-use mathlib.Core.Path.{_≡_, refl, sym, ap, _∙_}
-use mir.Syntax.{w64}
-use mir.Val.{SFits}
+use lib.{Dec.{ltb, leb, eqb}, IntN.{ℤ}, ListN.{length}, Signed.{ltZ}}
+use mathlib.Core.{Bool.{Bool, true, false, _&&_}, List.{List}, Logic.{_↔_}, Path.{_≡_, refl, sym, ap, _∙_}}
+use mir.{Syntax.{w64}, Val.{SFits}}
 use native.Mathlib.Omega.{arith}
-use Rattle.tzif.proofs.Lasts.{last-within, last-holds, last-fails, last-same}
-use Rattle.tzif.proofs.Laws.{Least, least-fault, fault-of-least}
+use Rattle.tzif.proofs.{Lasts.{last-within, last-holds, last-fails, last-same}, Laws.{Least, least-fault, fault-of-least}}
 use Rattle.tzif.proofs.Signs.{Octets, time-is-signed, signed-fits, lift-keeps}
-use Rattle.tzif.specs.Block.{timePlace, indicesOf}
-use Rattle.tzif.specs.Local.{typeBehind, isAfterLast, byTable, Replied, replied, lent, localTimeBy, localTime}
-use Rattle.tzif.specs.Number.{octet, signedAt, lift}
-use Rattle.tzif.specs.Reply.{Reply, given, refused, refusal, each, if_then_else_, _>>=_}
-use Rattle.tzif.specs.Text.{slice, zeros, padded}
-use Rattle.tzif.specs.Times.{timeIn, transitionsOf, lastWith, lastNotAfter, Rises}
-use Rattle.tzif.specs.Zone.{readZone}
-use Rattle.tzif.specs.declared.block.Block.{Block}
-use Rattle.tzif.specs.declared.local.Answer.{Answer}
+use Rattle.tzif.specs.{Block.{timePlace, indicesOf}, Local.{typeBehind, isAfterLast, byTable, Replied, replied, lent, localTimeBy, localTime}}
+use Rattle.tzif.specs.{Number.{octet, signedAt, lift}, Reply.{Reply, given, refused, refusal, each, if_then_else_, _>>=_}, Text.{slice, zeros, padded}}
+use Rattle.tzif.specs.{Times.{timeIn, transitionsOf, lastWith, lastNotAfter, Rises}, Zone.{readZone}}
+use Rattle.tzif.specs.declared.{block.Block.{Block}, local.{Answer.{Answer}, Found.{Found}, Local.{Local}, LocalTime.{LocalTime}}, refusal.Refusal.{Refusal}}
 use Rattle.tzif.specs.declared.local.Answer.the-variants as A
-use Rattle.tzif.specs.declared.local.Found.{Found}
-use Rattle.tzif.specs.declared.local.Local.{Local}
-use Rattle.tzif.specs.declared.local.LocalTime.{LocalTime}
 use Rattle.tzif.specs.declared.local.LocalTime.the-variants as L
-use Rattle.tzif.specs.declared.refusal.Refusal.{Refusal}
 
 -- a transition time itself: that many octets in two's complement
 unfoldable pub transitionTime : List ℕ → Block → ℕ → ℤ

@@ -1,19 +1,11 @@
 -- What version 4 leaves as it was: files of versions 1 to 3 are read as by RFC 8536. Assumes nothing.
 use Prim.Native.Nat.{ℕ, _^_}
 use borrow.Author.Tests.{ne-eqb}
-use lib.Dec.{leb, eqb}
-use lib.IntN.{ℤ}
-use lib.ListN.{length}
-use mathlib.Core.Bool.{Bool, true, false}
-use mathlib.Core.List.{List}
-use mathlib.Core.Path.{_≡_, refl, ap}
-use Rattle.tzif.specs.Block.{endOf}
-use Rattle.tzif.specs.Header.{rfc8536, rfc9636, isFourth, isVersion, versionFits, checkHeader, readBlock}
-use Rattle.tzif.specs.Local.{byTable, lent, localTimeBy, localTime}
-use Rattle.tzif.specs.Number.{octet, lift}
-use Rattle.tzif.specs.Reply.{given, refusal, demand, if_then_else_, _>>=_, _>>_}
-use Rattle.tzif.specs.Zone.{readFooter, readShort, readLong, readZoneBy, readZone}
-use Rattle.tzif.specs.declared.block.Block.{Block}
+use lib.{Dec.{leb, eqb}, IntN.{ℤ}, ListN.{length}}
+use mathlib.Core.{Bool.{Bool, true, false}, List.{List}, Path.{_≡_, refl, ap}}
+use Rattle.tzif.specs.{Block.{endOf}, Header.{rfc8536, rfc9636, isFourth, isVersion, versionFits, checkHeader, readBlock}}
+use Rattle.tzif.specs.{Local.{byTable, lent, localTimeBy, localTime}, Number.{octet, lift}, Reply.{given, refusal, demand, if_then_else_, _>>=_, _>>_}}
+use Rattle.tzif.specs.{Zone.{readFooter, readShort, readLong, readZoneBy, readZone}, declared.block.Block.{Block}}
 
 module _ (file : List ℕ) (older : octet file 4 ≡ 0x34 → ⊥) where
   not-fourth : isFourth rfc9636 (octet file 4) ≡ false

@@ -1,12 +1,8 @@
 -- Entries of a part of a data block, and the products that lay it out. Assumes nothing.
 use Prim.Native.Nat.{ℕ, _+_, _*_, _^_, _<_, _≤_}
 use mathlib.Core.Bool.{Bool, true, false}
-use native.Mathlib.Nat.{suc-mul, mul-le-mul, mul-le-mul-right}
-use native.Mathlib.Omega.{arith}
-use Rattle.tzif.specs.Block.{Within}
-use Rattle.tzif.specs.Number.{octets}
-use Rattle.tzif.specs.Times.{transitionsOf, occurrencesOf, Inside}
-use Rattle.tzif.specs.declared.block.Block.{Block}
+use native.Mathlib.{Nat.{suc-mul, mul-le-mul, mul-le-mul-right}, Omega.{arith}}
+use Rattle.tzif.specs.{Block.{Within}, Number.{octets}, Times.{transitionsOf, occurrencesOf, Inside}, declared.block.Block.{Block}}
 
 -- an entry of a part lies before the part's end
 pub row : (i n w : ℕ) → i < n → i * w + w ≤ n * w

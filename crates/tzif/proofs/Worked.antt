@@ -1,21 +1,14 @@
 -- A small file, computed: what the theorems speak of is met. Assumes nothing.
 use Prim.Native.Nat.{ℕ, _+_, _^_}
 use lib.IntN.{pos, negsuc}
-use mathlib.Core.List.{List, [], _∷_}
-use mathlib.Core.Path.{_≡_, refl}
+use mathlib.Core.{List.{List, [], _∷_}, Path.{_≡_, refl}}
 use native.Mathlib.Omega.{arith}
-use Rattle.tzif.proofs.Marked.{secondVersion, markedThree, PlainFour}
-use Rattle.tzif.proofs.Signs.{allOctets, octets-of}
-use Rattle.tzif.proofs.Theorems.{LastNotAfter, last-not-after}
+use Rattle.tzif.proofs.{Marked.{secondVersion, markedThree, PlainFour}, Signs.{allOctets, octets-of}, Theorems.{LastNotAfter, last-not-after}}
 use Rattle.tzif.specs.Check.{occursLater, correctionBefore, correctionOf, oneApart, isExpiry, nulEnd, checkTime, checkIndex, checkType, checkLeap, checkLeaps, checkStandard, isStandard, checkUt}
 use Rattle.tzif.specs.Header.{rfc8536, begins, isVersion, isFourth, versionFits, checkHeader, blockAt, noneOrAll, checkCounts, checkBlock, readBlock}
-use Rattle.tzif.specs.Local.{typeIn, typeBehind, isAfterLast, byTable, replied, lent, localTimeBy, localTime}
-use Rattle.tzif.specs.Number.{octets, be32, raised, timeAt, lift}
-use Rattle.tzif.specs.Part.{countOf, checkOf, checkPart}
-use Rattle.tzif.specs.Reply.{given, demand, each, refusal, _>>=_, _>>_}
-use Rattle.tzif.specs.Text.{firstWith, isStop, runTo}
-use Rattle.tzif.specs.Times.{timeIn, transitionsOf, lastWith, lastNotAfter}
-use Rattle.tzif.specs.Zone.{newlineAt, readFooter, readShort, readLong, readZoneBy, readZone}
+use Rattle.tzif.specs.{Local.{typeIn, typeBehind, isAfterLast, byTable, replied, lent, localTimeBy, localTime}, Number.{octets, be32, raised, timeAt, lift}}
+use Rattle.tzif.specs.{Part.{countOf, checkOf, checkPart}, Reply.{given, demand, each, refusal, _>>=_, _>>_}, Text.{firstWith, isStop, runTo}}
+use Rattle.tzif.specs.{Times.{timeIn, transitionsOf, lastWith, lastNotAfter}, Zone.{newlineAt, readFooter, readShort, readLong, readZoneBy, readZone}}
 use Rattle.tzif.specs.declared.block.Block.{Block}
 use Rattle.tzif.specs.declared.local.LocalTime.the-variants as L
 

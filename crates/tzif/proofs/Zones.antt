@@ -1,26 +1,14 @@
 -- A footer and a whole file, by how far they were read. Assumes nothing.
 use Prim.Native.Nat.{ℕ, _+_, _-_, _^_, _<_, _≤_}
 use borrow.Author.Tests.{ltb-true, leb-true, le-leb, lt-leb, eq-eqb, ne-eqb}
-use lib.Dec.{eqb}
-use lib.ListN.{length}
-use mathlib.Core.Bool.{Bool, true, false}
-use mathlib.Core.List.{List}
-use mathlib.Core.Path.{_≡_, refl, sym}
+use lib.{Dec.{eqb}, ListN.{length}}
+use mathlib.Core.{Bool.{Bool, true, false}, List.{List}, Path.{_≡_, refl, sym}}
 use native.Mathlib.Omega.{arith}
-use Rattle.tzif.proofs.Blocks.{first-true}
-use Rattle.tzif.proofs.Rises.{both-given, held}
-use Rattle.tzif.specs.Block.{endOf}
-use Rattle.tzif.specs.Header.{rfc9636, checkHeader, readBlock}
-use Rattle.tzif.specs.Number.{octet}
-use Rattle.tzif.specs.Reply.{Reply, given, refused, refusal, demand, if_then_else_, _>>=_, _>>_}
-use Rattle.tzif.specs.Told.{toldBlock, toldFooter, toldZone}
+use Rattle.tzif.proofs.{Blocks.{first-true}, Rises.{both-given, held}}
+use Rattle.tzif.specs.{Block.{endOf}, Header.{rfc9636, checkHeader, readBlock}, Number.{octet}}
+use Rattle.tzif.specs.{Reply.{Reply, given, refused, refusal, demand, if_then_else_, _>>=_, _>>_}, Told.{toldBlock, toldFooter, toldZone}}
 use Rattle.tzif.specs.Zone.{stringSize, newlineAt, readFooter, readShort, readLong, readZoneBy}
-use Rattle.tzif.specs.declared.block.Block.{Block}
-use Rattle.tzif.specs.declared.header.Reading.{Reading}
-use Rattle.tzif.specs.declared.refusal.Refusal.{Refusal}
-use Rattle.tzif.specs.declared.zone.Footer.{Footer}
-use Rattle.tzif.specs.declared.zone.Read.{Read}
-use Rattle.tzif.specs.declared.zone.Zone.{Zone}
+use Rattle.tzif.specs.declared.{block.Block.{Block}, header.Reading.{Reading}, refusal.Refusal.{Refusal}, zone.{Footer.{Footer}, Read.{Read}, Zone.{Zone}}}
 use Rattle.tzif.specs.declared.header.Reading.the-variants as R
 use Rattle.tzif.specs.declared.zone.Footer.the-variants as F
 use Rattle.tzif.specs.declared.zone.Read.the-variants as Z

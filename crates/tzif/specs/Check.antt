@@ -1,12 +1,9 @@
 -- The rules of RFC 8536 section 3.2, and of RFC 9636 for version 4, for one entry of each part of a data block, with their refusals.
 use Prim.Native.Nat.{ℕ, _+_, _-_, _*_, _^_}
 use lib.Dec.{ltb, leb, eqb}
-use mathlib.Core.Bool.{Bool, not, _&&_, _||_}
-use mathlib.Core.List.{List}
-use Rattle.tzif.specs.Block.{timePlace, indicesOf, typesOf, designationsOf, leapsOf, standardsOf, utsOf}
-use Rattle.tzif.specs.Number.{octet, be32, raised}
-use Rattle.tzif.specs.Reply.{Reply, given, refusal, demand, each, if_then_else_, _>>_}
-use Rattle.tzif.specs.Times.{timeIn, transitionsOf, occurrencesOf, lastWith, lastNotAfter}
+use mathlib.Core.{Bool.{Bool, not, _&&_, _||_}, List.{List}}
+use Rattle.tzif.specs.{Block.{timePlace, indicesOf, typesOf, designationsOf, leapsOf, standardsOf, utsOf}, Number.{octet, be32, raised}}
+use Rattle.tzif.specs.{Reply.{Reply, given, refusal, demand, each, if_then_else_, _>>_}, Times.{timeIn, transitionsOf, occurrencesOf, lastWith, lastNotAfter}}
 use Rattle.tzif.specs.declared.block.Block.{Block}
 
 -- ---- transition times

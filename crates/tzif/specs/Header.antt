@@ -1,16 +1,9 @@
 -- A header with its data block, as RFC 8536 and RFC 9636 section 3 have them: refusals 40 to 57 in file order.
 use Prim.Native.Nat.{ℕ, _+_, _^_, _<_, _≤_}
-use lib.Dec.{leb, eqb}
-use lib.ListN.{length}
-use mathlib.Core.Bool.{Bool, false, not, _&&_, _||_}
-use mathlib.Core.List.{List}
-use mathlib.Core.Path.{_≡_}
-use Rattle.tzif.specs.Block.{endOf}
-use Rattle.tzif.specs.Check.{nulEnd, checkLeaps}
-use Rattle.tzif.specs.Number.{octet, be32, octets}
-use Rattle.tzif.specs.Part.{checkPart}
-use Rattle.tzif.specs.Reply.{Reply, given, refusal, demand, if_then_else_, _>>_}
-use Rattle.tzif.specs.declared.block.Block.{Block}
+use lib.{Dec.{leb, eqb}, ListN.{length}}
+use mathlib.Core.{Bool.{Bool, false, not, _&&_, _||_}, List.{List}, Path.{_≡_}}
+use Rattle.tzif.specs.{Block.{endOf}, Check.{nulEnd, checkLeaps}, Number.{octet, be32, octets}, Part.{checkPart}}
+use Rattle.tzif.specs.{Reply.{Reply, given, refusal, demand, if_then_else_, _>>_}, declared.block.Block.{Block}}
 use Rattle.tzif.specs.declared.part.Part.the-variants as P
 
 -- `TZif`

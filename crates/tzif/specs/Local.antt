@@ -1,26 +1,13 @@
 -- Local time from a file: offset, daylight flag and abbreviation by its transitions.
 use Prim.Native.Nat.{ℕ, _+_, _-_, _<_, _≤_}
-use lib.Dec.{ltb, leb, eqb}
-use lib.IntN.{ℤ}
-use lib.ListN.{length}
-use mathlib.Core.Bool.{Bool, _&&_}
-use mathlib.Core.List.{List}
-use mir.Syntax.{w32}
-use mir.Val.{toZ}
-use Rattle.tzif.specs.Block.{Within, indicesOf, designationsOf}
-use Rattle.tzif.specs.Check.{typePlace}
-use Rattle.tzif.specs.Header.{Rfc, rfc9636}
-use Rattle.tzif.specs.Number.{octet, be32, lift}
-use Rattle.tzif.specs.Reply.{Reply, given, refused, refusal, if_then_else_, _>>=_}
-use Rattle.tzif.specs.Text.{runTo, slice, zeros, padded}
-use Rattle.tzif.specs.Times.{timeIn, transitionsOf, lastNotAfter, Rises}
-use Rattle.tzif.specs.Zone.{readZoneBy}
-use Rattle.tzif.specs.declared.block.Block.{Block}
-use Rattle.tzif.specs.declared.local.Found.{Found}
-use Rattle.tzif.specs.declared.local.Local.{Local}
-use Rattle.tzif.specs.declared.local.Answer.{Answer}
+use lib.{Dec.{ltb, leb, eqb}, IntN.{ℤ}, ListN.{length}}
+use mathlib.Core.{Bool.{Bool, _&&_}, List.{List}}
+use mir.{Syntax.{w32}, Val.{toZ}}
+use Rattle.tzif.specs.{Block.{Within, indicesOf, designationsOf}, Check.{typePlace}, Header.{Rfc, rfc9636}, Number.{octet, be32, lift}}
+use Rattle.tzif.specs.{Reply.{Reply, given, refused, refusal, if_then_else_, _>>=_}, Text.{runTo, slice, zeros, padded}}
+use Rattle.tzif.specs.{Times.{timeIn, transitionsOf, lastNotAfter, Rises}, Zone.{readZoneBy}}
+use Rattle.tzif.specs.declared.{block.Block.{Block}, local.{Found.{Found}, Local.{Local}, Answer.{Answer}, LocalTime.{LocalTime}}}
 use Rattle.tzif.specs.declared.local.Answer.the-variants as A
-use Rattle.tzif.specs.declared.local.LocalTime.{LocalTime}
 use Rattle.tzif.specs.declared.local.LocalTime.the-variants as L
 
 -- ---- a local time type

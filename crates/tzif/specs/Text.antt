@@ -1,12 +1,8 @@
 -- Texts in the file, which end at a NUL or a newline; and a text at the start of a lent one.
 use Prim.Native.Nat.{ℕ, zero, suc, _+_, _-_, _≤_}
-use lib.Dec.{ltb, eqb}
-use lib.ListN.{length, take, drop, replicate}
-use mathlib.Core.Bool.{Bool, _||_}
-use mathlib.Core.List.{List, _++_}
-use mathlib.Core.Path.{_≡_}
-use Rattle.tzif.specs.Number.{octet}
-use Rattle.tzif.specs.Reply.{if_then_else_}
+use lib.{Dec.{ltb, eqb}, ListN.{length, take, drop, replicate}}
+use mathlib.Core.{Bool.{Bool, _||_}, List.{List, _++_}, Path.{_≡_}}
+use Rattle.tzif.specs.{Number.{octet}, Reply.{if_then_else_}}
 
 -- the first index below a number of which the test holds; the number where there is none
 unfoldable pub firstWith : ℕ → (ℕ → Bool) → ℕ

@@ -1,13 +1,8 @@
 -- Times at equal distances in the file: a block's transition times, its leap-second occurrences; and the last of them that is not after an instant.
 use Prim.Native.Nat.{ℕ, zero, suc, _+_, _*_, _<_, _≤_}
 use lib.Dec.{leb}
-use mathlib.Core.Bool.{Bool}
-use mathlib.Core.List.{List}
-use Rattle.tzif.specs.Block.{leapsOf}
-use Rattle.tzif.specs.Number.{timeAt}
-use Rattle.tzif.specs.Reply.{if_then_else_}
-use Rattle.tzif.specs.declared.block.Block.{Block}
-use Rattle.tzif.specs.declared.times.Times.{Times}
+use mathlib.Core.{Bool.{Bool}, List.{List}}
+use Rattle.tzif.specs.{Block.{leapsOf}, Number.{timeAt}, Reply.{if_then_else_}, declared.{block.Block.{Block}, times.Times.{Times}}}
 
 -- the time at an index, more 2 ^ 63
 unfoldable pub timeIn : List ℕ → Times → ℕ → ℕ

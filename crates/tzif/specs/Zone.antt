@@ -1,16 +1,9 @@
 -- A whole file, as RFC 8536 and RFC 9636 section 3 have it: refusals 1 and 40 to 59 in file order.
 use Prim.Native.Nat.{ℕ, _+_, _-_, _^_}
-use lib.Dec.{ltb, leb, eqb}
-use lib.ListN.{length}
-use mathlib.Core.Bool.{Bool, true, false, _&&_}
-use mathlib.Core.List.{List}
-use Rattle.tzif.specs.Block.{endOf}
-use Rattle.tzif.specs.Header.{Rfc, rfc9636, readBlock}
-use Rattle.tzif.specs.Number.{octet}
-use Rattle.tzif.specs.Reply.{Reply, given, refusal, demand, if_then_else_, _>>=_, _>>_}
-use Rattle.tzif.specs.Text.{runTo}
-use Rattle.tzif.specs.declared.block.Block.{Block}
-use Rattle.tzif.specs.declared.zone.Zone.{Zone}
+use lib.{Dec.{ltb, leb, eqb}, ListN.{length}}
+use mathlib.Core.{Bool.{Bool, true, false, _&&_}, List.{List}}
+use Rattle.tzif.specs.{Block.{endOf}, Header.{Rfc, rfc9636, readBlock}, Number.{octet}, Reply.{Reply, given, refusal, demand, if_then_else_, _>>=_, _>>_}}
+use Rattle.tzif.specs.{Text.{runTo}, declared.{block.Block.{Block}, zone.Zone.{Zone}}}
 
 -- how many octets from a place on are neither NUL nor newline
 abbrev pub stringSize : List ℕ → ℕ → ℕ

@@ -1,11 +1,8 @@
 // A header and the data block behind it: refusals 40 to 57, the first fault in file order.
 ghost use mathlib.Core.Path.{_≡_};
 ghost use Prim.Native.Nat.{_+_, _^_, _≤_, _<_};
-ghost use lib.Dec.{leb};
-ghost use lib.ListN.{length};
-ghost use Rattle.tzif.specs.Block.{Within, endOf};
-ghost use Rattle.tzif.specs.Number.{octet};
-ghost use Rattle.tzif.specs.Told.{told, toldBlock};
+ghost use lib.{Dec.{leb}, ListN.{length}};
+ghost use Rattle.tzif.specs.{Block.{Within, endOf}, Number.{octet}, Told.{told, toldBlock}};
 ghost use Rattle.tzif.specs.Header.{rfc9636, begins, isVersion, isFourth, versionFits, checkHeader, blockAt, Counted, noneOrAll, checkCounts, checkBlock, readBlock};
 use crate::block::Block;
 use crate::check::nul_end;

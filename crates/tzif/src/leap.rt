@@ -1,14 +1,8 @@
 // The rules for a leap-second record.
-ghost use mathlib.Core.Path.{_≡_};
-ghost use mathlib.Core.Bool.{_&&_, _||_};
+ghost use mathlib.Core.{Path.{_≡_}, Bool.{_&&_, _||_}};
 ghost use Prim.Native.Nat.{_+_, _-_, _^_, _≤_, _<_};
-ghost use lib.Dec.{ltb, leb, eqb};
-ghost use lib.ListN.{length};
-ghost use Rattle.tzif.specs.Block.{Within};
-ghost use Rattle.tzif.specs.Told.{told};
-ghost use Rattle.tzif.specs.Number.{Word};
-ghost use Rattle.tzif.specs.Reply.{demand, refusal};
-ghost use Rattle.tzif.specs.Times.{timeIn, occurrencesOf, Rises};
+ghost use lib.{Dec.{ltb, leb, eqb}, ListN.{length}};
+ghost use Rattle.tzif.specs.{Block.{Within}, Told.{told}, Number.{Word}, Reply.{demand, refusal}, Times.{timeIn, occurrencesOf, Rises}};
 ghost use Rattle.tzif.specs.Check.{leapPlace, correctionOf, occursLater, correctionBefore, correctionAt, oneApart, isExpiry, checkLeap, checkLeaps};
 use crate::block::Block;
 use crate::number::be32;

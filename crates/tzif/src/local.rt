@@ -2,10 +2,8 @@
 ghost use mathlib.Core.Path.{_≡_};
 ghost use Prim.Native.Nat.{_+_, _^_, _≤_, _<_};
 ghost use lib.ListN.{length};
-ghost use mir.Syntax.{w32};
-ghost use mir.Val.{ofZ};
-ghost use Rattle.tzif.specs.Text.{zeros};
-ghost use Rattle.tzif.specs.Local.{typeIn, typeBehind, isAfterLast, byTable, replied, named, lent, localTime, Good, Held};
+ghost use mir.{Syntax.{w32}, Val.{ofZ}};
+ghost use Rattle.tzif.specs.{Text.{zeros}, Local.{typeIn, typeBehind, isAfterLast, byTable, replied, named, lent, localTime, Good, Held}};
 use crate::block::Block;
 use crate::number::be32;
 use crate::number::lifted;

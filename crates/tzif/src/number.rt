@@ -2,8 +2,7 @@
 ghost use mathlib.Core.Path.{_≡_};
 ghost use Prim.Native.Nat.{_+_, _^_, _≤_, _<_};
 ghost use lib.ListN.{length};
-ghost use mir.Syntax.{w32};
-ghost use mir.Val.{toZ};
+ghost use mir.{Syntax.{w32}, Val.{toZ}};
 ghost use Rattle.tzif.specs.Number.{Octet, Word, octet, octets, be32, raised, timeAt, lift};
 
 // The width of a time: four octets, or eight.

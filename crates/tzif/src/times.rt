@@ -2,8 +2,7 @@
 ghost use mathlib.Core.Path.{_≡_};
 ghost use Prim.Native.Nat.{_+_, _^_, _<_};
 ghost use lib.ListN.{length};
-ghost use Rattle.tzif.specs.Block.{leapsOf};
-ghost use Rattle.tzif.specs.Times.{timeIn, transitionsOf, occurrencesOf, lastNotAfter, Inside, Rises};
+ghost use Rattle.tzif.specs.{Block.{leapsOf}, Times.{timeIn, transitionsOf, occurrencesOf, lastNotAfter, Inside, Rises}};
 use crate::block::Block;
 use crate::number::time_at;
 use crate::place::leaps_of;

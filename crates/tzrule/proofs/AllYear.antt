@@ -2,18 +2,13 @@
 use Prim.Native.Nat.{ℕ, zero, suc, _+_, _-_, _*_, _/_, _≤_, _<_}
 use borrow.Author.Tests.{le-ltb, ltb-true, ltb-false}
 use lib.Dec.{ltb}
-use mathlib.Core.Bool.{Bool, true, false}
-use mathlib.Core.Path.{_≡_, refl, ap, sym, _∙_}
+use mathlib.Core.{Bool.{Bool, true, false}, Path.{_≡_, refl, ap, sym, _∙_}}
 use native.Mathlib.Omega.{arith}
 use Rattle.calendar.proofs.Rising.{Between, passes}
-use Rattle.calendar.specs.Calendar.{isLeap, yearLength, daysOfYears}
+use Rattle.calendar.specs.{Calendar.{isLeap, yearLength, daysOfYears}, Rules.{leapDay, dayOf}, declared.rule.When.the-variants.{Julian, Zero}}
 use Rattle.numbers.specs.Answer.{if_then_else_}
-use Rattle.tzrule.proofs.Guess.{start-low}
-use Rattle.tzrule.proofs.Latest.{summer-then, summer-if}
-use Rattle.calendar.specs.Rules.{leapDay, dayOf}
-use Rattle.tzrule.specs.Summer.{changeOf, startOf, endOf, closeOf, IsSummer, IsRule}
-use Rattle.tzrule.specs.declared.rule.Rule.{Rule}
-use Rattle.calendar.specs.declared.rule.When.the-variants.{Julian, Zero}
+use Rattle.tzrule.proofs.{Guess.{start-low}, Latest.{summer-then, summer-if}}
+use Rattle.tzrule.specs.{Summer.{changeOf, startOf, endOf, closeOf, IsSummer, IsRule}, declared.rule.Rule.{Rule}}
 
 module _ (rule : Rule) (good : IsRule rule) where
   -- some year began last

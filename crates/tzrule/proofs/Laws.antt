@@ -1,23 +1,13 @@
 -- What callers of this crate go by. Assumes nothing.
 use Prim.Native.Nat.{ℕ, _≤_}
 use lib.Dec.{T}
-use mathlib.Core.Bool.{Bool, true, false}
-use mathlib.Core.Path.{_≡_, ap, sym, _∙_}
+use mathlib.Core.{Bool.{Bool, true, false}, Path.{_≡_, ap, sym, _∙_}}
 use Rattle.numbers.specs.Answer.{if_then_else_}
 use native.Mathlib.Omega.{arith}
-use Rattle.tzrule.specs.Answer.{Answer, read, fault}
-use Rattle.tzrule.specs.Ask.{Ruled, inYears, since, clockAt, ask}
-use Rattle.tzrule.specs.String.{toldString, IsClock, IsTz, GoodString}
-use Rattle.tzrule.specs.Summer.{isSummer}
-use Rattle.tzrule.specs.declared.ask.Asked.{Asked}
-use Rattle.tzrule.specs.declared.ask.Asked.the-variants.{Holds, Outside}
-use Rattle.tzrule.specs.declared.ask.Time.{Time}
-use Rattle.tzrule.specs.declared.rule.Rule.{Rule}
-use Rattle.tzrule.specs.declared.rule.Tz.{Tz}
-use Rattle.tzrule.specs.declared.rule.Tz.the-variants.{Fixed, Changing}
-use Rattle.tzrule.specs.declared.string.Parsed.{Parsed}
+use Rattle.tzrule.specs.{Answer.{Answer, read, fault}, Ask.{Ruled, inYears, since, clockAt, ask}, String.{toldString, IsClock, IsTz, GoodString}, Summer.{isSummer}}
+use Rattle.tzrule.specs.declared.{ask.{Asked.{Asked, the-variants.{Holds, Outside}}, Time.{Time}}, rule.{Rule.{Rule}, Tz.{Tz, the-variants.{Fixed, Changing}}}}
+use Rattle.tzrule.specs.declared.string.{Parsed.{Parsed}, StringAt.{StringAt}}
 use Rattle.tzrule.specs.declared.string.Parsed.the-variants as parsed
-use Rattle.tzrule.specs.declared.string.StringAt.{StringAt}
 
 -- what a string that was taken apart says
 module _ {answer : Parsed} {at : StringAt} (is : answer ≡ parsed.String at) where

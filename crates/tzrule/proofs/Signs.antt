@@ -1,24 +1,15 @@
 -- Reading signs and dates, piece by piece. Assumes nothing.
 use Prim.Native.Nat.{ℕ, zero, suc, _+_, _-_, _*_, _≤_, _<_}
 use borrow.Author.Tests.{eq-eqb, ne-eqb, ltb-false}
-use lib.Dec.{T, ltb, eqb}
-use lib.ListN.{length}
-use mathlib.Core.Bool.{Bool, true, false}
-use mathlib.Core.List.{List}
-use mathlib.Core.Path.{_≡_, refl, ap, sym, subst, _∙_}
+use lib.{Dec.{T, ltb, eqb}, ListN.{length}}
+use mathlib.Core.{Bool.{Bool, true, false}, List.{List}, Path.{_≡_, refl, ap, sym, subst, _∙_}}
 use native.Mathlib.Omega.{arith}
 use Rattle.numbers.specs.Answer.{if_then_else_}
 use Rattle.tzrule.specs.Answer.{Answer, read, fault, onward, told, toldDate, GoodDate}
-use Rattle.calendar.specs.Rules.{IsWhen, IsMonth}
 use Rattle.tzrule.specs.Grammar.{ranged, numberOf, IsShape, clockOf, laterOf, earlierOf, signedOf, dottedOf, days, months, weeks, weekdays, julianOf, zeroOf, weekdayFrom, weekFrom, monthFrom, dateOf}
-use Rattle.tzrule.specs.Text.{byteAt, digitsOf}
-use Rattle.tzrule.specs.declared.date.Found.{Found}
+use Rattle.tzrule.specs.{Text.{byteAt, digitsOf}, declared.{date.Found.{Found}, number.{Number.{Number, the-variants.{Read, Fault}}, Shape.{Shape}}}}
+use Rattle.calendar.specs.{Rules.{IsWhen, IsMonth}, declared.rule.When.{When, the-variants.{Julian, Zero, Month}}}
 use Rattle.tzrule.specs.declared.date.Found.the-variants as F
-use Rattle.tzrule.specs.declared.number.Number.{Number}
-use Rattle.tzrule.specs.declared.number.Number.the-variants.{Read, Fault}
-use Rattle.tzrule.specs.declared.number.Shape.{Shape}
-use Rattle.calendar.specs.declared.rule.When.{When}
-use Rattle.calendar.specs.declared.rule.When.the-variants.{Julian, Zero, Month}
 
 -- times before and after midnight
 module _ (hours : Shape) (text : List ℕ) (at : ℕ) where

@@ -2,13 +2,11 @@
 use Prim.Native.Nat.{ℕ, zero, suc, _+_, _*_, _≤_, _<_}
 use borrow.Author.Tests.{lt-ltb, ltb-true, le-leb, leb-true}
 use lib.Dec.{ltb, leb, T}
-use mathlib.Core.Bool.{Bool, true, false}
-use mathlib.Core.Path.{_≡_, refl, ap, sym, subst, _∙_}
+use mathlib.Core.{Bool.{Bool, true, false}, Path.{_≡_, refl, ap, sym, subst, _∙_}}
 use native.Mathlib.Omega.{arith}
 use Rattle.numbers.specs.Answer.{if_then_else_}
 use Rattle.tzrule.proofs.Guess.{start-low}
-use Rattle.tzrule.specs.Summer.{startOf, closeOf, inSummer, summerAmong, isSummer, InSummer, IsSummer, IsRule, Says}
-use Rattle.tzrule.specs.declared.rule.Rule.{Rule}
+use Rattle.tzrule.specs.{Summer.{startOf, closeOf, inSummer, summerAmong, isSummer, InSummer, IsSummer, IsRule, Says}, declared.rule.Rule.{Rule}}
 
 -- no test is true and false
 clash : {X : Type 0} → false ≡ true → X

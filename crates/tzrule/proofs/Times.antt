@@ -1,21 +1,13 @@
 -- Reading numbers and times, piece by piece. Assumes nothing.
 use Prim.Native.Nat.{ℕ, zero, suc, _+_, _-_, _*_, _≤_, _<_}
 use borrow.Author.Tests.{lt-ltb, le-ltb, eq-eqb, ne-eqb}
-use lib.Dec.{ltb, eqb}
-use lib.ListN.{length}
-use mathlib.Core.Bool.{Bool, true, false}
-use mathlib.Core.List.{List}
-use mathlib.Core.Path.{_≡_, refl, ap, sym, subst, _∙_}
+use lib.{Dec.{ltb, eqb}, ListN.{length}}
+use mathlib.Core.{Bool.{Bool, true, false}, List.{List}, Path.{_≡_, refl, ap, sym, subst, _∙_}}
 use native.Mathlib.Omega.{arith}
 use Rattle.numbers.specs.Answer.{if_then_else_}
 use Rattle.tzrule.proofs.Numbers.{past-end}
-use Rattle.tzrule.specs.Answer.{Answer, read, fault, onward, told, Within}
-use Rattle.tzrule.specs.Grammar.{ranged, numberOf, sixty, IsShape, secondsOf, minutesOf, clockOf}
-use Rattle.tzrule.specs.Text.{byteAt, digitsOf}
-use Rattle.tzrule.specs.declared.number.Digits.{Digits}
-use Rattle.tzrule.specs.declared.number.Number.{Number}
-use Rattle.tzrule.specs.declared.number.Number.the-variants.{Read, Fault}
-use Rattle.tzrule.specs.declared.number.Shape.{Shape}
+use Rattle.tzrule.specs.{Answer.{Answer, read, fault, onward, told, Within}, Grammar.{ranged, numberOf, sixty, IsShape, secondsOf, minutesOf, clockOf}}
+use Rattle.tzrule.specs.{Text.{byteAt, digitsOf}, declared.number.{Digits.{Digits}, Number.{Number, the-variants.{Read, Fault}}, Shape.{Shape}}}
 
 -- the four ways of a number
 module _ (shape : Shape) (text : List ℕ) (at : ℕ) {digits : Digits} (e : digits ≡ digitsOf (shape .most) text at 0) where

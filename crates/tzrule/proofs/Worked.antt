@@ -1,17 +1,12 @@
 -- A summer, computed: what the theorems speak of is met. Assumes nothing.
 use Prim.Native.Nat.{ℕ, _+_, _*_, _≤_, _<_}
 use borrow.Author.Tests.{le-ltb}
-use mathlib.Core.Bool.{true, false}
-use mathlib.Core.Path.{_≡_, refl}
+use mathlib.Core.{Bool.{true, false}, Path.{_≡_, refl}}
 use native.Mathlib.Omega.{arith}
-use Rattle.calendar.proofs.Laws.{days-closed}
-use Rattle.calendar.specs.Calendar.{isLeap}
-use Rattle.calendar.specs.Rules.{leapDay, dayOf, IsWhen}
-use Rattle.calendar.specs.declared.rule.When.the-variants.{Julian, Zero}
+use Rattle.calendar.{proofs.Laws.{days-closed}, specs.{Calendar.{isLeap}, Rules.{leapDay, dayOf, IsWhen}, declared.rule.When.the-variants.{Julian, Zero}}}
 use Rattle.tzrule.proofs.SummerAt.{summer-some}
-use Rattle.tzrule.specs.Summer.{startOf, closeOf, isSummer, IsSummer, IsRule}
+use Rattle.tzrule.specs.{Summer.{startOf, closeOf, isSummer, IsSummer, IsRule}, declared.rule.Rule.{Rule}}
 use Rattle.tzrule.specs.Summer as summer
-use Rattle.tzrule.specs.declared.rule.Rule.{Rule}
 
 -- `AAA-14BBB,0/0,J60/0`: the summer of 2001 begins on 31 December 2000 at 10:00 UT
 abbrev far : Rule

@@ -3,13 +3,10 @@ use Prim.Native.Nat.{ℕ, _+_, _≤_}
 use lib.Dec.{eqb}
 use mathlib.Core.List.{List}
 use Rattle.numbers.specs.Answer.{if_then_else_}
-use Rattle.tzrule.specs.Text.{byteAt}
-use Rattle.tzrule.specs.declared.number.Number.{Number}
+use Rattle.tzrule.specs.{Text.{byteAt}, declared.{number.Number.{Number}, date.Found.{Found}}}
 use Rattle.tzrule.specs.declared.number.Number.the-variants as N
-use Rattle.calendar.specs.Rules.{IsWhen}
-use Rattle.tzrule.specs.declared.date.Found.{Found}
+use Rattle.calendar.specs.{Rules.{IsWhen}, declared.rule.When.{When}}
 use Rattle.tzrule.specs.declared.date.Found.the-variants as F
-use Rattle.calendar.specs.declared.rule.When.{When}
 
 pub data Answer (A : Type 0) : Type 0 where
   read : A → ℕ → Answer A

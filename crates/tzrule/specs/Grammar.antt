@@ -3,12 +3,8 @@ use Prim.Native.Nat.{ℕ, _+_, _-_, _*_, _≤_}
 use lib.Dec.{ltb}
 use mathlib.Core.List.{List}
 use Rattle.numbers.specs.Answer.{if_then_else_}
-use Rattle.tzrule.specs.Answer.{Answer, read, fault, onward, _>>=_, give, ifByte}
-use Rattle.tzrule.specs.Text.{digitsOf}
-use Rattle.tzrule.specs.declared.number.Digits.{Digits}
-use Rattle.tzrule.specs.declared.number.Shape.{Shape}
-use Rattle.calendar.specs.declared.rule.When.{When}
-use Rattle.calendar.specs.declared.rule.When.the-variants.{Julian, Zero, Month}
+use Rattle.tzrule.specs.{Answer.{Answer, read, fault, onward, _>>=_, give, ifByte}, Text.{digitsOf}, declared.number.{Digits.{Digits}, Shape.{Shape}}}
+use Rattle.calendar.specs.declared.rule.When.{When, the-variants.{Julian, Zero, Month}}
 
 -- so many digits, and a number in a range
 pub record IsShape (shape : Shape) : Type 0 where

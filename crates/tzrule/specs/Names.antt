@@ -1,15 +1,10 @@
 -- The names of a TZ string.
 use Prim.Native.Nat.{ℕ, zero, suc, _+_, _-_, _≤_}
-use lib.Dec.{ltb, eqb}
-use lib.ListN.{length}
-use mathlib.Core.Bool.{Bool, true, false}
-use mathlib.Core.List.{List}
+use lib.{Dec.{ltb, eqb}, ListN.{length}}
+use mathlib.Core.{Bool.{Bool, true, false}, List.{List}}
 use Rattle.numbers.specs.Answer.{if_then_else_}
-use Rattle.tzrule.specs.Answer.{Answer, read, fault, ifByte}
-use Rattle.tzrule.specs.declared.name.Named.{Named}
+use Rattle.tzrule.specs.{Answer.{Answer, read, fault, ifByte}, declared.name.{Named.{Named}, Span.{Span}}, Text.{byteAt, isDigit}}
 use Rattle.tzrule.specs.declared.name.Named.the-variants as N
-use Rattle.tzrule.specs.declared.name.Span.{Span}
-use Rattle.tzrule.specs.Text.{byteAt, isDigit}
 
 -- A to Z, a to z
 unfoldable pub isLetter : ℕ → Bool

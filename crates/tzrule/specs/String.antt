@@ -1,24 +1,13 @@
 -- The whole TZ string: std offset [dst [offset] , date [/time] , date [/time]], and the newline that closes it.
 use Prim.Native.Nat.{ℕ, _+_, _-_, _*_, _≤_}
 use lib.Dec.{eqb}
-use mathlib.Core.Bool.{Bool}
-use mathlib.Core.List.{List}
-use Rattle.tzrule.specs.Answer.{Answer, read, fault, onward, _>>=_, give, ifByte}
-use Rattle.tzrule.specs.Grammar.{laterOf, signedOf, dateOf}
-use Rattle.tzrule.specs.Names.{nameOf}
-use Rattle.tzrule.specs.Summer.{IsChange, IsRule}
+use mathlib.Core.{Bool.{Bool}, List.{List}}
+use Rattle.tzrule.specs.{Answer.{Answer, read, fault, onward, _>>=_, give, ifByte}, Grammar.{laterOf, signedOf, dateOf}, Names.{nameOf}, Summer.{IsChange, IsRule}}
 use Rattle.tzrule.specs.Text.{byteAt}
-use Rattle.tzrule.specs.declared.number.Shape.{Shape}
-use Rattle.tzrule.specs.declared.rule.Change.{Change}
-use Rattle.tzrule.specs.declared.rule.Clock.{Clock}
-use Rattle.tzrule.specs.declared.rule.Rule.{Rule}
-use Rattle.tzrule.specs.declared.rule.Tz.{Tz}
-use Rattle.tzrule.specs.declared.rule.Tz.the-variants.{Fixed, Changing}
-use Rattle.tzrule.specs.declared.string.Changed.{Changed}
+use Rattle.tzrule.specs.declared.{number.Shape.{Shape}, rule.{Change.{Change}, Clock.{Clock}, Rule.{Rule}, Tz.{Tz, the-variants.{Fixed, Changing}}}}
+use Rattle.tzrule.specs.declared.string.{Changed.{Changed}, Clocked.{Clocked}, Parsed.{Parsed}}
 use Rattle.tzrule.specs.declared.string.Changed.the-variants as changed
-use Rattle.tzrule.specs.declared.string.Clocked.{Clocked}
 use Rattle.tzrule.specs.declared.string.Clocked.the-variants as clocked
-use Rattle.tzrule.specs.declared.string.Parsed.{Parsed}
 use Rattle.tzrule.specs.declared.string.Parsed.the-variants as parsed
 use Rattle.numbers.specs.Answer.{if_then_else_}
 

@@ -4,8 +4,7 @@ use lib.Dec.{ltb, leb}
 use mathlib.Core.Bool.{Bool, true, false}
 use Rattle.numbers.specs.Answer.{if_then_else_}
 use Rattle.calendar.specs.Rules.{dayOf, IsWhen}
-use Rattle.tzrule.specs.declared.rule.Change.{Change}
-use Rattle.tzrule.specs.declared.rule.Rule.{Rule}
+use Rattle.tzrule.specs.declared.rule.{Change.{Change}, Rule.{Rule}}
 
 -- the instant of a change in a year, by the offset that it ends
 unfoldable pub changeOf : Change → ℕ → ℕ → ℕ

@@ -1,6 +1,5 @@
 // A TZ string, asked at an instant.
-ghost use mathlib.Core.Path.{_≡_};
-ghost use mathlib.Core.Bool.{true};
+ghost use mathlib.Core.{Path.{_≡_}, Bool.{true}};
 ghost use Prim.Native.Nat.{_^_, _<_};
 ghost use Rattle.tzrule.specs.Ask.{Ruled, corrected, inYears, clockAt, ask};
 use crate::rule::Clock;

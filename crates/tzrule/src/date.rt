@@ -2,8 +2,7 @@
 ghost use mathlib.Core.Path.{_≡_};
 ghost use Prim.Native.Nat.{_≤_};
 ghost use lib.ListN.{length};
-ghost use Rattle.tzrule.specs.Answer.{told, Within, toldDate, GoodDate};
-ghost use Rattle.tzrule.specs.Grammar.{IsShape, dottedOf, julianOf, zeroOf, weekdayFrom, weekFrom, monthFrom, dateOf};
+ghost use Rattle.tzrule.specs.{Answer.{told, Within, toldDate, GoodDate}, Grammar.{IsShape, dottedOf, julianOf, zeroOf, weekdayFrom, weekFrom, monthFrom, dateOf}};
 use crate::number::Number;
 use crate::number::Shape;
 use crate::number::byte_at;

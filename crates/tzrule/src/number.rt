@@ -2,9 +2,7 @@
 ghost use mathlib.Core.Path.{_≡_};
 ghost use Prim.Native.Nat.{_+_, _≤_, _<_};
 ghost use lib.ListN.{length};
-ghost use Rattle.tzrule.specs.Answer.{told, Within};
-ghost use Rattle.tzrule.specs.Grammar.{IsShape, numberOf};
-ghost use Rattle.tzrule.specs.Text.{byteAt, isDigit, digitsOf};
+ghost use Rattle.tzrule.specs.{Answer.{told, Within}, Grammar.{IsShape, numberOf}, Text.{byteAt, isDigit, digitsOf}};
 
 // Digits that were read: their number, and the place behind them.
 pub struct Digits {

@@ -2,8 +2,7 @@
 ghost use mathlib.Core.Path.{_≡_};
 ghost use Prim.Native.Nat.{_+_, _*_, _≤_};
 ghost use lib.ListN.{length};
-ghost use Rattle.tzrule.specs.Answer.{told, Within, Around};
-ghost use Rattle.tzrule.specs.Grammar.{IsShape, secondsOf, minutesOf, clockOf, laterOf, earlierOf, signedOf};
+ghost use Rattle.tzrule.specs.{Answer.{told, Within, Around}, Grammar.{IsShape, secondsOf, minutesOf, clockOf, laterOf, earlierOf, signedOf}};
 use crate::number::Number;
 use crate::number::Shape;
 use crate::number::byte_at;

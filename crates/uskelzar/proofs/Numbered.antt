@@ -1,34 +1,21 @@
 -- What a returned 0 means to firmware: the call was answered, whatever it was given. Each exported function's contract fixes what it returns,
 -- the number said in `openingSpoken`, `foundSpoken`, `manySpoken`, `writtenSpoken` or `localSpoken`; here, that this number is 0 exactly where the definition gives an answer. Assumes nothing.
 use Prim.Native.Nat.{ℕ}
-use mathlib.Core.Bool.{Bool, true, false}
-use mathlib.Core.List.{List, [], _∷_, _++_}
-use mathlib.Core.Logic.{_↔_}
-use mathlib.Core.Path.{_≡_, refl, subst}
+use mathlib.Core.{Bool.{Bool, true, false}, List.{List, [], _∷_, _++_}, Logic.{_↔_}, Path.{_≡_, refl, subst}}
 use native.Mathlib.Omega.{arith}
-use lib.IntN.{ℤ}
-use lib.Ieee.{Float}
-use Rattle.batch.proofs.NumberedMany.{manyNumbers, many-refusals}
+use lib.{IntN.{ℤ}, Ieee.{Float}}
+use Rattle.batch.{proofs.NumberedMany.{manyNumbers, many-refusals}, specs.{Many.{Batch, lookedUpMany}, declared.many.Totals.{Totals}}}
 use Rattle.batch.specs.Many as B
-use Rattle.batch.specs.Many.{Batch, lookedUpMany}
-use Rattle.batch.specs.declared.many.Totals.{Totals}
-use Rattle.numbers.proofs.Refusals.{Listed}
-use Rattle.border.proofs.NumberedWriter.{writerNumbers, writer-refusals}
-use Rattle.border.specs.Writer.{borderOf, fitted}
-use Rattle.border.specs.declared.writer.Piece.{Piece}
-use Rattle.footer.proofs.Numbered.{footerNumbers, local-time-refusals}
-use Rattle.footer.specs.Local.{localTime}
+use Rattle.numbers.{proofs.Refusals.{Listed}, specs.{Reply.{Reply, given, refused}, declared.refusal.Refusal.{Refusal}}}
+use Rattle.border.{proofs.NumberedWriter.{writerNumbers, writer-refusals}, specs.{Writer.{borderOf, fitted}, declared.writer.Piece.{Piece}}}
+use Rattle.footer.{proofs.Numbered.{footerNumbers, local-time-refusals}, specs.Local.{localTime}}
 use Rattle.tzif.specs.declared.local.LocalTime.{LocalTime}
 use Rattle.tzif.specs.declared.local.LocalTime.the-variants as L
 use Rattle.tzif.specs.declared.refusal.Refusal as T
-use Rattle.header.proofs.Numbered.{openingNumbers, opening-refusals, strict-opening-refusals}
+use Rattle.header.{proofs.Numbered.{openingNumbers, opening-refusals, strict-opening-refusals}, specs.Opening.{openedOf, openedStrictly}}
 use Rattle.zones.proofs.NumberedLookup.{lookupNumbers, lookup-refusals, strict-lookup-refusals, simple-lookup-refusals}
-use Rattle.zones.specs.Lookup.{lookedUp, lookedStrictly}
-use Rattle.header.specs.Opening.{openedOf, openedStrictly}
-use Rattle.numbers.specs.Reply.{Reply, given, refused}
-use Rattle.zones.specs.Simple.{simplyLooked}
+use Rattle.zones.specs.{Lookup.{lookedUp, lookedStrictly}, Simple.{simplyLooked}}
 use Rattle.table.specs.declared.location.Location.{Location}
-use Rattle.numbers.specs.declared.refusal.Refusal.{Refusal}
 use Rattle.uskelzar.specs.Many.{manySaid, manySpoken}
 use Rattle.uskelzar.specs.Spoken.{saidOf, openingValues, zonesValues, describedValues, lengthValue, localValues, localReply, openingSpoken, foundSpoken, writtenSpoken, localSpoken}
 

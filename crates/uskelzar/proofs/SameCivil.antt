@@ -1,13 +1,8 @@
 -- What the promise of `uskelzar_civil_time` fixes. Assumes nothing.
 use lib.IntN.{ℤ}
-use mathlib.Core.List.{List}
-use mathlib.Core.Path.{_≡_, ap, sym, subst, _∙_}
+use mathlib.Core.{List.{List}, Path.{_≡_, ap, sym, subst, _∙_}}
 use Prim.Native.Nat.{ℕ}
-use Rattle.calendar.proofs.SameCivil.{same-civil}
-use Rattle.calendar.specs.Civil.{CivilOf}
-use Rattle.calendar.specs.declared.civil.Civil.{Civil}
-use Rattle.calendar.specs.declared.civil.Civil.the-variants.{Shown, Outside}
-use Rattle.calendar.specs.declared.civil.Reading.{Reading}
+use Rattle.calendar.{proofs.SameCivil.{same-civil}, specs.{Civil.{CivilOf}, declared.civil.{Civil.{Civil, the-variants.{Shown, Outside}}, Reading.{Reading}}}}
 use Rattle.uskelzar.specs.Civil.{civilNumber, civilWords, CivilSpoken}
 
 -- two calls that it permits return the same number and leave the same words

@@ -1,12 +1,8 @@
 -- How an answer and a refusal go over to C. Assumes nothing.
 use Prim.Native.Nat.{ℕ}
-use mathlib.Core.List.{List, []}
-use mathlib.Core.Path.{_≡_, ap, sym, _∙_}
-use Rattle.numbers.specs.Lists.{padded}
-use Rattle.numbers.specs.Reply.{Reply, given, refused}
-use Rattle.numbers.specs.declared.refusal.Refusal.{Refusal}
-use Rattle.uskelzar.specs.Spoken.{saidOf, refusedSaid, Spoken, spoken}
-use Rattle.uskelzar.specs.declared.Said.{Said}
+use mathlib.Core.{List.{List, []}, Path.{_≡_, ap, sym, _∙_}}
+use Rattle.numbers.specs.{Lists.{padded}, Reply.{Reply, given, refused}, declared.refusal.Refusal.{Refusal}}
+use Rattle.uskelzar.specs.{Spoken.{saidOf, refusedSaid, Spoken, spoken}, declared.Said.{Said}}
 
 module _ {A : Type 0} (values : A → List ℕ) {reply : Reply A} where
   pub said-given : {a : A} → reply ≡ given a → record { number = 0; words = padded 5 (values a) } ≡ saidOf values reply

@@ -1,22 +1,13 @@
 -- The two strict functions (request Q-6) are refused 31 exactly where they say something else than the plain ones. Assumes nothing.
 use Prim.Native.Nat.{ℕ}
-use mathlib.Core.Bool.{Bool, true, false}
-use mathlib.Core.List.{List}
-use mathlib.Core.Logic.{_⊎_, inl, inr, _↔_}
-use mathlib.Core.Path.{_≡_, sym, ap, _∙_}
+use mathlib.Core.{Bool.{Bool, true, false}, List.{List}, Logic.{_⊎_, inl, inr, _↔_}, Path.{_≡_, sym, ap, _∙_}}
 use native.Mathlib.Omega.{arith}
-use Rattle.numbers.proofs.Refusals.{Listed}
-use Rattle.numbers.specs.Reply.{refused, plain}
-use Rattle.header.proofs.Numbered.{openingNumbers, opening-refusals}
-use Rattle.zones.proofs.NumberedLookup.{lookupNumbers, lookup-refusals}
-use Rattle.header.proofs.StrictHead.{strict-open-or-plain}
-use Rattle.zones.proofs.StrictLookup.{strict-or-plain}
-use Rattle.zones.specs.Lent.{Replied, repliedOf}
-use Rattle.zones.specs.Lookup.{lookedUp, lookedStrictly}
+use Rattle.numbers.{proofs.Refusals.{Listed}, specs.Reply.{refused, plain}}
+use Rattle.header.{proofs.{Numbered.{openingNumbers, opening-refusals}, StrictHead.{strict-open-or-plain}}, specs.Opening.{openedOf, openedStrictly}}
+use Rattle.zones.proofs.{NumberedLookup.{lookupNumbers, lookup-refusals}, StrictLookup.{strict-or-plain}}
+use Rattle.zones.specs.{Lent.{Replied, repliedOf}, Lookup.{lookedUp, lookedStrictly}, declared.lookup.Zones.{Zones}}
 use Rattle.header.specs.Opening as O
-use Rattle.header.specs.Opening.{openedOf, openedStrictly}
 use Rattle.table.specs.declared.location.Location.{Location}
-use Rattle.zones.specs.declared.lookup.Zones.{Zones}
 
 -- 31 is no number of the list
 never : (numbers : List ℕ) → (Listed numbers 31 → false ≡ true) → Listed numbers 31 → ⊥

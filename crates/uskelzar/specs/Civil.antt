@@ -1,11 +1,8 @@
 -- How the date and time of day of an instant go over to C.
 use lib.IntN.{ℤ}
-use mathlib.Core.List.{List, [], _∷_}
-use mathlib.Core.Path.{_≡_}
+use mathlib.Core.{List.{List, [], _∷_}, Path.{_≡_}}
 use Prim.Native.Nat.{ℕ}
-use Rattle.calendar.specs.Civil.{CivilOf}
-use Rattle.calendar.specs.declared.civil.Civil.{Civil}
-use Rattle.calendar.specs.declared.civil.Civil.the-variants.{Shown, Outside}
+use Rattle.calendar.specs.{Civil.{CivilOf}, declared.civil.Civil.{Civil, the-variants.{Shown, Outside}}}
 
 -- 0, or 61 outside the years 1 to 9999
 unfoldable pub civilNumber : Civil → ℕ

@@ -1,23 +1,15 @@
 -- How a reply goes over to C: a number, five words, and all lent output.
-use mathlib.Core.List.{List, [], _∷_}
-use mathlib.Core.Option.{Option, none, some}
-use mir.Syntax.{w32}
-use mir.Val.{ofZ}
+use mathlib.Core.{List.{List, [], _∷_}, Option.{Option, none, some}}
+use mir.{Syntax.{w32}, Val.{ofZ}}
 use Prim.Native.Nat.{ℕ}
 use Rattle.border.specs.Writer as W
 use Rattle.tzif.specs.Local as T
-use Rattle.tzif.specs.declared.local.Local.{Local}
-use Rattle.tzif.specs.declared.local.LocalTime.{LocalTime}
+use Rattle.tzif.specs.declared.local.{Local.{Local}, LocalTime.{LocalTime}}
 use Rattle.tzif.specs.declared.local.LocalTime.the-variants as L
-use Rattle.zones.specs.Lent.{Replied}
-use Rattle.numbers.specs.Lists.{padded}
+use Rattle.zones.specs.{Lent.{Replied}, declared.{lookup.Zones.{Zones}, simple.{Described.{Described}, Description.{Description}}}}
+use Rattle.numbers.specs.{Lists.{padded}, Reply.{Reply, given, refused, refusal}, declared.refusal.Refusal.{Refusal}}
 use Rattle.header.specs.Opening as O
-use Rattle.numbers.specs.Reply.{Reply, given, refused, refusal}
-use Rattle.zones.specs.declared.lookup.Zones.{Zones}
-use Rattle.numbers.specs.declared.refusal.Refusal.{Refusal}
 use Rattle.header.specs.declared.opening.Opening.{Opening}
-use Rattle.zones.specs.declared.simple.Described.{Described}
-use Rattle.zones.specs.declared.simple.Description.{Description}
 use Rattle.zones.specs.declared.simple.Description.the-variants as D
 use Rattle.uskelzar.specs.declared.Said.{Said}
 

@@ -3,16 +3,13 @@
 pub mod civil;
 pub mod many;
 
-ghost use mathlib.Core.Path.{_≡_};
-ghost use mathlib.Core.List.{[], _∷_};
+ghost use mathlib.Core.{Path.{_≡_}, List.{[], _∷_}};
 ghost use lib.ListN.{length};
-ghost use Rattle.border.specs.Pieces.{piecesOf};
-ghost use Rattle.border.specs.Writer.{borderOf, fitted, told};
+ghost use Rattle.border.specs.{Pieces.{piecesOf}, Writer.{borderOf, fitted, told}};
 ghost use Rattle.footer.specs.Local.{localTime};
-ghost use Rattle.zones.specs.Lookup.{lookedUp, lookedStrictly, toldLooked};
+ghost use Rattle.zones.specs.{Lookup.{lookedUp, lookedStrictly, toldLooked}, Simple.{simplyLooked, toldSimple}};
 ghost use Rattle.header.specs.Opening.{openedOf, openedStrictly, toldOpened};
 ghost use Rattle.numbers.specs.Reply.{Reply, given, refused};
-ghost use Rattle.zones.specs.Simple.{simplyLooked, toldSimple};
 ghost use Rattle.uskelzar.specs.Spoken.{saidOf, openingValues, zonesValues, describedValues, lengthValue, localValues, refusedSaid, localReply, spoken, openingSpoken, foundSpoken, writtenSpoken, localSpoken};
 use border::writer::Written;
 use border::writer::write_border_words;

@@ -1,10 +1,8 @@
 // Many fixes in one call, for C.
-ghost use mathlib.Core.Path.{_≡_};
-ghost use mathlib.Core.List.{[], _∷_};
+ghost use mathlib.Core.{Path.{_≡_}, List.{[], _∷_}};
 ghost use lib.ListN.{length};
 ghost use Rattle.batch.specs.Many.{toldMany, lookedUpMany};
-ghost use Rattle.uskelzar.specs.Spoken.{spoken};
-ghost use Rattle.uskelzar.specs.Many.{manySaid, manySpoken};
+ghost use Rattle.uskelzar.specs.{Spoken.{spoken}, Many.{manySaid, manySpoken}};
 use crate::Said;
 use crate::speak;
 use batch::many::Many;

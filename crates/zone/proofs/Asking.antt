@@ -2,18 +2,11 @@
 use Prim.Native.Nat.{ℕ, _-_, _≤_, _<_}
 use borrow.Author.Tests.{le-leb, lt-leb}
 use lib.ListN.{length, take, drop}
-use mathlib.Core.Bool.{true}
-use mathlib.Core.List.{List}
-use mathlib.Core.Path.{_≡_, ap, _∙_}
+use mathlib.Core.{Bool.{true}, List.{List}, Path.{_≡_, ap, _∙_}}
 use Rattle.header.proofs.Buffers.{tail-lent}
-use Rattle.numbers.proofs.Replies.{met, unmet}
-use Rattle.numbers.specs.Lists.{zeros}
-use Rattle.zones.specs.Lent.{Outcome, replied, repliedOf}
-use Rattle.zones.specs.Lookup.{zonesIn, lookedUp}
-use Rattle.numbers.specs.Reply.{Reply, refused, plain}
+use Rattle.numbers.{proofs.Replies.{met, unmet}, specs.{Lists.{zeros}, Reply.{Reply, refused, plain}, declared.refusal.Refusal.{Refusal}}}
+use Rattle.zones.specs.{Lent.{Outcome, replied, repliedOf}, Lookup.{zonesIn, lookedUp}, declared.lookup.Zones.{Zones}}
 use Rattle.table.specs.declared.location.Location.{Location}
-use Rattle.zones.specs.declared.lookup.Zones.{Zones}
-use Rattle.numbers.specs.declared.refusal.Refusal.{Refusal}
 use Rattle.zone.specs.Answer.{locationOf, outcomeOf, answerOf}
 
 module _ (input : List ℕ) (n room : ℕ) where

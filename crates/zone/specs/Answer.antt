@@ -1,16 +1,11 @@
 -- What the program asks of the library, as document 01 has it: latitude and longitude, then the file.
-use mathlib.Core.Bool.{true}
-use mathlib.Core.List.{List}
+use mathlib.Core.{Bool.{true}, List.{List}}
 use Prim.Native.Nat.{ℕ}
-use lib.Dec.{leb}
-use lib.Ieee.{binary32, ofBits}
-use lib.ListN.{length, drop}
+use lib.{Dec.{leb}, Ieee.{binary32, ofBits}, ListN.{length, drop}}
 use Rattle.line.specs.Bytes.{wordAt}
 use Rattle.numbers.specs.Reply.{Reply, plain, demand, _>>_}
-use Rattle.zones.specs.Lent.{Outcome, Replied, repliedOf}
-use Rattle.zones.specs.Lookup.{zonesIn}
+use Rattle.zones.specs.{Lent.{Outcome, Replied, repliedOf}, Lookup.{zonesIn}, declared.lookup.Zones.{Zones}}
 use Rattle.table.specs.declared.location.Location.{Location}
-use Rattle.zones.specs.declared.lookup.Zones.{Zones}
 
 abbrev pub locationOf : List ℕ → Location
 locationOf input = record { lat = ofBits binary32 (wordAt input 0); lon = ofBits binary32 (wordAt input 4) }

@@ -1,8 +1,7 @@
 // What is asked of the library, and what it answers.
 ghost use mathlib.Core.Path.{_≡_};
 ghost use lib.ListN.{length};
-ghost use Rattle.zones.specs.Lent.{replied};
-ghost use Rattle.zones.specs.Lookup.{toldLooked};
+ghost use Rattle.zones.specs.{Lent.{replied}, Lookup.{toldLooked}};
 ghost use Rattle.zone.specs.Answer.{answerOf};
 use crate::zero::zero_both;
 use line::bytes::word_at;

@@ -1,36 +1,17 @@
 -- The distance asked for or not (request Q-2): the search, and lookup over it. Assumes nothing.
 use Prim.Native.Nat.{ℕ, _/_}
-use lib.Dec.{ltb, eqb}
-use lib.IntN.{pos}
-use lib.ListN.{length}
-use mathlib.Core.Bool.{Bool, true, false}
-use mathlib.Core.List.{List, [], _∷_, _++_}
-use mathlib.Core.Logic.{_⊎_, inl, inr}
-use mathlib.Core.Path.{_≡_, refl, sym, ap, _∙_, subst}
+use lib.{Dec.{ltb, eqb}, IntN.{pos}, ListN.{length}}
+use mathlib.Core.{Bool.{Bool, true, false}, List.{List, [], _∷_, _++_}, Logic.{_⊎_, inl, inr}, Path.{_≡_, refl, sym, ap, _∙_, subst}}
 use native.Mathlib.Omega.{arith}
-use Rattle.border.proofs.Unasked.{Agrees, judged-asked-or-not}
-use Rattle.border.specs.Verdict.{Judgement, reached}
-use Rattle.border.specs.declared.place.Point.{Point}
-use Rattle.numbers.specs.Answer.{if_then_else_}
+use Rattle.border.{proofs.Unasked.{Agrees, judged-asked-or-not}, specs.{Verdict.{Judgement, reached}, declared.place.Point.{Point}}}
+use Rattle.numbers.specs.{Answer.{if_then_else_}, Reply.{Reply, given, refused, plain, _>>=_}}
 use Rattle.header.proofs.Unless.{shown, Unless, refuses, alike, unless-after, unless-demand, unless-then}
-use Rattle.zones.specs.Fields.{fieldsOf}
-use Rattle.table.specs.Find.{Matched, isPrecision, fixOf, matchedWith}
-use Rattle.header.specs.Header.{headOf, headStrictly}
-use Rattle.table.specs.Hits.{width}
-use Rattle.zones.specs.Lent.{Outcome, Replied, replied, repliedOf}
-use Rattle.zones.specs.Lookup.{safezoneBits, zonesWith, zonesIn, lookedWith, lookedUp, lookedStrictly}
-use Rattle.table.specs.Merge.{merged}
-use Rattle.numbers.specs.Reply.{Reply, given, refused, plain, _>>=_}
-use Rattle.table.specs.Rest.{restMark}
-use Rattle.table.specs.Rows.{Rows, row, tableEnd, unreadable, rowsIn}
-use Rattle.table.specs.Search.{Found, ended, kindOf, rowHit, farthest, afterTurn, judgedTurn, rowTurn, seek, judgeIn, searched}
-use Rattle.table.specs.Table.{isAbove, holds}
-use Rattle.header.specs.declared.header.Head.{Head}
-use Rattle.table.specs.declared.hits.Hit.{Hit}
-use Rattle.table.specs.declared.location.Location.{Location}
-use Rattle.zones.specs.declared.lookup.Zones.{Zones}
-use Rattle.table.specs.declared.rows.Row.{Row}
-use Rattle.table.specs.declared.search.Turn.the-variants.{On, Met, Stopped}
+use Rattle.header.specs.{Header.{headOf, headStrictly}, declared.header.Head.{Head}}
+use Rattle.zones.specs.{Fields.{fieldsOf}, Lent.{Outcome, Replied, replied, repliedOf}}
+use Rattle.zones.specs.{Lookup.{safezoneBits, zonesWith, zonesIn, lookedWith, lookedUp, lookedStrictly}, declared.lookup.Zones.{Zones}}
+use Rattle.table.specs.{Find.{Matched, isPrecision, fixOf, matchedWith}, Hits.{width}, Merge.{merged}, Rest.{restMark}, Rows.{Rows, row, tableEnd, unreadable, rowsIn}}
+use Rattle.table.specs.{Search.{Found, ended, kindOf, rowHit, farthest, afterTurn, judgedTurn, rowTurn, seek, judgeIn, searched}, Table.{isAbove, holds}}
+use Rattle.table.specs.declared.{hits.Hit.{Hit}, location.Location.{Location}, rows.Row.{Row}, search.Turn.the-variants.{On, Met, Stopped}}
 use Rattle.border.specs.Verdict as J
 use Rattle.table.specs.Rows as T
 

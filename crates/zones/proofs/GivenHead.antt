@@ -1,18 +1,11 @@
 -- A header that was read once serves every lookup in its file: the forms that take it answer as those that open the file. Assumes nothing.
-use mathlib.Core.Path.{_≡_, sym, ap, _∙_}
-use mathlib.Core.Bool.{Bool, false}
-use mathlib.Core.List.{List}
+use mathlib.Core.{Path.{_≡_, sym, ap, _∙_}, Bool.{Bool, false}, List.{List}}
 use Prim.Native.Nat.{ℕ}
-use Rattle.header.specs.Header.{headBy, headOf}
-use Rattle.zones.specs.Lent.{Outcome, Replied, replied, repliedOf}
-use Rattle.numbers.specs.Lists.{zeros}
-use Rattle.zones.specs.Lookup.{zonesWith, zonesIn, lookedWith, lookedBy, lookedUp}
-use Rattle.numbers.specs.Reply.{Reply, given, refused}
+use Rattle.header.specs.{Header.{headBy, headOf}, declared.header.Head.{Head}}
+use Rattle.zones.specs.{Lent.{Outcome, Replied, replied, repliedOf}, Lookup.{zonesWith, zonesIn, lookedWith, lookedBy, lookedUp}}
 use Rattle.zones.specs.Simple.{describedWith, describedIn, simplyLookedWith, simplyLooked}
-use Rattle.header.specs.declared.header.Head.{Head}
+use Rattle.numbers.{specs.{Lists.{zeros}, Reply.{Reply, given, refused}, declared.refusal.Refusal.{Refusal}}, proofs.Replies.{carried, onward}}
 use Rattle.table.specs.declared.location.Location.{Location}
-use Rattle.numbers.specs.declared.refusal.Refusal.{Refusal}
-use Rattle.numbers.proofs.Replies.{carried, onward}
 
 refused-zero : {A : Type 0} (n room : ℕ) {whole : Reply (Outcome A)} {why : Refusal} {hs ts : List ℕ} → refused why ≡ whole → hs ≡ zeros n → ts ≡ zeros room
     → replied {A = A} (refused why) hs ts ≡ repliedOf n room whole

@@ -1,13 +1,10 @@
 -- A text at the front of a buffer that is zero beyond it. Assumes nothing.
-use mathlib.Core.Path.{_≡_, sym, ap, _∙_}
-use mathlib.Core.List.{List, _++_, append-assoc}
+use mathlib.Core.{Path.{_≡_, sym, ap, _∙_}, List.{List, _++_, append-assoc}}
 use Prim.Native.Nat.{ℕ, _+_, _-_, _≤_}
 use native.Mathlib.Omega.{arith}
-use lib.ListN.{length, take, drop, length-append, length-replicate}
-use lib.Seq.{take-at, drop-at}
-use Rattle.numbers.specs.Lists.{zeros, padded, over}
+use lib.{ListN.{length, take, drop, length-append, length-replicate}, Seq.{take-at, drop-at}}
+use Rattle.numbers.{specs.Lists.{zeros, padded, over}, proofs.Lists.{zeros-drop}}
 use Rattle.zones.specs.Fields.{Wrote}
-use Rattle.numbers.proofs.Lists.{zeros-drop}
 use Rattle.header.proofs.Buffers.{tail-lent, lent-length, tail-back}
 
 pub record Held (room : ℕ) (out text : List ℕ) (at : ℕ) : Type 0 where

@@ -1,29 +1,16 @@
 -- An answered lookup comes from a search that went through every row up to where it ended, and its mark says why it ended there. Assumes nothing.
-use mathlib.Core.Path.{_≡_, refl, sym, ap, subst, _∙_}
-use mathlib.Core.Bool.{Bool, false}
-use mathlib.Core.List.{List, []}
+use mathlib.Core.{Path.{_≡_, refl, sym, ap, subst, _∙_}, Bool.{Bool, false}, List.{List, []}}
 use Prim.Native.Nat.{ℕ, _/_}
 use native.Mathlib.Omega.{arith}
 use lib.ListN.{length}
-use Rattle.header.specs.Header.{headOf}
-use Rattle.header.specs.declared.header.Head.{Head}
-use Rattle.numbers.proofs.Refusals.{Listed}
-use Rattle.numbers.proofs.Replies.{given-from}
-use Rattle.numbers.specs.Lists.{padded}
-use Rattle.numbers.specs.Reply.{Reply, given, _>>=_}
+use Rattle.header.specs.{Header.{headOf}, declared.header.Head.{Head}}
+use Rattle.numbers.{proofs.{Refusals.{Listed}, Replies.{given-from}}, specs.{Lists.{padded}, Reply.{Reply, given, _>>=_}}}
 use Rattle.numbers.specs.Reply as R
 use Rattle.table.proofs.SearchEnds.{endMarks, met-check, behind-marks, matched-ends}
-use Rattle.table.specs.Ending.{Behind, Answered}
-use Rattle.table.specs.Find.{Matched, matchedWith}
-use Rattle.table.specs.Hits.{width, words}
-use Rattle.table.specs.declared.hits.Hit.{Hit}
-use Rattle.table.specs.declared.location.Location.{Location}
-use Rattle.zones.specs.Fields.{fieldsOf}
-use Rattle.zones.specs.Lent.{Outcome, repliedOf}
-use Rattle.zones.specs.Lookup.{zonesFrom, zonesWith, zonesIn, lookedUp}
+use Rattle.table.specs.{Ending.{Behind, Answered}, Find.{Matched, matchedWith}, Hits.{width, words}, declared.{hits.Hit.{Hit}, location.Location.{Location}}}
+use Rattle.zones.specs.{Fields.{fieldsOf}, Lent.{Outcome, repliedOf}, Lookup.{zonesFrom, zonesWith, zonesIn, lookedUp}}
 use Rattle.zones.specs.Simple.{checked, wordedOf, describedFrom, describedWith, describedIn, simplyLooked}
-use Rattle.zones.specs.declared.lookup.Zones.{Zones}
-use Rattle.zones.specs.declared.simple.Described.{Described}
+use Rattle.zones.specs.declared.{lookup.Zones.{Zones}, simple.Described.{Described}}
 
 -- what a reply with its lent words was made of
 pub record Outcame {A : Type 0} (n room : ℕ) (reply : Reply (Outcome A)) (answer : A) : Type 0 where

@@ -1,32 +1,17 @@
 -- Every match of a lookup has kind 1, 3 or 4: what is excluded is no match. Assumes nothing.
-use mathlib.Core.Path.{_≡_, refl, sym, ap, subst, _∙_}
-use mathlib.Core.Bool.{Bool, true, false}
-use mathlib.Core.List.{List, [], _∷_, _++_}
+use mathlib.Core.{Path.{_≡_, refl, sym, ap, subst, _∙_}, Bool.{Bool, true, false}, List.{List, [], _∷_, _++_}}
 use Prim.Native.Nat.{ℕ, zero, suc, _<_}
 use native.Mathlib.Omega.{arith}
-use lib.Dec.{eqb}
-use lib.ListN.{length, getD}
-use Rattle.numbers.proofs.Refusals.{Listed}
-use Rattle.numbers.specs.Answer.{if_then_else_}
+use lib.{Dec.{eqb}, ListN.{length, getD}}
+use Rattle.numbers.{proofs.Refusals.{Listed}, specs.{Answer.{if_then_else_}, Lists.{zeros, padded}, Reply.{given}}}
 use Rattle.border.specs.Verdict.{Judgement}
-use Rattle.border.specs.declared.place.Point.{Point}
-use Rattle.border.specs.declared.verdict.Verdict.{Verdict}
-use Rattle.border.specs.declared.verdict.Verdict.the-variants.{NotInZone, InZone, InExcludedZone, OnBorderVertex, OnBorderSegment}
-use Rattle.table.specs.Ending.{hitsOf, Through, here, outside, judged, Answered}
-use Rattle.table.specs.Hits.{noHit, hitAt}
-use Rattle.numbers.specs.Lists.{zeros, padded}
-use Rattle.zones.specs.Lookup.{lookedUp}
-use Rattle.table.specs.Merge.{Summary, summed, later, _⊕_, single, summary, differs, groupKind, seen, matchOf, mergedAfter, merged}
-use Rattle.numbers.specs.Reply.{given}
-use Rattle.table.specs.Rows.{Rows}
-use Rattle.zones.specs.Simple.{simplyLooked}
-use Rattle.table.specs.declared.hits.Hit.{Hit}
-use Rattle.table.specs.declared.location.Location.{Location}
-use Rattle.zones.specs.declared.lookup.Zones.{Zones}
-use Rattle.table.specs.declared.rows.Row.{Row}
-use Rattle.zones.specs.declared.simple.Described.{Described}
-use Rattle.zones.proofs.HowItEnds.{lookup-ends, simple-lookup-ends}
+use Rattle.border.specs.declared.{place.Point.{Point}, verdict.Verdict.{Verdict, the-variants.{NotInZone, InZone, InExcludedZone, OnBorderVertex, OnBorderSegment}}}
+use Rattle.table.specs.{Ending.{hitsOf, Through, here, outside, judged, Answered}, Hits.{noHit, hitAt}}
+use Rattle.table.specs.{Merge.{Summary, summed, later, _⊕_, single, summary, differs, groupKind, seen, matchOf, mergedAfter, merged}, Rows.{Rows}}
+use Rattle.table.specs.declared.{hits.Hit.{Hit}, location.Location.{Location}, rows.Row.{Row}}
 use Rattle.table.proofs.Words.{word-at}
+use Rattle.zones.specs.{Lookup.{lookedUp}, Simple.{simplyLooked}, declared.{lookup.Zones.{Zones}, simple.Described.{Described}}}
+use Rattle.zones.proofs.HowItEnds.{lookup-ends, simple-lookup-ends}
 
 -- the kinds of hits, of border verdicts, and of matches
 data HitKind : ℕ → Type 0 where

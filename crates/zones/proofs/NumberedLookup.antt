@@ -1,46 +1,23 @@
 -- Which numbers a lookup can be refused with. Assumes nothing.
 use Prim.Native.Nat.{ℕ, zero, suc, _+_, _-_, _/_}
-use lib.Dec.{ltb, leb, eqb}
-use lib.ListN.{length}
-use mathlib.Core.Bool.{Bool, true, false}
-use mathlib.Core.List.{List, [], _∷_, _++_}
-use mathlib.Core.Path.{_≡_, refl, subst}
+use lib.{Dec.{ltb, leb, eqb}, ListN.{length}}
+use mathlib.Core.{Bool.{Bool, true, false}, List.{List, [], _∷_, _++_}, Path.{_≡_, refl, subst}}
 use native.Mathlib.Omega.{arith}
-use Rattle.border.proofs.Signs.{differ}
-use Rattle.border.proofs.Numbered.{NumberedJudgement, judged, unjudged, not-judged, judged-numbered}
-use Rattle.border.specs.Verdict.{Judgement}
-use Rattle.border.specs.declared.place.Point.{Point}
-use Rattle.numbers.proofs.Refusals.{Listed, still-listed, Numbered, as-found, as-failed, as-refused, either, then-numbered}
-use Rattle.numbers.proofs.Readings.{reading-numbered}
-use Rattle.numbers.specs.Answer.{Answer, if_then_else_}
-use Rattle.numbers.specs.Varint.{readingOf}
+use Rattle.border.proofs.{Signs.{differ}, Numbered.{NumberedJudgement, judged, unjudged, not-judged, judged-numbered}}
+use Rattle.border.specs.{Verdict.{Judgement}, declared.place.Point.{Point}}
+use Rattle.numbers.proofs.{Refusals.{Listed, still-listed, Numbered, as-found, as-failed, as-refused, either, then-numbered}, Readings.{reading-numbered}}
 use Rattle.numbers.proofs.Replies.{NumberedReply, answers, refuses, then-reply, and-then, demands, number-of}
-use Rattle.header.proofs.Numbered.{headerNumbers, text-numbered, blame-numbered, head-numbered}
-use Rattle.header.proofs.StrictHead.{head-strict}
+use Rattle.numbers.specs.{Answer.{Answer, if_then_else_}, Varint.{readingOf}, Reply.{Reply, given, refused, plain, _>>=_}, declared.refusal.Refusal.{Refusal}}
+use Rattle.header.proofs.{Numbered.{headerNumbers, text-numbered, blame-numbered, head-numbered}, StrictHead.{head-strict}}
+use Rattle.header.specs.{Field.{field, fieldAt}, Header.{blameOf, headBy}, Text.{bytesOf, textAt}, declared.{header.Head.{Head}, text.Blame.{Blame}}}
 use Rattle.table.proofs.TableRows.{rows-so}
-use Rattle.header.specs.Field.{field, fieldAt}
-use Rattle.zones.specs.Fields.{fieldsPlace, fieldsFrom, fieldsOf}
-use Rattle.table.specs.Find.{fixOf, isPrecision, matchedWith}
-use Rattle.header.specs.Header.{blameOf, headBy}
-use Rattle.table.specs.Hits.{width}
-use Rattle.zones.specs.Lent.{Outcome, repliedOf}
-use Rattle.zones.specs.Lookup.{zonesWith, zonesBy, zonesIn, lookedUp, lookedStrictly}
-use Rattle.numbers.specs.Reply.{Reply, given, refused, plain, _>>=_}
-use Rattle.table.specs.Rows.{Rows, row, tableEnd, unreadable, rowBy, rowsFrom, rowsIn}
-use Rattle.table.specs.Search.{kindOf, judgedTurn, rowTurn, Found, afterTurn, seek, judgeIn, farthest, searched}
+use Rattle.table.specs.{Find.{fixOf, isPrecision, matchedWith}, Hits.{width}, Rows.{Rows, row, tableEnd, unreadable, rowBy, rowsFrom, rowsIn}}
+use Rattle.table.specs.{Search.{kindOf, judgedTurn, rowTurn, Found, afterTurn, seek, judgeIn, farthest, searched}, Table.{stepsBy, entryBy, isAbove, holds}}
+use Rattle.table.specs.declared.{hits.Hit.{Hit}, location.Location.{Location}, rows.{Cursor.{Cursor}, Row.{Row}}}
+use Rattle.table.specs.declared.search.Turn.{the-variants.{On, Met, Stopped, Refused}, Turn}
+use Rattle.zones.specs.{Fields.{fieldsPlace, fieldsFrom, fieldsOf}, Lent.{Outcome, repliedOf}, Lookup.{zonesWith, zonesBy, zonesIn, lookedUp, lookedStrictly}}
 use Rattle.zones.specs.Simple.{pickedFrom, pickedOf, checked, descriptionOf, bytesIn, wordedOf, describedWith, describedIn, simplyLooked}
-use Rattle.table.specs.Table.{stepsBy, entryBy, isAbove, holds}
-use Rattle.header.specs.Text.{bytesOf, textAt}
-use Rattle.header.specs.declared.header.Head.{Head}
-use Rattle.table.specs.declared.hits.Hit.{Hit}
-use Rattle.table.specs.declared.location.Location.{Location}
-use Rattle.numbers.specs.declared.refusal.Refusal.{Refusal}
-use Rattle.table.specs.declared.rows.Cursor.{Cursor}
-use Rattle.table.specs.declared.rows.Row.{Row}
-use Rattle.table.specs.declared.search.Turn.the-variants.{On, Met, Stopped, Refused}
-use Rattle.table.specs.declared.search.Turn.{Turn}
 use Rattle.zones.specs.declared.simple.Picked.{Picked}
-use Rattle.header.specs.declared.text.Blame.{Blame}
 use Rattle.numbers.specs.Answer as A
 use Rattle.table.specs.Rows as T
 

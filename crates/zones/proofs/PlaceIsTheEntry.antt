@@ -1,47 +1,22 @@
 -- The fourth word of a match leads to its entry: read there, it has a box that holds the location, and with it the table's row has the match's metadata id. Assumes nothing.
-use mathlib.Core.Path.{_≡_, refl, sym, ap, subst, _∙_}
-use mathlib.Core.Bool.{Bool, true, false}
-use mathlib.Core.List.{List, [], _∷_, _++_}
+use mathlib.Core.{Path.{_≡_, refl, sym, ap, subst, _∙_}, Bool.{Bool, true, false}, List.{List, [], _∷_, _++_}}
 use Prim.Native.Nat.{ℕ, _%_, _^_, _≤_, _<_}
 use native.Mathlib.Omega.{arith}
 use borrow.Author.Tests.{leb-true}
-use lib.Dec.{eqb, leb}
-use lib.ListN.{length}
-use Rattle.border.specs.Verdict.{Judgement}
-use Rattle.border.specs.declared.place.Point.{Point}
-use Rattle.numbers.proofs.Laws.{Read, forward-read}
-use Rattle.numbers.proofs.Answers.{All}
-use Rattle.numbers.proofs.Replies.{given-from, demanded}
-use Rattle.numbers.specs.Answer.{Answer, found, _>>=_}
+use lib.{Dec.{eqb, leb}, ListN.{length}}
+use Rattle.border.specs.{Verdict.{Judgement}, declared.place.Point.{Point}}
+use Rattle.numbers.proofs.{Laws.{Read, forward-read}, Answers.{All}, Replies.{given-from, demanded}}
+use Rattle.numbers.specs.{Answer.{Answer, found, _>>=_}, Reply.{given, plain}, Varint.{Numeral, forwardAt, readingOf}}
 use Rattle.numbers.specs.Answer as A
-use Rattle.numbers.specs.Reply.{given, plain}
-use Rattle.numbers.specs.Varint.{Numeral, forwardAt, readingOf}
-use Rattle.zones.proofs.HowItEnds.{lookup-ends, simple-lookup-ends}
-use Rattle.zones.proofs.MatchKinds.{Each, end, next, both, either, answered-each}
-use Rattle.table.proofs.Beside.{entry-plain}
-use Rattle.table.proofs.TableRows.{rows-so}
-use Rattle.table.specs.Ending.{Through, here, outside, judged, Answered}
-use Rattle.table.specs.Find.{fixOf}
-use Rattle.header.specs.Header.{preambleOf, contentsBy, headBy, headOf}
-use Rattle.table.specs.Hits.{hitOf, hitAt}
-use Rattle.zones.specs.Lookup.{lookedUp}
-use Rattle.table.specs.Merge.{summary, groupKind, seen, mergedAfter, merged}
-use Rattle.zones.specs.Places.{Listed, later, EntryOf}
+use Rattle.zones.proofs.{HowItEnds.{lookup-ends, simple-lookup-ends}, MatchKinds.{Each, end, next, both, either, answered-each}}
+use Rattle.table.proofs.{Beside.{entry-plain}, TableRows.{rows-so}}
+use Rattle.table.specs.{Ending.{Through, here, outside, judged, Answered}, Find.{fixOf}, Hits.{hitOf, hitAt}, Merge.{summary, groupKind, seen, mergedAfter, merged}}
+use Rattle.table.specs.{Rows.{Rows, row, tableEnd, unreadable, rowOf, rowBy, rowsIn}, Search.{kindOf}, Table.{entryBy, holds}}
+use Rattle.table.specs.declared.{hits.Hit.{Hit}, location.Location.{Location}, rows.{Cursor.{Cursor}, Row.{Row}}, table.{Bounds.{Bounds}, Entry.{Entry}}}
+use Rattle.header.specs.{Header.{preambleOf, contentsBy, headBy, headOf}, declared.header.Head.{Head}}
+use Rattle.zones.specs.{Lookup.{lookedUp}, Places.{Listed, later, EntryOf}, Simple.{simplyLooked}, declared.{lookup.Zones.{Zones}, simple.Described.{Described}}}
 use Rattle.zones.specs.Places as P
-use Rattle.table.specs.Rows.{Rows, row, tableEnd, unreadable, rowOf, rowBy, rowsIn}
 use Rattle.table.specs.Rows as T
-use Rattle.table.specs.Search.{kindOf}
-use Rattle.zones.specs.Simple.{simplyLooked}
-use Rattle.table.specs.Table.{entryBy, holds}
-use Rattle.header.specs.declared.header.Head.{Head}
-use Rattle.table.specs.declared.hits.Hit.{Hit}
-use Rattle.table.specs.declared.location.Location.{Location}
-use Rattle.zones.specs.declared.lookup.Zones.{Zones}
-use Rattle.table.specs.declared.rows.Cursor.{Cursor}
-use Rattle.table.specs.declared.rows.Row.{Row}
-use Rattle.zones.specs.declared.simple.Described.{Described}
-use Rattle.table.specs.declared.table.Bounds.{Bounds}
-use Rattle.table.specs.declared.table.Entry.{Entry}
 
 -- ---- a row of the table was read at its place
 unfoldable Begins : Rows → Type 0

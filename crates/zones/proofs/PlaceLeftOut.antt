@@ -1,44 +1,26 @@
 -- Nothing but the fourth word of a hit goes by a row's place: for the same room in hits document 01's three-word lookups reply and leave what these do, with the place
 -- left out. Assumes nothing.
 use Prim.Native.Nat.{ℕ, zero, suc, _-_, _*_, _/_}
-use lib.Dec.{ltb, eqb}
-use lib.ListN.{length, length-map}
-use mathlib.Core.Bool.{Bool, true, false}
-use mathlib.Core.List.{List, [], _∷_, _++_, map}
-use mathlib.Core.Option.{Option}
-use mathlib.Core.Path.{_≡_, refl, ap, _∙_}
+use lib.{Dec.{ltb, eqb}, ListN.{length, length-map}}
+use mathlib.Core.{Bool.{Bool, true, false}, List.{List, [], _∷_, _++_, map}, Option.{Option}, Path.{_≡_, refl, ap, _∙_}}
 use native.Mathlib.Omega.{arith}
-use Rattle.border.specs.Verdict.{Judgement, reached}
+use Rattle.border.specs.{Verdict.{Judgement, reached}, declared.place.Point.{Point}}
 use Rattle.border.specs.Verdict as J
-use Rattle.border.specs.declared.place.Point.{Point}
-use Rattle.numbers.specs.Answer.{if_then_else_}
-use Rattle.numbers.specs.Lists.{zeros, padded}
-use Rattle.numbers.specs.Reply.{Reply, given, plain, demand, _>>=_, _>>_}
+use Rattle.numbers.specs.{Answer.{if_then_else_}, Lists.{zeros, padded}, Reply.{Reply, given, plain, demand, _>>=_, _>>_}}
 use Rattle.numbers.specs.Reply as R
-use Rattle.header.proofs.Unless.{shown}
+use Rattle.header.{proofs.Unless.{shown}, specs.{Header.{headOf}, declared.header.Head.{Head}}}
 use Rattle.table.proofs.Words.{words-length}
-use Rattle.zones.specs.Fields.{fieldsFrom, fieldsOf, fieldsPlace}
-use Rattle.table.specs.Find.{fixOf, isPrecision, Matched, matchedWith}
-use Rattle.header.specs.Header.{headOf}
-use Rattle.table.specs.Hits.{width, hitOf, words}
-use Rattle.zones.specs.Lent.{Outcome, replied, repliedOf}
-use Rattle.zones.specs.Lookup.{safezoneBits, zonesFrom, zonesWith, zonesIn, lookedUp}
-use Rattle.table.specs.Merge.{Summary, _⊕_, single, summary, groupKind, seen, matchOf, mergedAfter, merged}
-use Rattle.zones.specs.Places.{placelessRow, placeless, threeWords, matchedPlaceless, repliedInThree, lookedUpInThree, simplyLookedInThree, leaveOut, withoutPlaces}
-use Rattle.table.specs.Rest.{restMark}
+use Rattle.table.specs.{Find.{fixOf, isPrecision, Matched, matchedWith}, Hits.{width, hitOf, words}}
+use Rattle.table.specs.{Merge.{Summary, _⊕_, single, summary, groupKind, seen, matchOf, mergedAfter, merged}, Rest.{restMark}}
 use Rattle.table.specs.Rows.{Rows, row, tableEnd, unreadable, rowsIn}
-use Rattle.table.specs.Rows as T
-use Rattle.table.specs.Search.{kindOf, rowHit, judgedTurn, rowTurn, Found, ended, afterTurn, seek, judgeIn, farthest, searched}
+use Rattle.table.specs.{Search.{kindOf, rowHit, judgedTurn, rowTurn, Found, ended, afterTurn, seek, judgeIn, farthest, searched}, Table.{isAbove, holds}}
+use Rattle.table.specs.declared.{hits.Hit.{Hit}, location.Location.{Location}, rows.Row.{Row}, search.Turn.the-variants.{On, Met}}
+use Rattle.zones.specs.{Fields.{fieldsFrom, fieldsOf, fieldsPlace}, Lent.{Outcome, replied, repliedOf}}
+use Rattle.zones.specs.Lookup.{safezoneBits, zonesFrom, zonesWith, zonesIn, lookedUp}
+use Rattle.zones.specs.Places.{placelessRow, placeless, threeWords, matchedPlaceless, repliedInThree, lookedUpInThree, simplyLookedInThree, leaveOut, withoutPlaces}
 use Rattle.zones.specs.Simple.{pickedOf, checked, descriptionOf, bytesIn, lengthIn, wordedOf, describedFrom, describedWith, describedIn, simplyLooked}
-use Rattle.table.specs.Table.{isAbove, holds}
-use Rattle.header.specs.declared.header.Head.{Head}
-use Rattle.table.specs.declared.hits.Hit.{Hit}
-use Rattle.table.specs.declared.location.Location.{Location}
-use Rattle.zones.specs.declared.lookup.Zones.{Zones}
-use Rattle.table.specs.declared.rows.Row.{Row}
-use Rattle.table.specs.declared.search.Turn.the-variants.{On, Met}
-use Rattle.zones.specs.declared.simple.Described.{Described}
-use Rattle.zones.specs.declared.simple.Picked.{Picked}
+use Rattle.zones.specs.declared.{lookup.Zones.{Zones}, simple.{Described.{Described}, Picked.{Picked}}}
+use Rattle.table.specs.Rows as T
 
 -- a hit without its place
 abbrev bareHit : Hit → Hit

@@ -1,19 +1,12 @@
 -- A refusal of an entry point leaves every lent word and byte zero. Assumes nothing.
-use mathlib.Core.Path.{_≡_, refl}
-use mathlib.Core.Bool.{Bool, true, false}
-use mathlib.Core.List.{List}
+use mathlib.Core.{Path.{_≡_, refl}, Bool.{Bool, true, false}, List.{List}}
 use Prim.Native.Nat.{ℕ}
 use native.Mathlib.Omega.{arith}
-use Rattle.header.specs.Header.{Contents, headStrictly}
-use Rattle.zones.specs.Lent.{Outcome, repliedOf}
-use Rattle.numbers.specs.Lists.{zeros}
-use Rattle.zones.specs.Lookup.{zonesBy, zonesIn, lookedUp, lookedStrictly}
+use Rattle.header.specs.{Header.{Contents, headStrictly}, Opening.{fittingOf, openedBy, openedOf, openedStrictly}}
+use Rattle.zones.specs.{Lent.{Outcome, repliedOf}, Lookup.{zonesBy, zonesIn, lookedUp, lookedStrictly}, Simple.{describedIn, simplyLooked}}
+use Rattle.numbers.specs.{Lists.{zeros}, Reply.{Reply, given, refused}, declared.refusal.Refusal.{Refusal}}
 use Rattle.header.specs.Opening as O
-use Rattle.header.specs.Opening.{fittingOf, openedBy, openedOf, openedStrictly}
-use Rattle.numbers.specs.Reply.{Reply, given, refused}
-use Rattle.zones.specs.Simple.{describedIn, simplyLooked}
 use Rattle.table.specs.declared.location.Location.{Location}
-use Rattle.numbers.specs.declared.refusal.Refusal.{Refusal}
 
 both-zero : {A : Type 0} (n room : ℕ) (reply : Reply (Outcome A)) (why : Refusal) → repliedOf n room reply .reply ≡ refused why
     → (repliedOf n room reply .hits ≡ zeros n) × (repliedOf n room reply .text ≡ zeros room)

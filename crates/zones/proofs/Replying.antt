@@ -1,18 +1,10 @@
 -- An entry point's reply with the buffers: zero first, filled, and zero again where it is a refusal; and what it says of the reply alone. Assumes nothing.
-use mathlib.Core.Path.{_≡_, subst, ap, _∙_}
-use mathlib.Core.Bool.{Bool}
-use mathlib.Core.List.{List}
+use mathlib.Core.{Path.{_≡_, subst, ap, _∙_}, Bool.{Bool}, List.{List}}
 use Prim.Native.Nat.{ℕ}
 use native.Mathlib.Omega.{arith}
-use Rattle.numbers.specs.Lists.{zeros}
-use Rattle.numbers.specs.Reply.{Reply, given, refused}
-use Rattle.table.specs.Agreeing.{Agrees}
-use Rattle.zones.specs.Lent.{Outcome, Replied, replied, repliedOf, Filled}
-use Rattle.zones.specs.Lookup.{zonesIn, lookedUp}
-use Rattle.table.specs.declared.location.Location.{Location}
-use Rattle.zones.specs.declared.lookup.Zones.{Zones}
-use Rattle.numbers.specs.declared.refusal.Refusal.{Refusal}
-use Rattle.table.proofs.Agreeing.{gave, refused-so}
+use Rattle.numbers.specs.{Lists.{zeros}, Reply.{Reply, given, refused}, declared.refusal.Refusal.{Refusal}}
+use Rattle.table.{specs.{Agreeing.{Agrees}, declared.location.Location.{Location}}, proofs.Agreeing.{gave, refused-so}}
+use Rattle.zones.specs.{Lent.{Outcome, Replied, replied, repliedOf, Filled}, Lookup.{zonesIn, lookedUp}, declared.lookup.Zones.{Zones}}
 
 -- filled in buffers that were zeroed, in the lengths that were lent
 module _ {A : Type 0} (whole : ℕ → ℕ → Reply (Outcome A)) (reply : Reply A) (hs ts : List ℕ) {n n′ room room′ : ℕ} (h : n′ ≡ n) (t : room′ ≡ room)

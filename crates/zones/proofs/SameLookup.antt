@@ -1,18 +1,11 @@
 -- What the promises of both lookups fix: two replies that one permits are equal, with both lent buffers. Assumes nothing.
-use mathlib.Core.Path.{_≡_, refl, sym, ap, _∙_}
-use mathlib.Core.Bool.{Bool}
-use mathlib.Core.List.{List}
+use mathlib.Core.{Path.{_≡_, refl, sym, ap, _∙_}, Bool.{Bool}, List.{List}}
 use Prim.Native.Nat.{ℕ}
 use Rattle.numbers.specs.Reply.{Reply, given, refused}
-use Rattle.zones.specs.Lent.{Replied, replied}
-use Rattle.zones.specs.Lookup.{lookedUp, toldLooked, lookedStrictly}
-use Rattle.zones.specs.Simple.{simplyLooked, toldSimple}
+use Rattle.zones.specs.{Lent.{Replied, replied}, Lookup.{lookedUp, toldLooked, lookedStrictly}, Simple.{simplyLooked, toldSimple}}
+use Rattle.zones.specs.declared.{lookup.{Zones.{Zones}, Looked.{Looked}}, simple.{Described.{Described}, Simple.{Simple}}}
 use Rattle.table.specs.declared.location.Location.{Location}
-use Rattle.zones.specs.declared.lookup.Zones.{Zones}
-use Rattle.zones.specs.declared.lookup.Looked.{Looked}
 use Rattle.zones.specs.declared.lookup.Looked.the-variants as L
-use Rattle.zones.specs.declared.simple.Described.{Described}
-use Rattle.zones.specs.declared.simple.Simple.{Simple}
 use Rattle.zones.specs.declared.simple.Simple.the-variants as S
 
 -- what is told can be told back, so it determines the answer

@@ -1,45 +1,21 @@
 -- Lookup read strictly (request Q-6): refused 31, or the plain lookup's reply and lent output. Assumes nothing.
 use Prim.Native.Nat.{ℕ, zero, suc, _+_, _-_, _/_, _%_, _^_, _≤_}
-use lib.Dec.{ltb}
-use lib.ListN.{length}
-use mathlib.Core.Bool.{Bool, true, false}
-use mathlib.Core.List.{List, [], _∷_, _++_}
-use mathlib.Core.Logic.{_⊎_, inl, inr}
-use mathlib.Core.Path.{_≡_, refl, sym, ap, subst, _∙_}
+use lib.{Dec.{ltb}, ListN.{length}}
+use mathlib.Core.{Bool.{Bool, true, false}, List.{List, [], _∷_, _++_}, Logic.{_⊎_, inl, inr}, Path.{_≡_, refl, sym, ap, subst, _∙_}}
 use native.Mathlib.Omega.{arith}
-use Rattle.border.proofs.Strict.{StrictJudgement, judged-strictly}
+use Rattle.border.{proofs.Strict.{StrictJudgement, judged-strictly}, specs.{Encoding.{versionOf}, Verdict.{Judgement}, declared.place.Point.{Point}}}
 use Rattle.border.proofs.Strict as B
-use Rattle.border.specs.Encoding.{versionOf}
-use Rattle.border.specs.Verdict.{Judgement}
-use Rattle.border.specs.declared.place.Point.{Point}
-use Rattle.numbers.specs.Answer.{if_then_else_}
-use Rattle.numbers.specs.Reply.{Reply, given, refused, plain, _>>=_}
-use Rattle.header.proofs.StrictHead.{Or31, then-same, shown-same, text-strictly, unstrict, head-strictly, table-within}
-use Rattle.table.proofs.StrictRows.{StrictRows, row, cut-off, at-end, unread, stopped, rows-strictly}
+use Rattle.numbers.specs.{Answer.{if_then_else_}, Reply.{Reply, given, refused, plain, _>>=_}}
+use Rattle.header.proofs.StrictHead.{Or31, then-same, shown-same, text-strictly, unstrict, head-strictly, table-within, head-strict}
 use Rattle.header.proofs.Unless.{shown, Unless, refuses, alike, unless-demand}
-use Rattle.header.proofs.StrictHead.{head-strict}
-use Rattle.header.specs.Field.{field, fieldAt}
-use Rattle.zones.specs.Fields.{fieldsPlace, fieldsFrom, fieldsOf}
-use Rattle.table.specs.Find.{Matched, isPrecision, fixOf, matchedWith}
-use Rattle.header.specs.Header.{headBy, headOf, headStrictly}
-use Rattle.table.specs.Hits.{width}
-use Rattle.zones.specs.Lent.{Outcome, Replied, repliedOf}
-use Rattle.zones.specs.Lookup.{zonesWith, zonesBy, zonesIn, lookedUp, lookedStrictly}
-use Rattle.table.specs.Rest.{restMark}
-use Rattle.table.specs.Rows.{Rows, startAt, rowsIn}
-use Rattle.table.specs.Search.{Found, ended, farthest, afterTurn, judgedTurn, rowTurn, seek, judgeIn, searched}
-use Rattle.table.specs.Table.{isAbove, holds}
-use Rattle.header.specs.Text.{textAt}
-use Rattle.header.specs.declared.header.Head.{Head}
-use Rattle.header.specs.declared.header.Preamble.{Preamble}
-use Rattle.header.specs.declared.header.Sections.{Sections}
-use Rattle.table.specs.declared.hits.Hit.{Hit}
-use Rattle.table.specs.declared.location.Location.{Location}
-use Rattle.zones.specs.declared.lookup.Zones.{Zones}
-use Rattle.table.specs.declared.rows.Row.{Row}
-use Rattle.table.specs.declared.search.Turn.the-variants.{On, Met, Stopped, Refused}
-use Rattle.table.specs.declared.search.Turn.{Turn}
-use Rattle.header.specs.declared.text.Blame.{Blame}
+use Rattle.header.specs.{Field.{field, fieldAt}, Header.{headBy, headOf, headStrictly}, Text.{textAt}}
+use Rattle.header.specs.declared.{header.{Head.{Head}, Preamble.{Preamble}, Sections.{Sections}}, text.Blame.{Blame}}
+use Rattle.table.proofs.StrictRows.{StrictRows, row, cut-off, at-end, unread, stopped, rows-strictly}
+use Rattle.table.specs.{Find.{Matched, isPrecision, fixOf, matchedWith}, Hits.{width}, Rest.{restMark}, Rows.{Rows, startAt, rowsIn}}
+use Rattle.table.specs.{Search.{Found, ended, farthest, afterTurn, judgedTurn, rowTurn, seek, judgeIn, searched}, Table.{isAbove, holds}}
+use Rattle.table.specs.declared.{hits.Hit.{Hit}, location.Location.{Location}, rows.Row.{Row}, search.Turn.{the-variants.{On, Met, Stopped, Refused}, Turn}}
+use Rattle.zones.specs.{Fields.{fieldsPlace, fieldsFrom, fieldsOf}, Lent.{Outcome, Replied, repliedOf}}
+use Rattle.zones.specs.{Lookup.{zonesWith, zonesBy, zonesIn, lookedUp, lookedStrictly}, declared.lookup.Zones.{Zones}}
 use Rattle.table.specs.Rows as T
 
 -- ---- the search

@@ -1,24 +1,13 @@
 -- Mark 1 means that nothing was missed: the whole reply is that of a search which never stops early. Mark 4 means that something may have been. Assumes nothing.
 use Prim.Native.Nat.{ℕ, _/_}
-use mathlib.Core.Bool.{Bool, false}
-use mathlib.Core.List.{List}
-use mathlib.Core.Path.{_≡_, sym, ap, _∙_}
-use Rattle.header.specs.Header.{headOf}
-use Rattle.header.specs.declared.header.Head.{Head}
-use Rattle.numbers.proofs.Replies.{given-from, onward}
-use Rattle.numbers.specs.Reply.{Reply, given, _>>=_}
+use mathlib.Core.{Bool.{Bool, false}, List.{List}, Path.{_≡_, sym, ap, _∙_}}
+use Rattle.header.specs.{Header.{headOf}, declared.header.Head.{Head}}
+use Rattle.numbers.{proofs.Replies.{given-from, onward}, specs.Reply.{Reply, given, _>>=_}}
 use Rattle.table.proofs.Unstopped.{matched-whole, passed-over}
-use Rattle.table.specs.Find.{fixOf, Matched, matchedWith}
-use Rattle.table.specs.Hits.{width}
-use Rattle.table.specs.Unstopped.{matchedAll, PassedOver}
-use Rattle.table.specs.declared.location.Location.{Location}
+use Rattle.table.specs.{Find.{fixOf, Matched, matchedWith}, Hits.{width}, Unstopped.{matchedAll, PassedOver}, declared.location.Location.{Location}}
 use Rattle.zones.proofs.HowItEnds.{outcame, Tells, lookup-tells, simple-tells, lookup-ends, simple-lookup-ends}
-use Rattle.zones.specs.Lent.{Outcome, repliedOf}
-use Rattle.zones.specs.Lookup.{zonesWith, zonesIn, lookedUp}
-use Rattle.zones.specs.Simple.{describedWith, describedIn, simplyLooked}
-use Rattle.zones.specs.Unstopped.{lookedThroughAll, simplyLookedThroughAll}
-use Rattle.zones.specs.declared.lookup.Zones.{Zones}
-use Rattle.zones.specs.declared.simple.Described.{Described}
+use Rattle.zones.specs.{Lent.{Outcome, repliedOf}, Lookup.{zonesWith, zonesIn, lookedUp}, Simple.{describedWith, describedIn, simplyLooked}}
+use Rattle.zones.specs.{Unstopped.{lookedThroughAll, simplyLookedThroughAll}, declared.{lookup.Zones.{Zones}, simple.Described.{Described}}}
 
 module _ {A : Type 0} (marked counted : A → ℕ) (file : List ℕ) (location : Location) (asked : Bool) (n room : ℕ) (next : Head → Matched → Reply (Outcome A))
     (tells : (head : Head) (m : Matched) (o : Outcome A) → given o ≡ next head m → Tells marked counted m o) where

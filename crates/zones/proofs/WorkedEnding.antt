@@ -1,47 +1,23 @@
 -- Cases that meet the theorems on endings, asked at (5, 5) on their grid, by computation: document 01's printed file, and a table out of order. Assumes nothing.
-use mathlib.Core.Path.{_≡_, refl, ap, subst}
-use mathlib.Core.Bool.{false}
-use mathlib.Core.List.{List, [], _∷_}
+use mathlib.Core.{Path.{_≡_, refl, ap, subst}, Bool.{false}, List.{List, [], _∷_}}
 use Prim.Native.Nat.{ℕ}
 use native.Mathlib.Omega.{arith}
-use lib.IntN.{negsuc}
-use lib.Ieee.{fin, ofInt, add, sub, mul, div, toSigned}
-use Rattle.numbers.specs.Varint.{readingOf, forwardAt, valueOf, sizeOf, tooLong}
-use Rattle.numbers.specs.Point.{signedOf, evenBits, pointOf}
-use Rattle.numbers.specs.Float.{fixedPoint, oneShifted}
-use Rattle.numbers.specs.Answer.{checked}
-use Rattle.border.specs.Place.{movedBy}
-use Rattle.border.specs.Reader.{advanced, marker, packedTurn, turnOf}
-use Rattle.border.specs.Trace.{roundAgain, nextWithin, nextPoint, traceThen, traceWithin, traceOf}
-use Rattle.border.specs.Edge.{samePoint, between, inBox, quadrantOf, slopeOf, edgeOf, straight, closestOn}
-use Rattle.border.specs.Winding.{turned, quarterBy, halfTurn, turnAt, crossingOf, acrossBy, clearOf, woundBy}
-use Rattle.border.specs.Distance.{measured}
-use Rattle.border.specs.Step as S
-use Rattle.border.specs.Verdict.{along, passing, closedAt, thenOn, judge, judgedAt}
-use Rattle.header.specs.Field.{fieldAt}
-use Rattle.zones.specs.Fields.{fieldsFrom, fieldsOf}
-use Rattle.table.specs.Find.{fixOf, matchedWith}
-use Rattle.header.specs.Header.{preambleOf, textsFrom, sectionsFrom, sectionsAt, contentsBy, headBy}
-use Rattle.table.specs.Hits.{words, hitOf, hitAt}
-use Rattle.table.specs.Ending.{Answered}
-use Rattle.zones.specs.Lent.{Replied, replied, repliedOf}
-use Rattle.zones.specs.Lookup.{safezoneBits, zonesWith, zonesIn, lookedUp}
-use Rattle.table.specs.Merge.{summary, seen, mergedAfter, merged}
+use lib.{IntN.{negsuc}, Ieee.{fin, ofInt, add, sub, mul, div, toSigned}}
+use Rattle.numbers.specs.{Varint.{readingOf, forwardAt, valueOf, sizeOf, tooLong}, Point.{signedOf, evenBits, pointOf}, Float.{fixedPoint, oneShifted}, Answer.{checked}}
 use Rattle.numbers.specs.Reply.{given}
-use Rattle.table.specs.Rows.{rowsThen, rowBy, rowsWithin, rowsFrom, rowsIn}
-use Rattle.table.specs.Search.{judgedTurn, rowTurn, seek, searched}
-use Rattle.table.specs.Table.{stepsBy, entryBy}
-use Rattle.header.specs.Text.{within, remoteAt, stringAt, bytesOf, textAt}
-use Rattle.header.specs.Utf8.{characters, startedBy, begunBy, followed, goesOn, isUtf8}
-use Rattle.table.specs.declared.location.Location.{Location}
-use Rattle.zones.specs.declared.lookup.Zones.{Zones}
-use Rattle.zones.proofs.HowItEnds.{lookup-ends}
-use Rattle.zones.proofs.PlaceIsTheEntry.{place-is-the-entry}
-use Rattle.zones.specs.Places.{EntryOf}
-use Rattle.zones.proofs.WholeMeansWhole.{whole-means-whole, mark-four}
-use Rattle.table.specs.Rest.{restMark}
-use Rattle.table.specs.Unstopped.{PassedOver}
-use Rattle.zones.specs.Unstopped.{lookedThroughAll}
+use Rattle.border.specs.{Place.{movedBy}, Reader.{advanced, marker, packedTurn, turnOf}, Trace.{roundAgain, nextWithin, nextPoint, traceThen, traceWithin, traceOf}}
+use Rattle.border.specs.Edge.{samePoint, between, inBox, quadrantOf, slopeOf, edgeOf, straight, closestOn}
+use Rattle.border.specs.{Winding.{turned, quarterBy, halfTurn, turnAt, crossingOf, acrossBy, clearOf, woundBy}, Distance.{measured}}
+use Rattle.border.specs.Verdict.{along, passing, closedAt, thenOn, judge, judgedAt}
+use Rattle.border.specs.Step as S
+use Rattle.header.specs.{Field.{fieldAt}, Header.{preambleOf, textsFrom, sectionsFrom, sectionsAt, contentsBy, headBy}}
+use Rattle.header.specs.{Text.{within, remoteAt, stringAt, bytesOf, textAt}, Utf8.{characters, startedBy, begunBy, followed, goesOn, isUtf8}}
+use Rattle.zones.specs.{Fields.{fieldsFrom, fieldsOf}, Lent.{Replied, replied, repliedOf}, Lookup.{safezoneBits, zonesWith, zonesIn, lookedUp}}
+use Rattle.zones.specs.{declared.lookup.Zones.{Zones}, Places.{EntryOf}, Unstopped.{lookedThroughAll}}
+use Rattle.table.specs.{Find.{fixOf, matchedWith}, Hits.{words, hitOf, hitAt}, Ending.{Answered}, Merge.{summary, seen, mergedAfter, merged}}
+use Rattle.table.specs.{Rows.{rowsThen, rowBy, rowsWithin, rowsFrom, rowsIn}, Search.{judgedTurn, rowTurn, seek, searched}, Table.{stepsBy, entryBy}}
+use Rattle.table.specs.{declared.location.Location.{Location}, Rest.{restMark}, Unstopped.{PassedOver}}
+use Rattle.zones.proofs.{HowItEnds.{lookup-ends}, PlaceIsTheEntry.{place-is-the-entry}, WholeMeansWhole.{whole-means-whole, mark-four}}
 
 abbrev printed : List ℕ
 printed =

@@ -1,12 +1,9 @@
 -- The fields of the matches, as document 01 has them: in file order, each into what remains of the lent text.
-use mathlib.Core.Path.{_≡_}
-use mathlib.Core.List.{List, [], _∷_, _++_}
+use mathlib.Core.{Path.{_≡_}, List.{List, [], _∷_, _++_}}
 use Prim.Native.Nat.{ℕ, zero, suc, _+_, _-_, _%_, _^_}
 use lib.ListN.{length}
-use Rattle.numbers.specs.Lists.{padded}
-use Rattle.numbers.specs.Reply.{Reply, given, refused, _>>=_}
-use Rattle.header.specs.Field.{fieldAt}
-use Rattle.header.specs.declared.header.Head.{Head}
+use Rattle.numbers.specs.{Lists.{padded}, Reply.{Reply, given, refused, _>>=_}}
+use Rattle.header.specs.{Field.{fieldAt}, declared.header.Head.{Head}}
 use Rattle.table.specs.declared.hits.Hit.{Hit}
 use Rattle.zones.specs.declared.fields.Fields.{Fields}
 use Rattle.zones.specs.declared.fields.Fields.the-variants as F

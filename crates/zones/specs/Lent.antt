@@ -1,11 +1,8 @@
 -- What an entry point answers, and what goes into the buffers that it was lent.
-use mathlib.Core.Path.{_≡_}
-use mathlib.Core.List.{List}
+use mathlib.Core.{Path.{_≡_}, List.{List}}
 use Prim.Native.Nat.{ℕ}
-use Rattle.numbers.specs.Lists.{zeros, padded}
-use Rattle.numbers.specs.Reply.{Reply, given, refused}
-use Rattle.table.specs.Hits.{words}
-use Rattle.table.specs.declared.hits.Hit.{Hit}
+use Rattle.numbers.specs.{Lists.{zeros, padded}, Reply.{Reply, given, refused}}
+use Rattle.table.specs.{Hits.{words}, declared.hits.Hit.{Hit}}
 
 -- the answer, and what is put into the lent list and the lent text
 pub record Outcome (A : Type 0) : Type 0 where

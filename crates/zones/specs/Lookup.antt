@@ -1,23 +1,11 @@
 -- Lookup, as document 01 has it.
-use mathlib.Core.Bool.{Bool, true}
-use mathlib.Core.List.{List, []}
+use mathlib.Core.{Bool.{Bool, true}, List.{List, []}}
 use Prim.Native.Nat.{ℕ, _/_}
-use lib.IntN.{pos}
-use lib.Ieee.{binary32, toBits}
-use lib.ListN.{length}
-use Rattle.numbers.specs.Answer.{if_then_else_}
-use Rattle.numbers.specs.Float.{toF32, oneShifted, _⊠_, _⊘_}
-use Rattle.numbers.specs.Float.Root.{root}
-use Rattle.numbers.specs.Reply.{Reply, given, refused, _>>=_}
-use Rattle.header.specs.Header.{headBy, headOf}
-use Rattle.table.specs.Hits.{width}
-use Rattle.header.specs.declared.header.Head.{Head}
-use Rattle.table.specs.Find.{ninety, Matched, matchedWith}
-use Rattle.zones.specs.Fields.{fieldsOf}
-use Rattle.zones.specs.Lent.{Outcome, Replied, repliedOf}
-use Rattle.table.specs.declared.location.Location.{Location}
-use Rattle.zones.specs.declared.lookup.Zones.{Zones}
-use Rattle.zones.specs.declared.lookup.Looked.{Looked}
+use lib.{IntN.{pos}, Ieee.{binary32, toBits}, ListN.{length}}
+use Rattle.numbers.specs.{Answer.{if_then_else_}, Float.{toF32, oneShifted, _⊠_, _⊘_, Root.{root}}, Reply.{Reply, given, refused, _>>=_}}
+use Rattle.header.specs.{Header.{headBy, headOf}, declared.header.Head.{Head}}
+use Rattle.table.specs.{Hits.{width}, Find.{ninety, Matched, matchedWith}, declared.location.Location.{Location}}
+use Rattle.zones.specs.{Fields.{fieldsOf}, Lent.{Outcome, Replied, repliedOf}, declared.lookup.{Zones.{Zones}, Looked.{Looked}}}
 use Rattle.zones.specs.declared.lookup.Looked.the-variants as L
 
 -- the root of the least squared distance as f32, times 90, over 2 ^ (precision - 1), which is -2 ^ 31 at precision 32; 0 if not asked

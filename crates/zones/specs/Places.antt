@@ -1,28 +1,12 @@
 -- Where a match came from (request Q-13): the entry at its place, and document 01's lookups, which know no places and have three words a hit.
-use mathlib.Core.Path.{_≡_}
-use mathlib.Core.Bool.{Bool, true, false}
-use mathlib.Core.List.{List, [], _∷_}
+use mathlib.Core.{Path.{_≡_}, Bool.{Bool, true, false}, List.{List, [], _∷_}}
 use Prim.Native.Nat.{ℕ, _/_}
-use Rattle.numbers.specs.Answer.{found}
-use Rattle.numbers.specs.Lists.{zeros, padded}
-use Rattle.numbers.specs.Reply.{Reply, given, refused, _>>=_}
-use Rattle.numbers.specs.Varint.{forwardAt}
-use Rattle.table.specs.Find.{fixOf, Matched, matchedBy}
-use Rattle.header.specs.Header.{headOf}
-use Rattle.zones.specs.Lent.{Outcome, Replied, replied}
-use Rattle.zones.specs.Lookup.{zonesFrom}
-use Rattle.table.specs.Rows.{Rows, row, tableEnd, unreadable, rowsIn}
+use Rattle.numbers.specs.{Answer.{found}, Lists.{zeros, padded}, Reply.{Reply, given, refused, _>>=_}, Varint.{forwardAt}}
+use Rattle.table.specs.{Find.{fixOf, Matched, matchedBy}, Rows.{Rows, row, tableEnd, unreadable, rowsIn}, Search.{searchedRows}, Table.{entryBy, holds}}
+use Rattle.table.specs.declared.{hits.Hit.{Hit}, location.Location.{Location}, rows.Row.{Row}, table.Entry.{Entry}}
+use Rattle.header.specs.{Header.{headOf}, declared.header.Head.{Head}}
+use Rattle.zones.specs.{Lent.{Outcome, Replied, replied}, Lookup.{zonesFrom}, Simple.{describedFrom}, declared.{lookup.Zones.{Zones}, simple.Described.{Described}}}
 use Rattle.table.specs.Rows as T
-use Rattle.table.specs.Search.{searchedRows}
-use Rattle.zones.specs.Simple.{describedFrom}
-use Rattle.table.specs.Table.{entryBy, holds}
-use Rattle.header.specs.declared.header.Head.{Head}
-use Rattle.table.specs.declared.hits.Hit.{Hit}
-use Rattle.table.specs.declared.location.Location.{Location}
-use Rattle.zones.specs.declared.lookup.Zones.{Zones}
-use Rattle.table.specs.declared.rows.Row.{Row}
-use Rattle.zones.specs.declared.simple.Described.{Described}
-use Rattle.table.specs.declared.table.Entry.{Entry}
 
 -- ---- the entry behind a match
 -- one of these rows

@@ -1,37 +1,18 @@
 -- Simple lookup, as document 01 has it: the fields of every match are checked, and the first match is described.
-use mathlib.Core.Path.{_≡_}
-use mathlib.Core.Bool.{Bool, true, false, _&&_}
-use mathlib.Core.List.{List, [], _∷_, _++_}
-use mathlib.Core.Option.{Option, none, some}
+use mathlib.Core.{Path.{_≡_}, Bool.{Bool, true, false, _&&_}, List.{List, [], _∷_, _++_}, Option.{Option, none, some}}
 use Prim.Native.Nat.{ℕ, zero, suc, _+_, _/_}
-use lib.Dec.{leb, eqb}
-use lib.ListN.{length}
-use Rattle.numbers.specs.Answer.{if_then_else_}
-use Rattle.numbers.specs.Lists.{padded}
-use Rattle.numbers.specs.Reply.{Reply, given, refused, plain, demand, _>>=_, _>>_}
-use Rattle.header.specs.Text.{textAt, bytesOf}
-use Rattle.header.specs.Header.{blameOf, headOf}
-use Rattle.table.specs.Hits.{width}
-use Rattle.table.specs.Find.{Matched, matchedWith}
-use Rattle.zones.specs.Fields.{fieldsPlace}
-use Rattle.zones.specs.Lent.{Outcome, Replied, repliedOf}
-use Rattle.header.specs.declared.header.Head.{Head}
-use Rattle.table.specs.declared.hits.Hit.{Hit}
-use Rattle.table.specs.declared.location.Location.{Location}
-use Rattle.header.specs.declared.text.Text.{Text}
-use Rattle.zones.specs.declared.simple.Value.{Value}
+use lib.{Dec.{leb, eqb}, ListN.{length}}
+use Rattle.numbers.specs.{Answer.{if_then_else_}, Lists.{padded}, Reply.{Reply, given, refused, plain, demand, _>>=_, _>>_}}
+use Rattle.header.specs.{Text.{textAt, bytesOf}, Header.{blameOf, headOf}, declared.{header.Head.{Head}, text.Text.{Text}}}
+use Rattle.table.specs.{Hits.{width}, Find.{Matched, matchedWith}, declared.{hits.Hit.{Hit}, location.Location.{Location}}}
+use Rattle.zones.specs.{Fields.{fieldsPlace}, Lent.{Outcome, Replied, repliedOf}}
+use Rattle.zones.specs.declared.simple.{Value.{Value}, Picked.{Picked}, Picks.{Picks}, Checked.{Checked}, Description.{Description}, Wording.{Wording}}
+use Rattle.zones.specs.declared.simple.{Described.{Described}, Simple.{Simple}}
 use Rattle.zones.specs.declared.simple.Value.the-variants as X
-use Rattle.zones.specs.declared.simple.Picked.{Picked}
-use Rattle.zones.specs.declared.simple.Picks.{Picks}
 use Rattle.zones.specs.declared.simple.Picks.the-variants as P
-use Rattle.zones.specs.declared.simple.Checked.{Checked}
 use Rattle.zones.specs.declared.simple.Checked.the-variants as C
-use Rattle.zones.specs.declared.simple.Description.{Description}
 use Rattle.zones.specs.declared.simple.Description.the-variants as D
-use Rattle.zones.specs.declared.simple.Wording.{Wording}
 use Rattle.zones.specs.declared.simple.Wording.the-variants as W
-use Rattle.zones.specs.declared.simple.Described.{Described}
-use Rattle.zones.specs.declared.simple.Simple.{Simple}
 use Rattle.zones.specs.declared.simple.Simple.the-variants as S
 
 -- ---- the wanted names

@@ -1,17 +1,10 @@
 -- The lookups whose search never stops early: what mark 1 is held against.
-use mathlib.Core.Bool.{Bool, false}
-use mathlib.Core.List.{List}
+use mathlib.Core.{Bool.{Bool, false}, List.{List}}
 use Prim.Native.Nat.{ℕ, _/_}
 use Rattle.header.specs.Header.{headOf}
 use Rattle.numbers.specs.Reply.{_>>=_}
-use Rattle.table.specs.Hits.{width}
-use Rattle.table.specs.Unstopped.{matchedAll}
-use Rattle.table.specs.declared.location.Location.{Location}
-use Rattle.zones.specs.Lent.{Replied, repliedOf}
-use Rattle.zones.specs.Lookup.{zonesFrom}
-use Rattle.zones.specs.Simple.{describedFrom}
-use Rattle.zones.specs.declared.lookup.Zones.{Zones}
-use Rattle.zones.specs.declared.simple.Described.{Described}
+use Rattle.table.specs.{Hits.{width}, Unstopped.{matchedAll}, declared.location.Location.{Location}}
+use Rattle.zones.specs.{Lent.{Replied, repliedOf}, Lookup.{zonesFrom}, Simple.{describedFrom}, declared.{lookup.Zones.{Zones}, simple.Described.{Described}}}
 
 -- lookup and simple lookup over that search: the reply and both lent buffers
 unfoldable pub lookedThroughAll : List ℕ → Location → Bool → ℕ → ℕ → Replied Zones

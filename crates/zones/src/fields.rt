@@ -1,11 +1,9 @@
 // The fields of each match go out in file order, each into what remains of the lent text.
-ghost use mathlib.Core.Path.{_≡_};
-ghost use mathlib.Core.List.{[]};
+ghost use mathlib.Core.{Path.{_≡_}, List.{[]}};
 ghost use Prim.Native.Nat.{_/_, _≤_};
 ghost use lib.ListN.{length, take};
 ghost use Rattle.numbers.specs.Lists.{zeros, padded};
-ghost use Rattle.table.specs.Hits.{width, slots};
-ghost use Rattle.table.specs.Agreeing.{Agrees};
+ghost use Rattle.table.specs.{Hits.{width, slots}, Agreeing.{Agrees}};
 ghost use Rattle.zones.specs.Fields.{fieldsPlace, fieldsFrom, fieldsOf, toldFields, Wrote};
 use header::field::Written;
 use header::field::write_field;

@@ -1,15 +1,11 @@
 // Simple lookup: a description of the first match. The fields of every match are checked; only the description needs text room.
-ghost use mathlib.Core.Path.{_≡_};
-ghost use mathlib.Core.List.{map, _++_};
+ghost use mathlib.Core.{Path.{_≡_}, List.{map, _++_}};
 ghost use Prim.Native.Nat.{_+_, _/_, _≤_};
 ghost use lib.ListN.{length, take};
 ghost use Rattle.numbers.specs.Lists.{zeros};
-ghost use Rattle.header.specs.Utf8.{unmasked};
-ghost use Rattle.header.specs.Text.{bytesOf};
-ghost use Rattle.table.specs.Hits.{width, slots};
-ghost use Rattle.zones.specs.Fields.{toldFields, Wrote};
-ghost use Rattle.table.specs.Agreeing.{Agrees};
-ghost use Rattle.zones.specs.Lent.{Filled, replied};
+ghost use Rattle.header.specs.{Utf8.{unmasked}, Text.{bytesOf}};
+ghost use Rattle.table.specs.{Hits.{width, slots}, Agreeing.{Agrees}};
+ghost use Rattle.zones.specs.{Fields.{toldFields, Wrote}, Lent.{Filled, replied}};
 ghost use Rattle.zones.specs.Simple.{same, partOf, begun, newer, pickedFrom, checked, fitting, wordedOf, toldPicks, toldChecked, toldWorded, Worded, describedWith, simplyLookedWith, simplyLooked, toldSimple};
 use crate::fields::Fields;
 use crate::fields::fields_place;

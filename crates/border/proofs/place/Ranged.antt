@@ -1,16 +1,10 @@
 -- A result that is held against the range of an i32: inside it reading goes on, outside it is refusal 13. Assumes nothing.
 use Prim.Native.Nat.{_^_}
-use lib.Dec.{ltb}
-use lib.IntN.{ℤ, pos, negℤ, _-ℤ_, +ℤ-idl}
-use lib.Signed.{mag}
-use mathlib.Core.Bool.{Bool, true, false}
-use mathlib.Core.Path.{_≡_, sym, _∙_}
-use mir.Facts.{toZ-ofZ}
-use mir.Syntax.{w32, w64}
-use mir.Val.{SFits, toZ, ofZ}
-use Rattle.numbers.specs.Answer.{Answer, refused, _>>=_}
+use lib.{Dec.{ltb}, IntN.{ℤ, pos, negℤ, _-ℤ_, +ℤ-idl}, Signed.{mag}}
+use mathlib.Core.{Bool.{Bool, true, false}, Path.{_≡_, sym, _∙_}}
+use mir.{Facts.{toZ-ofZ}, Syntax.{w32, w64}, Val.{SFits, toZ, ofZ}}
+use Rattle.numbers.specs.Answer.{Answer, refused, _>>=_, checked}
 use Rattle.border.proofs.place.Whole.{widened, negation-fits}
-use Rattle.numbers.specs.Answer.{checked}
 
 module _ {A : Type 0} (z : ℤ) {t : Bool} (e : t ≡ ltb (mag z) (2 ^ 31)) (next : ℤ → Answer A) where
   pub within : t ≡ true → next z ≡ (checked 31 z >>= next)

@@ -1,14 +1,9 @@
 -- Version 0: a turn goes on from the moves that are left, which the count gives first. Assumes nothing.
 use Prim.Native.Nat.{ℕ}
-use mathlib.Core.Path.{_≡_, refl}
-use mathlib.Core.Bool.{Bool, true, false}
+use mathlib.Core.{Path.{_≡_, refl}, Bool.{Bool, true, false}}
 use lib.Dec.{eqb}
-use Rattle.numbers.specs.Answer.{Answer, found, failed, refused, if_then_else_, _>>=_}
-use Rattle.numbers.specs.Varint.{Numeral}
-use Rattle.border.specs.Reader.{Turn, Reading, onward, plainPair, plainTurn}
-use Rattle.border.specs.Told.{counted}
-use Rattle.border.specs.declared.reader.Reader.{Reader}
-use Rattle.border.specs.declared.reader.Run.the-variants.{Idle}
+use Rattle.numbers.specs.{Answer.{Answer, found, failed, refused, if_then_else_, _>>=_}, Varint.{Numeral}}
+use Rattle.border.specs.{Reader.{Turn, Reading, onward, plainPair, plainTurn}, Told.{counted}, declared.reader.{Reader.{Reader}, Run.the-variants.{Idle}}}
 
 module _ (k : Numeral → Answer Turn) where
   chosen : (t : Bool) (n : Numeral) → ((if t then failed else found n) >>= k) ≡ (if t then failed else k n)

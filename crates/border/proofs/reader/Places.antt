@@ -1,18 +1,11 @@
 -- Places of references: sums modulo 2 ^ 32, and the i64 that a start and a length must stay in. Assumes nothing.
 use Prim.Native.Nat.{ℕ, zero, suc, _+_, _-_, _<_, _≤_, _%_, _^_}
-use native.Mathlib.Nat.{mod-eq-of-lt}
-use native.Mathlib.Omega.{arith}
-use mathlib.Core.Path.{_≡_, refl, sym, ap, _∙_, subst}
-use mathlib.Core.Bool.{Bool, true, false, cond}
-use lib.Dec.{T, ltb}
-use lib.IntN.{ℤ, pos, negsuc, _+ℤ_, _-ℤ_}
-use lib.Signed.{mag, ltZ}
+use native.Mathlib.{Nat.{mod-eq-of-lt}, Omega.{arith}}
+use mathlib.Core.{Path.{_≡_, refl, sym, ap, _∙_, subst}, Bool.{Bool, true, false, cond}}
+use lib.{Dec.{T, ltb}, IntN.{ℤ, pos, negsuc, _+ℤ_, _-ℤ_}, Signed.{mag, ltZ}}
 use borrow.Author.Tests.{ltb-true, ltb-false, lt-ltb, le-ltb}
-use Rattle.numbers.specs.Answer.{found, refused, if_then_else_}
-use Rattle.numbers.specs.Point.{low32}
-use Rattle.numbers.specs.Answer.{checked}
-use Rattle.border.specs.Reader.{dataPlace, asI64, opened}
-use Rattle.border.specs.declared.reader.Run.the-variants.{Idle, Forward, Backward}
+use Rattle.numbers.specs.{Answer.{found, refused, if_then_else_, checked}, Point.{low32}}
+use Rattle.border.specs.{Reader.{dataPlace, asI64, opened}, declared.reader.Run.the-variants.{Idle, Forward, Backward}}
 
 -- ---- modulo 2 ^ 32
 

@@ -1,19 +1,12 @@
 -- Each kind of turn, once its numbers are read: what the code goes by, and whoever writes a border. Assumes nothing.
-use mathlib.Core.Path.{_≡_}
-use mathlib.Core.Bool.{Bool, true, false}
-use mathlib.Core.List.{List}
+use mathlib.Core.{Path.{_≡_}, Bool.{Bool, true, false}, List.{List}}
 use Prim.Native.Nat.{ℕ, _-_}
 use borrow.Author.Tests.{eq-eqb, ne-eqb}
-use Rattle.numbers.specs.Answer.{found, failed, refused}
-use Rattle.numbers.specs.Varint.{numeral, readingOf, backwardAt}
-use Rattle.numbers.specs.Point.{signedOf, pointOf}
-use Rattle.numbers.specs.declared.point.{RawPoint.RawPoint}
+use Rattle.numbers.specs.{Answer.{found, failed, refused}, Varint.{numeral, readingOf, backwardAt}, Point.{signedOf, pointOf}, declared.point.RawPoint.{RawPoint}}
 use Rattle.border.specs.Place.{moveBy, movedBy, negated}
 use Rattle.border.specs.Reader.{Reading, gives, again, ends, onward, arrived, closing, advanced, shownBy, plainMove, plainPair, plainTurn, asI64, opened, reference, marker, lent, forwardFrom, backwardFrom, packedTurn, turnOf}
-use Rattle.border.specs.declared.place.{Point.Point}
-use Rattle.border.specs.declared.reader.{Reader.Reader, Run.Run, Version.Version}
-use Rattle.border.specs.declared.reader.Version.the-variants.{Plain, Packed}
-use Rattle.border.specs.declared.reader.Run.the-variants.{Idle, Forward, Backward}
+use Rattle.border.specs.declared.place.Point.{Point}
+use Rattle.border.specs.declared.reader.{Reader.{Reader}, Run.{Run, the-variants.{Idle, Forward, Backward}}, Version.{Version, the-variants.{Plain, Packed}}}
 
 -- ---- version 1, outside a reference
 

@@ -1,21 +1,14 @@
 -- What a definition by cases gives at the variants that a `let .. else` leaves. Assumes nothing.
 use Prim.Native.Nat.{ℕ}
-use mathlib.Core.Path.{_≡_, refl}
-use mathlib.Core.Bool.{Bool}
-use mathlib.Core.List.{[], _∷_}
+use mathlib.Core.{Path.{_≡_, refl}, Bool.{Bool}, List.{[], _∷_}}
 use types.Run.{OneOf, miss}
 use denote.Enum.Declared.{tagOf}
 use Rattle.border.proofs.reader.Next as Next'
 use Rattle.border.proofs.verdict.Passed as Passed'
-use Rattle.border.specs.Step.{told}
+use Rattle.border.specs.{Step.{told}, Trace.{Trace, traceThen}, Verdict.{Judgement, refused, Last, thenOn, judge}, Kept.{endedAt}}
+use Rattle.border.specs.declared.{place.Point.{Point}, reader.{Reader.{Reader}, Next.{Next}}, verdict.{Tally.{Tally}, Passed.{Passed}}}
 use Rattle.border.specs.Told as R
-use Rattle.border.specs.Trace.{Trace, traceThen}
-use Rattle.border.specs.Verdict.{Judgement, refused, Last, thenOn, judge}
-use Rattle.border.specs.Kept.{endedAt}
-use Rattle.border.specs.declared.place.Point.{Point}
-use Rattle.border.specs.declared.reader.{Reader.Reader, Next.Next}
 use Rattle.border.specs.declared.reader.Next.the-variants as N
-use Rattle.border.specs.declared.verdict.{Tally.Tally, Passed.Passed}
 use Rattle.border.specs.declared.verdict.Passed.the-variants as P
 
 -- a step that does not go on

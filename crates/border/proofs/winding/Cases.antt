@@ -1,19 +1,14 @@
 -- What a definition by cases gives at the variants that a `let .. else` leaves. Assumes nothing.
 use Prim.Native.Nat.{ℕ}
-use mathlib.Core.Path.{_≡_, refl}
-use mathlib.Core.List.{[], _∷_}
+use mathlib.Core.{Path.{_≡_, refl}, List.{[], _∷_}}
 use types.Run.{OneOf, miss}
 use denote.Enum.Declared.{tagOf}
 use Rattle.border.proofs.edge.Edge as Edge'
 use Rattle.border.proofs.verdict.Passed as Passed'
-use Rattle.border.specs.Step.{Step, meets, _>>=_, told}
-use Rattle.border.specs.Winding.{acrossBy}
-use Rattle.border.specs.declared.place.Point.{Point}
-use Rattle.border.specs.declared.edge.Edge.{Edge}
+use Rattle.border.specs.{Step.{Step, meets, _>>=_, told}, Winding.{acrossBy}}
+use Rattle.border.specs.declared.{place.Point.{Point}, edge.Edge.{Edge}, verdict.{Tally.{Tally}, Passed.{Passed}, Verdict.the-variants.{OnBorderSegment}}}
 use Rattle.border.specs.declared.edge.Edge.the-variants as E
-use Rattle.border.specs.declared.verdict.{Tally.Tally, Passed.Passed}
 use Rattle.border.specs.declared.verdict.Passed.the-variants as P
-use Rattle.border.specs.declared.verdict.Verdict.the-variants.{OnBorderSegment}
 
 -- a straight edge
 pub straight-across : (fix : Point) (edge : Edge) (q : ℕ) (tally : Tally) → OneOf (1 ∷ 2 ∷ []) (tagOf Edge'.the-type edge) → meets OnBorderSegment ≡ acrossBy fix edge q tally

@@ -1,16 +1,10 @@
 -- The tests of a piece in turn, each with those before it. Assumes nothing.
 use Prim.Native.Nat.{ℕ, _+_, _-_, _<_, _≤_}
 use native.Mathlib.Omega.{arith}
-use mathlib.Core.Path.{_≡_, ap, _∙_}
-use mathlib.Core.Bool.{Bool, true, false, _&&_, _||_}
-use mathlib.Core.List.{List}
-use lib.IntN.{ℤ}
-use lib.ListN.{length, take, drop}
-use lib.Dec.{eqb}
+use mathlib.Core.{Path.{_≡_, ap, _∙_}, Bool.{Bool, true, false, _&&_, _||_}, List.{List}}
+use lib.{IntN.{ℤ}, ListN.{length, take, drop}, Dec.{eqb}}
 use borrow.Author.Tests.{lt-ltb, le-ltb, le-leb, lt-leb, eq-eqb, ne-eqb}
-use Rattle.border.specs.Moves.{movesOf}
-use Rattle.border.specs.Pieces.{lentBy, lentMoves, spells, clearBefore, accepted}
-use Rattle.border.specs.declared.writer.{Piece.Piece}
+use Rattle.border.specs.{Moves.{movesOf}, Pieces.{lentBy, lentMoves, spells, clearBefore, accepted}, declared.writer.Piece.{Piece}}
 use Rattle.border.proofs.writer.Indexed.{border-length}
 
 -- the tests that a piece has passed before its run is read

@@ -1,25 +1,13 @@
 -- The checks, one element at a time. Assumes nothing.
 use Prim.Native.Nat.{ℕ, suc}
 use native.Mathlib.Omega.{arith}
-use mathlib.Core.Path.{_≡_, refl, sym, ap, _∙_}
-use mathlib.Core.Bool.{Bool, true, false, not, _&&_}
-use mathlib.Core.List.{List}
-use lib.Dec.{eqb}
-use lib.IntN.{ℤ, pos, negsuc, negℤ, _-ℤ_}
-use lib.Signed.{ltZ, leZ}
-use mir.Syntax.{w32}
-use mir.Val.{SFits, toZ, ofZ}
+use mathlib.Core.{Path.{_≡_, refl, sym, ap, _∙_}, Bool.{Bool, true, false, not, _&&_}, List.{List}}
+use lib.{Dec.{eqb}, IntN.{ℤ, pos, negsuc, negℤ, _-ℤ_}, Signed.{ltZ, leZ}}
+use mir.{Syntax.{w32}, Val.{SFits, toZ, ofZ}}
 use borrow.Author.Tests.{ltb-true, ltb-false, le-leb, lt-leb, ne-eqb, eq-eqb}
-use Rattle.numbers.specs.Answer.{if_then_else_}
-use Rattle.numbers.specs.Point.{pointOf}
-use Rattle.numbers.specs.declared.point.{RawPoint.RawPoint}
-use Rattle.border.specs.Place.{isStill, isZero}
-use Rattle.numbers.specs.Spelling.{signedForm}
-use Rattle.border.specs.Moves.{isMove, turnedBack, sameMove}
-use Rattle.border.specs.Writer.{near}
-use Rattle.border.specs.Stored.{gapAt, moveAt}
-use Rattle.border.proofs.Signs.{differ}
-use Rattle.border.proofs.writer.Signs.{form-zero, formed, from-zero}
+use Rattle.numbers.specs.{Answer.{if_then_else_}, Point.{pointOf}, declared.point.RawPoint.{RawPoint}, Spelling.{signedForm}}
+use Rattle.border.specs.{Place.{isStill, isZero}, Moves.{isMove, turnedBack, sameMove}, Writer.{near}, Stored.{gapAt, moveAt}}
+use Rattle.border.proofs.{Signs.{differ}, writer.Signs.{form-zero, formed, from-zero}}
 
 -- ---- coordinates
 pub near-low : (z : ℤ) → ltZ z (negsuc 1073741822) ≡ true → false ≡ near z

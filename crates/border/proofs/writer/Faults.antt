@@ -1,20 +1,12 @@
 -- The checks of a border in turn, each with those before it. Assumes nothing.
 use Prim.Native.Nat.{ℕ, _^_, _<_, _≤_}
 use native.Mathlib.Omega.{arith}
-use mathlib.Core.Path.{_≡_, sym, ap, _∙_}
-use mathlib.Core.Bool.{Bool, true, false, _&&_}
-use mathlib.Core.List.{List}
-use lib.Dec.{ltb, leb, eqb}
-use lib.IntN.{ℤ}
-use lib.ListN.{length, take, drop}
+use mathlib.Core.{Path.{_≡_, sym, ap, _∙_}, Bool.{Bool, true, false, _&&_}, List.{List}}
+use lib.{Dec.{ltb, leb, eqb}, IntN.{ℤ}, ListN.{length, take, drop}}
 use borrow.Author.Tests.{lt-ltb, le-ltb, le-leb, lt-leb, ltb-true, leb-true, eqb-true}
-use Rattle.numbers.specs.Reply.{given, refused, refusal, plain, demand, _>>_}
-use Rattle.numbers.specs.declared.point.{RawPoint.RawPoint}
-use Rattle.border.specs.Moves.{movesOf, isMove}
-use Rattle.border.specs.Writer.{every, near, sized, checks}
-use Rattle.border.specs.Stored.{moveAt}
-use Rattle.border.proofs.Signs.{both, and-true}
-use Rattle.border.proofs.writer.Indexed.{moves-next}
+use Rattle.numbers.specs.{Reply.{given, refused, refusal, plain, demand, _>>_}, declared.point.RawPoint.{RawPoint}}
+use Rattle.border.specs.{Moves.{movesOf, isMove}, Writer.{every, near, sized, checks}, Stored.{moveAt}}
+use Rattle.border.proofs.{Signs.{both, and-true}, writer.Indexed.{moves-next}}
 
 -- what a border of good size has
 pub record Sizes (lats lons : List ℤ) : Type 0 where

@@ -1,18 +1,10 @@
 -- What the check of a list of pieces knows, piece by piece. Assumes nothing.
 use Prim.Native.Nat.{ℕ, suc, _+_, _<_, _≤_}
-use native.Mathlib.Numerals.{add-one}
-use native.Mathlib.Omega.{arith}
-use mathlib.Core.Path.{_≡_, refl, sym, ap, _∙_}
-use mathlib.Core.Bool.{Bool, true, false}
-use mathlib.Core.List.{List, [], _∷_, _++_}
-use lib.ListN.{length, take, set, length-set, length-append}
-use lib.Seq.{take-suc-set}
-use Rattle.numbers.specs.Answer.{if_then_else_}
-use Rattle.numbers.specs.declared.point.{RawPoint.RawPoint}
-use Rattle.border.specs.Pieces.{accepted, goodPieces, pieceAt, firstPieces}
-use Rattle.border.specs.Stored.{endOf, Checked}
-use Rattle.border.specs.declared.writer.{Piece.Piece}
-use Rattle.border.specs.declared.writer.pieces.{Check.Check}
+use native.Mathlib.{Numerals.{add-one}, Omega.{arith}}
+use mathlib.Core.{Path.{_≡_, refl, sym, ap, _∙_}, Bool.{Bool, true, false}, List.{List, [], _∷_, _++_}}
+use lib.{ListN.{length, take, set, length-set, length-append}, Seq.{take-suc-set}}
+use Rattle.numbers.specs.{Answer.{if_then_else_}, declared.point.RawPoint.{RawPoint}}
+use Rattle.border.specs.{Pieces.{accepted, goodPieces, pieceAt, firstPieces}, Stored.{endOf, Checked}, declared.writer.{Piece.{Piece}, pieces.Check.{Check}}}
 
 module _ (earlier : List ℕ) (moves : List RawPoint) where
   pub empty : (c : Check) → c .seen ≡ 0 → c .good ≡ 0 → c .free ≡ 0 → length (c .kept) ≡ 16 → Checked earlier moves [] c

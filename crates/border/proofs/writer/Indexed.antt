@@ -1,21 +1,12 @@
 -- The border's points and moves by index. Assumes nothing.
 use Prim.Native.Nat.{ℕ, zero, suc, _+_, _-_, _*_, _<_, _≤_, min}
-use native.Mathlib.Nat.{mul-suc}
-use native.Mathlib.Omega.{arith}
+use native.Mathlib.{Nat.{mul-suc}, Omega.{arith}}
 use borrow.Author.Tests.{ltb-true, ltb-false}
-use mathlib.Core.Path.{_≡_, refl, sym, ap, _∙_}
-use mathlib.Core.Bool.{Bool, true, false, _&&_}
-use mathlib.Core.List.{List, [], _∷_, _++_, zipWith, flatMap}
-use lib.IntN.{ℤ, pos, _-ℤ_}
-use lib.Dec.{ltb}
-use lib.ListN.{length, getD, drop, length-take, length-drop, length-append}
-use lib.Seq.{slice, slice-cons, drop-cons, take-all, take-length}
-use Rattle.numbers.specs.declared.point.{RawPoint.RawPoint}
-use Rattle.border.specs.Place.{pointAt, moveBy}
-use Rattle.border.specs.Moves.{moveTo, movesFrom, pointsOf, movesOf}
-use Rattle.border.specs.Writer.{every}
-use Rattle.border.specs.Stored.{gapAt, moveAt}
-use Rattle.border.specs.declared.place.{Point.Point}
+use mathlib.Core.{Path.{_≡_, refl, sym, ap, _∙_}, Bool.{Bool, true, false, _&&_}, List.{List, [], _∷_, _++_, zipWith, flatMap}}
+use lib.{IntN.{ℤ, pos, _-ℤ_}, Dec.{ltb}, ListN.{length, getD, drop, length-take, length-drop, length-append}, Seq.{slice, slice-cons, drop-cons, take-all, take-length}}
+use Rattle.numbers.specs.declared.point.RawPoint.{RawPoint}
+use Rattle.border.specs.{Place.{pointAt, moveBy}, Moves.{moveTo, movesFrom, pointsOf, movesOf}, Writer.{every}, Stored.{gapAt, moveAt}}
+use Rattle.border.specs.declared.place.Point.{Point}
 
 -- ---- the coordinate before an index
 pub before-first : (zs : List ℤ) (i : ℕ) → i ≡ 0 → pos 0 ≡ getD (pos 0 ∷ zs) i (pos 0)

@@ -1,15 +1,11 @@
 -- The moves of a border are read back. Assumes nothing.
 use Prim.Native.Nat.{ℕ, zero, suc, _^_, _<_}
 use native.Mathlib.Omega.{arith}
-use mathlib.Core.Path.{_≡_, sym, ap, _∙_}
-use mathlib.Core.Bool.{true, false}
+use mathlib.Core.{Path.{_≡_, sym, ap, _∙_}, Bool.{true, false}}
 use lib.IntN.{natAbs}
 use Rattle.numbers.proofs.Spelling.{signed-back, point-zero, point-back, point-small}
-use Rattle.numbers.specs.Point.{signedOf, pointOf}
-use Rattle.numbers.specs.Spelling.{signedForm}
-use Rattle.numbers.specs.declared.point.{RawPoint.RawPoint}
-use Rattle.border.specs.Place.{moveBy, isStill}
-use Rattle.border.specs.Moves.{packedNumber}
+use Rattle.numbers.specs.{Point.{signedOf, pointOf}, Spelling.{signedForm}, declared.point.RawPoint.{RawPoint}}
+use Rattle.border.specs.{Place.{moveBy, isStill}, Moves.{packedNumber}}
 use Rattle.border.proofs.Signs.{differ}
 
 -- a move of a border: both numbers below 2 ^ 31 in size, and not two zeros

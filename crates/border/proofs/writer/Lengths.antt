@@ -1,15 +1,11 @@
 -- How long the bytes of moves and pieces are at most. Assumes nothing.
 use Prim.Native.Nat.{ℕ, _*_, _≤_}
-use native.Mathlib.Nat.{le-trans}
-use native.Mathlib.Omega.{arith}
+use native.Mathlib.{Nat.{le-trans}, Omega.{arith}}
 use mathlib.Core.List.{List, flatMap}
-use lib.ListN.{length, length-append}
-use lib.Seq.{slice}
-use Rattle.numbers.specs.declared.point.{RawPoint.RawPoint}
-use Rattle.numbers.specs.Spelling.{signedForm}
+use lib.{ListN.{length, length-append}, Seq.{slice}}
+use Rattle.numbers.{specs.{declared.point.RawPoint.{RawPoint}, Spelling.{signedForm}}, proofs.Spelling.{varint-few}}
 use Rattle.border.specs.Moves.{plainMoveBytes, packedMoveBytes, packedNumber}
 use Rattle.border.proofs.writer.Indexed.{each-few, slice-few}
-use Rattle.numbers.proofs.Spelling.{varint-few}
 
 plain-one : (m : RawPoint) → length (plainMoveBytes m) ≤ 20
 unfolding plainMoveBytes

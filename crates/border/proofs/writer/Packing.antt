@@ -1,24 +1,11 @@
 -- The bytes of a version 1 border, piece by piece. Assumes nothing.
 use Prim.Native.Nat.{ℕ, suc, _+_, _*_, _^_, _<_, _≤_, min}
 use native.Mathlib.Omega.{arith}
-use mathlib.Core.Path.{_≡_, refl, sym, ap, _∙_, subst}
-use mathlib.Core.Bool.{Bool, true, false}
-use mathlib.Core.List.{List, [], _∷_, _++_, flatMap}
-use lib.Dec.{eqb}
-use lib.IntN.{ℤ}
-use lib.ListN.{length, take, drop, getD, length-append}
-use lib.Seq.{slice, drop-cons, getD-take, length-take-le, drop-length}
-use Rattle.numbers.specs.Answer.{if_then_else_}
-use Rattle.numbers.specs.declared.point.{RawPoint.RawPoint}
-use Rattle.numbers.specs.Spelling.{varintOf, digitsOf}
-use Rattle.border.specs.Moves.{packedMoveBytes, movesOf}
-use Rattle.border.specs.Pieces.{pieceBytes, packedFrom}
-use Rattle.border.specs.Stored.{Stored}
-use Rattle.border.specs.declared.writer.{Piece.Piece}
-use Rattle.border.proofs.writer.Indexed.{border-length, slice-ends, slice-rest}
-use Rattle.border.proofs.writer.Lengths.{packed-few}
-use Rattle.numbers.proofs.Spelling.{varint-few, varint-byte}
-use Rattle.border.proofs.writer.Stores.{Left, left-step, left-last}
+use mathlib.Core.{Path.{_≡_, refl, sym, ap, _∙_, subst}, Bool.{Bool, true, false}, List.{List, [], _∷_, _++_, flatMap}}
+use lib.{Dec.{eqb}, IntN.{ℤ}, ListN.{length, take, drop, getD, length-append}, Seq.{slice, drop-cons, getD-take, length-take-le, drop-length}}
+use Rattle.numbers.{specs.{Answer.{if_then_else_}, declared.point.RawPoint.{RawPoint}, Spelling.{varintOf, digitsOf}}, proofs.Spelling.{varint-few, varint-byte}}
+use Rattle.border.specs.{Moves.{packedMoveBytes, movesOf}, Pieces.{pieceBytes, packedFrom}, Stored.{Stored}, declared.writer.Piece.{Piece}}
+use Rattle.border.proofs.writer.{Indexed.{border-length, slice-ends, slice-rest}, Lengths.{packed-few}, Stores.{Left, left-step, left-last}}
 
 abbrev pub none : Piece
 none = record { start = 0; bytes = 0; direction = 0; first = 0; count = 0 }

@@ -5,8 +5,7 @@ use mathlib.Core.List.{List}
 use mir.Val.{Val}
 use denote.Slice.{Room}
 use denote.Struct.Laws as SL
-use Rattle.border.specs.declared.writer.Piece.{Piece}
-use Rattle.border.specs.declared.writer.pieces.Check.{Check}
+use Rattle.border.specs.declared.writer.{Piece.{Piece}, pieces.Check.{Check}}
 use Rattle.border.proofs.writer.Piece as P
 use Rattle.border.proofs.writer.Piece.Laws as P′
 use Rattle.border.proofs.writer.pieces.Check as K

@@ -1,31 +1,16 @@
 -- The reply and the buffer, for each way out of the writer. Assumes nothing.
 use Prim.Native.Nat.{ℕ, zero, suc, _-_, _^_, _<_, _≤_}
 use native.Mathlib.Omega.{arith}
-use mathlib.Core.Path.{_≡_, refl, sym, ap, _∙_}
-use mathlib.Core.Bool.{Bool, true, false}
-use mathlib.Core.List.{List, [], _∷_, _++_, flatMap}
-use lib.Dec.{leb, eqb, ltb}
-use lib.IntN.{ℤ}
-use lib.ListN.{length, drop, take, length-replicate}
+use mathlib.Core.{Path.{_≡_, refl, sym, ap, _∙_}, Bool.{Bool, true, false}, List.{List, [], _∷_, _++_, flatMap}}
+use lib.{Dec.{leb, eqb, ltb}, IntN.{ℤ}, ListN.{length, drop, take, length-replicate}}
 use borrow.Author.Tests.{leb-true, le-leb, lt-leb, eq-eqb, ne-eqb}
-use Rattle.numbers.proofs.Lists.{zeros-drop}
-use Rattle.numbers.proofs.Replies.{demanded}
-use Rattle.numbers.specs.Answer.{if_then_else_}
-use Rattle.numbers.specs.Lists.{zeros}
-use Rattle.numbers.specs.Reply.{Reply, given, refused, refusal, plain, _>>_}
-use Rattle.numbers.specs.declared.refusal.Refusal.{Refusal}
-use Rattle.numbers.specs.declared.point.{RawPoint.RawPoint}
-use Rattle.numbers.specs.Spelling.{varintOf}
-use Rattle.border.specs.Moves.{plainMoveBytes, movesOf}
-use Rattle.border.specs.Pieces.{packedFrom}
-use Rattle.border.specs.Writer.{sized, checks, plainBorder, packedBorder, borderOf, Replied, replied, fitted}
-use Rattle.border.specs.Stored.{Stored, Checked}
-use Rattle.border.specs.declared.writer.{Piece.Piece}
-use Rattle.border.specs.declared.writer.Written.the-variants.{Wrote, Refused}
-use Rattle.border.specs.declared.writer.pieces.{Check.Check}
-use Rattle.border.proofs.writer.Faults.{Sizes, sizes}
-use Rattle.border.proofs.writer.Indexed.{border-length}
-use Rattle.border.proofs.writer.Stores.{stored-front, stored-length}
+use Rattle.numbers.proofs.{Lists.{zeros-drop}, Replies.{demanded}}
+use Rattle.numbers.specs.{Answer.{if_then_else_}, Lists.{zeros}, Reply.{Reply, given, refused, refusal, plain, _>>_}}
+use Rattle.numbers.specs.{declared.{refusal.Refusal.{Refusal}, point.RawPoint.{RawPoint}}, Spelling.{varintOf}}
+use Rattle.border.specs.{Moves.{plainMoveBytes, movesOf}, Pieces.{packedFrom}}
+use Rattle.border.specs.{Writer.{sized, checks, plainBorder, packedBorder, borderOf, Replied, replied, fitted}, Stored.{Stored, Checked}}
+use Rattle.border.specs.declared.writer.{Piece.{Piece}, Written.the-variants.{Wrote, Refused}, pieces.Check.{Check}}
+use Rattle.border.proofs.writer.{Faults.{Sizes, sizes}, Indexed.{border-length}, Stores.{stored-front, stored-length}}
 
 -- ---- what was stored over zeros, if it fits
 module _ (n : ℕ) (answer : Reply (List ℕ)) where

@@ -1,20 +1,13 @@
 -- Signed numbers of the code: the difference of two coordinates and its signed form. Assumes nothing.
 use Prim.Native.Nat.{ℕ, zero, suc, _+_, _-_, _*_, _^_, _<_, _≤_}
 use native.Mathlib.Omega.{arith}
-use mathlib.Core.Path.{_≡_, refl, sym, ap, _∙_}
-use mathlib.Core.Bool.{Bool, true, false, cond}
-use lib.Dec.{T, ltb, eqb}
-use lib.IntN.{ℤ, pos, negsuc, negℤ, natAbs, _+ℤ_, _-ℤ_, +ℤ-idl, +ℤ-idr, +ℤ-comm, negℤ-+ℤ, negℤ-negℤ}
-use lib.Signed.{mag, ltZ, nonNeg}
-use mir.Syntax.{w32, w64}
-use mir.Val.{SFits, toZ, ofZ}
-use mir.Facts.{toZ-ofZ}
+use mathlib.Core.{Path.{_≡_, refl, sym, ap, _∙_}, Bool.{Bool, true, false, cond}}
+use lib.{Dec.{T, ltb, eqb}, IntN.{ℤ, pos, negsuc, negℤ, natAbs, _+ℤ_, _-ℤ_, +ℤ-idl, +ℤ-idr, +ℤ-comm, negℤ-+ℤ, negℤ-negℤ}, Signed.{mag, ltZ, nonNeg}}
+use mir.{Syntax.{w32, w64}, Val.{SFits, toZ, ofZ}, Facts.{toZ-ofZ}}
 use borrow.Author.Tests.{ltb-true, ne-eqb}
 use Rattle.border.specs.Place.{isZero}
-use Rattle.numbers.proofs.Spelling.{form-positive, form-negative}
-use Rattle.numbers.specs.Spelling.{signedForm}
-use Rattle.border.proofs.Signs.{differ}
-use Rattle.border.proofs.place.Whole.{widened}
+use Rattle.numbers.{proofs.Spelling.{form-positive, form-negative}, specs.Spelling.{signedForm}}
+use Rattle.border.proofs.{Signs.{differ}, place.Whole.{widened}}
 
 -- ---- sizes
 size-cond : (t : Bool) (a b m : ℕ) → suc a ≤ m → b ≤ m → natAbs (cond t (negsuc a) (pos b)) ≤ m

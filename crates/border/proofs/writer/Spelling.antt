@@ -1,26 +1,14 @@
 -- The moves that a piece stands for, and the numbers of its run, one at a time. Assumes nothing.
 use Prim.Native.Nat.{ℕ, suc, _+_, _-_, _<_, _≤_}
 use native.Mathlib.Omega.{arith}
-use mathlib.Core.Path.{_≡_, refl, sym, ap, _∙_}
-use mathlib.Core.Bool.{Bool, true, false, not, _&&_}
-use mathlib.Core.List.{List, [], _∷_, _++_, map, reverse, reverse-cons}
-use mathlib.Core.Logic.{_⊎_, inl, inr}
-use lib.Dec.{ltb, leb, eqb}
-use lib.IntN.{ℤ}
-use lib.ListN.{length, getD, drop, take, length-map, length-reverse, length-drop, List·getD-map, List·getD-append}
+use mathlib.Core.{Path.{_≡_, refl, sym, ap, _∙_}, Bool.{Bool, true, false, not, _&&_}, List.{List, [], _∷_, _++_, map, reverse, reverse-cons}, Logic.{_⊎_, inl, inr}}
+use lib.{Dec.{ltb, leb, eqb}, IntN.{ℤ}, ListN.{length, getD, drop, take, length-map, length-reverse, length-drop, List·getD-map, List·getD-append}}
 use lib.Seq.{drop-cons, length-take-le, getD-drop, getD-take, drop-length, getD-at}
 use borrow.Author.Tests.{ltb-false, ltb-true, le-leb, lt-leb, ne-eqb, eq-eqb}
-use Rattle.numbers.specs.Answer.{Answer, if_then_else_}
-use Rattle.numbers.specs.Point.{pointOf}
-use Rattle.numbers.specs.Varint.{Numeral, told, forwardAt}
-use Rattle.numbers.specs.declared.point.{RawPoint.RawPoint}
-use Rattle.numbers.specs.declared.varint.Varint.{Varint}
-use Rattle.numbers.specs.declared.varint.Varint.the-variants.{Number, Failed, Refused}
+use Rattle.numbers.specs.{Answer.{Answer, if_then_else_}, Point.{pointOf}, Varint.{Numeral, told, forwardAt}}
+use Rattle.numbers.specs.declared.{point.RawPoint.{RawPoint}, varint.Varint.{Varint, the-variants.{Number, Failed, Refused}}}
 use Rattle.numbers.proofs.Laws.{caseOf}
-use Rattle.border.specs.Moves.{movesOf, turnedBack, sameMove}
-use Rattle.border.specs.Pieces.{lentMoves, readAnd, spells}
-use Rattle.border.specs.Stored.{moveAt}
-use Rattle.border.specs.declared.writer.{Piece.Piece}
+use Rattle.border.specs.{Moves.{movesOf, turnedBack, sameMove}, Pieces.{lentMoves, readAnd, spells}, Stored.{moveAt}, declared.writer.Piece.{Piece}}
 use Rattle.border.proofs.writer.Indexed.{still, border-length, move-at}
 
 reverse-at : (ms : List RawPoint) (j : ℕ) → j < length ms → getD (reverse ms) j still ≡ getD ms (length ms - 1 - j) still

@@ -1,43 +1,25 @@
 -- Demand 3, the writer's side: what the writer accepts and writes is a border of its points. Assumes nothing.
 use Prim.Native.Nat.{ℕ, zero, suc, _+_, _-_, _*_, _^_, _<_, _≤_}
 use native.Mathlib.Omega.{arith}
-use mathlib.Core.Path.{_≡_, refl, sym, ap, _∙_, subst}
-use mathlib.Core.Bool.{Bool, true, false, not, _&&_, _||_}
+use mathlib.Core.{Path.{_≡_, refl, sym, ap, _∙_, subst}, Bool.{Bool, true, false, not, _&&_, _||_}}
 use mathlib.Core.List.{List, [], _∷_, _++_, append-assoc, append-nil, map, reverse, reverse-cons, flatMap, zipWith}
-use lib.Dec.{ltb, leb, eqb, lit<}
-use lib.IntN.{ℤ, pos, negℤ, natAbs, _+ℤ_, _-ℤ_, +ℤ-comm, -ℤ-+ℤ-cancel, negℤ-negℤ}
-use lib.ListN.{length, take, drop, getD, length-drop, take-append-drop}
-use lib.Seq.{slice, drop-drop, drop-length, drop-append-le, length-take-le, split-at}
-use lib.Signed.{mag}
+use lib.{Dec.{ltb, leb, eqb, lit<}, IntN.{ℤ, pos, negℤ, natAbs, _+ℤ_, _-ℤ_, +ℤ-comm, -ℤ-+ℤ-cancel, negℤ-negℤ}}
+use lib.{ListN.{length, take, drop, getD, length-drop, take-append-drop}, Seq.{slice, drop-drop, drop-length, drop-append-le, length-take-le, split-at}, Signed.{mag}}
 use borrow.Author.Tests.{lt-ltb, ltb-true, leb-true, eqb-true, eqb-false}
-use Rattle.numbers.specs.Answer.{Answer, found, failed, refused, if_then_else_, _>>=_}
-use Rattle.numbers.specs.Point.{signedOf, pointOf}
-use Rattle.numbers.specs.Varint.{Numeral, forwardAt, isLast}
-use Rattle.numbers.specs.declared.point.{RawPoint.RawPoint}
-use Rattle.numbers.specs.Answer.{checked}
+use Rattle.numbers.specs.{Answer.{Answer, found, failed, refused, if_then_else_, _>>=_, checked}, Point.{signedOf, pointOf}, Varint.{Numeral, forwardAt, isLast}}
+use Rattle.numbers.specs.{declared.point.RawPoint.{RawPoint}, Spelling.{varintOf, signedForm}, Reply.{Reply, given, refusal, plain, demand, _>>_}}
+use Rattle.numbers.proofs.{Wholes.{read-whole}, Spelling.{one-byte, varint-whole, signed-small, even-back, odd-back, form-one}, Replies.{demanded}}
 use Rattle.border.specs.Place.{pointAt, moveBy, isStill, movedBy, negated}
-use Rattle.numbers.specs.Spelling.{varintOf, signedForm}
 use Rattle.border.specs.Moves.{plainMoveBytes, packedMoveBytes, packedNumber, moveTo, movesFrom, pointsOf, movesOf, isMove, turnedBack, sameMove}
-use Rattle.border.specs.Pieces.{lentBy, lentMoves, readAnd, spells, clearBefore, accepted, goodPieces, pieceBytes, packedFrom}
-use Rattle.numbers.specs.Reply as R
-use Rattle.border.specs.Encoding.{versionOf}
-use Rattle.numbers.specs.Reply.{Reply, given, refusal, plain, demand, _>>_}
+use Rattle.border.specs.{Pieces.{lentBy, lentMoves, readAnd, spells, clearBefore, accepted, goodPieces, pieceBytes, packedFrom}, Encoding.{versionOf}}
 use Rattle.border.specs.Writer.{every, near, sized, checks, plainBorder, packedBorder, borderOf}
-use Rattle.border.specs.Written as W
 use Rattle.border.specs.Written.{Splits, Turned, Borrowed, Version1, Pairs, Version0, Leads, Border}
-use Rattle.border.specs.declared.place.{Point.Point}
-use Rattle.border.specs.declared.reader.Version.the-variants.{Plain, Packed}
-use Rattle.border.specs.declared.writer.{Piece.Piece}
-use Rattle.numbers.proofs.Wholes.{read-whole}
-use Rattle.numbers.proofs.Spelling.{one-byte}
-use Rattle.border.proofs.writer.Faults.{sizes}
-use Rattle.border.proofs.writer.Indexed.{points-length, moves-length}
-use Rattle.numbers.proofs.Spelling.{varint-whole, signed-small, even-back, odd-back}
-use Rattle.border.proofs.writer.Inverse.{Moves, pair-back, packed-back, packed-some, packed-small}
-use Rattle.numbers.proofs.Replies.{demanded}
-use Rattle.border.proofs.Signs.{differ, both}
-use Rattle.numbers.proofs.Spelling.{form-one}
+use Rattle.border.specs.declared.{place.Point.{Point}, reader.Version.the-variants.{Plain, Packed}, writer.Piece.{Piece}}
+use Rattle.numbers.specs.Reply as R
+use Rattle.border.specs.Written as W
+use Rattle.border.proofs.writer.{Faults.{sizes}, Indexed.{points-length, moves-length}, Inverse.{Moves, pair-back, packed-back, packed-some, packed-small}}
 use Rattle.border.proofs.writer.Signs.{size-sum, size-neg, mag-size}
+use Rattle.border.proofs.Signs.{differ, both}
 
 -- ---- from a point to the next
 not-true : (t : Bool) → not t ≡ true → t ≡ false

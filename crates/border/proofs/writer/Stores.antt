@@ -1,19 +1,11 @@
 -- Bytes that go into a lent buffer one after another. Assumes nothing.
 use Prim.Native.Nat.{ℕ, zero, suc, _+_, _-_, _/_, _%_, _<_, _≤_}
-use native.Mathlib.Nat.{add-zero}
-use native.Mathlib.Omega.{arith}
-use mathlib.Core.Path.{_≡_, refl, sym, ap, _∙_, subst}
-use mathlib.Core.Bool.{Bool, true, false}
-use lib.Dec.{ltb}
-use Rattle.numbers.specs.Answer.{if_then_else_}
-use mathlib.Core.List.{List, [], _∷_, _++_, append-nil}
-use lib.ListN.{length, set, drop, length-append, length-replicate}
-use lib.Seq.{sets, length-sets, set-out, sets-eq, drop-length}
+use native.Mathlib.{Nat.{add-zero}, Omega.{arith}}
+use mathlib.Core.{Path.{_≡_, refl, sym, ap, _∙_, subst}, Bool.{Bool, true, false}, List.{List, [], _∷_, _++_, append-nil}}
+use lib.{Dec.{ltb}, ListN.{length, set, drop, length-append, length-replicate}, Seq.{sets, length-sets, set-out, sets-eq, drop-length}}
+use Rattle.numbers.{specs.{Answer.{if_then_else_}, Spelling.{varintOf, Put}, Lists.{zeros}}, proofs.Spelling.{varint-byte}}
 use borrow.Author.Tests.{lt-ltb, le-ltb}
-use Rattle.numbers.proofs.Spelling.{varint-byte}
-use Rattle.numbers.specs.Spelling.{varintOf, Put}
 use Rattle.border.specs.Stored.{Stored}
-use Rattle.numbers.specs.Lists.{zeros}
 
 sets-append : (xs ys before : List ℕ) (at : ℕ) → sets before at (xs ++ ys) ≡ sets (sets before at xs) (at + length xs) ys
 sets-append [] ys before at = ap (λ (n : ℕ). sets before n ys) (sym (add-zero at))

@@ -1,11 +1,9 @@
 // Bytes into a lent buffer. A byte that does not fit is counted and left out: the place is held against the buffer's length once, at the end.
-ghost use mathlib.Core.Path.{_≡_};
-ghost use mathlib.Core.List.{_++_};
+ghost use mathlib.Core.{Path.{_≡_}, List.{_++_}};
 ghost use Prim.Native.Nat.{_+_, _^_, _<_};
 ghost use lib.ListN.{length};
 ghost use Rattle.border.specs.Stored.{Stored};
-ghost use Rattle.numbers.specs.Lists.{zeros};
-ghost use Rattle.numbers.specs.Spelling.{varintOf};
+ghost use Rattle.numbers.specs.{Lists.{zeros}, Spelling.{varintOf}};
 use numbers::write::write_varint;
 
 // The shortest varint, and the place behind it.

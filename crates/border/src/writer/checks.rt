@@ -2,8 +2,7 @@
 ghost use mathlib.Core.Path.{_≡_};
 ghost use Prim.Native.Nat.{_≤_, _<_};
 ghost use lib.ListN.{length, drop};
-ghost use Rattle.border.specs.Moves.{movesOf, isMove};
-ghost use Rattle.border.specs.Writer.{every, near, sized, checks, passed};
+ghost use Rattle.border.specs.{Moves.{movesOf, isMove}, Writer.{every, near, sized, checks, passed}};
 use crate::writer::Written;
 use crate::writer::moves::moves_at;
 use numbers::refusal::AT_ORIGIN;

@@ -1,17 +1,9 @@
 // The moves of a border, by the indexes of its points, and their bytes.
-ghost use mathlib.Core.Path.{_≡_};
-ghost use mathlib.Core.Bool.{not};
-ghost use mathlib.Core.List.{_∷_, flatMap};
+ghost use mathlib.Core.{Path.{_≡_}, Bool.{not}, List.{_∷_, flatMap}};
 ghost use Prim.Native.Nat.{_+_, _^_, _≤_, _<_};
-ghost use lib.IntN.{pos, negℤ, _-ℤ_};
-ghost use lib.ListN.{length, getD};
-ghost use lib.Dec.{eqb};
-ghost use lib.Seq.{slice};
-ghost use Rattle.numbers.specs.Answer.{if_then_else_};
-ghost use Rattle.numbers.specs.Point.{pointOf};
-ghost use Rattle.numbers.specs.Spelling.{signedForm};
-ghost use Rattle.border.specs.Moves.{packedNumber, plainMoveBytes, packedMoveBytes, movesOf, isMove, turnedBack, sameMove};
-ghost use Rattle.border.specs.Stored.{Stored, gapAt, moveAt};
+ghost use lib.{IntN.{pos, negℤ, _-ℤ_}, ListN.{length, getD}, Dec.{eqb}, Seq.{slice}};
+ghost use Rattle.numbers.specs.{Answer.{if_then_else_}, Point.{pointOf}, Spelling.{signedForm}};
+ghost use Rattle.border.specs.{Moves.{packedNumber, plainMoveBytes, packedMoveBytes, movesOf, isMove, turnedBack, sameMove}, Stored.{Stored, gapAt, moveAt}};
 use crate::writer::bytes::put_two;
 use crate::writer::bytes::put_varint;
 use numbers::point::decode_point;

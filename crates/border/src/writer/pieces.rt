@@ -1,14 +1,9 @@
 // The check of a list of pieces, and a piece's bytes.
-ghost use mathlib.Core.Path.{_≡_};
-ghost use mathlib.Core.List.{List, [], _∷_, _++_};
+ghost use mathlib.Core.{Path.{_≡_}, List.{List, [], _∷_, _++_}};
 ghost use Prim.Native.Nat.{ℕ, _+_, _-_, _*_, _/_, _^_, _≤_, _<_};
-ghost use lib.IntN.{ℤ};
-ghost use lib.ListN.{length};
-ghost use lib.Dec.{eqb};
+ghost use lib.{IntN.{ℤ}, ListN.{length}, Dec.{eqb}};
 ghost use Rattle.numbers.specs.Answer.{if_then_else_};
-ghost use Rattle.border.specs.Moves.{movesOf};
-ghost use Rattle.border.specs.Pieces.{lentMoves, spells, clearBefore, accepted, pieceBytes, pieceAt, piecesOf};
-ghost use Rattle.border.specs.Stored.{Stored, Checked};
+ghost use Rattle.border.specs.{Moves.{movesOf}, Pieces.{lentMoves, spells, clearBefore, accepted, pieceBytes, pieceAt, piecesOf}, Stored.{Stored, Checked}};
 use crate::writer::Piece;
 use crate::writer::bytes::put_two;
 use crate::writer::moves::is_lent;

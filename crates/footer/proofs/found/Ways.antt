@@ -1,22 +1,12 @@
 -- The ways through what a string gives, and through the comparison of two local times. Assumes nothing.
 use Prim.Native.Nat.{ℕ, zero, suc, _+_, _-_, _^_, _≤_, _<_}
 use borrow.Author.Tests.{eq-eqb, ne-eqb}
-use lib.Dec.{eqb, ltb, T}
-use lib.IntN.{ℤ, pos, negsuc, _-ℤ_}
-use lib.ListN.{length}
-use lib.Signed.{mag}
-use mathlib.Core.Bool.{Bool, true, false, cond}
-use mathlib.Core.List.{List}
-use mathlib.Core.Path.{_≡_, refl, ap, sym, subst, _∙_}
-use mir.Syntax.{w32, w64}
-use mir.Val.{SFits, toZ, ofZ}
-use mir.ValLaws.{toZ-ofZ, toZ-pos}
-use native.Mathlib.Numerals.{add-one}
-use native.Mathlib.Omega.{arith}
+use lib.{Dec.{eqb, ltb, T}, IntN.{ℤ, pos, negsuc, _-ℤ_}, ListN.{length}, Signed.{mag}}
+use mathlib.Core.{Bool.{Bool, true, false, cond}, List.{List}, Path.{_≡_, refl, ap, sym, subst, _∙_}}
+use mir.{Syntax.{w32, w64}, Val.{SFits, toZ, ofZ}, ValLaws.{toZ-ofZ, toZ-pos}}
+use native.Mathlib.{Numerals.{add-one}, Omega.{arith}}
 use Rattle.footer.specs.Found.{eastOf, foundOf, Short, sameOctets, sameFound}
-use Rattle.tzif.specs.Reply.{if_then_else_}
-use Rattle.tzif.specs.Number.{octet}
-use Rattle.tzif.specs.declared.local.Found.{Found}
+use Rattle.tzif.specs.{Reply.{if_then_else_}, Number.{octet}, declared.local.Found.{Found}}
 use Rattle.tzrule.specs.declared.ask.Time.{Time}
 
 -- seconds east fit an i32

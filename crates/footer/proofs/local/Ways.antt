@@ -1,42 +1,23 @@
 -- The ways to a local time. Assumes nothing.
 use Prim.Native.Nat.{ℕ, _≤_}
 use borrow.Author.Tests.{eq-eqb, ne-eqb}
-use lib.Dec.{eqb}
-use lib.IntN.{ℤ}
-use lib.ListN.{length}
-use mathlib.Core.Bool.{Bool, true, false}
-use mathlib.Core.List.{List}
-use mathlib.Core.Path.{_≡_, refl, ap, sym, _∙_}
+use lib.{Dec.{eqb}, IntN.{ℤ}, ListN.{length}}
+use mathlib.Core.{Bool.{Bool, true, false}, List.{List}, Path.{_≡_, refl, ap, sym, _∙_}}
 use native.Mathlib.Omega.{arith}
 use Rattle.footer.specs.Found.{foundOf}
 use Rattle.footer.specs.Local.{askIn, rulesIn, isRuled, byRule, answerBy, answerAt, localTimeBy, localTime, toldRules, toldSaid, HeldRules, HeldStated, HeldSaid, HeldAsked, Sound}
-use Rattle.footer.specs.declared.local.Said.{Said}
+use Rattle.footer.specs.declared.{local.Said.{Said}, rule.{Rules.{Rules}, Stated.{Stated}}}
 use Rattle.footer.specs.declared.local.Said.the-variants as S
-use Rattle.footer.specs.declared.rule.Rules.{Rules}
 use Rattle.footer.specs.declared.rule.Rules.the-variants as R
-use Rattle.footer.specs.declared.rule.Stated.{Stated}
 use Rattle.footer.specs.declared.rule.Stated.the-variants as Q
-use Rattle.tzif.specs.Reply.{if_then_else_}
+use Rattle.tzif.specs.{Reply.{if_then_else_, Reply, given, refused, refusal, _>>=_}, Header.{rfc9636}, Local.{isAfterLast, byTable, lent, named, replied, Held}}
+use Rattle.tzif.specs.{Number.{lift}, Text.{zeros}, Zone.{readZone}}
+use Rattle.tzif.specs.declared.{block.Block.{Block}, local.{Answer.{Answer}, Found.{Found}, LocalTime.{LocalTime}}, refusal.Refusal.{Refusal}, zone.Zone.{Zone}}
 use Rattle.tzif.proofs.Goods.{zone-good, zone-leaps-rise, zone-string}
-use Rattle.tzif.specs.Header.{rfc9636}
-use Rattle.tzif.specs.Local.{isAfterLast, byTable, lent, named, replied, Held}
-use Rattle.tzif.specs.Number.{lift}
-use Rattle.tzif.specs.Reply.{Reply, given, refused, refusal, _>>=_}
-use Rattle.tzif.specs.Text.{zeros}
-use Rattle.tzif.specs.Zone.{readZone}
-use Rattle.tzif.specs.declared.block.Block.{Block}
-use Rattle.tzif.specs.declared.local.Answer.{Answer}
 use Rattle.tzif.specs.declared.local.Answer.the-variants as A
-use Rattle.tzif.specs.declared.local.Found.{Found}
-use Rattle.tzif.specs.declared.local.LocalTime.{LocalTime}
 use Rattle.tzif.specs.declared.local.LocalTime.the-variants as L
-use Rattle.tzif.specs.declared.refusal.Refusal.{Refusal}
-use Rattle.tzif.specs.declared.zone.Zone.{Zone}
-use Rattle.tzrule.specs.String.{IsTz}
-use Rattle.tzrule.specs.declared.ask.Asked.{Asked}
+use Rattle.tzrule.specs.{String.{IsTz}, declared.{ask.{Asked.{Asked}, Time.{Time}}, rule.Tz.{Tz}}}
 use Rattle.tzrule.specs.declared.ask.Asked.the-variants as K
-use Rattle.tzrule.specs.declared.ask.Time.{Time}
-use Rattle.tzrule.specs.declared.rule.Tz.{Tz}
 
 -- what the transitions say
 module _ {answer table : Answer} (t : answer ≡ table) where

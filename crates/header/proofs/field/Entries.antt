@@ -1,13 +1,10 @@
 -- How a string goes out into a lent text. Assumes nothing.
-use mathlib.Core.Path.{_≡_, refl, sym, ap, _∙_}
-use mathlib.Core.List.{List, [], _∷_, _++_, map}
+use mathlib.Core.{Path.{_≡_, refl, sym, ap, _∙_}, List.{List, [], _∷_, _++_, map}}
 use Prim.Native.Nat.{ℕ, zero, suc, _+_, _-_, _/_, _%_, _≤_, _<_}
 use native.Mathlib.Omega.{arith}
-use lib.Bits.{bitXor}
-use lib.ListN.{length, getD, set, take, drop, length-map, length-set}
+use lib.{Bits.{bitXor}, ListN.{length, getD, set, take, drop, length-map, length-set}}
 use Rattle.numbers.specs.Lists.{over}
-use Rattle.header.specs.Field.{entry, field}
-use Rattle.header.specs.Utf8.{unmasked}
+use Rattle.header.specs.{Field.{entry, field}, Utf8.{unmasked}}
 use Rattle.header.proofs.Buffers.{map-at, copied-suc, copied-length, copied-all, lent-length, over-length, put-one, put-two}
 
 -- i bytes are out

@@ -1,21 +1,13 @@
 -- A field by how far its writing came. Assumes nothing.
-use mathlib.Core.Bool.{Bool}
-use mathlib.Core.Path.{_≡_, refl, sym, ap, _∙_}
-use mathlib.Core.List.{List, map}
+use mathlib.Core.{Bool.{Bool}, Path.{_≡_, refl, sym, ap, _∙_}, List.{List, map}}
 use Prim.Native.Nat.{ℕ, _+_, _≤_, _<_}
 use native.Mathlib.Omega.{arith}
 use borrow.Author.Tests.{le-leb, lt-leb}
 use lib.ListN.{length, length-map}
-use Rattle.numbers.specs.Lists.{over}
-use Rattle.numbers.specs.Reply.{Reply, given, refused, plain}
-use Rattle.header.specs.Text.{bytesOf, textAt}
-use Rattle.header.specs.Utf8.{unmasked}
-use Rattle.header.specs.Field.{field, Field, fieldAt, toldField, sentOf, textAfter}
-use Rattle.header.specs.declared.field.Written.{Written}
+use Rattle.numbers.{specs.{Lists.{over}, Reply.{Reply, given, refused, plain}, declared.refusal.Refusal.{Refusal}}, proofs.Replies.{carried, onward, met, unmet}}
+use Rattle.header.specs.{Text.{bytesOf, textAt}, Utf8.{unmasked}, Field.{field, Field, fieldAt, toldField, sentOf, textAfter}}
+use Rattle.header.specs.declared.{field.Written.{Written}, text.Text.{Text}}
 use Rattle.header.specs.declared.field.Written.the-variants as W
-use Rattle.numbers.specs.declared.refusal.Refusal.{Refusal}
-use Rattle.header.specs.declared.text.Text.{Text}
-use Rattle.numbers.proofs.Replies.{carried, onward, met, unmet}
 use Rattle.header.proofs.Strings.{Lies, text-lies, part, part-is, part-length}
 
 module _ (strict : Bool) (file : List ℕ) (metadata place tag : ℕ) (text : List ℕ) where

@@ -1,15 +1,9 @@
 -- The header by how far it was read. Assumes nothing.
-use mathlib.Core.Bool.{Bool}
-use mathlib.Core.Path.{_≡_, refl, sym, ap, _∙_}
-use mathlib.Core.List.{List}
+use mathlib.Core.{Bool.{Bool}, Path.{_≡_, refl, sym, ap, _∙_}, List.{List}}
 use Prim.Native.Nat.{ℕ}
-use Rattle.numbers.specs.Reply.{Reply, given, refused, _>>=_}
+use Rattle.numbers.{specs.{Reply.{Reply, given, refused, _>>=_}, declared.refusal.Refusal.{Refusal}}, proofs.Replies.{From, carried, onward, given-from, refused-from}}
 use Rattle.header.specs.Header.{textsOf, placeAfter, preambleOf, sectionsAt, Contents, contentsBy, headBy}
-use Rattle.header.specs.declared.header.Preamble.{Preamble}
-use Rattle.header.specs.declared.header.Sections.{Sections}
-use Rattle.header.specs.declared.header.Head.{Head}
-use Rattle.numbers.specs.declared.refusal.Refusal.{Refusal}
-use Rattle.numbers.proofs.Replies.{From, carried, onward, given-from, refused-from}
+use Rattle.header.specs.declared.header.{Preamble.{Preamble}, Sections.{Sections}, Head.{Head}}
 
 module _ (strict : Bool) (file : List ℕ) where
   -- the head alone

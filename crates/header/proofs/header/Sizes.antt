@@ -1,22 +1,15 @@
 -- The three sizes, and sums that must fit. Assumes nothing.
-use mathlib.Core.Bool.{Bool}
-use mathlib.Core.Path.{_≡_, refl, _∙_}
-use mathlib.Core.List.{List}
+use mathlib.Core.{Bool.{Bool}, Path.{_≡_, refl, _∙_}, List.{List}}
 use Prim.Native.Nat.{ℕ, _+_, _%_, _^_, _≤_, _<_}
 use native.Mathlib.Omega.{arith}
 use borrow.Author.Tests.{lt-ltb, le-ltb}
 use lib.ListN.{length}
-use Rattle.numbers.specs.Answer.{Answer, found, failed}
+use Rattle.numbers.specs.{Answer.{Answer, found, failed}, Varint.{Numeral, readingOf}}
+use Rattle.numbers.specs.{declared.{varint.Varint.{Varint, the-variants.{Number, Failed, Refused}}, refusal.Refusal.{Refusal}}, Reply.{given, refused, plain, _orElse_}}
+use Rattle.numbers.proofs.{Laws.{caseOf}, Replies.{carried, onward, met, unmet}}
 use Rattle.numbers.specs.Answer as A
-use Rattle.numbers.specs.Varint.{Numeral, readingOf}
-use Rattle.numbers.proofs.Laws.{caseOf}
 use Rattle.header.proofs.Strings.{read-within}
-use Rattle.numbers.specs.declared.varint.Varint.{Varint}
-use Rattle.numbers.specs.declared.varint.Varint.the-variants.{Number, Failed, Refused}
-use Rattle.numbers.specs.Reply.{given, refused, plain, _orElse_}
 use Rattle.header.specs.Header.{sizeAt, unreadOf, sectionsFrom, sectionsAt}
-use Rattle.numbers.specs.declared.refusal.Refusal.{Refusal}
-use Rattle.numbers.proofs.Replies.{carried, onward, met, unmet}
 
 given-found : {A : Type 0} {a : A} (why : Refusal) (answer : Answer A) → given a ≡ (answer orElse why) → found a ≡ answer
 given-found why (found a) e = cc

@@ -1,21 +1,12 @@
 -- Names and notice, one after another. Assumes nothing.
-use mathlib.Core.Path.{_≡_, refl, sym, ap, _∙_}
-use mathlib.Core.Bool.{Bool, true, false}
-use mathlib.Core.List.{List, [], _++_, append-assoc}
+use mathlib.Core.{Path.{_≡_, refl, sym, ap, _∙_}, Bool.{Bool, true, false}, List.{List, [], _++_, append-assoc}}
 use Prim.Native.Nat.{ℕ, suc, _+_, _-_, _^_, _≤_, _<_}
-use native.Mathlib.Nat.{sub-zero}
-use native.Mathlib.Omega.{arith}
+use native.Mathlib.{Nat.{sub-zero}, Omega.{arith}}
 use borrow.Author.Tests.{leb-true}
-use lib.Dec.{leb}
-use lib.ListN.{length}
-use Rattle.numbers.specs.Reply.{Reply, given, refused, plain, demand, _>>=_, _>>_}
-use Rattle.header.specs.Text.{textAt, bytesOf}
-use Rattle.header.specs.Field.{entry}
-use Rattle.header.specs.Header.{Texts, textsFrom, blameOf, placeAfter, preambleOf}
-use Rattle.header.specs.declared.header.Preamble.{Preamble}
-use Rattle.numbers.specs.declared.refusal.Refusal.{Refusal}
-use Rattle.header.specs.declared.text.Text.{Text}
-use Rattle.numbers.proofs.Replies.{carried, onward}
+use lib.{Dec.{leb}, ListN.{length}}
+use Rattle.numbers.{specs.{Reply.{Reply, given, refused, plain, demand, _>>=_, _>>_}, declared.refusal.Refusal.{Refusal}}, proofs.Replies.{carried, onward}}
+use Rattle.header.specs.{Text.{textAt, bytesOf}, Field.{entry}, Header.{Texts, textsFrom, blameOf, placeAfter, preambleOf}}
+use Rattle.header.specs.declared.{header.Preamble.{Preamble}, text.Text.{Text}}
 
 -- a file that has a preamble is not over 1 GiB
 pub short-enough : (file : List ℕ) (p : Preamble) → given p ≡ preambleOf file → length file ≤ 2 ^ 30

@@ -1,25 +1,16 @@
 -- The reply of `open`, by how far it came. Assumes nothing.
-use mathlib.Core.Path.{_≡_, refl, sym, subst, ap, _∙_}
-use mathlib.Core.Bool.{Bool, true, false}
-use mathlib.Core.List.{List}
+use mathlib.Core.{Path.{_≡_, refl, sym, subst, ap, _∙_}, Bool.{Bool, true, false}, List.{List}}
 use Prim.Native.Nat.{ℕ}
 use native.Mathlib.Omega.{arith}
 use borrow.Author.Tests.{leb-true, leb-false}
 use denote.Enum.Declared.{tagOf, declared}
-use lib.Dec.{leb}
-use lib.ListN.{length}
-use Rattle.numbers.specs.Lists.{zeros}
-use Rattle.numbers.specs.Reply.{Reply, given, refused, plain, demand, _>>_}
-use Rattle.header.specs.Header.{Texts, textsOf, Contents, headBy}
-use Rattle.header.specs.Opening.{Filled, fittingOf, replied, repliedOf, openedBy}
-use Rattle.header.specs.declared.header.Head.{Head}
-use Rattle.numbers.specs.declared.refusal.Refusal.{Refusal}
-use Rattle.header.specs.declared.opening.Opened.{Opened}
+use lib.{Dec.{leb}, ListN.{length}}
+use Rattle.numbers.{specs.{Lists.{zeros}, Reply.{Reply, given, refused, plain, demand, _>>_}, declared.refusal.Refusal.{Refusal}}, proofs.Replies.{carried, onward}}
+use Rattle.header.specs.{Header.{Texts, textsOf, Contents, headBy}, Opening.{Filled, fittingOf, replied, repliedOf, openedBy}}
+use Rattle.header.specs.declared.{header.Head.{Head}, opening.{Opened.{Opened}, Wrote.{Wrote}}}
 use Rattle.header.specs.declared.opening.Opened.the-variants as O
-use Rattle.header.specs.declared.opening.Wrote.{Wrote}
 use Rattle.header.specs.declared.opening.Wrote.the-variants as W
 use Rattle.header.proofs.opening.Wrote as N
-use Rattle.numbers.proofs.Replies.{carried, onward}
 use Rattle.header.proofs.header.Heads.{Whole, head-whole, head-refused}
 
 module _ (strict : Bool) (file : List ℕ) (room : ℕ) where

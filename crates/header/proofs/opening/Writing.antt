@@ -1,28 +1,16 @@
 -- The loop that writes names and notice: what holds before each turn, and what a turn makes of it. Assumes nothing.
-use mathlib.Core.Bool.{Bool}
-use mathlib.Core.Path.{_≡_, refl, sym, ap, _∙_}
+use mathlib.Core.{Bool.{Bool}, Path.{_≡_, refl, sym, ap, _∙_}, List.{List, [], _++_, map, append-assoc, append-nil}}
 use Prim.Native.Nat.{ℕ, suc, _+_, _-_, _≤_, _<_}
-use native.Mathlib.Nat.{sub-zero}
-use native.Mathlib.Omega.{arith}
-use mathlib.Core.List.{List, [], _++_, map, append-assoc, append-nil}
+use native.Mathlib.{Nat.{sub-zero}, Omega.{arith}}
 use denote.Enum.Declared.{tagOf, declared}
-use lib.ListN.{length, take, drop, length-append, length-map, take-append-drop, length-replicate}
-use lib.Seq.{take-at, drop-at, length-take-le}
-use Rattle.numbers.specs.Lists.{zeros, padded, over}
-use Rattle.numbers.specs.Reply.{Reply, given, refused}
-use Rattle.header.specs.Text.{textAt, bytesOf, toldRead}
-use Rattle.header.specs.Field.{entry}
-use Rattle.header.specs.Utf8.{unmasked}
-use Rattle.header.specs.Header.{Texts, textsFrom, textsOf, blameOf}
-use Rattle.header.specs.Opening.{Filled}
-use Rattle.header.specs.declared.text.Text.{Text}
-use Rattle.header.specs.declared.text.Read.{Read}
+use lib.{ListN.{length, take, drop, length-append, length-map, take-append-drop, length-replicate}, Seq.{take-at, drop-at, length-take-le}}
+use Rattle.numbers.{specs.{Lists.{zeros, padded, over}, Reply.{Reply, given, refused}}, proofs.Lists.{zeros-drop}}
+use Rattle.header.specs.{Text.{textAt, bytesOf, toldRead}, Field.{entry}, Utf8.{unmasked}, Header.{Texts, textsFrom, textsOf, blameOf}, Opening.{Filled}}
+use Rattle.header.specs.declared.text.{Text.{Text}, Read.{Read}}
 use Rattle.header.specs.declared.text.Read.the-variants as T
 use Rattle.header.specs.declared.opening.Wrote.the-variants as W
 use Rattle.header.proofs.text.Read as N
-use Rattle.header.proofs.Strings.{Lies, text-lies, part, part-is, part-length}
-use Rattle.header.proofs.header.Texts.{before, before-none, before-twice, next-text, bad-text}
-use Rattle.numbers.proofs.Lists.{zeros-drop}
+use Rattle.header.proofs.{Strings.{Lies, text-lies, part, part-is, part-length}, header.Texts.{before, before-none, before-twice, next-text, bad-text}}
 use Rattle.header.proofs.Buffers.{tail-lent, tail-back}
 
 pub record Writing (strict : Bool) (file : List ℕ) (names room : ℕ) (text : List ℕ) (index place at : ℕ) : Type 0 where

@@ -1,12 +1,9 @@
 -- `isUtf8` decides the grammar of RFC 3629. Assumes nothing.
-use mathlib.Core.Path.{_≡_, refl, ap, _∙_}
-use mathlib.Core.Bool.{Bool, true, false, _&&_}
-use mathlib.Core.List.{List, [], _∷_, _++_}
+use mathlib.Core.{Path.{_≡_, refl, ap, _∙_}, Bool.{Bool, true, false, _&&_}, List.{List, [], _∷_, _++_}}
 use Prim.Native.Nat.{ℕ, zero, suc, _≤_, _<_}
 use native.Mathlib.Omega.{arith}
 use borrow.Author.Tests.{leb-true, ltb-true, lt-leb}
-use lib.Dec.{leb, ltb}
-use lib.ListN.{length}
+use lib.{Dec.{leb, ltb}, ListN.{length}}
 use Rattle.numbers.specs.Answer.{if_then_else_}
 use Rattle.header.specs.Utf8.{Range, _∈_, characters, Fits, none, next, Among, here, later, Octets, ended, char, Pending, due, wrong, startedBy, begunBy, followed, goesOn, isUtf8}
 use Rattle.header.proofs.utf8.Octets.{stays-wrong}

@@ -1,20 +1,13 @@
 -- The rows of the grammar by a byte's range, and the loop over the bytes. Assumes nothing.
-use mathlib.Core.Path.{_≡_, refl, sym, ap, _∙_}
-use mathlib.Core.Bool.{Bool, true, false}
-use mathlib.Core.List.{List, [], _∷_, map}
+use mathlib.Core.{Path.{_≡_, refl, sym, ap, _∙_}, Bool.{Bool, true, false}, List.{List, [], _∷_, map}}
 use Prim.Native.Nat.{ℕ, zero, suc, _+_, _-_, _≤_, _<_}
-use native.Mathlib.Numerals.{add-one}
-use native.Mathlib.Omega.{arith}
+use native.Mathlib.{Numerals.{add-one}, Omega.{arith}}
 use borrow.Author.Tests.{le-leb, lt-leb, ne-eqb, eq-eqb}
 use denote.Enum.Declared.{tagOf, declared}
-use lib.Bits.{bitXor}
-use lib.Dec.{eqb}
-use lib.ListN.{length, getD, drop, replicate, drop-of-length-le}
-use lib.Seq.{drop-cons}
+use lib.{Bits.{bitXor}, Dec.{eqb}, ListN.{length, getD, drop, replicate, drop-of-length-le}, Seq.{drop-cons}}
 use Rattle.numbers.specs.Answer.{if_then_else_}
 use Rattle.header.specs.Utf8.{_–_, _∈_, tail, unmasked, Pending, due, wrong, begunBy, followed, isWhole, goesOn, isUtf8, pendingOf, toldStep}
-use Rattle.header.specs.declared.utf8.Due.{Due}
-use Rattle.header.specs.declared.utf8.Step.{Step}
+use Rattle.header.specs.declared.utf8.{Due.{Due}, Step.{Step}}
 use Rattle.header.specs.declared.utf8.Step.the-variants as S
 use Rattle.header.proofs.utf8.Step as N
 

@@ -4,8 +4,7 @@ use lib.ListN.{length}
 use mathlib.Core.Path.{_∙_}
 use mir.Facts.{toZ-ofZ}
 use native.Mathlib.Omega.{arith}
-use Rattle.hour.proofs.Answers.{behind, printed-long, printed-short, printed-answer}
-use Rattle.hour.proofs.hour.Statement.{statement}
+use Rattle.hour.proofs.{Answers.{behind, printed-long, printed-short, printed-answer}, hour.Statement.{statement}}
 use Rattle.hour.proofs.hour.Tie as tie
 
 returns : tie.Need-returns

@@ -1,20 +1,12 @@
 -- An f32 counted in the smallest one, 2 ^ -149: it is a number of at most 24 digits times a power of two, which its bits give; and the same scaled to an even power, for its root. Assumes nothing.
 use Prim.Native.Nat.{ℕ, zero, suc, _+_, _-_, _*_, _/_, _%_, _^_, _≤_, _<_}
 use lib.Dec.{T, leb, eqb, lit<}
-use lib.Ieee.Bits.{ofBits-toBits}
-use lib.Ieee.Digits.{size-lt, size-le, size-reaches, back}
-use lib.Ieee.Exact.{HasValue, odd-sign}
-use lib.Ieee.Fits.{down-pos, kept-lt, eq→eqb}
-use lib.Ieee.Positive.{positive, value-pos}
-use lib.Ieee.{Float, nan, inf, fin, isNan, binary32, down, size, odd, units, fits, ofFields, ofBits, toBits}
+use lib.Ieee.{Bits.{ofBits-toBits}, Digits.{size-lt, size-le, size-reaches, back}, Exact.{HasValue, odd-sign}, Fits.{down-pos, kept-lt, eq→eqb}}
+use lib.Ieee.{Positive.{positive, value-pos}, Float, nan, inf, fin, isNan, binary32, down, size, odd, units, fits, ofFields, ofBits, toBits}
 use lib.Pow.{pow-add, pow-pos, pow-mono, shl-lt}
-use mathlib.Core.Bool.{Bool, true, false, not, cond}
-use mathlib.Core.Logic.{inl, inr}
-use mathlib.Core.Path.{_≡_, refl, sym, ap, _∙_, subst}
-use native.Mathlib.Nat.{le-trans, le-of-eq, lt-of-lt-of-le, lt-of-le-of-lt, not-le-of-lt, mul-assoc, mul-div-cancel, mul-le-mul-right, div-one}
-use native.Mathlib.Omega.{arith}
-use Rattle.numbers.proofs.float.Rounding.{size-is, reaches-size, bits-of-value, kept-least}
-use Rattle.numbers.proofs.float.Squares.{le-or-lt}
+use mathlib.Core.{Bool.{Bool, true, false, not, cond}, Logic.{inl, inr}, Path.{_≡_, refl, sym, ap, _∙_, subst}}
+use native.Mathlib.{Nat.{le-trans, le-of-eq, lt-of-lt-of-le, lt-of-le-of-lt, not-le-of-lt, mul-assoc, mul-div-cancel, mul-le-mul-right, div-one}, Omega.{arith}}
+use Rattle.numbers.proofs.float.{Rounding.{size-is, reaches-size, bits-of-value, kept-least}, Squares.{le-or-lt}}
 use Rattle.numbers.specs.Float.Root.{unitsOf, nearestRoot, root}
 
 -- ---- a value's units

@@ -1,11 +1,8 @@
 -- Squares of whole numbers, and that `wholeRoot` and `nearestRoot` are what they are called. Nothing here is about floats. Assumes nothing.
-use mathlib.Core.Path.{_≡_, refl, sym, ap, _∙_, subst}
-use mathlib.Core.Logic.{_⊎_, inl, inr}
+use mathlib.Core.{Path.{_≡_, refl, sym, ap, _∙_, subst}, Logic.{_⊎_, inl, inr}, Bool.{Bool, true, false, not, cond}}
 use Prim.Native.Nat.{ℕ, zero, suc, _+_, _-_, _*_, _/_, _%_, _^_, _≤_, _<_}
 use native.Mathlib.Nat.{le-trans, le-of-eq, le-of-lt, le-antisymm, le-of-suc-le-suc, lt-of-lt-of-le, lt-of-le-of-lt, lt-of-not-le, not-le-of-lt, eq-zero-or-pos, add-mul, mul-add, mul-assoc, mul-comm, mul-left-comm, mul-le-mul, mul-le-mul-left, mul-le-mul-right, mul-lt-mul-of-pos-right, zero-mul, pow-suc, div-mul-le-self, div-lt-iff-lt-mul, zero-lt-suc}
-use native.Mathlib.Numerals.{add-one}
-use native.Mathlib.Omega.{arith}
-use mathlib.Core.Bool.{Bool, true, false, not, cond}
+use native.Mathlib.{Numerals.{add-one}, Omega.{arith}}
 use lib.Dec.{T, leb, ltb, leb→le, nleb→lt, ltb→lt, nltb→le, lit<, lit≤}
 use Rattle.numbers.specs.Float.Root.{wholeRoot, nearestRoot}
 

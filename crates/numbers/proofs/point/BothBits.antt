@@ -1,8 +1,7 @@
 -- A number of at most 32 bits, with its half above it in one word: one pass finds the even bits of both. A wider number is two such. Assumes nothing.
 use Prim.Native.Nat.{ℕ, zero, suc, _+_, _*_, _/_, _%_, _^_, _<_}
 use mathlib.Core.Path.{_≡_, refl, sym, ap, ap₂, _∙_}
-use native.Mathlib.Nat.{pow-suc, mul-assoc, zero-add}
-use native.Mathlib.Omega.{arith}
+use native.Mathlib.{Nat.{pow-suc, mul-assoc, zero-add}, Omega.{arith}}
 use Rattle.numbers.proofs.point.Joined.{even-lt, even-add}
 use Rattle.numbers.specs.Point.{evenBits, bothBits}
 

@@ -1,17 +1,12 @@
 -- What holds while a number is gathered on the way down: the invariant of `read_backward`'s loop, and what it gives where the loop is left.
 -- Assumes nothing.
-use mathlib.Core.Path.{_≡_, refl, sym, ap, _∙_}
-use mathlib.Core.List.{List}
+use mathlib.Core.{Path.{_≡_, refl, sym, ap, _∙_}, List.{List}}
 use Prim.Native.Nat.{ℕ, _+_, _-_, _*_, _%_, _^_, _≤_, _<_, min}
 use native.Mathlib.Omega.{arith}
-use lib.Bits.{bitOr}
-use lib.ListN.{length, getD, drop, length-drop}
-use Rattle.numbers.specs.Answer.{failed, refused}
-use Rattle.numbers.specs.Varint.{numeral, valueOf, sizeOf, startOf, backwardAt}
-use Rattle.numbers.proofs.varint.Bytes.{value-last, value-more, size-last, size-more, start-here, start-lower, start-none}
-use Rattle.numbers.proofs.varint.Gather.{gather-below}
-use Rattle.numbers.proofs.varint.Reading.{too-long, read-whole}
-use Rattle.numbers.proofs.varint.Backward.{bottom, upward}
+use lib.{Bits.{bitOr}, ListN.{length, getD, drop, length-drop}}
+use Rattle.numbers.specs.{Answer.{failed, refused}, Varint.{numeral, valueOf, sizeOf, startOf, backwardAt}}
+use Rattle.numbers.proofs.varint.{Bytes.{value-last, value-more, size-last, size-more, start-here, start-lower, start-none}, Gather.{gather-below}}
+use Rattle.numbers.proofs.varint.{Reading.{too-long, read-whole}, Backward.{bottom, upward}}
 
 -- the bytes from start to place belong to the number, and value holds what they give
 pub record Descent (file : List ℕ) (place value start : ℕ) : Type 0 where

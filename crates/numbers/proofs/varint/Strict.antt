@@ -2,12 +2,9 @@
 use Prim.Native.Nat.{ℕ, _≤_}
 use borrow.Author.Tests.{le-leb}
 use lib.ListN.{length}
-use mathlib.Core.Bool.{Bool, true, false}
-use mathlib.Core.List.{List}
-use mathlib.Core.Path.{_≡_, sym, ap, _∙_}
+use mathlib.Core.{Bool.{Bool, true, false}, List.{List}, Path.{_≡_, sym, ap, _∙_}}
 use Rattle.numbers.proofs.varint.Reading.{none-there}
-use Rattle.numbers.specs.Answer.{Answer, found, failed, refused}
-use Rattle.numbers.specs.Varint.{Numeral, numeral, forwardAt, isComplete, wholeOf, readingOf}
+use Rattle.numbers.specs.{Answer.{Answer, found, failed, refused}, Varint.{Numeral, numeral, forwardAt, isComplete, wholeOf, readingOf}}
 
 -- a number that was found, as the strict reading has it
 module _ (file : List ℕ) {answer : Answer Numeral} {number : Numeral} (is : answer ≡ found number) where

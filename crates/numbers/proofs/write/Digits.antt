@@ -1,16 +1,10 @@
 -- The bytes of a number, and its bits among another's. Assumes nothing.
 use Prim.Native.Nat.{ℕ, zero, suc, _+_, _-_, _*_, _/_, _%_, _^_, _<_, _≤_}
-use native.Mathlib.Nat.{add-mul, mul-assoc, mul-comm, pow-suc, div-add-mod', div-div-eq-div-mul, add-comm}
-use native.Mathlib.Numerals.{add-one}
-use native.Mathlib.Omega.{arith}
-use mathlib.Core.Path.{_≡_, refl, sym, ap, _∙_}
-use mathlib.Core.Bool.{Bool, true, false}
-use mathlib.Core.List.{List, [], _∷_}
-use lib.Dec.{ltb}
-use lib.ListN.{length}
+use native.Mathlib.{Nat.{add-mul, mul-assoc, mul-comm, pow-suc, div-add-mod', div-div-eq-div-mul, add-comm}, Numerals.{add-one}, Omega.{arith}}
+use mathlib.Core.{Path.{_≡_, refl, sym, ap, _∙_}, Bool.{Bool, true, false}, List.{List, [], _∷_}}
+use lib.{Dec.{ltb}, ListN.{length}}
 use borrow.Author.Tests.{lt-ltb, le-ltb}
-use Rattle.numbers.specs.Answer.{if_then_else_}
-use Rattle.numbers.specs.Spelling.{digitsOf, interleaved}
+use Rattle.numbers.specs.{Answer.{if_then_else_}, Spelling.{digitsOf, interleaved}}
 
 pub split-weight : (j n : ℕ) → n % 128 * 128 ^ j + n / 128 * 128 ^ (j + 1) ≡ n * 128 ^ j
 split-weight j n =

@@ -1,17 +1,11 @@
 -- Bytes that go into a lent buffer one after another, as long as there is room. Assumes nothing.
 use Prim.Native.Nat.{ℕ, suc, _+_, _-_, _*_, _/_, _%_, _^_, _≤_, _<_}
-use native.Mathlib.Numerals.{add-one}
-use native.Mathlib.Omega.{arith}
-use mathlib.Core.Path.{_≡_, refl, sym, ap, _∙_}
-use mathlib.Core.Bool.{Bool, true, false}
-use mathlib.Core.List.{List, [], _∷_}
-use lib.Dec.{ltb}
-use lib.ListN.{length, set, length-set}
-use lib.Seq.{sets, set-out}
+use native.Mathlib.{Numerals.{add-one}, Omega.{arith}}
+use mathlib.Core.{Path.{_≡_, refl, sym, ap, _∙_}, Bool.{Bool, true, false}, List.{List, [], _∷_}}
+use lib.{Dec.{ltb}, ListN.{length, set, length-set}, Seq.{sets, set-out}}
 use borrow.Author.Tests.{ltb-false}
 use Rattle.numbers.proofs.write.Digits.{tenth, weight-later, digits-last, digits-next}
-use Rattle.numbers.specs.Answer.{if_then_else_}
-use Rattle.numbers.specs.Spelling.{digitsOf, varintOf, Put}
+use Rattle.numbers.specs.{Answer.{if_then_else_}, Spelling.{digitsOf, varintOf, Put}}
 
 -- past the end nothing is stored
 sets-past : (bytes xs : List ℕ) (at : ℕ) → length xs ≤ at → sets xs at bytes ≡ xs

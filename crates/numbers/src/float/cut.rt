@@ -1,9 +1,6 @@
 // Rust's `as` from f32 to a signed integer: cut toward zero, brought to the nearer end of the range, and 0 for a NaN.
-ghost use mathlib.Core.Path.{_≡_};
-ghost use mathlib.Core.Bool.{false};
-ghost use lib.Dec.{T};
-ghost use lib.IntN.{pos};
-ghost use lib.Ieee.{fin, lt, le, toUnsigned};
+ghost use mathlib.Core.{Path.{_≡_}, Bool.{false}};
+ghost use lib.{Dec.{T}, IntN.{pos}, Ieee.{fin, lt, le, toUnsigned}};
 ghost use Rattle.numbers.specs.Float.{cut32, cut64};
 
 // The whole part of an x from 1 up to 2^63. Its 24 digits stand at the top of a word, and the

@@ -1,10 +1,7 @@
 // Rust's `as` from an integer to f32: the nearest float, and of two that are as near the one whose last digit is even.
-ghost use mathlib.Core.Path.{_≡_};
-ghost use mathlib.Core.Bool.{false};
+ghost use mathlib.Core.{Path.{_≡_}, Bool.{false}};
 ghost use Prim.Native.Nat.{_/_, _^_, _≤_, _<_};
-ghost use lib.IntN.{pos, natAbs};
-ghost use lib.Ieee.{binary32, units, size};
-ghost use lib.Ieee.Nearest.{closest};
+ghost use lib.{IntN.{pos, natAbs}, Ieee.{binary32, units, size, Nearest.{closest}}};
 ghost use Rattle.numbers.specs.Float.{toF32};
 
 // How many binary digits n has.

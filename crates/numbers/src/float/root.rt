@@ -2,8 +2,7 @@
 // root is that of digits * 2^(place + 149), in the same units.
 ghost use mathlib.Core.Path.{_≡_};
 ghost use Prim.Native.Nat.{_+_, _*_, _^_, _≤_, _<_};
-ghost use lib.Dec.{T};
-ghost use lib.Ieee.Positive.{positive};
+ghost use lib.{Dec.{T}, Ieee.Positive.{positive}};
 ghost use Rattle.numbers.specs.Float.Root.{unitsOf, nearestRoot, root};
 use crate::float::nearest::assembled;
 use crate::float::nearest::digits;

@@ -1,12 +1,9 @@
 use Prim.Native.Nat.{ℕ, _≤_}
 use borrow.Author.Needs.{needs}
-use lib.ListN.{length, take, drop, length-append}
-use lib.Seq.{length-take-le}
-use mathlib.Core.List.{List, _++_}
-use mathlib.Core.Path.{_≡_, _∙_, sym}
+use lib.{ListN.{length, take, drop, length-append}, Seq.{length-take-le}}
+use mathlib.Core.{List.{List, _++_}, Path.{_≡_, _∙_, sym}}
 use native.Mathlib.Omega.{arith}
-use Rattle.io.proofs.Counting.{counts}
-use Rattle.io.specs.Counts.{Counts}
+use Rattle.io.{proofs.Counting.{counts}, specs.Counts.{Counts}}
 use Rattle.replay.proofs.read_some.Statement.{statement}
 use Rattle.replay.proofs.read_some.Tie as tie
 

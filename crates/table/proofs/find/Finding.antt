@@ -1,26 +1,14 @@
 -- From the header to the merged matches, by how far the code came. Assumes nothing.
-use mathlib.Core.Path.{_≡_, sym, ap, subst, _∙_}
-use mathlib.Core.Bool.{Bool, true, false}
-use mathlib.Core.List.{List}
+use mathlib.Core.{Path.{_≡_, sym, ap, subst, _∙_}, Bool.{Bool, true, false}, List.{List}}
 use Prim.Native.Nat.{ℕ, _/_, _≤_}
 use lib.ListN.{length, take}
-use Rattle.numbers.specs.Lists.{zeros, padded}
-use Rattle.numbers.specs.Reply.{Reply, given, refused, plain}
-use Rattle.table.specs.Hits.{width, words, slots, Real}
-use Rattle.table.specs.Search.{Found, searched, Sought}
-use Rattle.table.specs.Agreeing.{Agrees}
-use Rattle.table.specs.Merge.{merged}
+use Rattle.numbers.{specs.{Lists.{zeros, padded}, Reply.{Reply, given, refused, plain}, declared.refusal.Refusal.{Refusal}}, proofs.Replies.{carried, onward, met, unmet}}
+use Rattle.table.specs.{Hits.{width, words, slots, Real}, Search.{Found, searched, Sought}, Agreeing.{Agrees}, Merge.{merged}}
 use Rattle.table.specs.Find.{fixOf, isPrecision, Matched, matchedWith, finding, findingOf, Matching}
+use Rattle.table.specs.declared.{hits.Hit.{Hit}, search.Ended.{Ended}, location.Location.{Location}, find.Matches.{Matches}}
 use Rattle.header.specs.declared.header.Head.{Head}
-use Rattle.table.specs.declared.hits.Hit.{Hit}
-use Rattle.numbers.specs.declared.refusal.Refusal.{Refusal}
 use Rattle.border.specs.declared.place.Point.{Point}
-use Rattle.table.specs.declared.search.Ended.{Ended}
-use Rattle.table.specs.declared.location.Location.{Location}
-use Rattle.table.specs.declared.find.Matches.{Matches}
-use Rattle.table.proofs.Agreeing.{gave, refused-so}
-use Rattle.numbers.proofs.Replies.{carried, onward, met, unmet}
-use Rattle.table.proofs.Words.{padded-slots, padded-room}
+use Rattle.table.proofs.{Agreeing.{gave, refused-so}, Words.{padded-slots, padded-room}}
 
 module _ (file : List ℕ) (head : Head) (location : Location) (asked : Bool) (room : ℕ) where
   pub no-precision : isPrecision (head .preamble .precision) ≡ false → refused (plain 16) ≡ matchedWith file head location asked room

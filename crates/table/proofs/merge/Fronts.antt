@@ -1,14 +1,10 @@
 -- The front of the words is lent to merging, and the rest is zero already. Assumes nothing.
-use mathlib.Core.Path.{_≡_, sym, ap, _∙_}
-use mathlib.Core.List.{List, _++_, append-assoc}
+use mathlib.Core.{Path.{_≡_, sym, ap, _∙_}, List.{List, _++_, append-assoc}}
 use Prim.Native.Nat.{ℕ, _+_, _-_, _*_, _/_, _≤_}
 use native.Mathlib.Omega.{arith}
-use lib.ListN.{length, take, drop, length-append, length-replicate, replicate-append-replicate}
-use lib.Seq.{take-at, drop-at, length-take-le}
+use lib.{ListN.{length, take, drop, length-append, length-replicate, replicate-append-replicate}, Seq.{take-at, drop-at, length-take-le}}
 use Rattle.numbers.specs.Lists.{zeros, padded}
-use Rattle.table.specs.Hits.{width, words, slots, Real}
-use Rattle.table.specs.Merge.{merged}
-use Rattle.table.specs.declared.hits.Hit.{Hit}
+use Rattle.table.specs.{Hits.{width, words, slots, Real}, Merge.{merged}, declared.hits.Hit.{Hit}}
 use Rattle.table.proofs.Words.{words-length, slots-words, slots-size}
 
 -- ---- the front that is lent to merging

@@ -1,17 +1,12 @@
 -- The loop that takes a group out of its slots: what holds before each turn, and what a turn makes of it. Assumes nothing.
-use mathlib.Core.Path.{_≡_, refl, sym, ap, _∙_}
-use mathlib.Core.List.{List, [], _∷_, _++_, append-assoc, append-nil, map}
+use mathlib.Core.{Path.{_≡_, refl, sym, ap, _∙_}, List.{List, [], _∷_, _++_, append-assoc, append-nil, map}}
 use Prim.Native.Nat.{ℕ, _+_, _*_, _≤_, _<_}
 use native.Mathlib.Omega.{arith}
 use borrow.Author.Tests.{eq-eqb, ne-eqb}
-use lib.ListN.{length, set, take, drop, length-append, length-drop, length-map, take-append-drop}
-use lib.Seq.{getD-at, set-at, length-take-le}
-use Rattle.table.specs.Hits.{width, words, hitAt, putHit, noHit}
-use Rattle.table.specs.Merge.{Summary, _⊕_, single, summary, tallied, clear, cleared}
-use Rattle.table.specs.declared.hits.Hit.{Hit}
-use Rattle.table.specs.declared.merge.Tally.{Tally}
-use Rattle.table.proofs.Words.{words-length, word-at, word-put}
-use Rattle.table.proofs.merge.Summaries.{join-associative, join-empty-left, join-empty-right}
+use lib.{ListN.{length, set, take, drop, length-append, length-drop, length-map, take-append-drop}, Seq.{getD-at, set-at, length-take-le}}
+use Rattle.table.specs.{Hits.{width, words, hitAt, putHit, noHit}, Merge.{Summary, _⊕_, single, summary, tallied, clear, cleared}}
+use Rattle.table.specs.declared.{hits.Hit.{Hit}, merge.Tally.{Tally}}
+use Rattle.table.proofs.{Words.{words-length, word-at, word-put}, merge.Summaries.{join-associative, join-empty-left, join-empty-right}}
 
 -- ---- a slot in the middle of a list
 pub middle-at : (front back : List Hit) (hit : Hit) (j : ℕ) → length front ≡ j → hitAt (words (front ++ hit ∷ back)) j ≡ hit

@@ -1,21 +1,13 @@
 -- The merging loop: what holds before each turn, and what a turn makes of it. Assumes nothing.
-use mathlib.Core.Path.{_≡_, refl, sym, ap, _∙_}
-use mathlib.Core.Bool.{Bool, true, false}
-use mathlib.Core.List.{List, [], _∷_, _++_, append-assoc, append-nil, map}
+use mathlib.Core.{Path.{_≡_, refl, sym, ap, _∙_}, Bool.{Bool, true, false}, List.{List, [], _∷_, _++_, append-assoc, append-nil, map}}
 use Prim.Native.Nat.{ℕ, zero, suc, _+_, _-_, _*_, _≤_, _<_}
 use native.Mathlib.Omega.{arith}
 use borrow.Author.Tests.{eq-eqb, ne-eqb, eqb-true, eqb-false}
-use lib.Dec.{eqb}
-use lib.ListN.{length, take, drop, replicate, length-append, length-replicate, length-map}
-use lib.Seq.{take-at, drop-at}
-use Rattle.numbers.specs.Answer.{if_then_else_}
-use Rattle.numbers.specs.Lists.{zeros, padded}
+use lib.{Dec.{eqb}, ListN.{length, take, drop, replicate, length-append, length-replicate, length-map}, Seq.{take-at, drop-at}}
+use Rattle.numbers.specs.{Answer.{if_then_else_}, Lists.{zeros, padded}}
 use Rattle.table.specs.Hits.{width, hitOf, words, slots, Real, hitAt, putHit, noHit}
-use Rattle.table.specs.Merge.{Summary, _⊕_, single, summary, groupKind, seen, matchOf, mergedAfter, merged, clear, cleared}
-use Rattle.table.specs.declared.hits.Hit.{Hit}
-use Rattle.table.proofs.Words.{words-length, words-append, slots-words}
-use Rattle.table.proofs.merge.Summaries.{join-empty-left, seen-joined}
-use Rattle.table.proofs.merge.Gathering.{middle-at, middle-put}
+use Rattle.table.specs.{Merge.{Summary, _⊕_, single, summary, groupKind, seen, matchOf, mergedAfter, merged, clear, cleared}, declared.hits.Hit.{Hit}}
+use Rattle.table.proofs.{Words.{words-length, words-append, slots-words}, merge.{Summaries.{join-empty-left, seen-joined}, Gathering.{middle-at, middle-put}}}
 
 -- ---- slots of hits whose group was taken out already
 abbrev strike : List Hit → Hit → Hit

@@ -1,15 +1,11 @@
 -- Summaries join as document 01 says of counts and of the last border verdict. Assumes nothing.
-use mathlib.Core.Path.{_≡_, refl, sym, ap, _∙_}
-use mathlib.Core.Bool.{Bool, true, false}
-use mathlib.Core.List.{List, [], _∷_, _++_}
+use mathlib.Core.{Path.{_≡_, refl, sym, ap, _∙_}, Bool.{Bool, true, false}, List.{List, [], _∷_, _++_}}
 use Prim.Native.Nat.{ℕ, zero, suc, _+_}
 use native.Mathlib.Omega.{arith}
 use borrow.Author.Tests.{eq-eqb, ne-eqb}
-use lib.Dec.{eqb}
-use lib.IntN.{ℤ, pos, negsuc, negℤ, _+ℤ_, _-ℤ_, +ℤ-assoc, +ℤ-comm, +ℤ-idl, +ℤ-idr, +ℤ-invr, -ℤ-+ℤ-cancel, pos-+ℤ-pos, negℤ-+ℤ}
+use lib.{Dec.{eqb}, IntN.{ℤ, pos, negsuc, negℤ, _+ℤ_, _-ℤ_, +ℤ-assoc, +ℤ-comm, +ℤ-idl, +ℤ-idr, +ℤ-invr, -ℤ-+ℤ-cancel, pos-+ℤ-pos, negℤ-+ℤ}}
 use Rattle.numbers.specs.Answer.{if_then_else_}
-use Rattle.table.specs.Merge.{Summary, summed, later, _⊕_, empty, single, differs, groupKind, seen}
-use Rattle.table.specs.declared.hits.Hit.{Hit}
+use Rattle.table.specs.{Merge.{Summary, summed, later, _⊕_, empty, single, differs, groupKind, seen}, declared.hits.Hit.{Hit}}
 
 -- ---- joining
 suc-not : (n : ℕ) → eqb (suc n) 0 ≡ false

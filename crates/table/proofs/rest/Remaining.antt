@@ -1,31 +1,16 @@
 -- The rest of a table behind an early stop: entry by entry, by its lower latitude and its end. Assumes nothing.
 use Prim.Native.Nat.{ℕ, zero, suc, _-_, _≤_, _<_}
 use borrow.Author.Tests.{lt-ltb, le-ltb, ltb-true, lt-leb}
-use lib.Dec.{ltb}
-use lib.IntN.{ℤ, pos, negsuc}
-use lib.ListN.{length}
-use lib.Signed.{ltZ, leZ}
-use mathlib.Core.Bool.{Bool, true, false}
-use mathlib.Core.List.{List}
-use mathlib.Core.Logic.{_⊎_}
-use mathlib.Core.Path.{_≡_, refl, sym, ap, _∙_}
+use lib.{Dec.{ltb}, IntN.{ℤ, pos, negsuc}, ListN.{length}, Signed.{ltZ, leZ}}
+use mathlib.Core.{Bool.{Bool, true, false}, List.{List}, Logic.{_⊎_}, Path.{_≡_, refl, sym, ap, _∙_}}
 use native.Mathlib.Omega.{arith}
 use Rattle.border.specs.declared.place.Point.{Point}
-use Rattle.numbers.proofs.Answers.{All}
-use Rattle.numbers.proofs.Laws.{end-then, caseOf, stops}
-use Rattle.numbers.specs.Answer.{Answer, found, failed, refused, if_then_else_, _>>=_}
-use Rattle.numbers.specs.Point.{signedOf}
-use Rattle.numbers.specs.Varint.{Numeral, told, nowhere, endOf, forwardAt, readingOf}
+use Rattle.numbers.proofs.{Answers.{All, other}, Laws.{end-then, caseOf, stops}}
+use Rattle.numbers.specs.{Answer.{Answer, found, failed, refused, if_then_else_, _>>=_}, Point.{signedOf}, Varint.{Numeral, told, nowhere, endOf, forwardAt, readingOf}}
 use Rattle.numbers.specs.declared.varint.Varint.{Varint}
-use Rattle.numbers.proofs.Answers.{other}
 use Rattle.table.proofs.TableRows.{Grows, reading-grows, rows-step, entry-past}
-use Rattle.table.specs.Rest.{restMark, fiveBy, heldBy, isHeld}
-use Rattle.table.specs.Rows.{Rows, row, rowOf, after, startAt, tableEnd, rowsThen, rowBy, rowsWithin, rowsFrom}
-use Rattle.table.specs.Table.{stepsBy, entryBy, isAbove, holds}
-use Rattle.table.specs.declared.rows.Cursor.{Cursor}
-use Rattle.table.specs.declared.rows.Row.{Row}
-use Rattle.table.specs.declared.table.Bounds.{Bounds}
-use Rattle.table.specs.declared.table.Entry.{Entry}
+use Rattle.table.specs.{Rest.{restMark, fiveBy, heldBy, isHeld}, Rows.{Rows, row, rowOf, after, startAt, tableEnd, rowsThen, rowBy, rowsWithin, rowsFrom}}
+use Rattle.table.specs.{Table.{stepsBy, entryBy, isAbove, holds}, declared.{rows.{Cursor.{Cursor}, Row.{Row}}, table.{Bounds.{Bounds}, Entry.{Entry}}}}
 
 -- ---- a box above the location does not hold it
 above-not : (a b : ℤ) → ltZ a b ≡ true → leZ b a ≡ false

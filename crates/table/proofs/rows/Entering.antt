@@ -3,15 +3,9 @@ use mathlib.Core.Path.{_≡_, refl, ap, _∙_}
 use native.Mathlib.Omega.{arith}
 use denote.Enum.Declared.{tagOf, declared}
 use Prim.Native.Nat.{ℕ}
-use Rattle.numbers.specs.Answer.{Answer, found, failed, refused, _>>=_}
-use Rattle.numbers.specs.Varint.{Numeral}
-use Rattle.table.specs.Table.{entryBy, toldEntered}
-use Rattle.table.specs.Rows.{rowOf, rowBy}
-use Rattle.table.specs.declared.table.Entry.{Entry}
-use Rattle.table.specs.declared.table.Entered.{Entered}
+use Rattle.numbers.specs.{Answer.{Answer, found, failed, refused, _>>=_}, Varint.{Numeral}}
+use Rattle.table.specs.{Table.{entryBy, toldEntered}, Rows.{rowOf, rowBy}, declared.{table.{Entry.{Entry}, Entered.{Entered}}, rows.{Cursor.{Cursor}, Row.{Row}}}}
 use Rattle.table.specs.declared.table.Entered.the-variants as E
-use Rattle.table.specs.declared.rows.Cursor.{Cursor}
-use Rattle.table.specs.declared.rows.Row.{Row}
 use Rattle.table.proofs.table.Entered as T
 
 -- the case that a `match` found

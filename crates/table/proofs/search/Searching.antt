@@ -2,31 +2,17 @@
 use Prim.Native.Nat.{ℕ, _+_, _/_, _≤_, _<_}
 use borrow.Author.Tests.{lt-ltb, le-ltb}
 use lib.ListN.{length, length-append, length-replicate}
-use mathlib.Core.List.{List, [], _∷_, _++_}
-use mathlib.Core.Path.{_≡_, refl, sym, ap, _∙_}
-use native.Mathlib.Nat.{sub-zero}
-use native.Mathlib.Omega.{arith}
-use Rattle.border.specs.Verdict.{Judgement}
-use Rattle.border.specs.declared.place.Point.{Point}
-use Rattle.table.proofs.Agreeing.{agree-given, agree-refused}
-use Rattle.table.proofs.Words.{words-length, put-padded, real-append}
-use Rattle.table.specs.Hits.{width, words, putHit, Real}
-use Rattle.table.specs.Agreeing.{Agrees}
-use Rattle.numbers.specs.Lists.{zeros, padded}
-use Rattle.numbers.specs.Reply.{Reply, given, plain}
-use Rattle.table.specs.Rows.{Rows, row, tableEnd, unreadable}
+use mathlib.Core.{List.{List, [], _∷_, _++_}, Path.{_≡_, refl, sym, ap, _∙_}, Bool.{true, false}}
+use native.Mathlib.{Nat.{sub-zero}, Omega.{arith}}
+use Rattle.border.specs.{Verdict.{Judgement}, declared.place.Point.{Point}}
+use Rattle.table.proofs.{Agreeing.{agree-given, agree-refused}, Words.{words-length, put-padded, real-append}}
+use Rattle.table.specs.{Hits.{width, words, putHit, Real}, Agreeing.{Agrees}, Rows.{Rows, row, tableEnd, unreadable}}
 use Rattle.table.specs.Search.{rowTurn, Found, ended, afterTurn, seek, Sought}
-use Rattle.table.specs.declared.hits.Hit.{Hit}
-use Rattle.table.specs.declared.rows.Row.{Row}
-use Rattle.table.specs.declared.search.Ended.{Ended}
-use Rattle.table.specs.declared.search.Turn.the-variants.{On, Met, Stopped, Refused}
-use Rattle.table.specs.declared.search.Turn.{Turn}
+use Rattle.table.specs.{declared.{hits.Hit.{Hit}, rows.Row.{Row}, search.{Ended.{Ended}, Turn.{the-variants.{On, Met, Stopped, Refused}, Turn}}}, Rest.{restMark}}
+use Rattle.table.specs.Table.{isAbove}
+use Rattle.numbers.{specs.{Lists.{zeros, padded}, Reply.{Reply, given, plain}}, proofs.Answers.{chosen, other}}
 use Rattle.numbers.specs.Reply as R
 use Rattle.table.specs.Rows as T
-use mathlib.Core.Bool.{true, false}
-use Rattle.numbers.proofs.Answers.{chosen, other}
-use Rattle.table.specs.Rest.{restMark}
-use Rattle.table.specs.Table.{isAbove}
 
 -- the hits so far stand at the front of words that are zero beyond them, and the search of the rows that are left gives the whole
 pub record Going (judge : ℕ → ℕ → Judgement) (fix : Point) (end n : ℕ) (whole : Reply Found) (rows : Rows) (ws : List ℕ) (count least : ℕ) : Type 0 where

@@ -2,23 +2,13 @@
 use Prim.Native.Nat.{ℕ, _+_, _%_, _^_}
 use borrow.Author.Tests.{eq-eqb, ne-eqb, eqb-false}
 use lib.Dec.{eqb}
-use mathlib.Core.Bool.{Bool, true, false}
-use mathlib.Core.List.{List}
-use mathlib.Core.Path.{_≡_, refl, sym, ap, subst, _∙_}
-use Rattle.border.specs.Encoding.{versionOf, encodedBy}
-use Rattle.border.specs.Verdict.{Judgement, told, judgedAt}
-use Rattle.border.specs.declared.place.Point.{Point}
-use Rattle.border.specs.declared.reader.Version.{Version}
-use Rattle.border.specs.declared.verdict.Judged.{Judged}
-use Rattle.border.specs.declared.verdict.Verdict.{Verdict}
+use mathlib.Core.{Bool.{Bool, true, false}, List.{List}, Path.{_≡_, refl, sym, ap, subst, _∙_}}
+use Rattle.border.specs.{Encoding.{versionOf, encodedBy}, Verdict.{Judgement, told, judgedAt}}
+use Rattle.border.specs.declared.{place.Point.{Point}, reader.Version.{Version}, verdict.{Judged.{Judged}, Verdict.{Verdict}}}
 use Rattle.numbers.specs.Answer.{if_then_else_}
-use Rattle.table.specs.Search.{kindOf, rowHit, judgedTurn, rowTurn, judgeIn}
-use Rattle.table.specs.Table.{holds}
+use Rattle.table.specs.{Search.{kindOf, rowHit, judgedTurn, rowTurn, judgeIn}, Table.{holds}}
+use Rattle.table.specs.declared.{hits.Hit.{Hit}, rows.Row.{Row}, search.Turn.{the-variants.{On, Met, Stopped, Refused}, Turn}}
 use Rattle.header.specs.declared.header.Head.{Head}
-use Rattle.table.specs.declared.hits.Hit.{Hit}
-use Rattle.table.specs.declared.rows.Row.{Row}
-use Rattle.table.specs.declared.search.Turn.the-variants.{On, Met, Stopped, Refused}
-use Rattle.table.specs.declared.search.Turn.{Turn}
 use Rattle.border.specs.Verdict as B
 use Rattle.border.specs.declared.verdict.Judged.the-variants as J
 

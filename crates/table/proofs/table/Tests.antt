@@ -1,6 +1,5 @@
 -- Two tests, by how far they hold. Assumes nothing.
-use mathlib.Core.Path.{_≡_}
-use mathlib.Core.Bool.{Bool, true, false, _&&_}
+use mathlib.Core.{Path.{_≡_}, Bool.{Bool, true, false, _&&_}}
 
 pub not-first : (a b : Bool) → a ≡ false → false ≡ (a && b)
 not-first a b e = rw e

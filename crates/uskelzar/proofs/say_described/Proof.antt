@@ -1,15 +1,10 @@
-use mathlib.Core.List.{_∷_}
-use mathlib.Core.Path.{_≡_, ap, sym, _∙_}
+use mathlib.Core.{List.{_∷_}, Path.{_≡_, ap, sym, _∙_}}
 use Rattle.numbers.specs.Lists.{padded}
-use Rattle.zones.specs.Simple.{toldSimple}
-use Rattle.zones.specs.declared.simple.Described.{Described}
-use Rattle.zones.specs.declared.simple.Description.{Description}
-use Rattle.zones.specs.declared.simple.Simple.{Simple}
+use Rattle.zones.specs.{Simple.{toldSimple}, declared.simple.{Described.{Described}, Description.{Description}, Simple.{Simple}}}
 use Rattle.zones.specs.declared.simple.Simple.the-variants as S
-use Rattle.uskelzar.proofs.Saying.{said-given, said-refused}
+use Rattle.uskelzar.proofs.{Saying.{said-given, said-refused}, say_described.Statement.{statement}}
 use Rattle.uskelzar.specs.Spoken.{saidOf, describedValues, descriptionValues}
 use borrow.Author.Needs.{needs}
-use Rattle.uskelzar.proofs.say_described.Statement.{statement}
 use Rattle.uskelzar.proofs.say_described.Tie as tie
 use Rattle.uskelzar.proofs.say_described.Reads as reads
 use Rattle.uskelzar.proofs.say_described.Lts as lts

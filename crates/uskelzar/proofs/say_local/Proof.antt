@@ -1,12 +1,9 @@
-use mathlib.Core.List.{[], _∷_}
-use mathlib.Core.Path.{ap, sym, _∙_}
+use mathlib.Core.{List.{[], _∷_}, Path.{ap, sym, _∙_}}
 use Prim.Native.Nat.{ℕ}
 use Rattle.numbers.specs.Reply.{refused}
-use Rattle.uskelzar.proofs.Saying.{said-given, said-refused}
-use Rattle.uskelzar.specs.Spoken.{localValues, localReply}
-use Rattle.uskelzar.specs.declared.Said.{Said}
+use Rattle.uskelzar.proofs.{Saying.{said-given, said-refused}, say_local.Statement.{statement}}
+use Rattle.uskelzar.specs.{Spoken.{localValues, localReply}, declared.Said.{Said}}
 use borrow.Author.Needs.{needs}
-use Rattle.uskelzar.proofs.say_local.Statement.{statement}
 use Rattle.uskelzar.proofs.say_local.Tie as tie
 
 -- the words of a local time, by its offset's

@@ -1,9 +1,8 @@
 use mathlib.Core.Path.{ap}
 use Rattle.zones.specs.Lookup.{toldLooked}
-use Rattle.uskelzar.proofs.Saying.{said-given, said-refused}
+use Rattle.uskelzar.proofs.{Saying.{said-given, said-refused}, say_looked.Statement.{statement}}
 use Rattle.uskelzar.specs.Spoken.{zonesValues}
 use borrow.Author.Needs.{needs}
-use Rattle.uskelzar.proofs.say_looked.Statement.{statement}
 use Rattle.uskelzar.proofs.say_looked.Tie as tie
 use Rattle.uskelzar.proofs.say_looked.Reads as reads
 use Rattle.uskelzar.proofs.say_looked.Lts as lts

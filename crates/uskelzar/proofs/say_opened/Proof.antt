@@ -1,9 +1,8 @@
 use mathlib.Core.Path.{ap}
 use Rattle.header.specs.Opening.{toldOpened}
-use Rattle.uskelzar.proofs.Saying.{said-given, said-refused}
+use Rattle.uskelzar.proofs.{Saying.{said-given, said-refused}, say_opened.Statement.{statement}}
 use Rattle.uskelzar.specs.Spoken.{openingValues}
 use borrow.Author.Needs.{needs}
-use Rattle.uskelzar.proofs.say_opened.Statement.{statement}
 use Rattle.uskelzar.proofs.say_opened.Tie as tie
 use Rattle.uskelzar.proofs.say_opened.Reads as reads
 use Rattle.uskelzar.proofs.say_opened.Lts as lts

@@ -1,11 +1,9 @@
 use mathlib.Core.Path.{ap, sym, _∙_}
-use Rattle.border.specs.Writer.{told}
-use Rattle.border.specs.declared.writer.Written.{Written}
+use Rattle.border.specs.{Writer.{told}, declared.writer.Written.{Written}}
 use Rattle.numbers.specs.Reply.{refused}
-use Rattle.uskelzar.proofs.Saying.{said-given, said-refused}
+use Rattle.uskelzar.proofs.{Saying.{said-given, said-refused}, say_written.Statement.{statement}}
 use Rattle.uskelzar.specs.Spoken.{lengthValue}
 use borrow.Author.Needs.{needs}
-use Rattle.uskelzar.proofs.say_written.Statement.{statement}
 use Rattle.uskelzar.proofs.say_written.Tie as tie
 use Rattle.uskelzar.proofs.say_written.Reads as reads
 use Rattle.uskelzar.proofs.say_written.Lts as lts

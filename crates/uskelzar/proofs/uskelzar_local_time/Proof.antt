@@ -1,13 +1,10 @@
-use lib.IntN.{ℤ}
-use lib.ListN.{length}
+use lib.{IntN.{ℤ}, ListN.{length}}
 use mathlib.Core.Path.{ap, _∙_}
-use mir.Syntax.{w64}
-use mir.ValLaws.{toZ-ofZ}
+use mir.{Syntax.{w64}, ValLaws.{toZ-ofZ}}
 use Rattle.footer.specs.Local.{localTime}
-use Rattle.uskelzar.proofs.Saying.{beside}
+use Rattle.uskelzar.proofs.{Saying.{beside}, uskelzar_local_time.Statement.{statement}}
 use Rattle.uskelzar.specs.Spoken.{localSpoken}
 use borrow.Author.Needs.{needs}
-use Rattle.uskelzar.proofs.uskelzar_local_time.Statement.{statement}
 use Rattle.uskelzar.proofs.uskelzar_local_time.Tie as tie
 
 returns : tie.Need-returns

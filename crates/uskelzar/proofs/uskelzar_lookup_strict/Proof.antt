@@ -1,8 +1,7 @@
 use mathlib.Core.Path.{ap, _∙_}
-use Rattle.uskelzar.proofs.Saying.{beside}
+use Rattle.uskelzar.proofs.{Saying.{beside}, uskelzar_lookup_strict.Statement.{statement}}
 use Rattle.uskelzar.specs.Spoken.{foundSpoken, zonesValues}
 use borrow.Author.Needs.{needs}
-use Rattle.uskelzar.proofs.uskelzar_lookup_strict.Statement.{statement}
 use Rattle.uskelzar.proofs.uskelzar_lookup_strict.Tie as tie
 
 lookup-strict-requires : tie.Need-lookup-strict-requires

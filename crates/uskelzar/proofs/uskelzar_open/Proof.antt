@@ -1,8 +1,7 @@
 use mathlib.Core.Path.{ap, _∙_}
-use Rattle.uskelzar.proofs.Saying.{beside}
+use Rattle.uskelzar.proofs.{Saying.{beside}, uskelzar_open.Statement.{statement}}
 use Rattle.uskelzar.specs.Spoken.{openingSpoken}
 use borrow.Author.Needs.{needs}
-use Rattle.uskelzar.proofs.uskelzar_open.Statement.{statement}
 use Rattle.uskelzar.proofs.uskelzar_open.Tie as tie
 use Rattle.uskelzar.proofs.uskelzar_open.Reads as reads
 use Rattle.uskelzar.proofs.uskelzar_open.Lts as lts

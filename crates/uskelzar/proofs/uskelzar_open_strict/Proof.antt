@@ -1,8 +1,7 @@
 use mathlib.Core.Path.{ap, _∙_}
-use Rattle.uskelzar.proofs.Saying.{beside}
+use Rattle.uskelzar.proofs.{Saying.{beside}, uskelzar_open_strict.Statement.{statement}}
 use Rattle.uskelzar.specs.Spoken.{openingSpoken}
 use borrow.Author.Needs.{needs}
-use Rattle.uskelzar.proofs.uskelzar_open_strict.Statement.{statement}
 use Rattle.uskelzar.proofs.uskelzar_open_strict.Tie as tie
 
 open-strict-requires : tie.Need-open-strict-requires

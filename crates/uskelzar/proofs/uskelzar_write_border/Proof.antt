@@ -1,8 +1,7 @@
 use mathlib.Core.Path.{ap, _∙_}
-use Rattle.uskelzar.proofs.Saying.{beside}
+use Rattle.uskelzar.proofs.{Saying.{beside}, uskelzar_write_border.Statement.{statement}}
 use Rattle.uskelzar.specs.Spoken.{writtenSpoken}
 use borrow.Author.Needs.{needs}
-use Rattle.uskelzar.proofs.uskelzar_write_border.Statement.{statement}
 use Rattle.uskelzar.proofs.uskelzar_write_border.Tie as tie
 use Rattle.uskelzar.proofs.uskelzar_write_border.Reads as reads
 use Rattle.uskelzar.proofs.uskelzar_write_border.Lts as lts

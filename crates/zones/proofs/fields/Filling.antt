@@ -1,33 +1,18 @@
 -- The loops that write fields: the text so far stands at the front of a buffer that is zero beyond it. Assumes nothing.
-use mathlib.Core.Path.{_≡_, refl, sym, ap, _∙_}
-use mathlib.Core.Bool.{Bool, true, false}
-use mathlib.Core.List.{List, [], _∷_, _++_}
+use mathlib.Core.{Path.{_≡_, refl, sym, ap, _∙_}, Bool.{Bool, true, false}, List.{List, [], _∷_, _++_}}
 use Prim.Native.Nat.{ℕ, suc, _+_, _-_, _≤_, _<_}
-use native.Mathlib.Numerals.{add-one}
-use native.Mathlib.Nat.{sub-zero}
-use native.Mathlib.Omega.{arith}
+use native.Mathlib.{Numerals.{add-one}, Nat.{sub-zero}, Omega.{arith}}
 use borrow.Author.Tests.{leb-true}
-use lib.Dec.{leb}
-use lib.ListN.{length, getD, take, drop, length-append, drop-of-length-le}
-use lib.Seq.{drop-cons, length-take-le}
-use Rattle.numbers.specs.Lists.{zeros, padded}
-use Rattle.numbers.specs.Reply.{Reply, given, refused, plain, demand, _>>=_, _>>_}
-use Rattle.header.specs.Text.{bytesOf, textAt}
-use Rattle.header.specs.Field.{Field, field, fieldAt, toldField, sentOf, textAfter}
-use Rattle.table.specs.Hits.{noHit}
-use Rattle.table.specs.Agreeing.{Agrees}
-use Rattle.zones.specs.Fields.{fieldsPlace, fieldsFrom, fieldsOf, toldFields, Wrote}
-use Rattle.header.specs.declared.header.Head.{Head}
-use Rattle.table.specs.declared.hits.Hit.{Hit}
-use Rattle.numbers.specs.declared.refusal.Refusal.{Refusal}
-use Rattle.header.specs.declared.field.Sent.{Sent}
-use Rattle.header.specs.declared.field.Written.{Written}
-use Rattle.header.specs.declared.field.Written.the-variants as W
-use Rattle.zones.specs.declared.fields.Fields.{Fields}
-use Rattle.zones.specs.declared.fields.Fields.the-variants as F
+use lib.{Dec.{leb}, ListN.{length, getD, take, drop, length-append, drop-of-length-le}, Seq.{drop-cons, length-take-le}}
+use Rattle.numbers.specs.{Lists.{zeros, padded}, Reply.{Reply, given, refused, plain, demand, _>>=_, _>>_}, declared.refusal.Refusal.{Refusal}}
 use Rattle.numbers.proofs.Replies.{given-from, carried, onward}
-use Rattle.table.proofs.Agreeing.{agree-given, agree-refused, gave, refused-so}
+use Rattle.header.specs.{Text.{bytesOf, textAt}, Field.{Field, field, fieldAt, toldField, sentOf, textAfter}}
+use Rattle.header.specs.declared.{header.Head.{Head}, field.{Sent.{Sent}, Written.{Written}}}
 use Rattle.header.proofs.Buffers.{over-length, tail-back}
+use Rattle.table.{specs.{Hits.{noHit}, Agreeing.{Agrees}, declared.hits.Hit.{Hit}}, proofs.Agreeing.{agree-given, agree-refused, gave, refused-so}}
+use Rattle.zones.specs.{Fields.{fieldsPlace, fieldsFrom, fieldsOf, toldFields, Wrote}, declared.fields.Fields.{Fields}}
+use Rattle.header.specs.declared.field.Written.the-variants as W
+use Rattle.zones.specs.declared.fields.Fields.the-variants as F
 use Rattle.zones.proofs.Holding.{Held, held-length, held-front, remains-length, written, held-all}
 
 -- ---- one field

@@ -1,23 +1,12 @@
 -- From the matches to the outcome, by how far the code came. Assumes nothing.
-use mathlib.Core.Path.{_≡_, _∙_}
-use mathlib.Core.Bool.{Bool}
-use mathlib.Core.List.{List, []}
+use mathlib.Core.{Path.{_≡_, _∙_}, Bool.{Bool}, List.{List, []}}
 use Prim.Native.Nat.{ℕ, _/_}
 use lib.ListN.{take}
-use Rattle.numbers.specs.Reply.{Reply, given, refused}
-use Rattle.table.specs.Hits.{width, slots}
-use Rattle.table.specs.Find.{Matched, matchedWith, Matching}
-use Rattle.zones.specs.Fields.{fieldsOf, Wrote}
-use Rattle.table.specs.Agreeing.{Agrees}
-use Rattle.zones.specs.Lent.{replied, repliedOf, Filled}
-use Rattle.zones.specs.Lookup.{safezoneBits, zonesWith}
+use Rattle.numbers.{specs.{Reply.{Reply, given, refused}, declared.refusal.Refusal.{Refusal}}, proofs.Replies.{carried, onward}}
+use Rattle.table.specs.{Hits.{width, slots}, Find.{Matched, matchedWith, Matching}, Agreeing.{Agrees}, declared.{location.Location.{Location}, find.Matches.{Matches}}}
+use Rattle.table.proofs.{Agreeing.{Gave, agree-given, agree-refused, gave, refused-so}, Matches.{count-is, matches-are}}
+use Rattle.zones.specs.{Fields.{fieldsOf, Wrote}, Lent.{replied, repliedOf, Filled}, Lookup.{safezoneBits, zonesWith}}
 use Rattle.header.specs.declared.header.Head.{Head}
-use Rattle.numbers.specs.declared.refusal.Refusal.{Refusal}
-use Rattle.table.specs.declared.location.Location.{Location}
-use Rattle.table.specs.declared.find.Matches.{Matches}
-use Rattle.numbers.proofs.Replies.{carried, onward}
-use Rattle.table.proofs.Agreeing.{Gave, agree-given, agree-refused, gave, refused-so}
-use Rattle.table.proofs.Matches.{count-is, matches-are}
 
 module _ (file : List ℕ) (head : Head) (location : Location) (asked : Bool) (n room : ℕ) where
   pub no-match : {why : Refusal} (hs ts : List ℕ) → refused why ≡ matchedWith file head location asked (n / width) → Agrees (Filled n room hs ts) (zonesWith file head location asked n room) (refused why)

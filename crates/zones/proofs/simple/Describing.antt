@@ -1,34 +1,19 @@
 -- The first match's description, by how far the code came. Assumes nothing.
-use mathlib.Core.Path.{_≡_, refl, sym, ap, _∙_}
-use mathlib.Core.Bool.{Bool, true, false}
-use mathlib.Core.List.{List, [], _∷_, _++_}
-use mathlib.Core.Option.{Option, none, some}
+use mathlib.Core.{Path.{_≡_, refl, sym, ap, _∙_}, Bool.{Bool, true, false}, List.{List, [], _∷_, _++_}, Option.{Option, none, some}}
 use Prim.Native.Nat.{ℕ, _<_}
-use native.Mathlib.Nat.{sub-zero}
-use native.Mathlib.Omega.{arith}
+use native.Mathlib.{Nat.{sub-zero}, Omega.{arith}}
 use borrow.Author.Tests.{le-leb}
 use denote.Enum.Declared.{tagOf, declared}
-use lib.Dec.{leb}
-use lib.ListN.{length, getD, drop}
-use lib.Seq.{drop-cons}
-use Rattle.numbers.specs.Lists.{zeros, padded}
-use Rattle.numbers.specs.Reply.{Reply, given, refused, plain, demand, _>>=_, _>>_}
-use Rattle.header.specs.Text.{bytesOf}
-use Rattle.table.specs.Hits.{noHit}
-use Rattle.zones.specs.Fields.{fieldsPlace, Wrote}
-use Rattle.table.specs.Agreeing.{Agrees}
-use Rattle.zones.specs.Simple.{begun, pickedFrom, joined, descriptionOf, bytesIn, fitting, wordedOf, Worded}
-use Rattle.header.specs.declared.header.Head.{Head}
-use Rattle.table.specs.declared.hits.Hit.{Hit}
-use Rattle.numbers.specs.declared.refusal.Refusal.{Refusal}
-use Rattle.header.specs.declared.text.Text.{Text}
-use Rattle.zones.specs.declared.simple.Value.{Value}
+use lib.{Dec.{leb}, ListN.{length, getD, drop}, Seq.{drop-cons}}
+use Rattle.numbers.specs.{Lists.{zeros, padded}, Reply.{Reply, given, refused, plain, demand, _>>=_, _>>_}, declared.refusal.Refusal.{Refusal}}
+use Rattle.numbers.proofs.Replies.{carried, onward, met}
+use Rattle.header.specs.{Text.{bytesOf}, declared.{header.Head.{Head}, text.Text.{Text}}}
+use Rattle.table.{specs.{Hits.{noHit}, Agreeing.{Agrees}, declared.hits.Hit.{Hit}}, proofs.Agreeing.{agree-given, agree-refused, gave, refused-so}}
+use Rattle.zones.specs.{Fields.{fieldsPlace, Wrote}, Simple.{begun, pickedFrom, joined, descriptionOf, bytesIn, fitting, wordedOf, Worded}}
+use Rattle.zones.specs.declared.simple.{Value.{Value}, Picked.{Picked}}
 use Rattle.zones.specs.declared.simple.Value.the-variants as X
-use Rattle.zones.specs.declared.simple.Picked.{Picked}
 use Rattle.zones.specs.declared.simple.Description.the-variants as D
 use Rattle.zones.proofs.simple.Value as K
-use Rattle.numbers.proofs.Replies.{carried, onward, met}
-use Rattle.table.proofs.Agreeing.{agree-given, agree-refused, gave, refused-so}
 
 pub is-missing : (value : Value) → tagOf (declared K.enum) value ≡ 1 → value ≡ X.Missing
 is-missing (X.At text) t = absurd (omega (arith, t))

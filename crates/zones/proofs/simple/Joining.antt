@@ -1,23 +1,14 @@
 -- Two strings, one after the other, in a text that was zero. Assumes nothing.
-use mathlib.Core.Path.{_≡_, sym, ap, _∙_}
-use mathlib.Core.List.{List, _++_, map}
+use mathlib.Core.{Path.{_≡_, sym, ap, _∙_}, List.{List, _++_, map}}
 use Prim.Native.Nat.{ℕ, _+_, _-_, _≤_, _<_}
 use native.Mathlib.Omega.{arith}
 use borrow.Author.Tests.{le-leb, lt-leb}
-use lib.ListN.{length, take, drop, length-append, length-map, length-drop}
-use lib.Seq.{length-take-le}
-use Rattle.numbers.specs.Lists.{zeros, over}
-use Rattle.numbers.specs.Reply.{given, refused, plain}
-use Rattle.header.specs.Text.{bytesOf}
-use Rattle.header.specs.Utf8.{unmasked}
-use Rattle.zones.specs.Fields.{Wrote}
-use Rattle.table.specs.Agreeing.{Agrees}
-use Rattle.zones.specs.Simple.{fitting}
-use Rattle.header.specs.declared.text.Text.{Text}
-use Rattle.numbers.proofs.Replies.{met, unmet}
-use Rattle.table.proofs.Agreeing.{agree-given, agree-refused}
+use lib.{ListN.{length, take, drop, length-append, length-map, length-drop}, Seq.{length-take-le}}
+use Rattle.numbers.{specs.{Lists.{zeros, over}, Reply.{given, refused, plain}}, proofs.Replies.{met, unmet}}
+use Rattle.header.{specs.{Text.{bytesOf}, Utf8.{unmasked}, declared.text.Text.{Text}}, proofs.Strings.{part, part-is}}
+use Rattle.zones.specs.{Fields.{Wrote}, Simple.{fitting}}
+use Rattle.table.{specs.Agreeing.{Agrees}, proofs.Agreeing.{agree-given, agree-refused}}
 use Rattle.zones.proofs.Holding.{Held, lent, remains-length, held-first, held-wrote, written}
-use Rattle.header.proofs.Strings.{part, part-is}
 
 -- a string inside the file has as many bytes as it says
 module _ (file : List ℕ) (text : Text) (inside : text .start + text .size ≤ length file) where

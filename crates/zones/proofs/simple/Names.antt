@@ -1,18 +1,11 @@
 -- Two lists of bytes, compared one by one. Assumes nothing.
-use mathlib.Core.Path.{_≡_, refl, sym, ap, _∙_}
-use mathlib.Core.Bool.{Bool, true, false, _&&_}
-use mathlib.Core.List.{List, [], _∷_, map}
+use mathlib.Core.{Path.{_≡_, refl, sym, ap, _∙_}, Bool.{Bool, true, false, _&&_}, List.{List, [], _∷_, map}}
 use Prim.Native.Nat.{ℕ, suc, _+_, _≤_, _<_}
-use native.Mathlib.Numerals.{add-one}
-use native.Mathlib.Omega.{arith}
+use native.Mathlib.{Numerals.{add-one}, Omega.{arith}}
 use borrow.Author.Tests.{eq-eqb, ne-eqb}
-use lib.Bits.{bitXor}
-use lib.Dec.{eqb}
-use lib.ListN.{length, getD, drop, length-map, drop-of-length-le}
-use lib.Seq.{drop-cons}
+use lib.{Bits.{bitXor}, Dec.{eqb}, ListN.{length, getD, drop, length-map, drop-of-length-le}, Seq.{drop-cons}}
 use Rattle.zones.specs.Simple.{same, name, timezoneId, timezoneIdPrefix, partOf}
-use Rattle.header.specs.Utf8.{unmasked}
-use Rattle.header.proofs.Buffers.{map-at}
+use Rattle.header.{specs.Utf8.{unmasked}, proofs.Buffers.{map-at}}
 
 both-false : (t : Bool) {u : Bool} → u ≡ false → (t && u) ≡ false
 both-false true e = e

@@ -1,35 +1,18 @@
 -- The wanted fields of a match, field by field, and the fields of every match. Assumes nothing.
-use mathlib.Core.Path.{_≡_, sym, subst, ap, _∙_}
-use mathlib.Core.Bool.{Bool, true, false}
-use mathlib.Core.List.{List, _∷_}
+use mathlib.Core.{Path.{_≡_, sym, subst, ap, _∙_}, Bool.{Bool, true, false}, List.{List, _∷_}}
 use Prim.Native.Nat.{ℕ, zero, suc, _+_, _-_, _≤_, _<_}
-use native.Mathlib.Numerals.{add-one}
-use native.Mathlib.Nat.{sub-zero}
-use native.Mathlib.Omega.{arith}
+use native.Mathlib.{Numerals.{add-one}, Nat.{sub-zero}, Omega.{arith}}
 use denote.Enum.Declared.{tagOf, declared}
-use lib.Dec.{eqb}
-use lib.ListN.{length, getD, drop, drop-of-length-le}
-use lib.Seq.{drop-cons}
-use Rattle.numbers.specs.Answer.{if_then_else_}
-use Rattle.numbers.specs.Reply.{Reply, given, refused, _>>=_}
-use Rattle.header.specs.Text.{textAt, bytesOf}
-use Rattle.header.specs.Header.{blameOf}
-use Rattle.table.specs.Hits.{noHit}
-use Rattle.zones.specs.Fields.{fieldsPlace}
-use Rattle.zones.specs.Simple.{partOf, begun, newer, pickedFrom, checked, toldPicks}
-use Rattle.header.specs.declared.header.Head.{Head}
-use Rattle.table.specs.declared.hits.Hit.{Hit}
-use Rattle.numbers.specs.declared.refusal.Refusal.{Refusal}
-use Rattle.header.specs.declared.text.Text.{Text}
-use Rattle.header.specs.declared.text.Blame.{Blame}
-use Rattle.zones.specs.declared.simple.Value.{Value}
+use lib.{Dec.{eqb}, ListN.{length, getD, drop, drop-of-length-le}, Seq.{drop-cons}}
+use Rattle.numbers.specs.{Answer.{if_then_else_}, Reply.{Reply, given, refused, _>>=_}, declared.refusal.Refusal.{Refusal}}
+use Rattle.numbers.proofs.Replies.{carried, onward, given-from}
+use Rattle.header.{specs.{Text.{textAt, bytesOf}, Header.{blameOf}, declared.{header.Head.{Head}, text.{Text.{Text}, Blame.{Blame}}}}, proofs.Strings.{text-lies}}
+use Rattle.table.specs.{Hits.{noHit}, declared.hits.Hit.{Hit}}
+use Rattle.zones.specs.{Fields.{fieldsPlace}, Simple.{partOf, begun, newer, pickedFrom, checked, toldPicks}}
+use Rattle.zones.specs.declared.simple.{Value.{Value}, Picked.{Picked}, Picks.{Picks}}
 use Rattle.zones.specs.declared.simple.Value.the-variants as X
-use Rattle.zones.specs.declared.simple.Picked.{Picked}
-use Rattle.zones.specs.declared.simple.Picks.{Picks}
 use Rattle.zones.specs.declared.simple.Picks.the-variants as P
 use Rattle.zones.proofs.simple.Picks as K
-use Rattle.numbers.proofs.Replies.{carried, onward, given-from}
-use Rattle.header.proofs.Strings.{text-lies}
 
 abbrev fifteen : Blame
 fifteen = record { number = 15; detail = 0 }

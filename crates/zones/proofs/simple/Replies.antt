@@ -1,28 +1,17 @@
 -- From the matches to the outcome, by how far the code came. Assumes nothing.
-use mathlib.Core.Path.{_≡_, refl, ap, _∙_}
-use mathlib.Core.Bool.{false}
-use mathlib.Core.List.{List}
+use mathlib.Core.{Path.{_≡_, refl, ap, _∙_}, Bool.{false}, List.{List}}
 use Prim.Native.Nat.{ℕ, _/_}
 use native.Mathlib.Omega.{arith}
 use denote.Enum.Declared.{tagOf, declared}
 use lib.ListN.{take}
-use Rattle.numbers.specs.Reply.{Reply, given, refused, _>>_}
-use Rattle.table.specs.Hits.{width, slots}
-use Rattle.table.specs.Find.{Matched, matchedWith, Matching}
-use Rattle.table.specs.Agreeing.{Agrees}
-use Rattle.zones.specs.Lent.{replied, repliedOf, Filled}
-use Rattle.zones.specs.Simple.{checked, wordedOf, Worded, describedWith, toldChecked}
+use Rattle.numbers.{specs.{Reply.{Reply, given, refused, _>>_}, declared.refusal.Refusal.{Refusal}}, proofs.Replies.{carried, onward}}
+use Rattle.table.specs.{Hits.{width, slots}, Find.{Matched, matchedWith, Matching}, Agreeing.{Agrees}, declared.{location.Location.{Location}, find.Matches.{Matches}}}
+use Rattle.table.proofs.{Agreeing.{Gave, agree-given, agree-refused, gave, refused-so}, Matches.{count-is, matches-are}}
+use Rattle.zones.specs.{Lent.{replied, repliedOf, Filled}, Simple.{checked, wordedOf, Worded, describedWith, toldChecked}}
+use Rattle.zones.specs.declared.simple.{Checked.{Checked}, Description.{Description}}
 use Rattle.header.specs.declared.header.Head.{Head}
-use Rattle.numbers.specs.declared.refusal.Refusal.{Refusal}
-use Rattle.table.specs.declared.location.Location.{Location}
-use Rattle.table.specs.declared.find.Matches.{Matches}
-use Rattle.zones.specs.declared.simple.Checked.{Checked}
 use Rattle.zones.specs.declared.simple.Checked.the-variants as C
-use Rattle.zones.specs.declared.simple.Description.{Description}
 use Rattle.zones.proofs.simple.Checked as K
-use Rattle.numbers.proofs.Replies.{carried, onward}
-use Rattle.table.proofs.Agreeing.{Gave, agree-given, agree-refused, gave, refused-so}
-use Rattle.table.proofs.Matches.{count-is, matches-are}
 
 -- a step that gives nothing but that it was passed
 module _ {B : Type 0} {step : Reply (Unit {0})} where

@@ -3,9 +3,8 @@ use borrow.Author.Needs.{needs}
 use native.Mathlib.Omega.{arith}
 use denote.Ref.{now}
 use mathlib.Core.Path.{_∙_}
-use Rattle.batch.proofs.Window.{front-length, windowed}
+use Rattle.batch.proofs.{Window.{front-length, windowed}, many.answer_one.Statement.{statement}}
 use Rattle.zones.specs.Lookup.{lookedWith}
-use Rattle.batch.proofs.many.answer_one.Statement.{statement}
 use Rattle.batch.proofs.many.answer_one.Tie as tie
 use Rattle.batch.proofs.many.answer_one.Reads as reads
 use Rattle.batch.proofs.many.answer_one.Lts as lts

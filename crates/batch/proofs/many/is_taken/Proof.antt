@@ -1,6 +1,5 @@
 -- `batch::many::is_taken` meets its contract, test by test. Assumes nothing.
-use borrow.Author.Needs.{needs}
-use borrow.Author.Tests.{eq-eqb, ne-eqb, le-leb, lt-leb}
+use borrow.Author.{Needs.{needs}, Tests.{eq-eqb, ne-eqb, le-leb, lt-leb}}
 use Rattle.batch.proofs.many.is_taken.Statement.{statement}
 use Rattle.batch.proofs.many.is_taken.Tie as tie
 

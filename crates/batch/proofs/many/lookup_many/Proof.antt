@@ -1,13 +1,10 @@
 -- `batch::many::lookup_many` meets its contract, by how far it came. Assumes nothing.
-use borrow.Author.Needs.{needs}
-use borrow.Author.Tests.{not-true, not-false}
+use borrow.Author.{Needs.{needs}, Tests.{not-true, not-false}}
 use lib.ListN.{length}
 use mathlib.Core.Path.{sym, ap, _∙_}
-use Rattle.batch.proofs.Opening.{not-taken, not-opened, all-opened}
-use Rattle.batch.proofs.many.lookup_many.Statement.{statement}
+use Rattle.batch.proofs.{Opening.{not-taken, not-opened, all-opened}, many.lookup_many.Statement.{statement}}
 use Rattle.batch.specs.Many.{isTaken}
-use Rattle.header.proofs.Buffers.{of-length, all-zero}
-use Rattle.header.specs.Header.{toldHead}
+use Rattle.header.{proofs.Buffers.{of-length, all-zero}, specs.Header.{toldHead}}
 use Rattle.batch.proofs.many.lookup_many.Tie as tie
 
 returns : tie.Need-returns

@@ -2,8 +2,7 @@
 use borrow.Author.Needs.{needs}
 use lib.ListN.{length-set}
 use native.Mathlib.Omega.{arith}
-use Rattle.batch.proofs.Stamping.{answer-put}
-use Rattle.batch.proofs.many.put_answer.Statement.{statement}
+use Rattle.batch.proofs.{Stamping.{answer-put}, many.put_answer.Statement.{statement}}
 use Rattle.batch.proofs.many.put_answer.Tie as tie
 
 slice-write-answers-2 : tie.Need-slice-write-answers-2

@@ -2,8 +2,7 @@
 use Prim.Native.Nat.{min}
 use borrow.Author.Needs.{needs}
 use mathlib.Core.Path.{_≡_}
-use mir.Syntax.{w32}
-use mir.Val.{toZ, ofZ}
+use mir.{Syntax.{w32}, Val.{toZ, ofZ}}
 use native.Mathlib.Omega.{arith}
 use Rattle.border.proofs.distance.measure.Statement.{statement}
 use Rattle.border.specs.Distance.{measured}

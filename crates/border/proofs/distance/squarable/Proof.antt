@@ -1,8 +1,6 @@
 -- `border::distance::squarable` meets its contract: the range of the numbers whose squares fit. Assumes nothing.
-use mir.Facts.{toZ-ofZ}
-use mir.Syntax.{w64}
-use Rattle.border.proofs.Squares.{square-test}
-use Rattle.border.proofs.distance.squarable.Statement.{statement}
+use mir.{Facts.{toZ-ofZ}, Syntax.{w64}}
+use Rattle.border.proofs.{Squares.{square-test}, distance.squarable.Statement.{statement}}
 use Rattle.border.proofs.distance.squarable.Tie as tie
 
 returns : tie.Need-returns

@@ -1,12 +1,9 @@
 -- `border::distance::square` meets its contract: a square is not negative. Assumes nothing.
 use borrow.Author.Needs.{needs}
 use lib.IntN.{_*ℤ_}
-use mir.Facts.{toZ-ofZ}
-use mir.Syntax.{w64}
-use mir.Val.{SFits}
+use mir.{Facts.{toZ-ofZ}, Syntax.{w64}, Val.{SFits}}
 use native.Mathlib.Omega.{arith}
-use Rattle.border.proofs.Squares.{square-not-negative, square-size}
-use Rattle.border.proofs.distance.square.Statement.{statement}
+use Rattle.border.proofs.{Squares.{square-not-negative, square-size}, distance.square.Statement.{statement}}
 use Rattle.border.proofs.distance.square.Tie as tie
 
 mul-result : tie.Need-mul-result

@@ -1,10 +1,8 @@
 -- `border::distance::sum_of_squares` meets its contract: what its calls ensure, modulo 2^64. Assumes nothing.
 use borrow.Author.Needs.{needs}
 use mathlib.Core.Path.{_∙_}
-use mir.Facts.{toZ-ofZ}
-use mir.Syntax.{w64}
-use Rattle.border.proofs.Squares.{fourfold}
-use Rattle.border.proofs.distance.sum_of_squares.Statement.{statement}
+use mir.{Facts.{toZ-ofZ}, Syntax.{w64}}
+use Rattle.border.proofs.{Squares.{fourfold}, distance.sum_of_squares.Statement.{statement}}
 use Rattle.border.proofs.distance.sum_of_squares.Tie as tie
 
 square-requires : tie.Need-square-requires

@@ -1,14 +1,10 @@
 -- `border::distance::to_segment` meets its contract: what its calls ensure, in the order of the definition. Assumes nothing.
-use borrow.Author.Needs.{needs}
-use borrow.Author.Tests.{ltb-true, not-true, not-false}
+use borrow.Author.{Needs.{needs}, Tests.{ltb-true, not-true, not-false}}
 use lib.IntN.{_*ℤ_}
 use mathlib.Core.Path.{_≡_, sym, ap, _∙_}
-use mir.Syntax.{w64}
-use mir.Val.{toZ, ofZ}
-use Rattle.border.proofs.Checks.{checked-found, checked-over}
-use Rattle.border.proofs.distance.to_segment.Statement.{statement}
-use Rattle.border.specs.Distance.{squared, toSegment}
-use Rattle.border.specs.Step.{found}
+use mir.{Syntax.{w64}, Val.{toZ, ofZ}}
+use Rattle.border.proofs.{Checks.{checked-found, checked-over}, distance.to_segment.Statement.{statement}}
+use Rattle.border.specs.{Distance.{squared, toSegment}, Step.{found}}
 use Rattle.numbers.specs.Float.{cut64, _⊟_}
 use Rattle.border.proofs.distance.to_segment.Tie as tie
 

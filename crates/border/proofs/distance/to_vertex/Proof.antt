@@ -1,17 +1,11 @@
 -- `border::distance::to_vertex` meets its contract: what its calls ensure; the squares of two i32 fit. Assumes nothing.
-use borrow.Author.Needs.{needs}
-use borrow.Author.Tests.{not-true, not-false}
+use borrow.Author.{Needs.{needs}, Tests.{not-true, not-false}}
 use lib.IntN.{_-ℤ_, _*ℤ_}
 use mathlib.Core.Path.{ap}
-use mir.Syntax.{w32}
-use mir.Val.{SFits}
-use Rattle.border.proofs.Checks.{checked-found, checked-over, checked-fits, narrow}
-use Rattle.border.proofs.Signs.{exact-difference}
-use Rattle.border.proofs.Squares.{i32-squared}
-use Rattle.border.proofs.distance.to_vertex.Statement.{statement}
-use Rattle.border.proofs.place.Whole.{widened, widens, difference-fits}
-use Rattle.border.specs.Distance.{squared, toVertex}
-use Rattle.border.specs.Step.{found}
+use mir.{Syntax.{w32}, Val.{SFits}}
+use Rattle.border.proofs.{Checks.{checked-found, checked-over, checked-fits, narrow}, Signs.{exact-difference}, Squares.{i32-squared}}
+use Rattle.border.proofs.{distance.to_vertex.Statement.{statement}, place.Whole.{widened, widens, difference-fits}}
+use Rattle.border.specs.{Distance.{squared, toVertex}, Step.{found}}
 use Rattle.border.proofs.distance.to_vertex.Tie as tie
 
 cast-lat : tie.Need-cast-lat

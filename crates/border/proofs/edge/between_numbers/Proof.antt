@@ -1,7 +1,6 @@
 -- `border::edge::between_numbers` meets its contract: what `rising` ensures, twice. Assumes nothing.
 use borrow.Author.Needs.{needs}
-use mir.Facts.{toZ-ofZ}
-use mir.Syntax.{w32}
+use mir.{Facts.{toZ-ofZ}, Syntax.{w32}}
 use Rattle.border.proofs.edge.between_numbers.Statement.{statement}
 use Rattle.border.specs.Edge.{between}
 use Rattle.border.proofs.edge.between_numbers.Tie as tie

@@ -1,9 +1,7 @@
 -- `border::edge::edge_between` meets its contract: the two tests decide as the definition does. Assumes nothing.
 use borrow.Author.Needs.{needs}
-use mir.Syntax.{w32}
-use mir.Val.{SFits}
-use Rattle.border.proofs.Signs.{same-read, differ-read}
-use Rattle.border.proofs.edge.edge_between.Statement.{statement}
+use mir.{Syntax.{w32}, Val.{SFits}}
+use Rattle.border.proofs.{Signs.{same-read, differ-read}, edge.edge_between.Statement.{statement}}
 use Rattle.border.specs.Edge.{edgeOf}
 use Rattle.border.proofs.edge.edge_between.Tie as tie
 

@@ -1,8 +1,7 @@
 -- `border::edge::holds_cut` meets its contract: the two tests, of the coordinates that `to_i32` cuts. Assumes nothing.
 use borrow.Author.Needs.{needs}
 use mathlib.Core.Path.{_≡_}
-use mir.Syntax.{w32}
-use mir.Val.{toZ, ofZ}
+use mir.{Syntax.{w32}, Val.{toZ, ofZ}}
 use Rattle.border.proofs.edge.holds_cut.Statement.{statement}
 use Rattle.border.specs.Edge.{inBox}
 use Rattle.border.proofs.edge.holds_cut.Tie as tie

@@ -1,9 +1,7 @@
 -- `border::edge::is_straight` meets its contract: equality is tested on the bits. Assumes nothing.
 use borrow.Author.Needs.{needs}
-use mir.Syntax.{w32}
-use mir.Val.{SFits}
-use Rattle.border.proofs.Signs.{same-bits, same-read, differ-read}
-use Rattle.border.proofs.edge.is_straight.Statement.{statement}
+use mir.{Syntax.{w32}, Val.{SFits}}
+use Rattle.border.proofs.{Signs.{same-bits, same-read, differ-read}, edge.is_straight.Statement.{statement}}
 use Rattle.border.specs.Edge.{straight}
 use Rattle.border.proofs.edge.is_straight.Tie as tie
 

@@ -1,9 +1,7 @@
 -- `border::edge::lat_between` meets its contract: what `between_numbers` ensures. Assumes nothing.
 use borrow.Author.Needs.{needs}
-use mir.Syntax.{w32}
-use mir.Val.{SFits}
-use Rattle.border.proofs.Signs.{between-read}
-use Rattle.border.proofs.edge.lat_between.Statement.{statement}
+use mir.{Syntax.{w32}, Val.{SFits}}
+use Rattle.border.proofs.{Signs.{between-read}, edge.lat_between.Statement.{statement}}
 use Rattle.border.proofs.edge.lat_between.Tie as tie
 
 between-numbers-requires : tie.Need-between-numbers-requires

@@ -1,9 +1,7 @@
 -- `border::edge::quadrant_of` meets its contract: the two tests decide as the definition does. Assumes nothing.
 use borrow.Author.Needs.{needs}
-use mir.Syntax.{w32}
-use mir.Val.{SFits}
-use Rattle.border.proofs.Signs.{le-read}
-use Rattle.border.proofs.edge.quadrant_of.Statement.{statement}
+use mir.{Syntax.{w32}, Val.{SFits}}
+use Rattle.border.proofs.{Signs.{le-read}, edge.quadrant_of.Statement.{statement}}
 use Rattle.border.specs.Edge.{quadrantOf}
 use Rattle.border.proofs.edge.quadrant_of.Tie as tie
 

@@ -1,6 +1,5 @@
 -- `border::edge::rising` meets its contract: the two tests decide as the definition does. Assumes nothing.
-use Rattle.border.proofs.Signs.{le-read, read-le}
-use Rattle.border.proofs.edge.rising.Statement.{statement}
+use Rattle.border.proofs.{Signs.{le-read, read-le}, edge.rising.Statement.{statement}}
 use Rattle.border.proofs.edge.rising.Tie as tie
 
 returns : tie.Need-returns

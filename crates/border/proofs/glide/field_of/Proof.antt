@@ -1,10 +1,7 @@
 -- `border::glide::field_of` meets its contract: what `side_of` ensures, twice. Assumes nothing.
 use borrow.Author.Needs.{needs}
-use mir.Facts.{toZ-ofZ}
-use mir.Syntax.{w32}
-use mir.Val.{SFits}
-use Rattle.border.proofs.Gliding.{aside-of}
-use Rattle.border.proofs.glide.field_of.Statement.{statement}
+use mir.{Facts.{toZ-ofZ}, Syntax.{w32}, Val.{SFits}}
+use Rattle.border.proofs.{Gliding.{aside-of}, glide.field_of.Statement.{statement}}
 use Rattle.border.proofs.glide.field_of.Tie as tie
 
 side-of-requires : tie.Need-side-of-requires

@@ -2,8 +2,7 @@
 use borrow.Author.Needs.{needs}
 use denote.Ref.{now}
 use mathlib.Core.Path.{sym, ap, _∙_}
-use Rattle.border.proofs.Gliding.{back-stays, back-on, less-below}
-use Rattle.border.proofs.glide.glide_back.Statement.{statement}
+use Rattle.border.proofs.{Gliding.{back-stays, back-on, less-below}, glide.glide_back.Statement.{statement}}
 use Rattle.border.specs.Gliding.{GlidesBack}
 use Rattle.border.proofs.glide.glide_back.Tie as tie
 

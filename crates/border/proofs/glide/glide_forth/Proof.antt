@@ -4,8 +4,7 @@ use borrow.Author.Needs.{needs}
 use denote.Ref.{now}
 use lib.ListN.{length}
 use mathlib.Core.Path.{sym, ap, _∙_}
-use Rattle.border.proofs.Gliding.{forth-stays, forth-on, less-left}
-use Rattle.border.proofs.glide.glide_forth.Statement.{statement}
+use Rattle.border.proofs.{Gliding.{forth-stays, forth-on, less-left}, glide.glide_forth.Statement.{statement}}
 use Rattle.border.specs.Gliding.{GlidesForth}
 use Rattle.border.proofs.glide.glide_forth.Tie as tie
 

@@ -1,10 +1,8 @@
 -- `border::glide::glide_on` meets its contract: in a quadrant without its edges nothing changes. Assumes nothing.
-use borrow.Author.Needs.{needs}
-use borrow.Author.Tests.{not-false}
+use borrow.Author.{Needs.{needs}, Tests.{not-false}}
 use denote.Ref.{now}
 use mathlib.Core.Path.{sym, _∙_}
-use Rattle.border.proofs.Gliding.{quadrant-calm, on-stays, on-glides}
-use Rattle.border.proofs.glide.glide_on.Statement.{statement}
+use Rattle.border.proofs.{Gliding.{quadrant-calm, on-stays, on-glides}, glide.glide_on.Statement.{statement}}
 use Rattle.border.proofs.glide.glide_on.Tie as tie
 
 returns : tie.Need-returns

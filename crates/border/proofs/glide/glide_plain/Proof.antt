@@ -2,11 +2,9 @@
 use borrow.Author.Needs.{needs, sfits-of}
 use denote.Ref.{now}
 use mathlib.Core.Path.{sym, _∙_}
-use mir.Syntax.{w32}
-use mir.ValLaws.{toZ-ofZ}
+use mir.{Syntax.{w32}, ValLaws.{toZ-ofZ}}
 use native.Mathlib.Omega.{arith}
-use Rattle.border.proofs.Gliding.{plain-stays, plain-on}
-use Rattle.border.proofs.glide.glide_plain.Statement.{statement}
+use Rattle.border.proofs.{Gliding.{plain-stays, plain-on}, glide.glide_plain.Statement.{statement}}
 use Rattle.border.specs.Gliding.{GlidesPlain}
 use Rattle.border.proofs.glide.glide_plain.Tie as tie
 

@@ -1,8 +1,7 @@
 -- `border::glide::glide_within` meets its contract: by the version. Assumes nothing.
 use borrow.Author.Needs.{needs}
 use denote.Ref.{now}
-use Rattle.border.proofs.Gliding.{of-version}
-use Rattle.border.proofs.glide.glide_within.Statement.{statement}
+use Rattle.border.proofs.{Gliding.{of-version}, glide.glide_within.Statement.{statement}}
 use Rattle.border.proofs.glide.glide_within.Tie as tie
 
 enum-told : tie.Need-enum-told

@@ -1,9 +1,7 @@
 -- `border::glide::is_within` meets its contract: what `lies_in` ensures, twice. Assumes nothing.
 use borrow.Author.Needs.{needs}
-use mir.Syntax.{w32}
-use mir.Val.{SFits}
-use Rattle.border.proofs.glide.is_within.Statement.{statement}
-use Rattle.border.proofs.place.Whole.{widened, widens}
+use mir.{Syntax.{w32}, Val.{SFits}}
+use Rattle.border.proofs.{glide.is_within.Statement.{statement}, place.Whole.{widened, widens}}
 use Rattle.border.specs.Gliding.{within}
 use Rattle.border.proofs.glide.is_within.Tie as tie
 

@@ -1,15 +1,9 @@
 -- `border::glide::lead` meets its contract: the exact sums, held against the field. Assumes nothing.
-use borrow.Author.Needs.{needs}
-use borrow.Author.Tests.{not-false}
+use borrow.Author.{Needs.{needs}, Tests.{not-false}}
 use lib.IntN.{_+ℤ_}
 use mathlib.Core.Path.{sym, _∙_}
-use mir.Facts.{toZ-ofZ}
-use mir.Syntax.{w32}
-use mir.Val.{SFits}
-use Rattle.border.proofs.Gliding.{within-of, fits, moved-to}
-use Rattle.border.proofs.Signs.{exact-sum}
-use Rattle.border.proofs.glide.lead.Statement.{statement}
-use Rattle.border.proofs.place.Whole.{widened, widens, sum-fits}
+use mir.{Facts.{toZ-ofZ}, Syntax.{w32}, Val.{SFits}}
+use Rattle.border.proofs.{Gliding.{within-of, fits, moved-to}, Signs.{exact-sum}, glide.lead.Statement.{statement}, place.Whole.{widened, widens, sum-fits}}
 use Rattle.border.proofs.glide.lead.Tie as tie
 
 cast-lat : tie.Need-cast-lat

@@ -1,11 +1,7 @@
 -- `border::glide::lies_in` meets its contract: the two tests decide as the definition does. Assumes nothing.
 use borrow.Author.Needs.{needs}
-use mir.Facts.{toZ-ofZ}
-use mir.Syntax.{w32, w64}
-use mir.Val.{SFits}
-use Rattle.border.proofs.Gliding.{in-span, not-in-span}
-use Rattle.border.proofs.glide.lies_in.Statement.{statement}
-use Rattle.border.proofs.place.Whole.{widened, widens}
+use mir.{Facts.{toZ-ofZ}, Syntax.{w32, w64}, Val.{SFits}}
+use Rattle.border.proofs.{Gliding.{in-span, not-in-span}, glide.lies_in.Statement.{statement}, place.Whole.{widened, widens}}
 use Rattle.border.proofs.glide.lies_in.Tie as tie
 
 cast-if1 : tie.Need-cast-if1

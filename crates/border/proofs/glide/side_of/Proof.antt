@@ -1,8 +1,6 @@
 -- `border::glide::side_of` meets its contract. Assumes nothing.
-use mir.Facts.{toZ-ofZ}
-use mir.Syntax.{w32}
-use Rattle.border.proofs.Gliding.{beside-above, beside-below}
-use Rattle.border.proofs.glide.side_of.Statement.{statement}
+use mir.{Facts.{toZ-ofZ}, Syntax.{w32}}
+use Rattle.border.proofs.{Gliding.{beside-above, beside-below}, glide.side_of.Statement.{statement}}
 use Rattle.border.proofs.glide.side_of.Tie as tie
 
 returns : tie.Need-returns

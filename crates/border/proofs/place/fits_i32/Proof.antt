@@ -1,8 +1,6 @@
 -- `border::place::fits_i32` meets its contract: the range of an i32. Assumes nothing.
-use mir.Facts.{toZ-ofZ}
-use mir.Syntax.{w64}
-use Rattle.border.proofs.Signs.{in-i32}
-use Rattle.border.proofs.place.fits_i32.Statement.{statement}
+use mir.{Facts.{toZ-ofZ}, Syntax.{w64}}
+use Rattle.border.proofs.{Signs.{in-i32}, place.fits_i32.Statement.{statement}}
 use Rattle.border.proofs.place.fits_i32.Tie as tie
 
 returns : tie.Need-returns

@@ -1,10 +1,7 @@
 -- `border::place::is_still` meets its contract. Assumes nothing.
-use borrow.Author.Needs.{needs}
-use borrow.Author.Tests.{eq-eqb, ne-eqb}
-use mir.Syntax.{w32}
-use mir.Val.{SFits}
-use Rattle.border.proofs.place.Whole.{zero-bits}
-use Rattle.border.proofs.place.is_still.Statement.{statement}
+use borrow.Author.{Needs.{needs}, Tests.{eq-eqb, ne-eqb}}
+use mir.{Syntax.{w32}, Val.{SFits}}
+use Rattle.border.proofs.place.{Whole.{zero-bits}, is_still.Statement.{statement}}
 use Rattle.border.specs.Place.{isStill}
 use Rattle.border.proofs.place.is_still.Tie as tie
 

@@ -1,16 +1,9 @@
 -- `border::place::move_by` meets its contract. Assumes nothing.
-use borrow.Author.Needs.{needs}
-use borrow.Author.Tests.{not-true, not-false}
+use borrow.Author.{Needs.{needs}, Tests.{not-true, not-false}}
 use lib.IntN.{_+ℤ_}
 use mathlib.Core.Path.{_∙_}
-use mir.Facts.{toZ-ofZ}
-use mir.Syntax.{w32}
-use mir.Val.{SFits}
-use Rattle.border.proofs.Checks.{narrow}
-use Rattle.border.proofs.Signs.{exact-sum}
-use Rattle.border.proofs.place.Ranged.{within, beyond}
-use Rattle.border.proofs.place.Whole.{widened, widens, sum-fits}
-use Rattle.border.proofs.place.move_by.Statement.{statement}
+use mir.{Facts.{toZ-ofZ}, Syntax.{w32}, Val.{SFits}}
+use Rattle.border.proofs.{Checks.{narrow}, Signs.{exact-sum}, place.{Ranged.{within, beyond}, Whole.{widened, widens, sum-fits}, move_by.Statement.{statement}}}
 use Rattle.border.specs.Place.{movedBy}
 use Rattle.border.proofs.place.move_by.Tie as tie
 

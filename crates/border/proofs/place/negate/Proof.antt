@@ -1,15 +1,9 @@
 -- `border::place::negate` meets its contract. Assumes nothing.
-use borrow.Author.Needs.{needs}
-use borrow.Author.Tests.{not-true, not-false}
+use borrow.Author.{Needs.{needs}, Tests.{not-true, not-false}}
 use lib.IntN.{negℤ}
 use mathlib.Core.Path.{_∙_}
-use mir.Facts.{toZ-ofZ}
-use mir.Syntax.{w32}
-use mir.Val.{SFits}
-use Rattle.border.proofs.Checks.{narrow}
-use Rattle.border.proofs.place.Ranged.{within, beyond, exact-negation}
-use Rattle.border.proofs.place.Whole.{widened, widens, negation-fits}
-use Rattle.border.proofs.place.negate.Statement.{statement}
+use mir.{Facts.{toZ-ofZ}, Syntax.{w32}, Val.{SFits}}
+use Rattle.border.proofs.{Checks.{narrow}, place.{Ranged.{within, beyond, exact-negation}, Whole.{widened, widens, negation-fits}, negate.Statement.{statement}}}
 use Rattle.border.specs.Place.{negated}
 use Rattle.border.proofs.place.negate.Tie as tie
 

@@ -1,10 +1,8 @@
 -- `border::reader::advance` meets its contract. Assumes nothing.
 use borrow.Author.Needs.{needs}
 use mathlib.Core.Path.{sym, ap, _∙_}
-use Rattle.border.proofs.reader.Turns.{advances, advance-over}
-use Rattle.border.proofs.reader.advance.Statement.{statement}
-use Rattle.border.specs.declared.reader.Reader.{Reader}
-use Rattle.border.specs.Reader.{gives, onward}
+use Rattle.border.proofs.reader.{Turns.{advances, advance-over}, advance.Statement.{statement}}
+use Rattle.border.specs.{declared.reader.Reader.{Reader}, Reader.{gives, onward}}
 use Rattle.numbers.specs.Answer.{found}
 use Rattle.border.proofs.reader.advance.Tie as tie
 

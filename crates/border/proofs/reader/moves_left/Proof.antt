@@ -1,12 +1,8 @@
 -- `border::reader::moves_left` meets its contract: the tests decide as the definition does. Assumes nothing.
-use borrow.Author.Tests.{eq-eqb, ne-eqb}
+use borrow.Author.{Tests.{eq-eqb, ne-eqb}, Needs.{needs}}
 use mathlib.Core.Path.{_∙_}
-use Rattle.numbers.proofs.Answers.{found-again}
-use Rattle.numbers.proofs.Laws.{stops}
-use Rattle.numbers.specs.Varint.{told}
-use Rattle.numbers.specs.Answer.{found}
+use Rattle.numbers.{proofs.{Answers.{found-again}, Laws.{stops}}, specs.{Varint.{told}, Answer.{found}}}
 use Rattle.border.specs.Told.{counted}
-use borrow.Author.Needs.{needs}
 use Rattle.border.proofs.reader.moves_left.Statement.{statement}
 use Rattle.border.proofs.reader.moves_left.Tie as tie
 

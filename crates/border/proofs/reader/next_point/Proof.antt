@@ -2,12 +2,8 @@
 use borrow.Author.Needs.{needs}
 use denote.Ref.{now}
 use mathlib.Core.Path.{_≡_, refl, sym, ap, _∙_}
-use Rattle.border.proofs.Room.{left}
-use Rattle.border.proofs.Trace.{next-step, again-less, again-same}
-use Rattle.border.proofs.reader.Rounds.{last-round}
-use Rattle.border.proofs.reader.next_point.Statement.{statement}
-use Rattle.border.specs.Reader.{Turn}
-use Rattle.border.specs.Trace.{roundAgain, nextPoint}
+use Rattle.border.proofs.{Room.{left}, Trace.{next-step, again-less, again-same}, reader.{Rounds.{last-round}, next_point.Statement.{statement}}}
+use Rattle.border.specs.{Reader.{Turn}, Trace.{roundAgain, nextPoint}}
 use Rattle.numbers.specs.Answer.{Answer, _>>=_}
 use Rattle.border.proofs.reader.next_point.Tie as tie
 

@@ -2,8 +2,7 @@
 use borrow.Author.Needs.{needs}
 use mathlib.Core.Logic.{⊎-elim}
 use native.Mathlib.Omega.{arith}
-use Rattle.border.proofs.reader.Places.{backward-opened, backward-over}
-use Rattle.border.proofs.reader.open_backward.Statement.{statement}
+use Rattle.border.proofs.reader.{Places.{backward-opened, backward-over}, open_backward.Statement.{statement}}
 use Rattle.border.proofs.reader.open_backward.Tie as tie
 
 returns : tie.Need-returns

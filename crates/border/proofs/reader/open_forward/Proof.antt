@@ -2,8 +2,7 @@
 use borrow.Author.Needs.{needs}
 use mathlib.Core.Logic.{⊎-elim}
 use native.Mathlib.Omega.{arith}
-use Rattle.border.proofs.reader.Places.{none-opened, forward-opened, forward-over}
-use Rattle.border.proofs.reader.open_forward.Statement.{statement}
+use Rattle.border.proofs.reader.{Places.{none-opened, forward-opened, forward-over}, open_forward.Statement.{statement}}
 use Rattle.border.proofs.reader.open_forward.Tie as tie
 
 returns : tie.Need-returns

@@ -2,16 +2,10 @@
 use borrow.Author.Needs.{needs, sfits-of}
 use denote.Ref.{now}
 use mathlib.Core.Path.{sym, ap, _∙_}
-use mir.Syntax.{w32}
-use mir.ValLaws.{toZ-ofZ}
-use Rattle.border.proofs.reader.Turns.{reference-opens, reference-over}
-use Rattle.border.proofs.reader.open_reference.Statement.{statement}
-use Rattle.border.specs.declared.reader.Reader.{Reader}
-use Rattle.border.specs.Reader.{again, onward, reference}
-use Rattle.border.specs.declared.reader.Run.the-variants.{Idle}
-use Rattle.numbers.specs.Varint.{readingOf}
-use Rattle.numbers.proofs.Laws.{goes-on, stops}
-use Rattle.numbers.specs.Answer.{found}
+use mir.{Syntax.{w32}, ValLaws.{toZ-ofZ}}
+use Rattle.border.proofs.reader.{Turns.{reference-opens, reference-over}, open_reference.Statement.{statement}}
+use Rattle.border.specs.{declared.reader.{Reader.{Reader}, Run.the-variants.{Idle}}, Reader.{again, onward, reference}}
+use Rattle.numbers.{specs.{Varint.{readingOf}, Answer.{found}}, proofs.Laws.{goes-on, stops}}
 use Rattle.border.proofs.reader.open_reference.Tie as tie
 
 read-number-requires : tie.Need-read-number-requires

@@ -2,15 +2,11 @@
 -- `border::reader::open_run` meets its contract. Assumes nothing.
 use Prim.Native.Nat.{_<_, _^_}
 use borrow.Author.Needs.{needs}
-use lib.IntN.{pos}
-use lib.Signed.{mag}
+use lib.{IntN.{pos}, Signed.{mag}}
 use mathlib.Core.Path.{_∙_, ap}
-use mir.Facts.{toZ-ofZ}
-use mir.Syntax.{w32}
-use mir.Val.{SFits}
+use mir.{Facts.{toZ-ofZ}, Syntax.{w32}, Val.{SFits}}
 use native.Mathlib.Omega.{arith}
-use Rattle.border.proofs.reader.Places.{turned, below, above}
-use Rattle.border.proofs.reader.open_run.Statement.{statement}
+use Rattle.border.proofs.reader.{Places.{turned, below, above}, open_run.Statement.{statement}}
 use Rattle.border.specs.Reader.{asI64, opened}
 use Rattle.border.proofs.reader.open_run.Tie as tie
 

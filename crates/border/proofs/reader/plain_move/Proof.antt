@@ -1,10 +1,8 @@
 -- `border::reader::plain_move` meets its contract. Assumes nothing.
 use borrow.Author.Needs.{needs}
 use mathlib.Core.Path.{sym, _∙_}
-use Rattle.border.proofs.reader.Turns.{pair-closes, pair-moves, pair-over}
-use Rattle.border.proofs.reader.plain_move.Statement.{statement}
-use Rattle.border.specs.Reader.{onward}
-use Rattle.border.specs.declared.reader.Run.the-variants.{Idle}
+use Rattle.border.proofs.reader.{Turns.{pair-closes, pair-moves, pair-over}, plain_move.Statement.{statement}}
+use Rattle.border.specs.{Reader.{onward}, declared.reader.Run.the-variants.{Idle}}
 use Rattle.border.proofs.reader.plain_move.Tie as tie
 
 close-requires : tie.Need-close-requires

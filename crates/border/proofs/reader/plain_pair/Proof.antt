@@ -2,14 +2,10 @@
 use borrow.Author.Needs.{needs, sfits-of}
 use denote.Ref.{now}
 use mathlib.Core.Path.{sym, _∙_}
-use mir.Syntax.{w32}
-use mir.ValLaws.{toZ-ofZ}
-use Rattle.border.proofs.reader.Turns.{pair-read}
-use Rattle.border.proofs.reader.plain_pair.Statement.{statement}
-use Rattle.border.specs.Reader.{onward, plainPair}
-use Rattle.border.specs.declared.reader.Run.the-variants.{Idle}
-use Rattle.numbers.specs.Varint.{readingOf}
-use Rattle.numbers.proofs.Laws.{goes-on, stops}
+use mir.{Syntax.{w32}, ValLaws.{toZ-ofZ}}
+use Rattle.border.proofs.reader.{Turns.{pair-read}, plain_pair.Statement.{statement}}
+use Rattle.border.specs.{Reader.{onward, plainPair}, declared.reader.Run.the-variants.{Idle}}
+use Rattle.numbers.{specs.Varint.{readingOf}, proofs.Laws.{goes-on, stops}}
 use Rattle.border.proofs.reader.plain_pair.Tie as tie
 
 read-number-requires : tie.Need-read-number-requires

@@ -1,11 +1,9 @@
 -- `border::reader::plain_turn` meets its contract: it goes on from the moves that are left. Assumes nothing.
 use mathlib.Core.Path.{_∙_}
 use denote.Ref.{now}
-use Rattle.numbers.specs.Varint.{readingOf}
-use Rattle.numbers.proofs.Laws.{stops, goes-on}
-use Rattle.border.proofs.reader.Counts.{pairFrom, counted-turn}
+use Rattle.numbers.{specs.Varint.{readingOf}, proofs.Laws.{stops, goes-on}}
+use Rattle.border.proofs.reader.{Counts.{pairFrom, counted-turn}, plain_turn.Statement.{statement}}
 use borrow.Author.Needs.{needs}
-use Rattle.border.proofs.reader.plain_turn.Statement.{statement}
 use Rattle.border.proofs.reader.plain_turn.Tie as tie
 
 moves-left-requires : tie.Need-moves-left-requires

@@ -2,14 +2,9 @@
 use borrow.Author.Needs.{needs}
 use denote.Ref.{now}
 use mathlib.Core.Path.{sym, ap, _∙_}
-use Rattle.border.proofs.reader.Turns.{mark-closes, mark-opens, mark-repeats}
-use Rattle.border.proofs.reader.read_marker.Statement.{statement}
-use Rattle.border.specs.declared.reader.Reader.{Reader}
-use Rattle.border.specs.Reader.{gives, onward, marker}
-use Rattle.border.specs.declared.reader.Run.the-variants.{Idle}
-use Rattle.numbers.specs.Varint.{readingOf}
-use Rattle.numbers.proofs.Laws.{stops}
-use Rattle.numbers.specs.Answer.{found}
+use Rattle.border.proofs.reader.{Turns.{mark-closes, mark-opens, mark-repeats}, read_marker.Statement.{statement}}
+use Rattle.border.specs.{declared.reader.{Reader.{Reader}, Run.the-variants.{Idle}}, Reader.{gives, onward, marker}}
+use Rattle.numbers.{specs.{Varint.{readingOf}, Answer.{found}}, proofs.Laws.{stops}}
 use Rattle.border.proofs.reader.read_marker.Tie as tie
 
 read-number-requires : tie.Need-read-number-requires

@@ -2,11 +2,9 @@
 use borrow.Author.Needs.{needs}
 use denote.Ref.{now}
 use mathlib.Core.Path.{sym, _∙_}
-use Rattle.border.proofs.reader.Turns.{turn-move, turn-marker}
-use Rattle.border.proofs.reader.read_move.Statement.{statement}
+use Rattle.border.proofs.reader.{Turns.{turn-move, turn-marker}, read_move.Statement.{statement}}
 use Rattle.border.specs.Reader.{packedTurn}
-use Rattle.numbers.specs.Varint.{readingOf}
-use Rattle.numbers.proofs.Laws.{stops}
+use Rattle.numbers.{specs.Varint.{readingOf}, proofs.Laws.{stops}}
 use Rattle.border.proofs.reader.read_move.Tie as tie
 
 read-number-requires : tie.Need-read-number-requires

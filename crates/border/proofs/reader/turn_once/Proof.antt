@@ -2,8 +2,7 @@
 use borrow.Author.Needs.{needs}
 use denote.Ref.{now}
 use mathlib.Core.Path.{sym, _∙_}
-use Rattle.border.proofs.reader.Turns.{closed-ends}
-use Rattle.border.proofs.reader.turn_once.Statement.{statement}
+use Rattle.border.proofs.reader.{Turns.{closed-ends}, turn_once.Statement.{statement}}
 use Rattle.border.specs.Reader.{turnOf}
 use Rattle.border.proofs.reader.turn_once.Tie as tie
 

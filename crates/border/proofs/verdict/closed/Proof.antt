@@ -1,10 +1,8 @@
 -- `border::verdict::closed` meets its contract: the three tests decide as the definition does. Assumes nothing.
 use borrow.Author.Needs.{needs}
 use lib.IntN.{pos, negsuc}
-use mir.Syntax.{w32}
-use mir.Val.{SFits}
-use Rattle.border.proofs.Signs.{same-read, differ-read}
-use Rattle.border.proofs.verdict.closed.Statement.{statement}
+use mir.{Syntax.{w32}, Val.{SFits}}
+use Rattle.border.proofs.{Signs.{same-read, differ-read}, verdict.closed.Statement.{statement}}
 use Rattle.border.specs.Verdict.{closedAt}
 use Rattle.border.proofs.verdict.closed.Tie as tie
 

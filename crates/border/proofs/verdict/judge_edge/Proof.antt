@@ -1,10 +1,7 @@
 -- `border::verdict::judge_edge` meets its contract: what its calls ensure, in the order of the definition. Assumes nothing.
 use borrow.Author.Needs.{needs}
-use Rattle.border.proofs.Kept.{quadrant-kept, location-kept}
-use Rattle.border.proofs.verdict.judge_edge.Statement.{statement}
-use Rattle.border.proofs.winding.Cases.{stays}
-use Rattle.border.specs.Distance.{measured}
-use Rattle.border.specs.Verdict.{along}
+use Rattle.border.proofs.{Kept.{quadrant-kept, location-kept}, verdict.judge_edge.Statement.{statement}, winding.Cases.{stays}}
+use Rattle.border.specs.{Distance.{measured}, Verdict.{along}}
 use Rattle.border.proofs.verdict.judge_edge.Tie as tie
 
 wound-requires : tie.Need-wound-requires

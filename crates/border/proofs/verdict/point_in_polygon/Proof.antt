@@ -5,18 +5,10 @@ use denote.Ref.{now}
 use lib.IntN.{pos}
 use mathlib.Core.Path.{_≡_, sym, ap, _∙_}
 use native.Mathlib.Nat.{lt-of-le-of-lt}
-use Rattle.border.proofs.Kept.{point-kept, seen-again}
-use Rattle.border.proofs.Gliding.{point-shorter, carried}
-use Rattle.border.proofs.Trace.{trace-step, point-trace}
-use Rattle.border.proofs.verdict.Cases.{judge-end, decides}
-use Rattle.border.proofs.verdict.point_in_polygon.Statement.{statement}
-use Rattle.border.specs.Gliding.{points}
-use Rattle.border.specs.Kept.{seenFrom, lastOf}
-use Rattle.border.specs.Step.{Step, told}
-use Rattle.border.specs.Trace.{Given, point, traceThen, traceOf, borderAt}
-use Rattle.border.specs.Verdict.{none, after, thenOn, judge, judgedAt}
-use Rattle.border.specs.declared.place.Point.{Point}
-use Rattle.border.specs.declared.verdict.Tally.{Tally}
+use Rattle.border.proofs.{Kept.{point-kept, seen-again}, Gliding.{point-shorter, carried}, Trace.{trace-step, point-trace}}
+use Rattle.border.proofs.verdict.{Cases.{judge-end, decides}, point_in_polygon.Statement.{statement}}
+use Rattle.border.specs.{Gliding.{points}, Kept.{seenFrom, lastOf}, Step.{Step, told}, Trace.{Given, point, traceThen, traceOf, borderAt}}
+use Rattle.border.specs.{Verdict.{none, after, thenOn, judge, judgedAt}, declared.{place.Point.{Point}, verdict.Tally.{Tally}}}
 use Rattle.numbers.specs.Answer.{Answer}
 use Rattle.border.specs.Told as R
 use Rattle.border.proofs.verdict.point_in_polygon.Tie as tie

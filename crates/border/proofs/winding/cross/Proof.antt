@@ -1,10 +1,8 @@
 -- `border::winding::cross` meets its contract: what its calls ensure. Assumes nothing.
 use borrow.Author.Needs.{needs}
 use mathlib.Core.Path.{_≡_}
-use mir.Syntax.{w32}
-use mir.Val.{toZ, ofZ}
-use Rattle.border.proofs.winding.Cases.{straight-across}
-use Rattle.border.proofs.winding.cross.Statement.{statement}
+use mir.{Syntax.{w32}, Val.{toZ, ofZ}}
+use Rattle.border.proofs.winding.{Cases.{straight-across}, cross.Statement.{statement}}
 use Rattle.border.specs.Winding.{acrossBy}
 use Rattle.border.proofs.winding.cross.Tie as tie
 

@@ -1,8 +1,7 @@
 -- `border::winding::crossing_of` meets its contract: what `to_i32` ensures. Assumes nothing.
 use borrow.Author.Needs.{needs}
 use mathlib.Core.Path.{_≡_}
-use mir.Syntax.{w32}
-use mir.Val.{toZ, ofZ}
+use mir.{Syntax.{w32}, Val.{toZ, ofZ}}
 use Rattle.border.proofs.winding.crossing_of.Statement.{statement}
 use Rattle.border.specs.Winding.{crossingOf}
 use Rattle.border.proofs.winding.crossing_of.Tie as tie

@@ -1,6 +1,5 @@
 -- `border::winding::quarter` meets its contract: the two tests decide as the definition does. Assumes nothing.
-use borrow.Author.Needs.{needs}
-use borrow.Author.Tests.{eq-eqb, ne-eqb}
+use borrow.Author.{Needs.{needs}, Tests.{eq-eqb, ne-eqb}}
 use Rattle.border.proofs.winding.quarter.Statement.{statement}
 use Rattle.border.specs.Winding.{quarterBy}
 use Rattle.border.proofs.winding.quarter.Tie as tie

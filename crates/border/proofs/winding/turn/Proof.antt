@@ -1,12 +1,8 @@
 -- `border::winding::turn` meets its contract: the exact sum, where it is in the range of an i32. Assumes nothing.
 use borrow.Author.Needs.{needs}
 use lib.IntN.{_+ℤ_}
-use mir.Facts.{toZ-ofZ}
-use mir.Syntax.{w32}
-use mir.Val.{SFits}
-use Rattle.border.proofs.Checks.{checked-found, checked-over, narrow}
-use Rattle.border.proofs.Signs.{exact-sum}
-use Rattle.border.proofs.place.Whole.{widened, widens, sum-fits}
+use mir.{Facts.{toZ-ofZ}, Syntax.{w32}, Val.{SFits}}
+use Rattle.border.proofs.{Checks.{checked-found, checked-over, narrow}, Signs.{exact-sum}, place.Whole.{widened, widens, sum-fits}}
 use Rattle.border.proofs.winding.turn.Statement.{statement}
 use Rattle.border.specs.Winding.{turned}
 use Rattle.border.proofs.winding.turn.Tie as tie

@@ -1,13 +1,9 @@
 -- `border::winding::turn_at` meets its contract: the bounds that fit, and the tests against them, decide as the definition does. Assumes nothing.
-use borrow.Author.Needs.{needs}
-use borrow.Author.Tests.{not-true, not-false}
+use borrow.Author.{Needs.{needs}, Tests.{not-true, not-false}}
 use lib.IntN.{pos, _+ℤ_, _-ℤ_}
 use mathlib.Core.Path.{_≡_}
-use mir.Syntax.{w32}
-use mir.Val.{SFits, toZ, ofZ}
-use Rattle.border.proofs.Checks.{checked-found, checked-over}
-use Rattle.border.proofs.Signs.{exact-sum, exact-difference}
-use Rattle.border.proofs.place.Whole.{widened, widens, sum-fits, difference-fits}
+use mir.{Syntax.{w32}, Val.{SFits, toZ, ofZ}}
+use Rattle.border.proofs.{Checks.{checked-found, checked-over}, Signs.{exact-sum, exact-difference}, place.Whole.{widened, widens, sum-fits, difference-fits}}
 use Rattle.border.proofs.winding.turn_at.Statement.{statement}
 use Rattle.border.specs.Winding.{turnAt}
 use Rattle.border.proofs.winding.turn_at.Tie as tie

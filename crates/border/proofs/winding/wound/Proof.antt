@@ -1,12 +1,9 @@
 -- `border::winding::wound` meets its contract: what its calls ensure, by how many quadrants the edge leads on. Assumes nothing.
 use Prim.Native.Nat.{_+_, _-_, _%_}
-use borrow.Author.Needs.{needs}
-use borrow.Author.Tests.{eq-eqb, ne-eqb}
+use borrow.Author.{Needs.{needs}, Tests.{eq-eqb, ne-eqb}}
 use mathlib.Core.Path.{_≡_}
 use native.Mathlib.Omega.{arith}
-use Rattle.border.proofs.Kept.{quadrant-small}
-use Rattle.border.proofs.winding.Cases.{stays}
-use Rattle.border.proofs.winding.wound.Statement.{statement}
+use Rattle.border.proofs.{Kept.{quadrant-small}, winding.{Cases.{stays}, wound.Statement.{statement}}}
 use Rattle.border.specs.Winding.{quarterBy, woundBy}
 use Rattle.border.proofs.winding.wound.Tie as tie
 

@@ -2,9 +2,7 @@
 use mathlib.Core.Path.{ap, _∙_}
 use borrow.Author.Tests.{le-leb, lt-leb}
 use native.Mathlib.Omega.{arith}
-use Rattle.border.specs.Writer.{replied}
-use Rattle.border.specs.declared.writer.Written.{Written}
-use Rattle.border.specs.declared.writer.Written.the-variants.{Refused}
+use Rattle.border.specs.{Writer.{replied}, declared.writer.Written.{Written, the-variants.{Refused}}}
 use Rattle.border.proofs.writer.finish.Statement.{statement}
 use Rattle.border.proofs.writer.finish.Tie as tie
 

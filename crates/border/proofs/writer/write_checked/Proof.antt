@@ -1,10 +1,8 @@
 -- `border::writer::write_checked` meets its contract. Assumes nothing.
-use mathlib.Core.Path.{_≡_, sym, ap, _∙_}
-use mathlib.Core.List.{[]}
+use mathlib.Core.{Path.{_≡_, sym, ap, _∙_}, List.{[]}}
 use native.Mathlib.Omega.{arith}
 use Rattle.numbers.specs.Reply.{given}
-use Rattle.border.specs.Writer.{checks, passed, replied}
-use Rattle.border.specs.declared.writer.Written.{Written}
+use Rattle.border.specs.{Writer.{checks, passed, replied}, declared.writer.Written.{Written}}
 use Rattle.border.proofs.writer.Replying.{refusing, finished, faulty, good-sizes, plain-none, plain-given, packed-many, packed-bad, packed-given}
 use Rattle.border.proofs.writer.write_checked.Statement.{statement}
 use Rattle.border.proofs.writer.write_checked.Tie as tie

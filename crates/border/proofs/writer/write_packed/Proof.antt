@@ -4,8 +4,7 @@ use borrow.Author.Needs.{needs}
 use mathlib.Core.Path.{_∙_}
 use native.Mathlib.Omega.{arith}
 use Rattle.border.specs.Moves.{movesOf}
-use Rattle.border.proofs.writer.Packing.{Packing, Known, own-asked, piece-room, again, last-asked, end-room, closed}
-use Rattle.border.proofs.writer.Stores.{left-all, stored-length}
+use Rattle.border.proofs.writer.{Packing.{Packing, Known, own-asked, piece-room, again, last-asked, end-room, closed}, Stores.{left-all, stored-length}}
 use Rattle.border.proofs.writer.write_packed.Statement.{statement}
 use Rattle.border.proofs.writer.write_packed.Tie as tie
 

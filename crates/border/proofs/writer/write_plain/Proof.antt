@@ -1,16 +1,10 @@
 -- `border::writer::write_plain` meets its contract. Assumes nothing.
 use native.Mathlib.Omega.{arith}
-use mathlib.Core.Path.{_≡_}
-use mathlib.Core.List.{[], _∷_, _++_, flatMap}
-use lib.ListN.{length}
-use lib.Seq.{slice}
-use Rattle.numbers.specs.Spelling.{varintOf}
+use mathlib.Core.{Path.{_≡_}, List.{[], _∷_, _++_, flatMap}}
+use lib.{ListN.{length}, Seq.{slice}}
+use Rattle.numbers.{specs.Spelling.{varintOf}, proofs.Spelling.{varint-few, varint-byte}}
 use Rattle.border.specs.Moves.{plainMoveBytes, movesOf}
-use Rattle.border.proofs.writer.Indexed.{border-length, all-moves}
-use Rattle.numbers.proofs.Spelling.{varint-few, varint-byte}
-use Rattle.border.proofs.writer.Stores.{stored-then}
-use Rattle.border.proofs.writer.Lengths.{plain-few}
-use Rattle.border.proofs.writer.write_plain.Statement.{statement}
+use Rattle.border.proofs.writer.{Indexed.{border-length, all-moves}, Stores.{stored-then}, Lengths.{plain-few}, write_plain.Statement.{statement}}
 use Rattle.border.proofs.writer.write_plain.Tie as tie
 
 put-plain-requires : tie.Need-put-plain-requires

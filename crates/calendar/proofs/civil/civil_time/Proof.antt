@@ -1,10 +1,8 @@
 -- `calendar::civil::civil_time` meets its contract: each way out is a case of `CivilOf`.
 -- Assumes nothing.
 use borrow.Author.Needs.{needs}
-use mir.Syntax.{w32, w64}
-use mir.ValLaws.{toZ-ofZ}
-use Rattle.calendar.proofs.civil.Clock.{at-days, civil-at, civil-outside}
-use Rattle.calendar.proofs.civil.civil_time.Statement.{statement}
+use mir.{Syntax.{w32, w64}, ValLaws.{toZ-ofZ}}
+use Rattle.calendar.proofs.civil.{Clock.{at-days, civil-at, civil-outside}, civil_time.Statement.{statement}}
 use Rattle.calendar.proofs.civil.civil_time.Tie as tie
 
 local-moment-requires : tie.Need-local-moment-requires

@@ -1,10 +1,8 @@
 -- `calendar::civil::local_moment` meets its contract: no i32 leads from outside the bounds into the years.
 -- Assumes nothing.
 use borrow.Author.Needs.{needs}
-use mir.Syntax.{w64}
-use mir.ValLaws.{toZ-ofZ}
-use Rattle.calendar.proofs.civil.Clock.{too-early, too-late, offset-fits, sum-fits, of-sum}
-use Rattle.calendar.proofs.civil.local_moment.Statement.{statement}
+use mir.{Syntax.{w64}, ValLaws.{toZ-ofZ}}
+use Rattle.calendar.proofs.civil.{Clock.{too-early, too-late, offset-fits, sum-fits, of-sum}, local_moment.Statement.{statement}}
 use Rattle.calendar.proofs.civil.local_moment.Tie as tie
 
 returns : tie.Need-returns

@@ -1,8 +1,7 @@
 -- `calendar::civil::shown` meets its contract: the date of the day, and the second of the day in hours, minutes and seconds.
 -- Assumes nothing.
 use borrow.Author.Needs.{needs}
-use Rattle.calendar.proofs.civil.Clock.{day-short, shows}
-use Rattle.calendar.proofs.civil.shown.Statement.{statement}
+use Rattle.calendar.proofs.civil.{Clock.{day-short, shows}, shown.Statement.{statement}}
 use Rattle.calendar.proofs.civil.shown.Tie as tie
 
 date-at-requires : tie.Need-date-at-requires

@@ -1,8 +1,7 @@
 -- `calendar::date::date_at` meets its contract: the year, and the place in it, make the date.
 -- Assumes nothing.
 use borrow.Author.Needs.{needs}
-use Rattle.calendar.proofs.Dates.{place-short, placed-date}
-use Rattle.calendar.proofs.date.date_at.Statement.{statement}
+use Rattle.calendar.proofs.{Dates.{place-short, placed-date}, date.date_at.Statement.{statement}}
 use Rattle.calendar.proofs.date.date_at.Tie as tie
 
 year-at-requires : tie.Need-year-at-requires

@@ -1,8 +1,7 @@
 -- `calendar::rule::day_of` meets its contract. Assumes nothing.
 use borrow.Author.Needs.{needs}
 use native.Mathlib.Omega.{arith}
-use Rattle.calendar.proofs.Sums.{days-few, leap-few, julian-is, zero-is, month-is, julian-sum, zero-sum, month-day-sum}
-use Rattle.calendar.proofs.rule.day_of.Statement.{statement}
+use Rattle.calendar.proofs.{Sums.{days-few, leap-few, julian-is, zero-is, month-is, julian-sum, zero-sum, month-day-sum}, rule.day_of.Statement.{statement}}
 use Rattle.calendar.proofs.rule.day_of.Tie as tie
 
 enum-known-when : tie.Need-enum-known-when

@@ -1,8 +1,7 @@
 -- `calendar::rule::first_of` meets its contract. Assumes nothing.
 use borrow.Author.Needs.{needs}
 use native.Mathlib.Omega.{arith}
-use Rattle.calendar.proofs.Sums.{first-sum, first-few}
-use Rattle.calendar.proofs.rule.first_of.Statement.{statement}
+use Rattle.calendar.proofs.{Sums.{first-sum, first-few}, rule.first_of.Statement.{statement}}
 use Rattle.calendar.proofs.rule.first_of.Tie as tie
 
 days-of-years-requires : tie.Need-days-of-years-requires

@@ -3,8 +3,7 @@ use Prim.Native.Nat.{ℕ, _+_, _-_, _%_}
 use borrow.Author.Needs.{needs}
 use mathlib.Core.Path.{ap}
 use native.Mathlib.Omega.{arith}
-use Rattle.calendar.proofs.Weeks.{weekday-small}
-use Rattle.calendar.proofs.rule.last_on.Statement.{statement}
+use Rattle.calendar.proofs.{Weeks.{weekday-small}, rule.last_on.Statement.{statement}}
 use Rattle.calendar.specs.Rules.{lastOn}
 use Rattle.calendar.proofs.rule.last_on.Tie as tie
 

@@ -1,7 +1,6 @@
 -- `calendar::rule::leap_day` meets its contract. Assumes nothing.
 use borrow.Author.Needs.{needs}
-use Rattle.calendar.proofs.Sums.{leap-early, leap-late, leap-never}
-use Rattle.calendar.proofs.rule.leap_day.Statement.{statement}
+use Rattle.calendar.proofs.{Sums.{leap-early, leap-late, leap-never}, rule.leap_day.Statement.{statement}}
 use Rattle.calendar.proofs.rule.leap_day.Tie as tie
 
 add-is-leap : tie.Need-add-is-leap

@@ -1,8 +1,7 @@
 -- `calendar::rule::month_day` meets its contract. Assumes nothing.
 use borrow.Author.Needs.{needs}
 use native.Mathlib.Omega.{arith}
-use Rattle.calendar.proofs.Sums.{first-few, weeks-few, month-sum}
-use Rattle.calendar.proofs.rule.month_day.Statement.{statement}
+use Rattle.calendar.proofs.{Sums.{first-few, weeks-few, month-sum}, rule.month_day.Statement.{statement}}
 use Rattle.calendar.proofs.rule.month_day.Tie as tie
 
 first-of-requires : tie.Need-first-of-requires

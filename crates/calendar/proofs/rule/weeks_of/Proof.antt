@@ -1,8 +1,7 @@
 -- `calendar::rule::weeks_of` meets its contract. Assumes nothing.
 use borrow.Author.Needs.{needs}
 use native.Mathlib.Omega.{arith}
-use Rattle.calendar.proofs.Sums.{weeks-all, weeks-cut}
-use Rattle.calendar.proofs.rule.weeks_of.Statement.{statement}
+use Rattle.calendar.proofs.{Sums.{weeks-all, weeks-cut}, rule.weeks_of.Statement.{statement}}
 use Rattle.calendar.proofs.rule.weeks_of.Tie as tie
 
 add-is-leap : tie.Need-add-is-leap

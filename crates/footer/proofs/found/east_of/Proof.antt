@@ -1,7 +1,6 @@
 -- `footer::found::east_of` meets its contract. Assumes nothing.
 use borrow.Author.Needs.{needs}
-use Rattle.footer.proofs.found.Ways.{difference-fits, east-fits, east-is}
-use Rattle.footer.proofs.found.east_of.Statement.{statement}
+use Rattle.footer.proofs.found.{Ways.{difference-fits, east-fits, east-is}, east_of.Statement.{statement}}
 use Rattle.footer.proofs.found.east_of.Tie as tie
 
 sub-east : tie.Need-sub-east

@@ -1,11 +1,8 @@
 -- `footer::found::found_of` meets its contract. Assumes nothing.
-use borrow.Author.Needs.{needs}
-use borrow.Author.Needs.{sfits-of}
+use borrow.Author.Needs.{needs, sfits-of}
 use mathlib.Core.Path.{_∙_}
-use mir.Syntax.{w32}
-use mir.ValLaws.{toZ-ofZ}
-use Rattle.footer.proofs.found.Ways.{found-is}
-use Rattle.footer.proofs.found.found_of.Statement.{statement}
+use mir.{Syntax.{w32}, ValLaws.{toZ-ofZ}}
+use Rattle.footer.proofs.found.{Ways.{found-is}, found_of.Statement.{statement}}
 use Rattle.footer.proofs.found.found_of.Tie as tie
 
 returns : tie.Need-returns

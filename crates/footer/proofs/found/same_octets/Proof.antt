@@ -1,10 +1,8 @@
 -- `footer::found::same_octets` meets its contract: all that were passed are equal. Assumes nothing.
 use Prim.Native.Nat.{_-_, _≤_}
-use mathlib.Core.Bool.{true}
-use mathlib.Core.Path.{_≡_}
+use mathlib.Core.{Bool.{true}, Path.{_≡_}}
 use native.Mathlib.Omega.{arith}
-use Rattle.footer.proofs.found.Ways.{same-none, same-more, same-differs, same-all}
-use Rattle.footer.proofs.found.same_octets.Statement.{statement}
+use Rattle.footer.proofs.found.{Ways.{same-none, same-more, same-differs, same-all}, same_octets.Statement.{statement}}
 use Rattle.footer.specs.Found.{sameOctets}
 use Rattle.footer.proofs.found.same_octets.Tie as tie
 

@@ -1,7 +1,6 @@
 -- `footer::local::answer_by` meets its contract. Assumes nothing.
 use borrow.Author.Needs.{needs}
-use Rattle.footer.proofs.local.Ways.{answer-without, answer-ruled, answer-listed, held-tz}
-use Rattle.footer.proofs.local.answer_by.Statement.{statement}
+use Rattle.footer.proofs.local.{Ways.{answer-without, answer-ruled, answer-listed, held-tz}, answer_by.Statement.{statement}}
 use Rattle.footer.proofs.local.answer_by.Tie as tie
 
 ask-in-requires : tie.Need-ask-in-requires

@@ -1,9 +1,7 @@
 -- `footer::local::by_rule` meets its contract. Assumes nothing.
 use borrow.Author.Needs.{needs}
-use Rattle.footer.proofs.local.Ways.{rule-found, rule-outside}
-use Rattle.footer.proofs.rule.Ways.{holds-clock, clock-short, clock-found}
+use Rattle.footer.proofs.{local.{Ways.{rule-found, rule-outside}, by_rule.Statement.{statement}}, rule.Ways.{holds-clock, clock-short, clock-found}}
 use Rattle.footer.specs.Local.{HeldSaid}
-use Rattle.footer.proofs.local.by_rule.Statement.{statement}
 use Rattle.footer.proofs.local.by_rule.Tie as tie
 
 found-of-requires : tie.Need-found-of-requires

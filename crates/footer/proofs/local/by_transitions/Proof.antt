@@ -1,10 +1,9 @@
 -- `footer::local::by_transitions` meets its contract. Assumes nothing.
 use borrow.Author.Needs.{needs}
 use mathlib.Core.Path.{sym, ap, _∙_}
-use Rattle.footer.proofs.local.Ways.{table-found, table-unknown}
+use Rattle.footer.proofs.local.{Ways.{table-found, table-unknown}, by_transitions.Statement.{statement}}
 use Rattle.footer.specs.Local.{HeldSaid}
 use Rattle.tzif.proofs.Goods.{found-held}
-use Rattle.footer.proofs.local.by_transitions.Statement.{statement}
 use Rattle.footer.proofs.local.by_transitions.Tie as tie
 
 returns : tie.Need-returns

@@ -1,9 +1,7 @@
 -- `footer::local::local_time` meets its contract. Assumes nothing.
 use borrow.Author.Needs.{needs}
-use mir.Syntax.{w64}
-use mir.ValLaws.{toZ-ofZ}
-use Rattle.footer.proofs.local.Ways.{said-held, reply-found, reply-unknown, reply-refused}
-use Rattle.footer.proofs.local.local_time.Statement.{statement}
+use mir.{Syntax.{w64}, ValLaws.{toZ-ofZ}}
+use Rattle.footer.proofs.local.{Ways.{said-held, reply-found, reply-unknown, reply-refused}, local_time.Statement.{statement}}
 use Rattle.footer.proofs.local.local_time.Tie as tie
 
 reply-found-requires : tie.Need-reply-found-requires

@@ -3,8 +3,8 @@ use borrow.Author.Needs.{needs}
 use native.Mathlib.Omega.{arith}
 use mathlib.Core.Path.{sym, ap, _∙_}
 use Rattle.footer.proofs.rule.Ways.{last-is, type-is, type-few, type-within, holds-clock, clock-short, clock-found, no-transitions, not-asked, compared}
-use Rattle.tzif.proofs.Widths.{transitions-inside}
 use Rattle.footer.proofs.rule.agrees.Statement.{statement}
+use Rattle.tzif.proofs.Widths.{transitions-inside}
 use Rattle.footer.proofs.rule.agrees.Tie as tie
 
 returns : tie.Need-returns

@@ -1,8 +1,7 @@
 -- `footer::rule::ask_in` meets its contract. Assumes nothing.
 use borrow.Author.Needs.{needs}
-use Rattle.footer.proofs.rule.Ways.{ask-is, asked-held}
+use Rattle.footer.proofs.rule.{Ways.{ask-is, asked-held}, ask_in.Statement.{statement}}
 use Rattle.tzrule.proofs.Laws.{is-ruled}
-use Rattle.footer.proofs.rule.ask_in.Statement.{statement}
 use Rattle.footer.proofs.rule.ask_in.Tie as tie
 
 ask-at-requires : tie.Need-ask-at-requires

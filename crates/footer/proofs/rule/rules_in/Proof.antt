@@ -2,10 +2,9 @@
 use borrow.Author.Needs.{needs}
 use native.Mathlib.Omega.{arith}
 use mathlib.Core.Path.{sym, ap, _∙_}
-use Rattle.footer.proofs.rule.Ways.{without, no-string, ruled, contradicts}
+use Rattle.footer.proofs.rule.{Ways.{without, no-string, ruled, contradicts}, rules_in.Statement.{statement}}
 use Rattle.footer.specs.Local.{HeldRules, HeldStated}
 use Rattle.tzrule.proofs.Laws.{string-is, string-good, string-fault}
-use Rattle.footer.proofs.rule.rules_in.Statement.{statement}
 use Rattle.footer.proofs.rule.rules_in.Tie as tie
 
 returns : tie.Need-returns

@@ -2,8 +2,7 @@
 use lib.ListN.{length, length-set}
 use mathlib.Core.Path.{ap, _∙_}
 use native.Mathlib.Omega.{arith}
-use Rattle.header.proofs.field.Entries.{entry-fits, entry-put, entry-length}
-use Rattle.header.proofs.field.put_entry.Statement.{statement}
+use Rattle.header.proofs.field.{Entries.{entry-fits, entry-put, entry-length}, put_entry.Statement.{statement}}
 use Rattle.header.proofs.field.put_entry.Tie as tie
 
 slice-write-text-2 : tie.Need-slice-write-text-2

@@ -2,8 +2,7 @@
 use lib.ListN.{length, length-set}
 use mathlib.Core.Path.{ap, _∙_}
 use native.Mathlib.Omega.{arith}
-use Rattle.header.proofs.field.Entries.{field-fits, field-put, field-length}
-use Rattle.header.proofs.field.put_field.Statement.{statement}
+use Rattle.header.proofs.field.{Entries.{field-fits, field-put, field-length}, put_field.Statement.{statement}}
 use Rattle.header.proofs.field.put_field.Tie as tie
 
 sub-put-entry : tie.Need-sub-put-entry

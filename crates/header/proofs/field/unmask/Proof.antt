@@ -3,8 +3,7 @@ use Prim.Native.Nat.{_≤_, _-_}
 use lib.ListN.{length}
 use mathlib.Core.Path.{_≡_, refl, ap, _∙_}
 use native.Mathlib.Omega.{arith}
-use Rattle.header.proofs.field.Entries.{unmaskedTo, unmask-suc, unmask-length, unmask-all}
-use Rattle.header.proofs.field.unmask.Statement.{statement}
+use Rattle.header.proofs.field.{Entries.{unmaskedTo, unmask-suc, unmask-length, unmask-all}, unmask.Statement.{statement}}
 use Rattle.header.proofs.field.unmask.Tie as tie
 
 abbrev Inv-loop : tie.InvT-loop

@@ -1,9 +1,7 @@
 -- `header::field::write_field` meets its contract. Assumes nothing.
 use mathlib.Core.Path.{_≡_}
 use native.Mathlib.Omega.{arith}
-use Rattle.header.proofs.field.Fields.{bad, lies, no-room, whole}
-use Rattle.header.proofs.Strings.{Lies, part-length}
-use Rattle.header.proofs.field.write_field.Statement.{statement}
+use Rattle.header.proofs.{field.{Fields.{bad, lies, no-room, whole}, write_field.Statement.{statement}}, Strings.{Lies, part-length}}
 use Rattle.numbers.specs.Reply.{given}
 use Rattle.header.specs.Text.{textAt}
 use Rattle.header.proofs.field.write_field.Tie as tie

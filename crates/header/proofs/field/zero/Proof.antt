@@ -3,8 +3,7 @@ use Prim.Native.Nat.{_≤_, _-_}
 use lib.ListN.{length}
 use mathlib.Core.Path.{_≡_, refl, ap, _∙_}
 use native.Mathlib.Omega.{arith}
-use Rattle.header.proofs.Buffers.{zeroed, zeroed-suc, zeroed-length, zeroed-all}
-use Rattle.header.proofs.field.zero.Statement.{statement}
+use Rattle.header.proofs.{Buffers.{zeroed, zeroed-suc, zeroed-length, zeroed-all}, field.zero.Statement.{statement}}
 use Rattle.header.proofs.field.zero.Tie as tie
 
 abbrev Inv-loop : tie.InvT-loop

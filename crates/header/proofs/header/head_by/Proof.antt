@@ -1,8 +1,6 @@
 -- `header::header::head_by` meets its contract. Assumes nothing.
 use native.Mathlib.Omega.{arith}
-use Rattle.header.proofs.header.Heads.{no-preamble, no-texts, no-sections, whole}
-use Rattle.header.proofs.header.Texts.{short-enough}
-use Rattle.header.proofs.header.head_by.Statement.{statement}
+use Rattle.header.proofs.header.{Heads.{no-preamble, no-texts, no-sections, whole}, Texts.{short-enough}, head_by.Statement.{statement}}
 use Rattle.header.proofs.header.head_by.Tie as tie
 
 returns : tie.Need-returns

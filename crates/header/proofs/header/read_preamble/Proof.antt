@@ -4,9 +4,8 @@ use borrow.Author.Tests.{le-leb, lt-leb, not-true, not-false, lt-ltb, le-ltb, eq
 use lib.ListN.{length}
 use mathlib.Core.Path.{sym, ap, _∙_}
 use native.Mathlib.Omega.{arith}
-use Rattle.numbers.proofs.Replies.{met, unmet}
+use Rattle.numbers.{proofs.Replies.{met, unmet}, specs.Reply.{refusal, refused}}
 use Rattle.header.specs.Header.{preambleOf}
-use Rattle.numbers.specs.Reply.{refusal, refused}
 use Rattle.header.proofs.header.read_preamble.Statement.{statement}
 use Rattle.header.proofs.header.read_preamble.Tie as tie
 

@@ -1,8 +1,7 @@
 -- `header::header::read_sections` meets its contract. Assumes nothing.
 use mathlib.Core.Path.{ap, _∙_}
 use native.Mathlib.Omega.{arith}
-use Rattle.header.proofs.header.Sizes.{size-place, no-first, no-second, too-far, no-third, all-three}
-use Rattle.header.proofs.header.read_sections.Statement.{statement}
+use Rattle.header.proofs.header.{Sizes.{size-place, no-first, no-second, too-far, no-third, all-three}, read_sections.Statement.{statement}}
 use Rattle.numbers.specs.Reply.{refused}
 use Rattle.header.proofs.header.read_sections.Tie as tie
 

@@ -1,12 +1,8 @@
 -- `header::header::read_size` meets its contract. Assumes nothing.
 use mathlib.Core.Path.{sym, ap, _∙_}
 use native.Mathlib.Omega.{arith}
-use Rattle.numbers.proofs.Answers.{found-again}
-use Rattle.numbers.proofs.Laws.{stops}
-use Rattle.numbers.specs.Answer.{Answer, found}
-use Rattle.numbers.specs.Varint.{Numeral, readingOf}
+use Rattle.numbers.{proofs.{Answers.{found-again}, Laws.{stops}}, specs.{Answer.{Answer, found}, Varint.{Numeral, readingOf}, Reply.{refused, plain, _orElse_}}}
 use Rattle.header.proofs.header.read_size.Statement.{statement}
-use Rattle.numbers.specs.Reply.{refused, plain, _orElse_}
 use Rattle.header.proofs.header.read_size.Tie as tie
 
 returns : tie.Need-returns

@@ -2,12 +2,10 @@
 use Prim.Native.Nat.{_+_, _^_}
 use borrow.Author.Tests.{lt-ltb, le-ltb, eq-eqb, ne-eqb}
 use lib.Dec.{ltb}
-use mathlib.Core.Bool.{true}
-use mathlib.Core.Path.{_≡_, ap, _∙_}
+use mathlib.Core.{Bool.{true}, Path.{_≡_, ap, _∙_}}
 use native.Mathlib.Omega.{arith}
-use Rattle.numbers.proofs.Replies.{met, unmet}
+use Rattle.numbers.{proofs.Replies.{met, unmet}, specs.Reply.{refused}}
 use Rattle.header.specs.Header.{sectionsFrom}
-use Rattle.numbers.specs.Reply.{refused}
 use Rattle.header.proofs.header.sections_from.Statement.{statement}
 use Rattle.header.proofs.header.sections_from.Tie as tie
 

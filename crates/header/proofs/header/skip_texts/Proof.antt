@@ -1,8 +1,7 @@
 -- `header::header::skip_texts` meets its contract. Assumes nothing.
 use Prim.Native.Nat.{_+_, _-_}
 use native.Mathlib.Omega.{arith}
-use Rattle.header.proofs.header.Texts.{Skipping, starts, goes, stops, ends}
-use Rattle.header.proofs.header.skip_texts.Statement.{statement}
+use Rattle.header.proofs.header.{Texts.{Skipping, starts, goes, stops, ends}, skip_texts.Statement.{statement}}
 use Rattle.header.proofs.header.skip_texts.Tie as tie
 
 abbrev Inv-loop : tie.InvT-loop

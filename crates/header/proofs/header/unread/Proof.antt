@@ -1,7 +1,6 @@
 -- `header::header::unread` meets its contract. Assumes nothing.
 use native.Mathlib.Omega.{arith}
-use Rattle.header.proofs.header.Sizes.{unread-own, unread-met}
-use Rattle.header.proofs.header.unread.Statement.{statement}
+use Rattle.header.proofs.header.{Sizes.{unread-own, unread-met}, unread.Statement.{statement}}
 use Rattle.header.proofs.header.unread.Tie as tie
 
 returns : tie.Need-returns

@@ -4,14 +4,9 @@ use borrow.Author.Needs.{needs}
 use lib.ListN.{length}
 use mathlib.Core.Path.{subst, ap, _∙_}
 use native.Mathlib.Omega.{arith}
-use Rattle.header.proofs.Buffers.{of-length, all-zero}
-use Rattle.header.proofs.opening.Replies.{no-head, no-room, opened}
-use Rattle.header.specs.Header.{textsOf}
-use Rattle.numbers.specs.Lists.{zeros}
-use Rattle.header.specs.Opening.{Filled, replied}
-use Rattle.header.specs.declared.opening.Wrote.{Wrote}
-use Rattle.numbers.specs.declared.refusal.Refusal.{Refusal}
-use Rattle.header.proofs.opening.open_by.Statement.{statement}
+use Rattle.header.proofs.{Buffers.{of-length, all-zero}, opening.{Replies.{no-head, no-room, opened}, open_by.Statement.{statement}}}
+use Rattle.header.specs.{Header.{textsOf}, Opening.{Filled, replied}, declared.opening.Wrote.{Wrote}}
+use Rattle.numbers.specs.{Lists.{zeros}, declared.refusal.Refusal.{Refusal}}
 use Rattle.header.specs.declared.opening.Opened.the-variants as O
 use Rattle.header.proofs.opening.open_by.Tie as tie
 

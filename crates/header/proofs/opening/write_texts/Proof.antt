@@ -2,16 +2,12 @@
 use Prim.Native.Nat.{_+_, _-_}
 use lib.ListN.{length}
 use mathlib.Core.Path.{_≡_}
-use mir.Syntax.{w64}
-use mir.Val.{Fits}
+use mir.{Syntax.{w64}, Val.{Fits}}
 use native.Mathlib.Omega.{arith}
-use Rattle.header.proofs.Buffers.{lent-length}
-use Rattle.header.proofs.opening.Writing.{Writing, starts, bad, lies, full, goes, ends}
-use Rattle.header.proofs.opening.write_texts.Statement.{statement}
+use Rattle.header.proofs.{Buffers.{lent-length}, opening.{Writing.{Writing, starts, bad, lies, full, goes, ends}, write_texts.Statement.{statement}}}
 use Rattle.header.proofs.Strings.{Lies, part-length}
-use Rattle.header.specs.Header.{blameOf}
+use Rattle.header.specs.{Header.{blameOf}, Text.{textAt}}
 use Rattle.numbers.specs.Reply.{given}
-use Rattle.header.specs.Text.{textAt}
 use Rattle.header.proofs.opening.write_texts.Tie as tie
 
 abbrev Inv-loop : tie.InvT-loop

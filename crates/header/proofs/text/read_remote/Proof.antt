@@ -2,8 +2,7 @@
 use borrow.Author.Tests.{le-leb, lt-leb}
 use mathlib.Core.Path.{_∙_}
 use native.Mathlib.Omega.{arith}
-use Rattle.numbers.proofs.Laws.{goes-on, stops}
-use Rattle.numbers.proofs.Answers.{chosen, other}
+use Rattle.numbers.proofs.{Laws.{goes-on, stops}, Answers.{chosen, other}}
 use Rattle.header.specs.Text.{remoteAt}
 use Rattle.header.proofs.text.read_remote.Statement.{statement}
 use Rattle.header.proofs.text.read_remote.Tie as tie

@@ -3,12 +3,9 @@ use Prim.Native.Nat.{ℕ}
 use borrow.Author.Tests.{lt-ltb, le-ltb}
 use mathlib.Core.Path.{sym, ap, _∙_}
 use native.Mathlib.Omega.{arith}
-use Rattle.numbers.proofs.Laws.{goes-on, stops}
-use Rattle.numbers.proofs.Answers.{chosen, other}
-use Rattle.header.proofs.Strings.{away, read-within}
-use Rattle.numbers.specs.Varint.{told}
+use Rattle.numbers.{proofs.{Laws.{goes-on, stops}, Answers.{chosen, other}}, specs.Varint.{told}}
+use Rattle.header.proofs.{Strings.{away, read-within}, text.read_string.Statement.{statement}}
 use Rattle.header.specs.Text.{stringAt, remoteAt}
-use Rattle.header.proofs.text.read_string.Statement.{statement}
 use Rattle.header.proofs.text.read_string.Tie as tie
 
 returns : tie.Need-returns

@@ -1,12 +1,9 @@
 -- `header::text::read_text` meets its contract. Assumes nothing.
 use mathlib.Core.Path.{sym, ap, _∙_}
 use native.Mathlib.Omega.{arith}
-use Rattle.numbers.proofs.Answers.{chosen, other}
-use Rattle.header.proofs.Strings.{string-lies, part-is, is-failed}
-use Rattle.numbers.specs.Reply.{refused}
-use Rattle.header.specs.Text.{orBlamed, textAt}
-use Rattle.header.specs.Utf8.{isUtf8}
-use Rattle.header.proofs.text.read_text.Statement.{statement}
+use Rattle.numbers.{proofs.Answers.{chosen, other}, specs.Reply.{refused}}
+use Rattle.header.proofs.{Strings.{string-lies, part-is, is-failed}, text.read_text.Statement.{statement}}
+use Rattle.header.specs.{Text.{orBlamed, textAt}, Utf8.{isUtf8}}
 use Rattle.header.proofs.text.read_text.Tie as tie
 
 add-end : tie.Need-add-end

@@ -1,9 +1,8 @@
 -- `header::utf8::begin` meets its contract. Assumes nothing.
 use mathlib.Core.Path.{refl, ap, _∙_}
 use native.Mathlib.Omega.{arith}
-use Rattle.header.proofs.utf8.Octets.{inside, above, below}
+use Rattle.header.proofs.utf8.{Octets.{inside, above, below}, begin.Statement.{statement}}
 use Rattle.header.specs.Utf8.{toldStep, characters, startedBy, begunBy}
-use Rattle.header.proofs.utf8.begin.Statement.{statement}
 use Rattle.header.proofs.utf8.begin.Tie as tie
 
 returns : tie.Need-returns

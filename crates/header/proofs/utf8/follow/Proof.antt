@@ -2,9 +2,8 @@
 use Prim.Native.Nat.{_-_}
 use mathlib.Core.Path.{sym, ap, _∙_}
 use native.Mathlib.Omega.{arith}
-use Rattle.header.proofs.utf8.Octets.{first-byte, too-low, too-high, right, tails}
+use Rattle.header.proofs.utf8.{Octets.{first-byte, too-low, too-high, right, tails}, follow.Statement.{statement}}
 use Rattle.header.specs.Utf8.{toldStep}
-use Rattle.header.proofs.utf8.follow.Statement.{statement}
 use Rattle.header.proofs.utf8.follow.Tie as tie
 
 returns : tie.Need-returns

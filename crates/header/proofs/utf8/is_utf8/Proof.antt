@@ -2,8 +2,7 @@
 use Prim.Native.Nat.{_-_}
 use lib.ListN.{length}
 use native.Mathlib.Omega.{arith}
-use Rattle.header.proofs.utf8.Octets.{Going, starts, goes, fails, ends}
-use Rattle.header.proofs.utf8.is_utf8.Statement.{statement}
+use Rattle.header.proofs.utf8.{Octets.{Going, starts, goes, fails, ends}, is_utf8.Statement.{statement}}
 use Rattle.header.proofs.utf8.is_utf8.Tie as tie
 
 abbrev Inv-loop : tie.InvT-loop

@@ -2,9 +2,7 @@
 use Prim.Native.Nat.{_+_, _*_, _^_}
 use borrow.Author.Needs.{needs, sfits-of}
 use mathlib.Core.Path.{_∙_}
-use mir.Facts.{toZ-ofZ}
-use mir.Syntax.{w64}
-use mir.Val.{toZ}
+use mir.{Facts.{toZ-ofZ}, Syntax.{w64}, Val.{toZ}}
 use Rattle.hour.proofs.instant.instant_of.Statement.{statement}
 use Rattle.hour.proofs.instant.instant_of.Tie as tie
 

@@ -3,8 +3,7 @@ use Prim.Native.Nat.{_-_, _^_}
 use borrow.Author.Needs.{needs}
 use mir.Syntax.{w64}
 use native.Mathlib.Omega.{arith}
-use Rattle.hour.proofs.Signs.{read-high}
-use Rattle.hour.proofs.instant.signed.Statement.{statement}
+use Rattle.hour.proofs.{Signs.{read-high}, instant.signed.Statement.{statement}}
 use Rattle.numbers.proofs.Signed.{complement-fits}
 use Rattle.hour.proofs.instant.signed.Tie as tie
 

@@ -1,12 +1,9 @@
 -- `hour::lines::put_answer` meets its contract. Assumes nothing.
 use borrow.Author.Needs.{needs}
 use mathlib.Core.Path.{ap, sym}
-use mir.Syntax.{w64}
-use mir.ValLaws.{toZ-ofZ}
-use Rattle.hour.proofs.Answers.{answered-as, answered-unknown, answered-refused}
-use Rattle.hour.proofs.lines.put_answer.Statement.{statement}
-use Rattle.tzif.specs.Local.{replied}
-use Rattle.tzif.specs.declared.local.LocalTime.{LocalTime}
+use mir.{Syntax.{w64}, ValLaws.{toZ-ofZ}}
+use Rattle.hour.proofs.{Answers.{answered-as, answered-unknown, answered-refused}, lines.put_answer.Statement.{statement}}
+use Rattle.tzif.specs.{Local.{replied}, declared.local.LocalTime.{LocalTime}}
 use Rattle.hour.proofs.lines.put_answer.Tie as tie
 
 returns : tie.Need-returns

@@ -1,9 +1,7 @@
 -- `hour::lines::put_local` meets its contract. Assumes nothing.
 use borrow.Author.Needs.{needs}
-use mir.Syntax.{w32, w64}
-use mir.ValLaws.{toZ-ofZ}
-use Rattle.hour.proofs.Answers.{answered-hour, answered-outside}
-use Rattle.hour.proofs.lines.put_local.Statement.{statement}
+use mir.{Syntax.{w32, w64}, ValLaws.{toZ-ofZ}}
+use Rattle.hour.proofs.{Answers.{answered-hour, answered-outside}, lines.put_local.Statement.{statement}}
 use Rattle.hour.proofs.lines.put_local.Tie as tie
 
 returns : tie.Need-returns

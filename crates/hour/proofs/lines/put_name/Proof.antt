@@ -2,11 +2,9 @@
 use Prim.Native.Nat.{ℕ}
 use borrow.Author.Needs.{needs}
 use lib.ListN.{take}
-use mathlib.Core.List.{map}
-use mathlib.Core.Path.{ap, _∙_}
+use mathlib.Core.{List.{map}, Path.{ap, _∙_}}
 use native.Mathlib.Omega.{arith}
-use Rattle.hour.proofs.Names.{take-least}
-use Rattle.hour.proofs.lines.put_name.Statement.{statement}
+use Rattle.hour.proofs.{Names.{take-least}, lines.put_name.Statement.{statement}}
 use Rattle.hour.specs.Line.{shown}
 use Rattle.line.proofs.Puts.{put-then, put-as}
 use Rattle.hour.proofs.lines.put_name.Tie as tie

@@ -1,14 +1,11 @@
 -- `hour::lines::put_shown` meets its contract: after i turns the first i bytes stand there. Assumes nothing.
 use Prim.Native.Nat.{ℕ, _-_, _≤_}
 use lib.ListN.{take}
-use mathlib.Core.List.{map}
-use mathlib.Core.Path.{_≡_, ap}
+use mathlib.Core.{List.{map}, Path.{_≡_, ap}}
 use native.Mathlib.Omega.{arith}
-use Rattle.hour.proofs.Names.{shown-next}
-use Rattle.hour.proofs.lines.put_shown.Statement.{statement}
+use Rattle.hour.proofs.{Names.{shown-next}, lines.put_shown.Statement.{statement}}
 use Rattle.hour.specs.Line.{shown}
-use Rattle.line.proofs.Puts.{put-length, put-none, put-then, put-as, put-byte}
-use Rattle.line.specs.Put.{Put}
+use Rattle.line.{proofs.Puts.{put-length, put-none, put-then, put-as, put-byte}, specs.Put.{Put}}
 use Rattle.hour.proofs.lines.put_shown.Tie as tie
 
 abbrev Inv-loop : tie.InvT-loop

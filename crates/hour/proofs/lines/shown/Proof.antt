@@ -1,6 +1,5 @@
 -- `hour::lines::shown` meets its contract. Assumes nothing.
-use Rattle.hour.proofs.Names.{letter, too-low, too-high}
-use Rattle.hour.proofs.lines.shown.Statement.{statement}
+use Rattle.hour.proofs.{Names.{letter, too-low, too-high}, lines.shown.Statement.{statement}}
 use Rattle.hour.proofs.lines.shown.Tie as tie
 
 returns : tie.Need-returns

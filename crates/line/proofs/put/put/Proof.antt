@@ -1,7 +1,6 @@
 -- `line::put::put` meets its contract. Assumes nothing.
 use borrow.Author.Needs.{needs}
-use Rattle.line.proofs.Puts.{put-past}
-use Rattle.line.proofs.put.put.Statement.{statement}
+use Rattle.line.proofs.{Puts.{put-past}, put.put.Statement.{statement}}
 use Rattle.line.proofs.put.put.Tie as tie
 
 returns-2 : tie.Need-returns-2

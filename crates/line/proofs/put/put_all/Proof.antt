@@ -1,10 +1,8 @@
 -- `line::put::put_all` meets its contract: after i turns the first i bytes stand there. Assumes nothing.
 use Prim.Native.Nat.{_-_, _≤_}
-use lib.ListN.{length, take}
-use lib.Seq.{take-all}
+use lib.{ListN.{length, take}, Seq.{take-all}}
 use native.Mathlib.Omega.{arith}
-use Rattle.line.proofs.Puts.{put-length, put-none, put-next, put-as}
-use Rattle.line.proofs.put.put_all.Statement.{statement}
+use Rattle.line.proofs.{Puts.{put-length, put-none, put-next, put-as}, put.put_all.Statement.{statement}}
 use Rattle.line.specs.Put.{Put}
 use Rattle.line.proofs.put.put_all.Tie as tie
 

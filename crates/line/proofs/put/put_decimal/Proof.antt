@@ -2,9 +2,7 @@
 use borrow.Author.Needs.{needs}
 use mathlib.Core.Path.{_∙_}
 use native.Mathlib.Omega.{arith}
-use Rattle.line.proofs.Decimals.{in-digits}
-use Rattle.line.proofs.Puts.{put-as}
-use Rattle.line.proofs.put.put_decimal.Statement.{statement}
+use Rattle.line.proofs.{Decimals.{in-digits}, Puts.{put-as}, put.put_decimal.Statement.{statement}}
 use Rattle.line.proofs.put.put_decimal.Tie as tie
 
 returns : tie.Need-returns

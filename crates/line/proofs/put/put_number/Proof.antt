@@ -1,7 +1,6 @@
 -- `line::put::put_number` meets its contract. Assumes nothing.
 use borrow.Author.Needs.{needs}
-use Rattle.line.proofs.Puts.{put-then}
-use Rattle.line.proofs.put.put_number.Statement.{statement}
+use Rattle.line.proofs.{Puts.{put-then}, put.put_number.Statement.{statement}}
 use Rattle.line.proofs.put.put_number.Tie as tie
 
 returns : tie.Need-returns

@@ -1,7 +1,6 @@
 -- `line::put::put_two` meets its contract. Assumes nothing.
 use borrow.Author.Needs.{needs}
-use Rattle.line.proofs.Puts.{put-byte, put-then}
-use Rattle.line.proofs.put.put_two.Statement.{statement}
+use Rattle.line.proofs.{Puts.{put-byte, put-then}, put.put_two.Statement.{statement}}
 use Rattle.line.proofs.put.put_two.Tie as tie
 
 returns : tie.Need-returns

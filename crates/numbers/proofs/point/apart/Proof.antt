@@ -1,9 +1,8 @@
 -- `numbers::point::apart` meets its contract. Assumes nothing.
 use Prim.Native.Nat.{ℕ, _+_, _*_, _/_, _%_, _^_}
 use mathlib.Core.Path.{ap, _∙_}
-use Rattle.numbers.proofs.point.BothBits.{both-at-once}
+use Rattle.numbers.proofs.point.{BothBits.{both-at-once}, apart.Statement.{statement}}
 use borrow.Author.Needs.{needs}
-use Rattle.numbers.proofs.point.apart.Statement.{statement}
 use Rattle.numbers.proofs.point.apart.Tie as tie
 
 mul-unshuffle : tie.Need-mul-unshuffle

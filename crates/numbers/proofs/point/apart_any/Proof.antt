@@ -1,8 +1,7 @@
 -- `numbers::point::apart_any` meets its contract. Assumes nothing.
 use mathlib.Core.Path.{refl}
-use Rattle.numbers.proofs.point.BothBits.{Stands, at-low, place-small, added-fits, added-last, goes-on, smaller}
+use Rattle.numbers.proofs.point.{BothBits.{Stands, at-low, place-small, added-fits, added-last, goes-on, smaller}, apart_any.Statement.{statement}}
 use native.Mathlib.Omega.{arith}
-use Rattle.numbers.proofs.point.apart_any.Statement.{statement}
 use Rattle.numbers.proofs.point.apart_any.Tie as tie
 
 abbrev Inv-loop : tie.InvT-loop

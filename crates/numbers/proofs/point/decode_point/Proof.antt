@@ -3,11 +3,9 @@ use Prim.Native.Nat.{ℕ, _/_, _%_, _^_}
 use borrow.Author.Needs.{needs, sfits-of}
 use lib.IntN.{ℤ}
 use mathlib.Core.Path.{ap, ap₂, _∙_}
-use mir.Syntax.{w32}
-use mir.ValLaws.{toZ-ofZ}
-use Rattle.numbers.proofs.point.BothBits.{low-of-both, high-of-both}
+use mir.{Syntax.{w32}, ValLaws.{toZ-ofZ}}
+use Rattle.numbers.proofs.point.{BothBits.{low-of-both, high-of-both}, decode_point.Statement.{statement}}
 use Rattle.numbers.specs.Point.{signedOf, pointOf}
-use Rattle.numbers.proofs.point.decode_point.Statement.{statement}
 use Rattle.numbers.proofs.point.decode_point.Tie as tie
 
 apart-any-requires : tie.Need-apart-any-requires

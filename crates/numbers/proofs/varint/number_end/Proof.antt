@@ -2,8 +2,7 @@
 -- Assumes nothing.
 use borrow.Author.Needs.{needs}
 use mathlib.Core.Path.{refl, sym, ap, _∙_}
-use Rattle.numbers.proofs.varint.Reading.{none-there, one-byte, two-bytes, three-bytes}
-use Rattle.numbers.proofs.varint.number_end.Statement.{statement}
+use Rattle.numbers.proofs.varint.{Reading.{none-there, one-byte, two-bytes, three-bytes}, number_end.Statement.{statement}}
 use Rattle.numbers.specs.Varint.{endOf}
 use Rattle.numbers.proofs.varint.number_end.Tie as tie
 

@@ -2,8 +2,7 @@
 use borrow.Author.Needs.{needs}
 use denote.Ref.{now}
 use mathlib.Core.Path.{ap, _∙_}
-use Rattle.numbers.proofs.varint.Strict.{by-strict, by-plain}
-use Rattle.numbers.proofs.varint.read_carefully.Statement.{statement}
+use Rattle.numbers.proofs.varint.{Strict.{by-strict, by-plain}, read_carefully.Statement.{statement}}
 use Rattle.numbers.specs.Varint.{wholeOf}
 use Rattle.numbers.proofs.varint.read_carefully.Tie as tie
 

@@ -4,8 +4,7 @@ use Prim.Native.Nat.{_-_}
 use borrow.Author.Needs.{needs}
 use lib.ListN.{length}
 use native.Mathlib.Omega.{arith}
-use Rattle.numbers.proofs.varint.Reading.{Reading, begun, eleventh, finished, further, ended}
-use Rattle.numbers.proofs.varint.read_long.Statement.{statement}
+use Rattle.numbers.proofs.varint.{Reading.{Reading, begun, eleventh, finished, further, ended}, read_long.Statement.{statement}}
 use Rattle.numbers.proofs.varint.read_long.Tie as tie
 
 abbrev Inv-loop : tie.InvT-loop

@@ -2,9 +2,7 @@
 -- Assumes nothing.
 use borrow.Author.Needs.{needs}
 use mathlib.Core.Path.{_∙_}
-use Rattle.numbers.proofs.varint.Reading.{one-byte, two-bytes, three-bytes}
-use Rattle.numbers.proofs.varint.Strict.{none-read, read-both}
-use Rattle.numbers.proofs.varint.read_number.Statement.{statement}
+use Rattle.numbers.proofs.varint.{Reading.{one-byte, two-bytes, three-bytes}, Strict.{none-read, read-both}, read_number.Statement.{statement}}
 use Rattle.numbers.proofs.varint.read_number.Tie as tie
 
 returns : tie.Need-returns

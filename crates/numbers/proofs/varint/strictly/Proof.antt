@@ -2,12 +2,8 @@
 use borrow.Author.Needs.{needs}
 use denote.Ref.{now}
 use mathlib.Core.Path.{refl, sym, ap, _∙_}
-use Rattle.numbers.proofs.Answers.{found-again}
-use Rattle.numbers.proofs.Laws.{stops}
-use Rattle.numbers.proofs.varint.Strict.{kept, cut}
-use Rattle.numbers.proofs.varint.strictly.Statement.{statement}
-use Rattle.numbers.specs.Answer.{found}
-use Rattle.numbers.specs.Varint.{told, wholeOf}
+use Rattle.numbers.proofs.{Answers.{found-again}, Laws.{stops}, varint.{Strict.{kept, cut}, strictly.Statement.{statement}}}
+use Rattle.numbers.specs.{Answer.{found}, Varint.{told, wholeOf}}
 use Rattle.numbers.proofs.varint.strictly.Tie as tie
 
 returns : tie.Need-returns

@@ -1,12 +1,10 @@
 -- `numbers::write::interleave` meets its contract. Assumes nothing.
-use native.Mathlib.Nat.{pow-suc, pow-le-pow-right}
+use native.Mathlib.{Nat.{pow-suc, pow-le-pow-right}, Omega.{arith}}
 use lib.Dec.{lit<}
-use Rattle.numbers.proofs.write.Digits.{interleaved-step, interleaved-small}
+use Rattle.numbers.proofs.write.{Digits.{interleaved-step, interleaved-small}, interleave.Statement.{statement}}
 use Prim.Native.Nat.{ℕ, suc, _+_, _*_, _-_, _/_, _%_, _^_, _≤_, _<_}
-use native.Mathlib.Omega.{arith}
 use mathlib.Core.Path.{_≡_, refl, sym, ap, _∙_}
 use Rattle.numbers.specs.Spelling.{interleaved}
-use Rattle.numbers.proofs.write.interleave.Statement.{statement}
 use Rattle.numbers.proofs.write.interleave.Tie as tie
 
 abbrev Inv-loop : tie.InvT-loop

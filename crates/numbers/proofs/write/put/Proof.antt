@@ -1,6 +1,5 @@
 -- `numbers::write::put` meets its contract. Assumes nothing.
-use borrow.Author.Needs.{needs}
-use borrow.Author.Tests.{lt-ltb, le-ltb}
+use borrow.Author.{Needs.{needs}, Tests.{lt-ltb, le-ltb}}
 use lib.Seq.{set-out}
 use mathlib.Core.Path.{refl, sym}
 use Rattle.numbers.proofs.write.put.Statement.{statement}

@@ -2,8 +2,7 @@
 use mathlib.Core.Path.{_∙_}
 use native.Mathlib.Omega.{arith}
 use borrow.Author.Needs.{needs}
-use Rattle.numbers.proofs.write.Putting.{put-length, Writing, begun, ended, onward, tenth-small, ended-tenth}
-use Rattle.numbers.proofs.write.write_varint.Statement.{statement}
+use Rattle.numbers.proofs.write.{Putting.{put-length, Writing, begun, ended, onward, tenth-small, ended-tenth}, write_varint.Statement.{statement}}
 use Rattle.numbers.proofs.write.write_varint.Tie as tie
 
 abbrev Inv-loop : tie.InvT-loop

@@ -1,7 +1,6 @@
 -- `replay::many::fixes_at` is safe and ends. Assumes nothing.
 use Prim.Native.Nat.{_-_, _≤_}
-use lib.Ieee.{Float, binary32, ofBits}
-use lib.ListN.{length, length-set, length-replicate}
+use lib.{Ieee.{Float, binary32, ofBits}, ListN.{length, length-set, length-replicate}}
 use mathlib.Core.Path.{_≡_, refl}
 use native.Mathlib.Omega.{arith}
 use Rattle.replay.proofs.many.fixes_at.Statement.{statement}

@@ -5,10 +5,8 @@ use lib.ListN.{length}
 use mathlib.Core.Path.{ap, _∙_}
 use native.Mathlib.Omega.{arith}
 use Rattle.header.proofs.Buffers.{of-length, all-zero}
-use Rattle.table.proofs.find.Finding.{finds, refuses}
-use Rattle.table.proofs.find.find_in.Statement.{statement}
-use Rattle.table.specs.Find.{matchedWith, foundWith, toldFound}
-use Rattle.table.specs.Hits.{width}
+use Rattle.table.proofs.find.{Finding.{finds, refuses}, find_in.Statement.{statement}}
+use Rattle.table.specs.{Find.{matchedWith, foundWith, toldFound}, Hits.{width}}
 use Rattle.numbers.specs.Lists.{zeros}
 use Rattle.table.proofs.find.find_in.Tie as tie
 

@@ -2,8 +2,7 @@
 use borrow.Author.Needs.{sfits-of}
 use lib.Ieee.{ofBits}
 use mathlib.Core.Path.{_∙_}
-use mir.Syntax.{w32}
-use mir.ValLaws.{toZ-ofZ}
+use mir.{Syntax.{w32}, ValLaws.{toZ-ofZ}}
 use Rattle.table.proofs.find.fix_of.Statement.{statement}
 use Rattle.table.specs.Find.{fixOf}
 use Rattle.table.proofs.find.fix_of.Tie as tie

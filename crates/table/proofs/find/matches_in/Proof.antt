@@ -1,16 +1,12 @@
 -- `table::find::matches_in` meets its contract, by how far it came. Assumes nothing.
 use Prim.Native.Nat.{_/_}
-use borrow.Author.Needs.{needs}
-use borrow.Author.Tests.{not-true, not-false}
+use borrow.Author.{Needs.{needs}, Tests.{not-true, not-false}}
 use lib.ListN.{length}
 use mathlib.Core.Path.{sym, ap, _∙_}
 use native.Mathlib.Omega.{arith}
 use Rattle.table.proofs.Agreeing.{agree-given, agree-refused, gave, refused-so}
-use Rattle.table.proofs.find.Finding.{no-precision, no-search, searched-so, asks, leaves}
-use Rattle.table.proofs.find.matches_in.Statement.{statement}
-use Rattle.table.specs.Find.{Matching}
-use Rattle.table.specs.Hits.{width}
-use Rattle.table.specs.Search.{searched, toldSearched, Sought}
+use Rattle.table.proofs.find.{Finding.{no-precision, no-search, searched-so, asks, leaves}, matches_in.Statement.{statement}}
+use Rattle.table.specs.{Find.{Matching}, Hits.{width}, Search.{searched, toldSearched, Sought}}
 use Rattle.table.proofs.find.matches_in.Tie as tie
 
 returns : tie.Need-returns

@@ -4,9 +4,7 @@ use Prim.Native.Nat.{_-_, _*_}
 use lib.ListN.{length}
 use mathlib.Core.Path.{_≡_, refl, ap, _∙_}
 use native.Mathlib.Omega.{arith}
-use Rattle.table.proofs.Words.{words-length}
-use Rattle.table.proofs.merge.Gathering.{Gathering, begins, gathered-length, gathered, passes, takes}
-use Rattle.table.proofs.merge.gather.Statement.{statement}
+use Rattle.table.proofs.{Words.{words-length}, merge.{Gathering.{Gathering, begins, gathered-length, gathered, passes, takes}, gather.Statement.{statement}}}
 use Rattle.table.specs.Hits.{width, slots, putHit}
 use Rattle.table.proofs.merge.gather.Tie as tie
 

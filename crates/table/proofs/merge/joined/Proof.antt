@@ -1,7 +1,6 @@
 -- `table::merge::joined` meets its contract, by the hit's kind. Assumes nothing.
 use native.Mathlib.Omega.{arith}
-use Rattle.table.proofs.merge.Summaries.{one-inside, one-excluded, on-border}
-use Rattle.table.proofs.merge.joined.Statement.{statement}
+use Rattle.table.proofs.merge.{Summaries.{one-inside, one-excluded, on-border}, joined.Statement.{statement}}
 use Rattle.table.proofs.merge.joined.Tie as tie
 
 returns : tie.Need-returns

@@ -1,6 +1,5 @@
 -- `table::merge::kind_of` meets its contract. Assumes nothing.
-use Rattle.table.proofs.merge.Summaries.{last-border, counts-differ, counts-equal}
-use Rattle.table.proofs.merge.kind_of.Statement.{statement}
+use Rattle.table.proofs.merge.{Summaries.{last-border, counts-differ, counts-equal}, kind_of.Statement.{statement}}
 use Rattle.table.specs.Merge.{tallied}
 use Rattle.table.proofs.merge.kind_of.Tie as tie
 

@@ -7,8 +7,7 @@ use native.Mathlib.Omega.{arith}
 use Rattle.table.proofs.Words.{words-length}
 use Rattle.table.proofs.merge.Merging.{Merging, starts, ends, merging-length, taken-length, shaped, slots-length, skips, drops, keeps}
 use Rattle.table.proofs.merge.merge.Statement.{statement}
-use Rattle.table.specs.Hits.{width, slots}
-use Rattle.table.specs.Merge.{tallied}
+use Rattle.table.specs.{Hits.{width, slots}, Merge.{tallied}}
 use Rattle.table.proofs.merge.merge.Tie as tie
 
 abbrev Inv-loop : tie.InvT-loop

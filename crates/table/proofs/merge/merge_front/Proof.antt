@@ -1,7 +1,6 @@
 -- `table::merge::merge_front` meets its contract: the front of the words is lent, and the rest is zero already. Assumes nothing.
 use native.Mathlib.Omega.{arith}
-use Rattle.table.proofs.merge.Fronts.{lent-length, lent-shaped, lent-real, count-merged, words-now}
-use Rattle.table.proofs.merge.merge_front.Statement.{statement}
+use Rattle.table.proofs.merge.{Fronts.{lent-length, lent-shaped, lent-real, count-merged, words-now}, merge_front.Statement.{statement}}
 use Rattle.table.proofs.merge.merge_front.Tie as tie
 
 slice-aggregate-merge : tie.Need-slice-aggregate-merge

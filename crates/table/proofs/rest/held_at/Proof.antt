@@ -2,11 +2,8 @@
 use borrow.Author.Needs.{needs}
 use mathlib.Core.Path.{_∙_, ap}
 use Rattle.numbers.proofs.Laws.{goes-on}
-use Rattle.table.proofs.rest.Remaining.{none-held}
-use Rattle.table.proofs.rest.held_at.Statement.{statement}
-use Rattle.table.specs.Rest.{heldBy, isHeld}
-use Rattle.table.specs.Table.{holds}
-use Rattle.table.specs.declared.table.Bounds.{Bounds}
+use Rattle.table.proofs.rest.{Remaining.{none-held}, held_at.Statement.{statement}}
+use Rattle.table.specs.{Rest.{heldBy, isHeld}, Table.{holds}, declared.table.Bounds.{Bounds}}
 use Rattle.table.proofs.rest.held_at.Tie as tie
 
 returns : tie.Need-returns

@@ -3,9 +3,7 @@ use borrow.Author.Needs.{needs}
 use mathlib.Core.Path.{_≡_}
 use native.Mathlib.Omega.{arith}
 use Rattle.numbers.specs.Varint.{forwardAt, endOf}
-use Rattle.table.proofs.Beside.{five-cut, five-held, five-plain}
-use Rattle.table.proofs.rest.Remaining.{five-ends}
-use Rattle.table.proofs.rest.past_five.Statement.{statement}
+use Rattle.table.proofs.{Beside.{five-cut, five-held, five-plain}, rest.{Remaining.{five-ends}, past_five.Statement.{statement}}}
 use Rattle.table.specs.Rest.{fiveBy}
 use Rattle.table.proofs.rest.past_five.Tie as tie
 

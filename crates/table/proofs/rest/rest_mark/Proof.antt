@@ -1,16 +1,12 @@
 -- `table::rest::rest_mark` meets its contract: before each entry the rest from its place on has the mark of the whole rest.
 -- Assumes nothing.
 use Prim.Native.Nat.{_-_, _≤_}
-use borrow.Author.Needs.{needs, sfits-of}
-use borrow.Author.Tests.{lt-ltb, le-ltb}
+use borrow.Author.{Needs.{needs, sfits-of}, Tests.{lt-ltb, le-ltb}}
 use lib.Signed.{ltZ}
 use mathlib.Core.Path.{_≡_, refl, sym, ap, _∙_}
-use mir.Syntax.{w32}
-use mir.ValLaws.{toZ-ofZ}
+use mir.{Syntax.{w32}, ValLaws.{toZ-ofZ}}
 use Rattle.numbers.specs.Varint.{told, readingOf}
-use Rattle.table.proofs.TableRows.{reading-grows}
-use Rattle.table.proofs.rest.Remaining.{restFrom, at-end, unread, past, less, above, missed, met}
-use Rattle.table.proofs.rest.rest_mark.Statement.{statement}
+use Rattle.table.proofs.{TableRows.{reading-grows}, rest.{Remaining.{restFrom, at-end, unread, past, less, above, missed, met}, rest_mark.Statement.{statement}}}
 use Rattle.table.proofs.rest.rest_mark.Tie as tie
 
 abbrev Inv-loop : tie.InvT-loop

@@ -1,8 +1,7 @@
 -- `table::rows::moved_id` meets its contract. Assumes nothing.
 use mathlib.Core.Path.{_∙_}
 use native.Mathlib.Omega.{arith}
-use Rattle.table.proofs.rows.Signs.{forth, back}
-use Rattle.table.proofs.rows.moved_id.Statement.{statement}
+use Rattle.table.proofs.rows.{Signs.{forth, back}, moved_id.Statement.{statement}}
 use Rattle.table.proofs.rows.moved_id.Tie as tie
 
 returns : tie.Need-returns

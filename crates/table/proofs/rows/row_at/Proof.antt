@@ -2,8 +2,7 @@
 use borrow.Author.Needs.{needs}
 use mathlib.Core.Path.{sym, ap, _∙_}
 use native.Mathlib.Omega.{arith}
-use Rattle.table.proofs.rows.Entering.{row-read, row-failed, row-refused}
-use Rattle.table.proofs.rows.row_at.Statement.{statement}
+use Rattle.table.proofs.rows.{Entering.{row-read, row-failed, row-refused}, row_at.Statement.{statement}}
 use Rattle.table.specs.Table.{toldEntered}
 use Rattle.table.proofs.rows.row_at.Tie as tie
 

@@ -1,8 +1,7 @@
 -- `table::rows::row_of` meets its contract: each sum by its own promise. Assumes nothing.
 use Prim.Native.Nat.{_^_}
 use mathlib.Core.Path.{_∙_}
-use native.Mathlib.Nat.{add-mod-mod}
-use native.Mathlib.Omega.{arith}
+use native.Mathlib.{Nat.{add-mod-mod}, Omega.{arith}}
 use Rattle.table.proofs.rows.row_of.Statement.{statement}
 use Rattle.table.proofs.rows.row_of.Tie as tie
 

@@ -1,7 +1,6 @@
 -- `table::search::judge` meets its contract. Assumes nothing.
 use native.Mathlib.Omega.{arith}
-use Rattle.table.proofs.search.Turns.{judged-in}
-use Rattle.table.proofs.search.judge.Statement.{statement}
+use Rattle.table.proofs.search.{Turns.{judged-in}, judge.Statement.{statement}}
 use Rattle.table.proofs.search.judge.Tie as tie
 
 returns : tie.Need-returns

@@ -1,7 +1,6 @@
 -- `table::search::judged` meets its contract, by the judgement's cases. Assumes nothing.
 use native.Mathlib.Omega.{arith}
-use Rattle.table.proofs.search.Turns.{outside, met}
-use Rattle.table.proofs.search.judged.Statement.{statement}
+use Rattle.table.proofs.search.{Turns.{outside, met}, judged.Statement.{statement}}
 use Rattle.table.specs.Search.{judgedTurn}
 use Rattle.table.proofs.search.judged.Tie as tie
 

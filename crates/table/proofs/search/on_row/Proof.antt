@@ -1,7 +1,6 @@
 -- `table::search::on_row` meets its contract, by the test that led to each answer. Assumes nothing.
 use mathlib.Core.Path.{sym, ap, _∙_}
-use Rattle.table.proofs.search.Turns.{not-held, held}
-use Rattle.table.proofs.search.on_row.Statement.{statement}
+use Rattle.table.proofs.search.{Turns.{not-held, held}, on_row.Statement.{statement}}
 use Rattle.table.specs.Search.{judgedTurn}
 use Rattle.table.proofs.search.on_row.Tie as tie
 

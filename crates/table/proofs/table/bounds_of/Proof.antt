@@ -1,8 +1,7 @@
 -- `table::table::bounds_of` meets its contract: each number read back from its bits. Assumes nothing.
 use borrow.Author.Needs.{sfits-of}
 use mathlib.Core.Path.{_∙_}
-use mir.Syntax.{w32}
-use mir.ValLaws.{toZ-ofZ}
+use mir.{Syntax.{w32}, ValLaws.{toZ-ofZ}}
 use Rattle.table.proofs.table.bounds_of.Statement.{statement}
 use Rattle.table.proofs.table.bounds_of.Tie as tie
 

@@ -1,8 +1,7 @@
 -- `table::table::entry_at` meets its contract, by what `read_number` promises: `readingOf` stays shut. Assumes nothing.
 use mathlib.Core.Path.{_∙_, ap}
 use native.Mathlib.Omega.{arith}
-use Rattle.numbers.proofs.Laws.{goes-on, stops}
-use Rattle.numbers.specs.Varint.{readingOf}
+use Rattle.numbers.{proofs.Laws.{goes-on, stops}, specs.Varint.{readingOf}}
 use Rattle.table.proofs.table.entry_at.Statement.{statement}
 use Rattle.table.specs.Table.{entryBy, stepsBy}
 use Rattle.table.proofs.table.entry_at.Tie as tie

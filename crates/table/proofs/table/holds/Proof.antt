@@ -1,7 +1,6 @@
 -- `table::table::holds` meets its contract, by the tests that led to each answer. Assumes nothing.
 use mathlib.Core.Path.{sym, _∙_}
-use Rattle.table.proofs.table.Tests.{not-first, the-second}
-use Rattle.table.proofs.table.holds.Statement.{statement}
+use Rattle.table.proofs.table.{Tests.{not-first, the-second}, holds.Statement.{statement}}
 use Rattle.table.proofs.table.holds.Tie as tie
 
 returns : tie.Need-returns

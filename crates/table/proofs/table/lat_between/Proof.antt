@@ -1,7 +1,6 @@
 -- `table::table::lat_between` meets its contract, by the tests that led to each answer. Assumes nothing.
 use mathlib.Core.Path.{sym, _∙_}
-use Rattle.table.proofs.table.Tests.{not-first, the-second}
-use Rattle.table.proofs.table.lat_between.Statement.{statement}
+use Rattle.table.proofs.table.{Tests.{not-first, the-second}, lat_between.Statement.{statement}}
 use Rattle.table.proofs.table.lat_between.Tie as tie
 
 returns : tie.Need-returns

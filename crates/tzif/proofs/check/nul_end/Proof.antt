@@ -2,15 +2,10 @@
 use Prim.Native.Nat.{ℕ, _+_, _-_, _≤_}
 use borrow.Author.Tests.{eq-eqb, ne-eqb}
 use lib.Dec.{eqb}
-use mathlib.Core.Bool.{Bool}
-use mathlib.Core.List.{List}
-use mathlib.Core.Path.{_≡_, refl, sym, ap, _∙_}
+use mathlib.Core.{Bool.{Bool}, List.{List}, Path.{_≡_, refl, sym, ap, _∙_}}
 use native.Mathlib.Omega.{arith}
-use Rattle.tzif.proofs.Lasts.{last-none, last-here, last-below}
-use Rattle.tzif.proofs.check.nul_end.Statement.{statement}
-use Rattle.tzif.specs.Check.{nulEnd}
-use Rattle.tzif.specs.Number.{octet}
-use Rattle.tzif.specs.Times.{lastWith}
+use Rattle.tzif.proofs.{Lasts.{last-none, last-here, last-below}, check.nul_end.Statement.{statement}}
+use Rattle.tzif.specs.{Check.{nulEnd}, Number.{octet}, Times.{lastWith}}
 use Rattle.tzif.proofs.check.nul_end.Tie as tie
 
 abbrev nulAt : List ℕ → ℕ → ℕ → Bool

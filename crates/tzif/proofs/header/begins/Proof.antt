@@ -1,6 +1,5 @@
 -- `tzif::header::begins` meets its contract. Assumes nothing.
-use borrow.Author.Needs.{needs}
-use borrow.Author.Tests.{leb-true, not-true, not-false}
+use borrow.Author.{Needs.{needs}, Tests.{leb-true, not-true, not-false}}
 use mathlib.Core.Path.{refl, sym, _∙_}
 use Rattle.tzif.proofs.header.begins.Statement.{statement}
 use Rattle.tzif.specs.Header.{begins}

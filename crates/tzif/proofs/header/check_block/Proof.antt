@@ -1,7 +1,6 @@
 -- `tzif::header::check_block` meets its contract. Assumes nothing.
 use borrow.Author.Needs.{needs}
-use Rattle.tzif.proofs.Laws.{joined}
-use Rattle.tzif.proofs.header.check_block.Statement.{statement}
+use Rattle.tzif.proofs.{Laws.{joined}, header.check_block.Statement.{statement}}
 use Rattle.tzif.specs.Header.{checkBlock}
 use Rattle.tzif.proofs.header.check_block.Tie as tie
 

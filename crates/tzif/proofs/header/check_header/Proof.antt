@@ -1,11 +1,8 @@
 -- `tzif::header::check_header` meets its contract. Assumes nothing.
-use borrow.Author.Needs.{needs}
-use borrow.Author.Tests.{not-true, not-false}
+use borrow.Author.{Needs.{needs}, Tests.{not-true, not-false}}
 use mathlib.Core.Path.{sym, _∙_}
 use native.Mathlib.Omega.{arith}
-use Rattle.tzif.proofs.Blocks.{begins-within, no-magic, magic}
-use Rattle.tzif.proofs.Laws.{joined}
-use Rattle.tzif.proofs.header.check_header.Statement.{statement}
+use Rattle.tzif.proofs.{Blocks.{begins-within, no-magic, magic}, Laws.{joined}, header.check_header.Statement.{statement}}
 use Rattle.tzif.proofs.header.check_header.Tie as tie
 
 returns : tie.Need-returns

@@ -1,8 +1,7 @@
 -- `tzif::header::read_block` meets its contract. Assumes nothing.
 use borrow.Author.Needs.{needs}
 use native.Mathlib.Omega.{arith}
-use Rattle.tzif.proofs.Blocks.{header-within, counts-within, header-fault, counts-fault, block-fault, no-block-fault}
-use Rattle.tzif.proofs.header.read_block.Statement.{statement}
+use Rattle.tzif.proofs.{Blocks.{header-within, counts-within, header-fault, counts-fault, block-fault, no-block-fault}, header.read_block.Statement.{statement}}
 use Rattle.tzif.proofs.header.read_block.Tie as tie
 
 returns : tie.Need-returns

@@ -1,8 +1,7 @@
 -- `tzif::header::read_counts` meets its contract. Assumes nothing.
 use borrow.Author.Needs.{needs}
 use native.Mathlib.Omega.{arith}
-use Rattle.tzif.proofs.Widths.{four-at-least, part-fits}
-use Rattle.tzif.proofs.header.read_counts.Statement.{statement}
+use Rattle.tzif.proofs.{Widths.{four-at-least, part-fits}, header.read_counts.Statement.{statement}}
 use Rattle.tzif.specs.Header.{blockAt}
 use Rattle.tzif.proofs.header.read_counts.Tie as tie
 

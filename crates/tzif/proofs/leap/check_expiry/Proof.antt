@@ -2,8 +2,7 @@
 use Prim.Native.Nat.{_+_}
 use borrow.Author.Needs.{needs}
 use native.Mathlib.Omega.{arith}
-use Rattle.tzif.proofs.Widths.{row, occurrences-inside}
-use Rattle.tzif.proofs.leap.check_expiry.Statement.{statement}
+use Rattle.tzif.proofs.{Widths.{row, occurrences-inside}, leap.check_expiry.Statement.{statement}}
 use Rattle.tzif.proofs.leap.check_expiry.Tie as tie
 
 occurrences-of-requires : tie.Need-occurrences-of-requires

@@ -3,10 +3,8 @@ use Prim.Native.Nat.{_+_}
 use borrow.Author.Needs.{needs}
 use mathlib.Core.Path.{sym, _∙_}
 use native.Mathlib.Omega.{arith}
-use Rattle.tzif.proofs.Leaps.{expires-behind}
-use Rattle.tzif.proofs.Widths.{row}
+use Rattle.tzif.proofs.{Leaps.{expires-behind}, Widths.{row}, leap.check_leap.Statement.{statement}}
 use Rattle.tzif.specs.Check.{checkLeap}
-use Rattle.tzif.proofs.leap.check_leap.Statement.{statement}
 use Rattle.tzif.proofs.leap.check_leap.Tie as tie
 
 check-expiry-requires : tie.Need-check-expiry-requires

@@ -2,8 +2,7 @@
 use Prim.Native.Nat.{_-_}
 use borrow.Author.Needs.{needs}
 use native.Mathlib.Omega.{arith}
-use Rattle.tzif.proofs.Laws.{next-index, fault-found, no-fault, Passed, starts}
-use Rattle.tzif.proofs.leap.check_leaps.Statement.{statement}
+use Rattle.tzif.proofs.{Laws.{next-index, fault-found, no-fault, Passed, starts}, leap.check_leaps.Statement.{statement}}
 use Rattle.tzif.specs.Check.{checkLeap, checkLeaps}
 use Rattle.tzif.proofs.leap.check_leaps.Tie as tie
 

@@ -1,8 +1,6 @@
 -- `tzif::leap::correction_at` meets its contract. Assumes nothing.
 use native.Mathlib.Omega.{arith}
-use Rattle.tzif.proofs.Leaps.{no-records, records-within}
-use Rattle.tzif.proofs.Widths.{record-fits, occurrences-inside}
-use Rattle.tzif.proofs.leap.correction_at.Statement.{statement}
+use Rattle.tzif.proofs.{Leaps.{no-records, records-within}, Widths.{record-fits, occurrences-inside}, leap.correction_at.Statement.{statement}}
 use Rattle.tzif.specs.Check.{correctionAt}
 use Rattle.tzif.proofs.leap.correction_at.Tie as tie
 

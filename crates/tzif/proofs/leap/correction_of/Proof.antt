@@ -2,8 +2,7 @@
 use Prim.Native.Nat.{_+_}
 use borrow.Author.Needs.{needs}
 use native.Mathlib.Omega.{arith}
-use Rattle.tzif.proofs.Widths.{row}
-use Rattle.tzif.proofs.leap.correction_of.Statement.{statement}
+use Rattle.tzif.proofs.{Widths.{row}, leap.correction_of.Statement.{statement}}
 use Rattle.tzif.specs.Check.{correctionOf}
 use Rattle.tzif.proofs.leap.correction_of.Tie as tie
 

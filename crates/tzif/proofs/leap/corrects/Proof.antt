@@ -1,6 +1,5 @@
 -- `tzif::leap::corrects` meets its contract. Assumes nothing.
-use borrow.Author.Needs.{needs}
-use borrow.Author.Tests.{eq-eqb, ne-eqb}
+use borrow.Author.{Needs.{needs}, Tests.{eq-eqb, ne-eqb}}
 use mathlib.Core.Path.{refl}
 use Rattle.tzif.proofs.leap.corrects.Statement.{statement}
 use Rattle.tzif.proofs.leap.corrects.Tie as tie

@@ -1,7 +1,6 @@
 -- `tzif::leap::is_expiry` meets its contract. Assumes nothing.
 use Prim.Native.Nat.{_+_}
-use borrow.Author.Needs.{needs}
-use borrow.Author.Tests.{eq-eqb, ne-eqb}
+use borrow.Author.{Needs.{needs}, Tests.{eq-eqb, ne-eqb}}
 use mathlib.Core.Path.{refl}
 use native.Mathlib.Omega.{arith}
 use Rattle.tzif.specs.Check.{isExpiry}

@@ -1,11 +1,9 @@
 -- `tzif::leap::occurs_later` meets its contract. Assumes nothing.
 use Prim.Native.Nat.{_+_}
-use borrow.Author.Needs.{needs}
-use borrow.Author.Tests.{eq-eqb, ne-eqb}
+use borrow.Author.{Needs.{needs}, Tests.{eq-eqb, ne-eqb}}
 use mathlib.Core.Path.{refl}
 use native.Mathlib.Omega.{arith}
-use Rattle.tzif.proofs.Widths.{row, occurrences-inside}
-use Rattle.tzif.proofs.leap.occurs_later.Statement.{statement}
+use Rattle.tzif.proofs.{Widths.{row, occurrences-inside}, leap.occurs_later.Statement.{statement}}
 use Rattle.tzif.specs.Check.{occursLater}
 use Rattle.tzif.proofs.leap.occurs_later.Tie as tie
 

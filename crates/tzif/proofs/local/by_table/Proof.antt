@@ -1,9 +1,7 @@
 -- `tzif::local::by_table` meets its contract. Assumes nothing.
 use borrow.Author.Needs.{needs}
 use mathlib.Core.Path.{refl, ap}
-use Rattle.tzif.proofs.Goods.{type-below, behind-within}
-use Rattle.tzif.proofs.Widths.{transitions-inside}
-use Rattle.tzif.proofs.local.by_table.Statement.{statement}
+use Rattle.tzif.proofs.{Goods.{type-below, behind-within}, Widths.{transitions-inside}, local.by_table.Statement.{statement}}
 use Rattle.tzif.specs.Local.{byTable}
 use Rattle.tzif.specs.declared.local.Answer.the-variants as A
 use Rattle.tzif.proofs.local.by_table.Tie as tie

@@ -2,8 +2,7 @@
 use borrow.Author.Needs.{needs}
 use lib.ListN.{length}
 use mathlib.Core.Path.{_∙_}
-use Rattle.tzif.proofs.Locals.{all-zeros}
-use Rattle.tzif.proofs.local.clear.Statement.{statement}
+use Rattle.tzif.proofs.{Locals.{all-zeros}, local.clear.Statement.{statement}}
 use Rattle.tzif.proofs.local.clear.Tie as tie
 
 returns : tie.Need-returns

@@ -1,10 +1,8 @@
 -- `tzif::local::is_after_last` meets its contract. Assumes nothing.
-use borrow.Author.Needs.{needs}
-use borrow.Author.Tests.{lt-ltb, le-ltb}
+use borrow.Author.{Needs.{needs}, Tests.{lt-ltb, le-ltb}}
 use mathlib.Core.Path.{refl}
 use native.Mathlib.Omega.{arith}
-use Rattle.tzif.proofs.Widths.{transitions-inside}
-use Rattle.tzif.proofs.local.is_after_last.Statement.{statement}
+use Rattle.tzif.proofs.{Widths.{transitions-inside}, local.is_after_last.Statement.{statement}}
 use Rattle.tzif.specs.Local.{isAfterLast}
 use Rattle.tzif.proofs.local.is_after_last.Tie as tie
 

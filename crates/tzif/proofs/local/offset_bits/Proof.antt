@@ -1,10 +1,8 @@
 -- `tzif::local::offset_bits` meets its contract. Assumes nothing.
-use mir.Syntax.{w32}
-use mir.Val.{SFits}
+use mir.{Syntax.{w32}, Val.{SFits}}
 use native.Mathlib.Omega.{arith}
-use Rattle.tzif.proofs.Offsets.{rest-fits, rest-form, bits-below, from-zero, bits-above}
+use Rattle.tzif.proofs.{Offsets.{rest-fits, rest-form, bits-below, from-zero, bits-above}, local.offset_bits.Statement.{statement}}
 use borrow.Author.Needs.{needs}
-use Rattle.tzif.proofs.local.offset_bits.Statement.{statement}
 use Rattle.tzif.proofs.local.offset_bits.Tie as tie
 
 sub-result : tie.Need-sub-result

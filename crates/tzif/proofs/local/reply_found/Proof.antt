@@ -1,9 +1,7 @@
 -- `tzif::local::reply_found` meets its contract. Assumes nothing.
 use borrow.Author.Needs.{needs}
-use mir.Syntax.{w32}
-use mir.ValLaws.{toZ-ofZ}
-use Rattle.tzif.proofs.Locals.{no-room, has-room}
-use Rattle.tzif.proofs.local.reply_found.Statement.{statement}
+use mir.{Syntax.{w32}, ValLaws.{toZ-ofZ}}
+use Rattle.tzif.proofs.{Locals.{no-room, has-room}, local.reply_found.Statement.{statement}}
 use Rattle.tzif.proofs.local.reply_found.Tie as tie
 
 returns : tie.Need-returns

@@ -2,12 +2,10 @@
 use Prim.Native.Nat.{ℕ, _+_, _*_}
 use borrow.Author.Needs.{needs, sfits-of}
 use mathlib.Core.Path.{ap, _∙_}
-use mir.Syntax.{w32}
-use mir.ValLaws.{toZ-ofZ}
+use mir.{Syntax.{w32}, ValLaws.{toZ-ofZ}}
 use native.Mathlib.Omega.{arith}
 use Rattle.tzif.proofs.local.type_in.Statement.{statement}
-use Rattle.tzif.specs.Local.{typeIn}
-use Rattle.tzif.specs.Number.{octet}
+use Rattle.tzif.specs.{Local.{typeIn}, Number.{octet}}
 use Rattle.tzif.proofs.local.type_in.Tie as tie
 
 sub-run-to : tie.Need-sub-run-to

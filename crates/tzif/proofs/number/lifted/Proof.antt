@@ -1,7 +1,6 @@
 -- `tzif::number::lifted` meets its contract. Assumes nothing.
 use native.Mathlib.Omega.{arith}
-use Rattle.tzif.proofs.Signs.{lifted-above, rest-fits, rest-form, lifted-below, from-zero}
-use Rattle.tzif.proofs.number.lifted.Statement.{statement}
+use Rattle.tzif.proofs.{Signs.{lifted-above, rest-fits, rest-form, lifted-below, from-zero}, number.lifted.Statement.{statement}}
 use Rattle.tzif.proofs.number.lifted.Tie as tie
 
 sub-below : tie.Need-sub-below

@@ -4,8 +4,7 @@ use borrow.Author.Needs.{needs}
 use mir.Syntax.{w32}
 use native.Mathlib.Omega.{arith}
 use Rattle.numbers.proofs.Signed.{complement-fits}
-use Rattle.tzif.proofs.Signs.{read-high}
-use Rattle.tzif.proofs.number.signed.Statement.{statement}
+use Rattle.tzif.proofs.{Signs.{read-high}, number.signed.Statement.{statement}}
 use Rattle.tzif.proofs.number.signed.Tie as tie
 
 sub-result-2 : tie.Need-sub-result-2

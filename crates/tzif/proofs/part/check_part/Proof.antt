@@ -3,8 +3,7 @@ use Prim.Native.Nat.{_-_}
 use borrow.Author.Needs.{needs}
 use mathlib.Core.Path.{_≡_}
 use native.Mathlib.Omega.{arith}
-use Rattle.tzif.proofs.Laws.{next-index, fault-found, no-fault, Passed, starts}
-use Rattle.tzif.proofs.part.check_part.Statement.{statement}
+use Rattle.tzif.proofs.{Laws.{next-index, fault-found, no-fault, Passed, starts}, part.check_part.Statement.{statement}}
 use Rattle.tzif.specs.Part.{countOf, checkOf, checkPart}
 use Rattle.tzif.proofs.part.check_part.Tie as tie
 

@@ -1,7 +1,6 @@
 -- `tzif::place::standards_of` meets its contract. Assumes nothing.
 use borrow.Author.Needs.{needs}
-use native.Mathlib.Nat.{mul-add}
-use native.Mathlib.Omega.{arith}
+use native.Mathlib.{Nat.{mul-add}, Omega.{arith}}
 use Rattle.tzif.proofs.place.standards_of.Statement.{statement}
 use Rattle.tzif.proofs.place.standards_of.Tie as tie
 

@@ -3,8 +3,7 @@ use Prim.Native.Nat.{_-_}
 use borrow.Author.Needs.{needs}
 use lib.ListN.{length}
 use native.Mathlib.Omega.{arith}
-use Rattle.tzif.proofs.Buffers.{Lending, lending-length, next-octet, all-lent, nothing-lent}
-use Rattle.tzif.proofs.text.lend.Statement.{statement}
+use Rattle.tzif.proofs.{Buffers.{Lending, lending-length, next-octet, all-lent, nothing-lent}, text.lend.Statement.{statement}}
 use Rattle.tzif.proofs.text.lend.Tie as tie
 
 abbrev Inv-loop : tie.InvT-loop

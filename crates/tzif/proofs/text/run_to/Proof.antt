@@ -1,14 +1,10 @@
 -- `tzif::text::run_to` meets its contract. Assumes nothing.
 use Prim.Native.Nat.{ℕ, _+_, _-_, _≤_}
 use borrow.Author.Needs.{needs}
-use mathlib.Core.Bool.{Bool}
-use mathlib.Core.List.{List}
-use mathlib.Core.Path.{_≡_, sym, ap, _∙_}
+use mathlib.Core.{Bool.{Bool}, List.{List}, Path.{_≡_, sym, ap, _∙_}}
 use native.Mathlib.Omega.{arith}
-use Rattle.tzif.proofs.Firsts.{none-yet, not-here, here}
-use Rattle.tzif.proofs.text.run_to.Statement.{statement}
-use Rattle.tzif.specs.Number.{octet}
-use Rattle.tzif.specs.Text.{isStop, firstWith, runTo}
+use Rattle.tzif.proofs.{Firsts.{none-yet, not-here, here}, text.run_to.Statement.{statement}}
+use Rattle.tzif.specs.{Number.{octet}, Text.{isStop, firstWith, runTo}}
 use Rattle.tzif.proofs.text.run_to.Tie as tie
 
 abbrev stopAt : ℕ → List ℕ → ℕ → ℕ → Bool

@@ -1,9 +1,7 @@
 -- `tzif::times::last_not_after` meets its contract. The loop narrows the place between two bounds. Assumes nothing.
 use Prim.Native.Nat.{_-_}
 use native.Mathlib.Omega.{arith}
-use Rattle.tzif.proofs.Lasts.{Narrowed, widest, up, down, narrow}
-use Rattle.tzif.proofs.Rises.{rises}
-use Rattle.tzif.proofs.times.last_not_after.Statement.{statement}
+use Rattle.tzif.proofs.{Lasts.{Narrowed, widest, up, down, narrow}, Rises.{rises}, times.last_not_after.Statement.{statement}}
 use Rattle.tzif.specs.Times.{timeIn, lastNotAfter}
 use Rattle.tzif.proofs.times.last_not_after.Tie as tie
 

@@ -1,7 +1,6 @@
 -- `tzif::times::time_in` meets its contract. Assumes nothing.
 use native.Mathlib.Omega.{arith}
-use Rattle.tzif.proofs.Widths.{row}
-use Rattle.tzif.proofs.times.time_in.Statement.{statement}
+use Rattle.tzif.proofs.{Widths.{row}, times.time_in.Statement.{statement}}
 use Rattle.tzif.specs.Times.{timeIn}
 use Rattle.tzif.proofs.times.time_in.Tie as tie
 

@@ -1,11 +1,9 @@
 -- `tzif::zone::read_footer` meets its contract. Assumes nothing.
 use Prim.Native.Nat.{_+_}
-use borrow.Author.Needs.{needs}
-use borrow.Author.Tests.{not-true, not-false}
+use borrow.Author.{Needs.{needs}, Tests.{not-true, not-false}}
 use mathlib.Core.Path.{sym, _∙_}
 use native.Mathlib.Omega.{arith}
-use Rattle.tzif.proofs.Zones.{newline-within, no-newline, no-end, more-behind, string-ends}
-use Rattle.tzif.proofs.zone.read_footer.Statement.{statement}
+use Rattle.tzif.proofs.{Zones.{newline-within, no-newline, no-end, more-behind, string-ends}, zone.read_footer.Statement.{statement}}
 use Rattle.tzif.proofs.zone.read_footer.Tie as tie
 
 returns : tie.Need-returns

@@ -2,9 +2,7 @@
 use borrow.Author.Needs.{needs}
 use mathlib.Core.Bool.{true}
 use native.Mathlib.Omega.{arith}
-use Rattle.tzif.proofs.Goods.{block-read}
-use Rattle.tzif.proofs.Zones.{block-given, second-refused, no-footer, long-read, footer-ends}
-use Rattle.tzif.proofs.zone.read_long.Statement.{statement}
+use Rattle.tzif.proofs.{Goods.{block-read}, Zones.{block-given, second-refused, no-footer, long-read, footer-ends}, zone.read_long.Statement.{statement}}
 use Rattle.tzif.proofs.zone.read_long.Tie as tie
 
 returns : tie.Need-returns

@@ -1,7 +1,6 @@
 -- `tzif::zone::read_short` meets its contract. Assumes nothing.
 use borrow.Author.Needs.{needs}
-use Rattle.tzif.proofs.Zones.{short-goes-on, short-ends}
-use Rattle.tzif.proofs.zone.read_short.Statement.{statement}
+use Rattle.tzif.proofs.{Zones.{short-goes-on, short-ends}, zone.read_short.Statement.{statement}}
 use Rattle.tzif.proofs.zone.read_short.Tie as tie
 
 returns : tie.Need-returns

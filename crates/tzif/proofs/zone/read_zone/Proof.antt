@@ -2,9 +2,7 @@
 use borrow.Author.Needs.{needs}
 use mathlib.Core.Bool.{false}
 use native.Mathlib.Omega.{arith}
-use Rattle.tzif.proofs.Goods.{block-read}
-use Rattle.tzif.proofs.Zones.{block-given, header-held, too-long, first-refused, as-short, as-long}
-use Rattle.tzif.proofs.zone.read_zone.Statement.{statement}
+use Rattle.tzif.proofs.{Goods.{block-read}, Zones.{block-given, header-held, too-long, first-refused, as-short, as-long}, zone.read_zone.Statement.{statement}}
 use Rattle.tzif.proofs.zone.read_zone.Tie as tie
 
 returns : tie.Need-returns

@@ -1,8 +1,7 @@
 -- `tzrule::ask::ask_at` meets its contract. Assumes nothing.
 use borrow.Author.Needs.{needs}
 use Rattle.tzrule.specs.Ask.{corrected}
-use Rattle.tzrule.proofs.ask.Ways.{far-before, far-after}
-use Rattle.tzrule.proofs.ask.ask_at.Statement.{statement}
+use Rattle.tzrule.proofs.ask.{Ways.{far-before, far-after}, ask_at.Statement.{statement}}
 use Rattle.tzrule.proofs.ask.ask_at.Tie as tie
 
 returns : tie.Need-returns

@@ -1,8 +1,7 @@
 -- `tzrule::ask::ask_in_years` meets its contract. Assumes nothing.
 use borrow.Author.Needs.{needs}
 use mathlib.Core.Path.{sym, _∙_}
-use Rattle.tzrule.proofs.ask.Ways.{ask-inside, ask-outside}
-use Rattle.tzrule.proofs.ask.ask_in_years.Statement.{statement}
+use Rattle.tzrule.proofs.ask.{Ways.{ask-inside, ask-outside}, ask_in_years.Statement.{statement}}
 use Rattle.tzrule.proofs.ask.ask_in_years.Tie as tie
 
 clock-at-requires : tie.Need-clock-at-requires

@@ -1,8 +1,7 @@
 -- `tzrule::ask::clock_at` meets its contract. Assumes nothing.
 use borrow.Author.Needs.{needs}
 use native.Mathlib.Omega.{arith}
-use Rattle.tzrule.proofs.ask.Ways.{years-range, since-years, since-summer, ruled-is, fixed-clock, summer-clock, winter-clock}
-use Rattle.tzrule.proofs.ask.clock_at.Statement.{statement}
+use Rattle.tzrule.proofs.ask.{Ways.{years-range, since-years, since-summer, ruled-is, fixed-clock, summer-clock, winter-clock}, clock_at.Statement.{statement}}
 use Rattle.tzrule.proofs.ask.clock_at.Tie as tie
 
 sub-summer-at : tie.Need-sub-summer-at

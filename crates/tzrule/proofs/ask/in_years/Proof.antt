@@ -1,6 +1,5 @@
 -- `tzrule::ask::in_years` meets its contract. Assumes nothing.
-use Rattle.tzrule.proofs.ask.Ways.{too-early, not-early}
-use Rattle.tzrule.proofs.ask.in_years.Statement.{statement}
+use Rattle.tzrule.proofs.ask.{Ways.{too-early, not-early}, in_years.Statement.{statement}}
 use Rattle.tzrule.proofs.ask.in_years.Tie as tie
 
 returns : tie.Need-returns

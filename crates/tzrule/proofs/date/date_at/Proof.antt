@@ -1,9 +1,7 @@
 -- `tzrule::date::date_at` meets its contract. Assumes nothing.
 use borrow.Author.Needs.{needs}
 use mathlib.Core.Path.{_∙_}
-use Rattle.tzrule.proofs.Signs.{date-julian, date-month, date-zero}
-use Rattle.tzrule.proofs.Times.{byte-inside}
-use Rattle.tzrule.proofs.date.date_at.Statement.{statement}
+use Rattle.tzrule.proofs.{Signs.{date-julian, date-month, date-zero}, Times.{byte-inside}, date.date_at.Statement.{statement}}
 use Rattle.tzrule.proofs.date.date_at.Tie as tie
 
 byte-at-requires : tie.Need-byte-at-requires

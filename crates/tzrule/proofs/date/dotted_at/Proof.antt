@@ -1,9 +1,7 @@
 -- `tzrule::date::dotted_at` meets its contract. Assumes nothing.
 use borrow.Author.Needs.{needs}
 use mathlib.Core.Path.{_∙_}
-use Rattle.tzrule.proofs.Signs.{dot-none, dot-there}
-use Rattle.tzrule.proofs.Times.{byte-inside}
-use Rattle.tzrule.proofs.date.dotted_at.Statement.{statement}
+use Rattle.tzrule.proofs.{Signs.{dot-none, dot-there}, Times.{byte-inside}, date.dotted_at.Statement.{statement}}
 use Rattle.tzrule.specs.Answer.{Within}
 use Rattle.tzrule.proofs.date.dotted_at.Tie as tie
 

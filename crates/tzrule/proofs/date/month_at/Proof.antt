@@ -1,8 +1,6 @@
 -- `tzrule::date::month_at` meets its contract. Assumes nothing.
 use borrow.Author.Needs.{needs}
-use Rattle.tzrule.proofs.Signs.{number-range, month-read, month-fault}
-use Rattle.tzrule.proofs.Times.{read-is, read-within, fault-is, fault-within}
-use Rattle.tzrule.proofs.date.month_at.Statement.{statement}
+use Rattle.tzrule.proofs.{Signs.{number-range, month-read, month-fault}, Times.{read-is, read-within, fault-is, fault-within}, date.month_at.Statement.{statement}}
 use Rattle.tzrule.specs.Answer.{GoodDate}
 use Rattle.tzrule.proofs.date.month_at.Tie as tie
 

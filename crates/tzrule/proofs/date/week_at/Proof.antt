@@ -1,8 +1,6 @@
 -- `tzrule::date::week_at` meets its contract. Assumes nothing.
 use borrow.Author.Needs.{needs}
-use Rattle.tzrule.proofs.Signs.{dotted-range, week-read, week-fault}
-use Rattle.tzrule.proofs.Times.{read-is, read-within, fault-is, fault-within}
-use Rattle.tzrule.proofs.date.week_at.Statement.{statement}
+use Rattle.tzrule.proofs.{Signs.{dotted-range, week-read, week-fault}, Times.{read-is, read-within, fault-is, fault-within}, date.week_at.Statement.{statement}}
 use Rattle.tzrule.specs.Answer.{GoodDate}
 use Rattle.tzrule.proofs.date.week_at.Tie as tie
 

@@ -1,8 +1,6 @@
 -- `tzrule::date::weekday_at` meets its contract. Assumes nothing.
 use borrow.Author.Needs.{needs}
-use Rattle.tzrule.proofs.Signs.{weekday-read, weekday-fault}
-use Rattle.tzrule.proofs.Times.{read-is, read-within, fault-is, fault-within}
-use Rattle.tzrule.proofs.date.weekday_at.Statement.{statement}
+use Rattle.tzrule.proofs.{Signs.{weekday-read, weekday-fault}, Times.{read-is, read-within, fault-is, fault-within}, date.weekday_at.Statement.{statement}}
 use Rattle.tzrule.specs.Answer.{GoodDate}
 use Rattle.calendar.specs.Rules.{IsWhen}
 use Rattle.tzrule.proofs.date.weekday_at.Tie as tie

@@ -1,8 +1,6 @@
 -- `tzrule::date::zero_at` meets its contract. Assumes nothing.
 use borrow.Author.Needs.{needs}
-use Rattle.tzrule.proofs.Signs.{zero-read, zero-fault}
-use Rattle.tzrule.proofs.Times.{read-is, read-within, fault-is, fault-within}
-use Rattle.tzrule.proofs.date.zero_at.Statement.{statement}
+use Rattle.tzrule.proofs.{Signs.{zero-read, zero-fault}, Times.{read-is, read-within, fault-is, fault-within}, date.zero_at.Statement.{statement}}
 use Rattle.tzrule.specs.Answer.{GoodDate}
 use Rattle.calendar.specs.Rules.{IsWhen}
 use Rattle.tzrule.proofs.date.zero_at.Tie as tie

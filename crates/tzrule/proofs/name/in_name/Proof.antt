@@ -1,7 +1,6 @@
 -- `tzrule::name::in_name` meets its contract. Assumes nothing.
 use borrow.Author.Needs.{needs}
-use Rattle.tzrule.proofs.Letters.{by-letter, by-none, by-digit, by-plus, by-minus}
-use Rattle.tzrule.proofs.name.in_name.Statement.{statement}
+use Rattle.tzrule.proofs.{Letters.{by-letter, by-none, by-digit, by-plus, by-minus}, name.in_name.Statement.{statement}}
 use Rattle.tzrule.proofs.name.in_name.Tie as tie
 
 is-letter-requires : tie.Need-is-letter-requires

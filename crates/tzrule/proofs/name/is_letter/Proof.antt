@@ -1,6 +1,5 @@
 -- `tzrule::name::is_letter` meets its contract. Assumes nothing.
-use Rattle.tzrule.proofs.Letters.{below-capitals, capital, below-smalls, small}
-use Rattle.tzrule.proofs.name.is_letter.Statement.{statement}
+use Rattle.tzrule.proofs.{Letters.{below-capitals, capital, below-smalls, small}, name.is_letter.Statement.{statement}}
 use Rattle.tzrule.proofs.name.is_letter.Tie as tie
 
 returns : tie.Need-returns

@@ -1,9 +1,7 @@
 -- `tzrule::name::name_at` meets its contract. Assumes nothing.
 use borrow.Author.Needs.{needs}
 use mathlib.Core.Path.{_∙_}
-use Rattle.tzrule.proofs.Letters.{name-quoted, name-bare}
-use Rattle.tzrule.proofs.Times.{byte-inside}
-use Rattle.tzrule.proofs.name.name_at.Statement.{statement}
+use Rattle.tzrule.proofs.{Letters.{name-quoted, name-bare}, Times.{byte-inside}, name.name_at.Statement.{statement}}
 use Rattle.tzrule.proofs.name.name_at.Tie as tie
 
 byte-at-requires : tie.Need-byte-at-requires

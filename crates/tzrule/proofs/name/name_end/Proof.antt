@@ -4,8 +4,7 @@ use borrow.Author.Needs.{needs}
 use lib.ListN.{length}
 use mathlib.Core.Path.{_≡_, refl, _∙_}
 use native.Mathlib.Omega.{arith}
-use Rattle.tzrule.proofs.Letters.{name-more, name-stop, name-out}
-use Rattle.tzrule.proofs.name.name_end.Statement.{statement}
+use Rattle.tzrule.proofs.{Letters.{name-more, name-stop, name-out}, name.name_end.Statement.{statement}}
 use Rattle.tzrule.specs.Names.{endOf}
 use Rattle.tzrule.proofs.name.name_end.Tie as tie
 

@@ -1,9 +1,7 @@
 -- `tzrule::name::quoted_at` meets its contract. Assumes nothing.
 use borrow.Author.Needs.{needs}
 use native.Mathlib.Omega.{arith}
-use Rattle.tzrule.proofs.Letters.{quoted-short, quoted-read, quoted-open}
-use Rattle.tzrule.proofs.Times.{byte-inside}
-use Rattle.tzrule.proofs.name.quoted_at.Statement.{statement}
+use Rattle.tzrule.proofs.{Letters.{quoted-short, quoted-read, quoted-open}, Times.{byte-inside}, name.quoted_at.Statement.{statement}}
 use Rattle.tzrule.specs.Names.{Inside}
 use Rattle.tzrule.proofs.name.quoted_at.Tie as tie
 

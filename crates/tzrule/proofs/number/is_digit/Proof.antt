@@ -1,6 +1,5 @@
 -- `tzrule::number::is_digit` meets its contract. Assumes nothing.
-use Rattle.tzrule.proofs.Numbers.{not-low, not-high}
-use Rattle.tzrule.proofs.number.is_digit.Statement.{statement}
+use Rattle.tzrule.proofs.{Numbers.{not-low, not-high}, number.is_digit.Statement.{statement}}
 use Rattle.tzrule.proofs.number.is_digit.Tie as tie
 
 returns : tie.Need-returns

@@ -1,7 +1,6 @@
 -- `tzrule::number::number_at` meets its contract. Assumes nothing.
 use borrow.Author.Needs.{needs}
-use Rattle.tzrule.proofs.Times.{number-short, number-low, number-high, number-read}
-use Rattle.tzrule.proofs.number.number_at.Statement.{statement}
+use Rattle.tzrule.proofs.{Times.{number-short, number-low, number-high, number-read}, number.number_at.Statement.{statement}}
 use Rattle.tzrule.specs.Answer.{Within}
 use Rattle.tzrule.proofs.number.number_at.Tie as tie
 

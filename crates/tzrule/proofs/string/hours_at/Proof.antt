@@ -2,8 +2,7 @@
 use borrow.Author.Needs.{needs}
 use mathlib.Core.Path.{_∙_}
 use native.Mathlib.Omega.{arith}
-use Rattle.tzrule.proofs.string.Ways.{around-within, hours-wide, hours-plain}
-use Rattle.tzrule.proofs.string.hours_at.Statement.{statement}
+use Rattle.tzrule.proofs.string.{Ways.{around-within, hours-wide, hours-plain}, hours_at.Statement.{statement}}
 use Rattle.tzrule.proofs.string.hours_at.Tie as tie
 
 signed-at-requires : tie.Need-signed-at-requires

@@ -2,9 +2,8 @@
 use borrow.Author.Needs.{needs}
 use mathlib.Core.Path.{_∙_}
 use native.Mathlib.Omega.{arith}
-use Rattle.tzrule.proofs.string.Ways.{around-within, summer-default, summer-written}
+use Rattle.tzrule.proofs.string.{Ways.{around-within, summer-default, summer-written}, summer_offset_at.Statement.{statement}}
 use Rattle.tzrule.specs.Answer.{Within}
-use Rattle.tzrule.proofs.string.summer_offset_at.Statement.{statement}
 use Rattle.tzrule.proofs.string.summer_offset_at.Tie as tie
 
 byte-at-requires : tie.Need-byte-at-requires

@@ -2,10 +2,8 @@
 use borrow.Author.Needs.{needs}
 use mathlib.Core.Path.{_∙_}
 use native.Mathlib.Omega.{arith}
-use Rattle.tzrule.proofs.Times.{byte-inside}
-use Rattle.tzrule.proofs.string.Ways.{time-written, time-default}
+use Rattle.tzrule.proofs.{Times.{byte-inside}, string.{Ways.{time-written, time-default}, time_at.Statement.{statement}}}
 use Rattle.tzrule.specs.Answer.{Within}
-use Rattle.tzrule.proofs.string.time_at.Statement.{statement}
 use Rattle.tzrule.proofs.string.time_at.Tie as tie
 
 byte-at-requires : tie.Need-byte-at-requires

@@ -3,8 +3,7 @@ use Prim.Native.Nat.{ℕ, _+_, _*_}
 use borrow.Author.Needs.{needs}
 use mathlib.Core.Path.{ap}
 use native.Mathlib.Omega.{arith}
-use Rattle.tzrule.proofs.Guess.{day-few}
-use Rattle.tzrule.proofs.summer.change_of.Statement.{statement}
+use Rattle.tzrule.proofs.{Guess.{day-few}, summer.change_of.Statement.{statement}}
 use Rattle.tzrule.specs.Summer.{changeOf}
 use Rattle.tzrule.proofs.summer.change_of.Tie as tie
 

@@ -1,7 +1,6 @@
 -- `tzrule::summer::close_of` meets its contract. Assumes nothing.
 use borrow.Author.Needs.{needs}
-use Rattle.tzrule.proofs.Guess.{close-next, close-same}
-use Rattle.tzrule.proofs.summer.close_of.Statement.{statement}
+use Rattle.tzrule.proofs.{Guess.{close-next, close-same}, summer.close_of.Statement.{statement}}
 use Rattle.tzrule.proofs.summer.close_of.Tie as tie
 
 end-of-requires : tie.Need-end-of-requires

@@ -1,9 +1,7 @@
 -- `tzrule::summer::summer_at` meets its contract. Assumes nothing.
 use Prim.Native.Nat.{_+_, _-_, _/_, _≤_}
 use native.Mathlib.Omega.{arith}
-use Rattle.tzrule.proofs.Guess.{begun, not-far, answered}
-use Rattle.tzrule.proofs.SummerAt.{says-is}
-use Rattle.tzrule.proofs.summer.summer_at.Statement.{statement}
+use Rattle.tzrule.proofs.{Guess.{begun, not-far, answered}, SummerAt.{says-is}, summer.summer_at.Statement.{statement}}
 use Rattle.tzrule.specs.Summer.{startOf}
 use Rattle.tzrule.proofs.summer.summer_at.Tie as tie
 

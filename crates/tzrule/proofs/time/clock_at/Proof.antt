@@ -1,8 +1,7 @@
 -- `tzrule::time::clock_at` meets its contract. Assumes nothing.
 use borrow.Author.Needs.{needs}
 use native.Mathlib.Omega.{arith}
-use Rattle.tzrule.proofs.Times.{read-is, read-within, fault-is, fault-within, wider, clock-read, clock-fault}
-use Rattle.tzrule.proofs.time.clock_at.Statement.{statement}
+use Rattle.tzrule.proofs.{Times.{read-is, read-within, fault-is, fault-within, wider, clock-read, clock-fault}, time.clock_at.Statement.{statement}}
 use Rattle.tzrule.specs.Answer.{Within}
 use Rattle.tzrule.proofs.time.clock_at.Tie as tie
 

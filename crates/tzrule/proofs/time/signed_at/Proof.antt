@@ -1,9 +1,7 @@
 -- `tzrule::time::signed_at` meets its contract. Assumes nothing.
 use borrow.Author.Needs.{needs}
 use mathlib.Core.Path.{_∙_}
-use Rattle.tzrule.proofs.Signs.{sign-minus, sign-plus, sign-none}
-use Rattle.tzrule.proofs.Times.{byte-inside}
-use Rattle.tzrule.proofs.time.signed_at.Statement.{statement}
+use Rattle.tzrule.proofs.{Signs.{sign-minus, sign-plus, sign-none}, Times.{byte-inside}, time.signed_at.Statement.{statement}}
 use Rattle.tzrule.proofs.time.signed_at.Tie as tie
 
 byte-at-requires : tie.Need-byte-at-requires

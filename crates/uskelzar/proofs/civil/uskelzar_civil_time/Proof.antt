@@ -1,11 +1,9 @@
 -- `uskelzar::civil::uskelzar_civil_time` meets its contract. Assumes nothing.
 use borrow.Author.Needs.{needs}
 use mathlib.Core.Path.{refl}
-use mir.Syntax.{w32, w64}
-use mir.ValLaws.{toZ-ofZ}
-use Rattle.uskelzar.proofs.SameCivil.{spoken-shown, spoken-outside}
+use mir.{Syntax.{w32, w64}, ValLaws.{toZ-ofZ}}
+use Rattle.uskelzar.proofs.{SameCivil.{spoken-shown, spoken-outside}, civil.uskelzar_civil_time.Statement.{statement}}
 use Rattle.uskelzar.specs.Civil.{civilWords}
-use Rattle.uskelzar.proofs.civil.uskelzar_civil_time.Statement.{statement}
 use Rattle.uskelzar.proofs.civil.uskelzar_civil_time.Tie as tie
 
 returns : tie.Need-returns

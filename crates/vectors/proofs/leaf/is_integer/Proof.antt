@@ -1,8 +1,7 @@
 -- `vectors::leaf::is_integer` is safe: an i32 fits an i64. Assumes nothing.
 use borrow.Author.Needs.{needs}
 use lib.Dec.{lit≤}
-use mir.Syntax.{w32, w64}
-use mir.ValLaws.{toZ-ofZ}
+use mir.{Syntax.{w32, w64}, ValLaws.{toZ-ofZ}}
 use Rattle.numbers.proofs.Signed.{widens}
 use Rattle.vectors.proofs.leaf.is_integer.Statement.{statement}
 use Rattle.vectors.proofs.leaf.is_integer.Tie as tie

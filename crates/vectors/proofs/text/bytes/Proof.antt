@@ -2,8 +2,7 @@
 use Prim.Native.Nat.{ℕ, _≤_, _-_}
 use borrow.Author.Needs.{needs}
 use lib.ListN.{length, length-set, length-take}
-use mathlib.Core.List.{List}
-use mathlib.Core.Path.{_≡_}
+use mathlib.Core.{List.{List}, Path.{_≡_}}
 use native.Mathlib.Omega.{arith}
 use Rattle.io.specs.Counts.{Counts}
 use Rattle.vectors.proofs.text.bytes.Statement.{statement}

@@ -1,12 +1,10 @@
 -- `zone::answer::answer` meets its contract: each of its answers is one of document 01's. Assumes nothing.
 use borrow.Author.Needs.{needs}
-use lib.Ieee.{binary32, ofBits}
-use lib.ListN.{length}
+use lib.{Ieee.{binary32, ofBits}, ListN.{length}}
 use mathlib.Core.Path.{_∙_, ap}
 use native.Mathlib.Omega.{arith}
 use Rattle.zones.specs.Lookup.{toldLooked}
-use Rattle.zone.proofs.Asking.{refused-long, refused-short, asked}
-use Rattle.zone.proofs.answer.answer.Statement.{statement}
+use Rattle.zone.proofs.{Asking.{refused-long, refused-short, asked}, answer.answer.Statement.{statement}}
 use Rattle.zone.proofs.answer.answer.Tie as tie
 
 returns : tie.Need-returns

@@ -5,9 +5,8 @@ use mathlib.Core.List.{[]}
 use native.Mathlib.Omega.{arith}
 use Rattle.zones.proofs.fields.Filling.{Writing, begins, writing-length, from-here, all-written, match-refused, match-written}
 use Rattle.zones.proofs.fields.write_fields.Statement.{statement}
-use Rattle.table.proofs.Words.{count-slots, slot-is}
+use Rattle.table.{proofs.Words.{count-slots, slot-is}, specs.Hits.{slots}}
 use Rattle.zones.specs.Fields.{fieldsOf}
-use Rattle.table.specs.Hits.{slots}
 use Rattle.zones.proofs.fields.write_fields.Tie as tie
 
 abbrev Inv-loop : tie.InvT-loop

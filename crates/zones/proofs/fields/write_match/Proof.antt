@@ -1,16 +1,12 @@
 -- `zones::fields::write_match` meets its contract. The loop's invariant is `Filling`: the text so far stands at the front of a buffer that is zero
 -- beyond it. Assumes nothing.
-use mathlib.Core.Bool.{Bool}
+use mathlib.Core.{Bool.{Bool}, Path.{refl}}
 use Prim.Native.Nat.{_-_}
 use lib.ListN.{length, take}
-use mathlib.Core.Path.{refl}
 use native.Mathlib.Omega.{arith}
-use Rattle.zones.proofs.fields.Filling.{Filling, starts, filling-length, ends, faulted, kept-length, filled}
-use Rattle.zones.proofs.fields.write_match.Statement.{statement}
+use Rattle.zones.proofs.fields.{Filling.{Filling, starts, filling-length, ends, faulted, kept-length, filled}, write_match.Statement.{statement}}
 use Rattle.zones.specs.Fields.{fieldsFrom}
-use Rattle.header.specs.declared.header.Head.{Head}
-use Rattle.header.specs.declared.header.Preamble.{Preamble}
-use Rattle.header.specs.declared.header.Sections.{Sections}
+use Rattle.header.specs.declared.header.{Head.{Head}, Preamble.{Preamble}, Sections.{Sections}}
 use Rattle.zones.proofs.fields.write_match.Tie as tie
 
 abbrev headOf : Preamble → Sections → Bool → Head

@@ -3,13 +3,9 @@ use Prim.Native.Nat.{_/_}
 use lib.ListN.{length}
 use mathlib.Core.Path.{ap}
 use native.Mathlib.Omega.{arith}
-use Rattle.table.proofs.Agreeing.{Gave, gave, refused-so}
-use Rattle.table.proofs.Matches.{found-agrees, matches-room}
-use Rattle.zones.proofs.lookup.Looking.{no-match, no-fields, looked}
-use Rattle.zones.proofs.lookup.look.Statement.{statement}
+use Rattle.table.{proofs.{Agreeing.{Gave, gave, refused-so}, Matches.{found-agrees, matches-room}}, specs.{Find.{matchedWith, toldFound, Matching}, Hits.{width}}}
+use Rattle.zones.proofs.lookup.{Looking.{no-match, no-fields, looked}, look.Statement.{statement}}
 use Rattle.zones.specs.Fields.{toldFields}
-use Rattle.table.specs.Find.{matchedWith, toldFound, Matching}
-use Rattle.table.specs.Hits.{width}
 use Rattle.zones.proofs.lookup.look.Tie as tie
 
 returns : tie.Need-returns

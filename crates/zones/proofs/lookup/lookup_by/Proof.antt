@@ -2,8 +2,7 @@
 use borrow.Author.Needs.{needs}
 use lib.ListN.{length}
 use mathlib.Core.Path.{sym, ap, _∙_}
-use Rattle.zones.proofs.GivenHead.{not-looked-by, looked-by}
-use Rattle.zones.proofs.lookup.lookup_by.Statement.{statement}
+use Rattle.zones.proofs.{GivenHead.{not-looked-by, looked-by}, lookup.lookup_by.Statement.{statement}}
 use Rattle.header.specs.Header.{toldHead}
 use Rattle.zones.proofs.lookup.lookup_by.Tie as tie
 

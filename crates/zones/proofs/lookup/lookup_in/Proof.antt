@@ -5,8 +5,7 @@ use mathlib.Core.Path.{refl, ap, _∙_}
 use native.Mathlib.Omega.{arith}
 use Rattle.header.proofs.Buffers.{of-length, all-zero}
 use Rattle.numbers.specs.Lists.{zeros}
-use Rattle.zones.proofs.Replying.{given-reply, refused-reply}
-use Rattle.zones.proofs.lookup.lookup_in.Statement.{statement}
+use Rattle.zones.proofs.{Replying.{given-reply, refused-reply}, lookup.lookup_in.Statement.{statement}}
 use Rattle.zones.specs.Lookup.{zonesWith, lookedWith, toldLooked}
 use Rattle.zones.proofs.lookup.lookup_in.Tie as tie
 

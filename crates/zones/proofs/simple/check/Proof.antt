@@ -4,10 +4,8 @@ use borrow.Author.Needs.{needs}
 use lib.ListN.{take, drop}
 use mathlib.Core.Path.{_≡_, refl}
 use native.Mathlib.Omega.{arith}
-use Rattle.table.proofs.Words.{count-slots, slot-is}
-use Rattle.zones.proofs.simple.Picking.{all-checked, match-good, match-bad}
-use Rattle.zones.proofs.simple.check.Statement.{statement}
-use Rattle.table.specs.Hits.{slots}
+use Rattle.table.{proofs.Words.{count-slots, slot-is}, specs.Hits.{slots}}
+use Rattle.zones.proofs.simple.{Picking.{all-checked, match-good, match-bad}, check.Statement.{statement}}
 use Rattle.zones.specs.Simple.{checked}
 use Rattle.zones.proofs.simple.check.Tie as tie
 

@@ -4,15 +4,11 @@ use borrow.Author.Needs.{needs}
 use lib.ListN.{take}
 use mathlib.Core.Path.{_≡_, sym, ap, _∙_}
 use native.Mathlib.Omega.{arith}
-use Rattle.numbers.proofs.Replies.{onward}
-use Rattle.table.proofs.Words.{count-slots, slot-is}
-use Rattle.zones.proofs.simple.Describing.{is-missing, no-matches, described, not-picked, no-one, no-two, written, no-room}
-use Rattle.zones.proofs.simple.Picking.{picked-lies, lies-at}
+use Rattle.numbers.{proofs.Replies.{onward}, specs.Reply.{given, _>>=_}}
+use Rattle.table.{proofs.Words.{count-slots, slot-is}, specs.Hits.{slots}}
+use Rattle.zones.proofs.simple.{Describing.{is-missing, no-matches, described, not-picked, no-one, no-two, written, no-room}, Picking.{picked-lies, lies-at}}
 use Rattle.zones.proofs.simple.describe.Statement.{statement}
-use Rattle.zones.specs.Fields.{toldFields}
-use Rattle.table.specs.Hits.{slots}
-use Rattle.numbers.specs.Reply.{given, _>>=_}
-use Rattle.zones.specs.Simple.{joined, descriptionOf, toldPicks}
+use Rattle.zones.specs.{Fields.{toldFields}, Simple.{joined, descriptionOf, toldPicks}}
 use Rattle.zones.proofs.simple.describe.Tie as tie
 
 returns : tie.Need-returns

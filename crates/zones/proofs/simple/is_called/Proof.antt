@@ -1,11 +1,9 @@
 -- `zones::simple::is_called` meets its contract. The loop's invariant: what is left is the same exactly if all is. Assumes nothing.
 use Prim.Native.Nat.{_≤_, _-_}
 use lib.ListN.{length, drop}
-use mathlib.Core.List.{map}
-use mathlib.Core.Path.{_≡_, refl}
+use mathlib.Core.{List.{map}, Path.{_≡_, refl}}
 use native.Mathlib.Omega.{arith}
-use Rattle.zones.proofs.simple.Names.{not-as-long, differs, goes-on, all-same}
-use Rattle.zones.proofs.simple.is_called.Statement.{statement}
+use Rattle.zones.proofs.simple.{Names.{not-as-long, differs, goes-on, all-same}, is_called.Statement.{statement}}
 use Rattle.zones.specs.Simple.{same}
 use Rattle.header.specs.Utf8.{unmasked}
 use Rattle.zones.proofs.simple.is_called.Tie as tie

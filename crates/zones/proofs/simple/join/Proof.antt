@@ -2,12 +2,9 @@
 use Prim.Native.Nat.{_+_, _-_, _≤_}
 use lib.ListN.{length, take, drop}
 use mathlib.Core.List.{_++_}
-use mir.Syntax.{w64}
-use mir.Val.{Fits}
+use mir.{Syntax.{w64}, Val.{Fits}}
 use native.Mathlib.Omega.{arith}
-use Rattle.zones.proofs.Holding.{Held, held-length}
-use Rattle.zones.proofs.simple.Joining.{no-room, one-held, rest-holds, two-held, all-fits}
-use Rattle.zones.proofs.simple.join.Statement.{statement}
+use Rattle.zones.proofs.{Holding.{Held, held-length}, simple.{Joining.{no-room, one-held, rest-holds, two-held, all-fits}, join.Statement.{statement}}}
 use Rattle.header.specs.Text.{bytesOf}
 use Rattle.zones.proofs.simple.join.Tie as tie
 

@@ -2,15 +2,10 @@
 use Prim.Native.Nat.{_/_}
 use borrow.Author.Needs.{needs}
 use lib.ListN.{length}
-use mathlib.Core.Bool.{false}
-use mathlib.Core.Path.{sym, ap, _∙_}
+use mathlib.Core.{Bool.{false}, Path.{sym, ap, _∙_}}
 use native.Mathlib.Omega.{arith}
-use Rattle.table.proofs.Agreeing.{Gave, gave, refused-so}
-use Rattle.table.proofs.Matches.{found-agrees, matches-room}
-use Rattle.zones.proofs.simple.Replies.{is-good, no-match, not-checked, not-described, described}
-use Rattle.zones.proofs.simple.look.Statement.{statement}
-use Rattle.table.specs.Find.{matchedWith, toldFound, Matching}
-use Rattle.table.specs.Hits.{width}
+use Rattle.table.{proofs.{Agreeing.{Gave, gave, refused-so}, Matches.{found-agrees, matches-room}}, specs.{Find.{matchedWith, toldFound, Matching}, Hits.{width}}}
+use Rattle.zones.proofs.simple.{Replies.{is-good, no-match, not-checked, not-described, described}, look.Statement.{statement}}
 use Rattle.zones.specs.Simple.{toldChecked, toldWorded}
 use Rattle.zones.proofs.simple.look.Tie as tie
 

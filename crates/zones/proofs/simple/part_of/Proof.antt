@@ -1,13 +1,10 @@
 -- `zones::simple::part_of` meets its contract, by the names it was held against. Assumes nothing.
 use Prim.Native.Nat.{ℕ}
-use mathlib.Core.List.{List}
-use mathlib.Core.Path.{sym, ap, _∙_}
+use mathlib.Core.{List.{List}, Path.{sym, ap, _∙_}}
 use native.Mathlib.Omega.{arith}
-use Rattle.zones.proofs.simple.Names.{is-prefix, is-id, is-neither, is-name, is-other}
-use Rattle.zones.proofs.simple.part_of.Statement.{statement}
-use Rattle.header.proofs.Strings.{part-is}
+use Rattle.zones.proofs.simple.{Names.{is-prefix, is-id, is-neither, is-name, is-other}, part_of.Statement.{statement}}
+use Rattle.header.{proofs.Strings.{part-is}, specs.Text.{bytesOf}}
 use Rattle.zones.specs.Simple.{same, name, timezoneId, timezoneIdPrefix}
-use Rattle.header.specs.Text.{bytesOf}
 use Rattle.zones.proofs.simple.part_of.Tie as tie
 
 returns : tie.Need-returns

@@ -1,15 +1,10 @@
 -- `zones::simple::pick` meets its contract. The loop's invariant: the fields that are left give the whole. Assumes nothing.
-use mathlib.Core.Bool.{Bool}
+use mathlib.Core.{Bool.{Bool}, Path.{_≡_, sym, ap, _∙_}}
 use Prim.Native.Nat.{_-_, _≤_}
-use mathlib.Core.Path.{_≡_, sym, ap, _∙_}
 use native.Mathlib.Omega.{arith}
-use Rattle.zones.proofs.simple.Picking.{starts, all-picked, no-name, name-inside, no-value, goes}
-use Rattle.zones.proofs.simple.pick.Statement.{statement}
+use Rattle.zones.proofs.simple.{Picking.{starts, all-picked, no-name, name-inside, no-value, goes}, pick.Statement.{statement}}
 use Rattle.zones.specs.Simple.{begun, pickedFrom}
-use Rattle.header.specs.Text.{toldRead}
-use Rattle.header.specs.declared.header.Head.{Head}
-use Rattle.header.specs.declared.header.Preamble.{Preamble}
-use Rattle.header.specs.declared.header.Sections.{Sections}
+use Rattle.header.specs.{Text.{toldRead}, declared.header.{Head.{Head}, Preamble.{Preamble}, Sections.{Sections}}}
 use Rattle.zones.proofs.simple.pick.Tie as tie
 
 abbrev headOf : Preamble → Sections → Bool → Head

@@ -2,8 +2,7 @@
 use borrow.Author.Needs.{needs}
 use lib.ListN.{length}
 use mathlib.Core.Path.{sym, ap, _∙_}
-use Rattle.zones.proofs.GivenHead.{not-simply-looked, simply-looked-with}
-use Rattle.zones.proofs.simple.simple_lookup.Statement.{statement}
+use Rattle.zones.proofs.{GivenHead.{not-simply-looked, simply-looked-with}, simple.simple_lookup.Statement.{statement}}
 use Rattle.header.specs.Header.{toldHead}
 use Rattle.zones.proofs.simple.simple_lookup.Tie as tie
 

@@ -1,9 +1,7 @@
 -- `border::writer::bytes::put_two` meets its contract. Assumes nothing.
 use native.Mathlib.Omega.{arith}
-use Rattle.numbers.specs.Spelling.{varintOf}
-use Rattle.numbers.proofs.Spelling.{varint-few}
-use Rattle.border.proofs.writer.Stores.{stored-then}
-use Rattle.border.proofs.writer.bytes.put_two.Statement.{statement}
+use Rattle.numbers.{specs.Spelling.{varintOf}, proofs.Spelling.{varint-few}}
+use Rattle.border.proofs.writer.{Stores.{stored-then}, bytes.put_two.Statement.{statement}}
 use Rattle.border.proofs.writer.bytes.put_two.Tie as tie
 
 put-varint-requires-2 : tie.Need-put-varint-requires-2

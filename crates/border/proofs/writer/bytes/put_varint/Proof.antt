@@ -2,8 +2,7 @@
 use native.Mathlib.Omega.{arith}
 use borrow.Author.Needs.{needs}
 use Rattle.numbers.proofs.Spelling.{varint-few}
-use Rattle.border.proofs.writer.Stores.{stored-put}
-use Rattle.border.proofs.writer.bytes.put_varint.Statement.{statement}
+use Rattle.border.proofs.writer.{Stores.{stored-put}, bytes.put_varint.Statement.{statement}}
 use Rattle.border.proofs.writer.bytes.put_varint.Tie as tie
 
 add-result : tie.Need-add-result

@@ -1,8 +1,7 @@
 -- `border::writer::bytes::zero_bytes` meets its contract. Assumes nothing.
-use mathlib.Core.Path.{subst}
+use mathlib.Core.{Path.{subst}, List.{[], _∷_}}
 use native.Mathlib.Omega.{arith}
 use Prim.Native.Nat.{_-_, _≤_}
-use mathlib.Core.List.{[], _∷_}
 use lib.ListN.{length}
 use Rattle.numbers.specs.Lists.{zeros}
 use Rattle.border.proofs.writer.Stores.{Left, left-all, left-step, left-none, stored-one, stored-zeros, zeros-all, zeros-next, zeros-done}

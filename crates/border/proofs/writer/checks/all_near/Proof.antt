@@ -1,17 +1,12 @@
 -- `border::writer::checks::all_near` meets its contract. Assumes nothing.
-use mathlib.Core.Path.{_≡_, refl, sym, ap, _∙_}
-use mathlib.Core.Bool.{true, false}
+use mathlib.Core.{Path.{_≡_, refl, sym, ap, _∙_}, Bool.{true, false}}
 use native.Mathlib.Omega.{arith}
 use borrow.Author.Tests.{not-true, not-false}
 use Prim.Native.Nat.{_-_, _≤_}
-use lib.IntN.{pos}
-use lib.ListN.{length, drop, getD}
-use mir.Facts.{toZ-ofZ}
-use mir.Syntax.{w32}
-use mir.Val.{SFits}
+use lib.{IntN.{pos}, ListN.{length, drop, getD}}
+use mir.{Facts.{toZ-ofZ}, Syntax.{w32}, Val.{SFits}}
 use Rattle.border.specs.Writer.{every, near}
-use Rattle.border.proofs.writer.Indexed.{every-bad, every-good, every-done}
-use Rattle.border.proofs.writer.checks.all_near.Statement.{statement}
+use Rattle.border.proofs.writer.{Indexed.{every-bad, every-good, every-done}, checks.all_near.Statement.{statement}}
 use Rattle.border.proofs.writer.checks.all_near.Tie as tie
 
 abbrev Inv-loop : tie.InvT-loop

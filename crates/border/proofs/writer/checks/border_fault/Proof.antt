@@ -1,11 +1,9 @@
 -- `border::writer::checks::border_fault` meets its contract. Assumes nothing.
 use native.Mathlib.Omega.{arith}
-use mathlib.Core.Bool.{true}
-use mathlib.Core.Path.{_≡_, sym, ap, _∙_}
+use mathlib.Core.{Bool.{true}, Path.{_≡_, sym, ap, _∙_}}
 use borrow.Author.Tests.{not-true, not-false}
 use lib.ListN.{drop}
-use Rattle.border.specs.Moves.{movesOf, isMove}
-use Rattle.border.specs.Writer.{passed, every, near}
+use Rattle.border.specs.{Moves.{movesOf, isMove}, Writer.{passed, every, near}}
 use Rattle.border.proofs.writer.Faults.{Early, sizes, long-data, odd-version, not-sized, far-lat, far-lon, repeated, at-origin, no-fault}
 use Rattle.border.proofs.writer.checks.border_fault.Statement.{statement}
 use Rattle.border.proofs.writer.checks.border_fault.Tie as tie

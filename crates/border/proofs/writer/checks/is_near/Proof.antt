@@ -1,7 +1,6 @@
 -- `border::writer::checks::is_near` meets its contract. Assumes nothing.
 use mir.Facts.{toZ-ofZ}
-use Rattle.border.proofs.writer.Elements.{near-low, near-rest}
-use Rattle.border.proofs.writer.checks.is_near.Statement.{statement}
+use Rattle.border.proofs.writer.{Elements.{near-low, near-rest}, checks.is_near.Statement.{statement}}
 use Rattle.border.proofs.writer.checks.is_near.Tie as tie
 
 returns : tie.Need-returns

@@ -1,14 +1,11 @@
 -- `border::writer::checks::none_repeated` meets its contract. Assumes nothing.
-use mathlib.Core.Path.{_≡_, refl, sym, ap, _∙_}
-use mathlib.Core.Bool.{true, false}
+use mathlib.Core.{Path.{_≡_, refl, sym, ap, _∙_}, Bool.{true, false}}
 use native.Mathlib.Omega.{arith}
 use borrow.Author.Tests.{not-true, not-false}
 use Prim.Native.Nat.{_-_, _≤_}
 use lib.ListN.{length, drop, getD}
-use Rattle.border.specs.Moves.{movesOf, isMove}
-use Rattle.border.specs.Writer.{every}
-use Rattle.border.proofs.writer.Indexed.{still, border-length, move-at, every-bad, every-good, every-done}
-use Rattle.border.proofs.writer.checks.none_repeated.Statement.{statement}
+use Rattle.border.specs.{Moves.{movesOf, isMove}, Writer.{every}}
+use Rattle.border.proofs.writer.{Indexed.{still, border-length, move-at, every-bad, every-good, every-done}, checks.none_repeated.Statement.{statement}}
 use Rattle.border.proofs.writer.checks.none_repeated.Tie as tie
 
 abbrev Inv-loop : tie.InvT-loop

@@ -2,8 +2,7 @@
 use mathlib.Core.Path.{_∙_}
 use mir.Facts.{toZ-ofZ}
 use native.Mathlib.Omega.{arith}
-use Rattle.border.proofs.writer.Indexed.{before-first, before-next}
-use Rattle.border.proofs.writer.moves.before.Statement.{statement}
+use Rattle.border.proofs.writer.{Indexed.{before-first, before-next}, moves.before.Statement.{statement}}
 use Rattle.border.proofs.writer.moves.before.Tie as tie
 
 returns : tie.Need-returns

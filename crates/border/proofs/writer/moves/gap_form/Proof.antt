@@ -1,13 +1,11 @@
 -- `border::writer::moves::gap_form` meets its contract. Assumes nothing.
 use mathlib.Core.Path.{ap, _∙_}
-use lib.IntN.{ℤ, pos, _-ℤ_}
-use lib.ListN.{getD}
+use lib.{IntN.{ℤ, pos, _-ℤ_}, ListN.{getD}}
 use native.Mathlib.Omega.{arith}
 use Rattle.numbers.specs.Spelling.{signedForm}
 use Rattle.border.specs.Stored.{gapAt}
-use Rattle.border.proofs.writer.Signs.{formed}
+use Rattle.border.proofs.writer.{Signs.{formed}, moves.gap_form.Statement.{statement}}
 use borrow.Author.Needs.{sfits-of}
-use Rattle.border.proofs.writer.moves.gap_form.Statement.{statement}
 use Rattle.border.proofs.writer.moves.gap_form.Tie as tie
 
 returns : tie.Need-returns

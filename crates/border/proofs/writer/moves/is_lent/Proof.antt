@@ -1,8 +1,7 @@
 -- `border::writer::moves::is_lent` meets its contract. Assumes nothing.
 use native.Mathlib.Omega.{arith}
-use Rattle.border.proofs.writer.Elements.{lent-lat, lent-lon}
+use Rattle.border.proofs.writer.{Elements.{lent-lat, lent-lon}, moves.is_lent.Statement.{statement}}
 use borrow.Author.Needs.{needs}
-use Rattle.border.proofs.writer.moves.is_lent.Statement.{statement}
 use Rattle.border.proofs.writer.moves.is_lent.Tie as tie
 
 returns : tie.Need-returns

@@ -1,7 +1,6 @@
 -- `border::writer::moves::moves_at` meets its contract. Assumes nothing.
 use native.Mathlib.Omega.{arith}
-use Rattle.border.proofs.writer.Elements.{moves-lat, moves-lon}
-use Rattle.border.proofs.writer.moves.moves_at.Statement.{statement}
+use Rattle.border.proofs.writer.{Elements.{moves-lat, moves-lon}, moves.moves_at.Statement.{statement}}
 use Rattle.border.proofs.writer.moves.moves_at.Tie as tie
 
 returns : tie.Need-returns

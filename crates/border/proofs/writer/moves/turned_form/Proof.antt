@@ -1,15 +1,11 @@
 -- `border::writer::moves::turned_form` meets its contract. Assumes nothing.
-use mathlib.Core.Path.{sym, ap, _∙_}
-use lib.IntN.{ℤ, pos, _-ℤ_}
-use lib.ListN.{getD}
-use mathlib.Core.List.{_∷_}
+use mathlib.Core.{Path.{sym, ap, _∙_}, List.{_∷_}}
+use lib.{IntN.{ℤ, pos, _-ℤ_}, ListN.{getD}}
 use native.Mathlib.Omega.{arith}
 use Rattle.numbers.specs.Spelling.{signedForm}
 use Rattle.border.specs.Stored.{gapAt}
-use Rattle.border.proofs.writer.Signs.{formed, turned}
-use borrow.Author.Needs.{sfits-of}
-use borrow.Author.Tests.{eq-eqb, ne-eqb}
-use Rattle.border.proofs.writer.moves.turned_form.Statement.{statement}
+use Rattle.border.proofs.writer.{Signs.{formed, turned}, moves.turned_form.Statement.{statement}}
+use borrow.Author.{Needs.{sfits-of}, Tests.{eq-eqb, ne-eqb}}
 use Rattle.border.proofs.writer.moves.turned_form.Tie as tie
 
 returns : tie.Need-returns

@@ -2,8 +2,7 @@
 use mathlib.Core.Path.{sym, _∙_}
 use borrow.Author.Tests.{not-true, not-false}
 use native.Mathlib.Omega.{arith}
-use Rattle.border.proofs.writer.Gathering.{over, after-bad, first-bad, still-good}
-use Rattle.border.proofs.writer.pieces.check_next.Statement.{statement}
+use Rattle.border.proofs.writer.{Gathering.{over, after-bad, first-bad, still-good}, pieces.check_next.Statement.{statement}}
 use Rattle.border.proofs.writer.pieces.check_next.Tie as tie
 
 returns : tie.Need-returns

@@ -1,14 +1,9 @@
 -- `border::writer::pieces::check_words` meets its contract. Assumes nothing.
 use Prim.Native.Nat.{ℕ, _+_, _-_, _≤_}
 use native.Mathlib.Omega.{arith}
-use mathlib.Core.Path.{_≡_, sym, ap, _∙_, subst}
-use mathlib.Core.List.{List, [], _∷_, _++_}
-use Rattle.border.specs.Moves.{movesOf}
-use Rattle.border.specs.Pieces.{firstPieces, piecesOf}
-use Rattle.border.specs.Stored.{Checked}
-use Rattle.border.specs.declared.writer.{Piece.Piece}
-use Rattle.border.proofs.writer.Gathering.{words-more}
-use Rattle.border.proofs.writer.pieces.check_words.Statement.{statement}
+use mathlib.Core.{Path.{_≡_, sym, ap, _∙_, subst}, List.{List, [], _∷_, _++_}}
+use Rattle.border.specs.{Moves.{movesOf}, Pieces.{firstPieces, piecesOf}, Stored.{Checked}, declared.writer.Piece.{Piece}}
+use Rattle.border.proofs.writer.{Gathering.{words-more}, pieces.check_words.Statement.{statement}}
 use Rattle.border.proofs.writer.pieces.check_words.Tie as tie
 
 abbrev Inv-loop : tie.InvT-loop

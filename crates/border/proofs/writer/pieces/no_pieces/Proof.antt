@@ -1,8 +1,7 @@
 -- `border::writer::pieces::no_pieces` meets its contract. Assumes nothing.
 use mathlib.Core.Path.{refl}
 use Rattle.border.specs.Moves.{movesOf}
-use Rattle.border.proofs.writer.Gathering.{empty}
-use Rattle.border.proofs.writer.pieces.no_pieces.Statement.{statement}
+use Rattle.border.proofs.writer.{Gathering.{empty}, pieces.no_pieces.Statement.{statement}}
 use Rattle.border.proofs.writer.pieces.no_pieces.Tie as tie
 
 returns : tie.Need-returns

@@ -5,8 +5,7 @@ use mathlib.Core.List.{[], _∷_, _++_}
 use borrow.Author.Tests.{eq-eqb, ne-eqb}
 use Rattle.numbers.specs.Spelling.{varintOf}
 use Rattle.border.specs.Pieces.{pieceBytes}
-use Rattle.border.proofs.writer.Stores.{stored-then, marked}
-use Rattle.border.proofs.writer.pieces.put_piece.Statement.{statement}
+use Rattle.border.proofs.writer.{Stores.{stored-then, marked}, pieces.put_piece.Statement.{statement}}
 use Rattle.border.proofs.writer.pieces.put_piece.Tie as tie
 
 put-two-requires-2 : tie.Need-put-two-requires-2

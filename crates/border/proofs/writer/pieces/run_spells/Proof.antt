@@ -4,10 +4,8 @@ use borrow.Author.Tests.{not-true, not-false}
 use lib.ListN.{drop}
 use mathlib.Core.Path.{_≡_, refl, _∙_}
 use native.Mathlib.Omega.{arith}
-use Rattle.border.specs.Moves.{movesOf}
-use Rattle.border.specs.Pieces.{lentMoves, spells}
-use Rattle.border.proofs.writer.Spelling.{unread, cut-off, of-zero, of-other, of-same, spells-end, index-inside}
-use Rattle.border.proofs.writer.pieces.run_spells.Statement.{statement}
+use Rattle.border.specs.{Moves.{movesOf}, Pieces.{lentMoves, spells}}
+use Rattle.border.proofs.writer.{Spelling.{unread, cut-off, of-zero, of-other, of-same, spells-end, index-inside}, pieces.run_spells.Statement.{statement}}
 use Rattle.border.proofs.writer.pieces.run_spells.Tie as tie
 
 abbrev Inv-loop : tie.InvT-loop

@@ -1,10 +1,7 @@
 -- `numbers::float::bits::bits_of` meets its contract. Only a NaN differs from itself, and the logic's pattern of it is the constant. Assumes nothing.
 use borrow.Author.Needs.{needs}
-use lib.Dec.{T}
-use lib.Ieee.Compare.{differs-from-itself}
-use lib.Ieee.{Float, nan, inf, fin, binary32, ne, isNan, toBits}
-use mathlib.Core.Bool.{not, false}
-use mathlib.Core.Path.{_≡_, refl, sym, ap, _∙_, subst}
+use lib.{Dec.{T}, Ieee.{Compare.{differs-from-itself}, Float, nan, inf, fin, binary32, ne, isNan, toBits}}
+use mathlib.Core.{Bool.{not, false}, Path.{_≡_, refl, sym, ap, _∙_, subst}}
 use Rattle.numbers.proofs.float.bits.bits_of.Statement.{statement}
 use Rattle.numbers.proofs.float.bits.bits_of.Tie as tie
 

@@ -1,13 +1,9 @@
 -- `numbers::float::cut::whole_part` meets its contract (proofs/float/Places.antt). Assumes nothing.
 use borrow.Author.Needs.{needs}
-use lib.Dec.{T, lit≤}
-use lib.Ieee.Bits.{toBits-lt}
-use lib.Ieee.{binary32, fits, toBits}
+use lib.{Dec.{T, lit≤}, Ieee.{Bits.{toBits-lt}, binary32, fits, toBits}}
 use mathlib.Core.Path.{sym, subst}
-use native.Mathlib.Nat.{lt-of-lt-of-le}
-use native.Mathlib.Omega.{arith}
-use Rattle.numbers.proofs.float.Places.{Fields, fields-of, placed, no-nan}
-use Rattle.numbers.proofs.float.cut.whole_part.Statement.{statement}
+use native.Mathlib.{Nat.{lt-of-lt-of-le}, Omega.{arith}}
+use Rattle.numbers.proofs.float.{Places.{Fields, fields-of, placed, no-nan}, cut.whole_part.Statement.{statement}}
 use Rattle.numbers.specs.Float.Root.{unitsOf}
 use Rattle.numbers.proofs.float.cut.whole_part.Tie as tie
 

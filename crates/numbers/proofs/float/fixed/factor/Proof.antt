@@ -1,12 +1,9 @@
 -- `numbers::float::fixed::factor` meets its contract. Assumes nothing.
 use Prim.Native.Nat.{ℕ, _+_, _-_, _%_, _^_}
-use borrow.Author.Needs.{needs}
-use borrow.Author.Tests.{eq-eqb, ne-eqb}
-use lib.Ieee.{binary32, ofInt, neg}
-use lib.IntN.{pos}
+use borrow.Author.{Needs.{needs}, Tests.{eq-eqb, ne-eqb}}
+use lib.{Ieee.{binary32, ofInt, neg}, IntN.{pos}}
 use mathlib.Core.Path.{_≡_, sym, ap, _∙_}
-use Rattle.numbers.proofs.float.Rounding.{ofInt-neg}
-use Rattle.numbers.proofs.float.fixed.factor.Statement.{statement}
+use Rattle.numbers.proofs.float.{Rounding.{ofInt-neg}, fixed.factor.Statement.{statement}}
 use Rattle.numbers.specs.Float.{toF32, oneShifted}
 use Rattle.numbers.proofs.float.fixed.factor.Tie as tie
 

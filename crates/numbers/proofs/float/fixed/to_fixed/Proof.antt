@@ -2,8 +2,7 @@
 use borrow.Author.Needs.{needs, sfits-of}
 use lib.Ieee.{Float, binary32, mul, div, toSigned}
 use mathlib.Core.Path.{ap, _∙_}
-use mir.Syntax.{w32}
-use mir.ValLaws.{toZ-ofZ}
+use mir.{Syntax.{w32}, ValLaws.{toZ-ofZ}}
 use Rattle.numbers.proofs.float.fixed.to_fixed.Statement.{statement}
 use Rattle.numbers.specs.Float.{fixedPoint}
 use Rattle.numbers.proofs.float.fixed.to_fixed.Tie as tie

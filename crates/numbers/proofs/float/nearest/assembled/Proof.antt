@@ -1,15 +1,10 @@
 -- `numbers::float::nearest::assembled` meets its contract (proofs/Rounding.antt, `pattern`). The bits lie below the infinity's. Assumes nothing.
 use Prim.Native.Nat.{ℕ, _%_, _≤_}
 use borrow.Author.Needs.{needs}
-use lib.Arith.{le→nltb}
-use lib.Dec.{T}
-use lib.Ieee.Bits.{nanBits-above}
-use lib.Ieee.{binary32, nanBits}
-use mathlib.Core.Bool.{Bool, not}
-use mathlib.Core.Path.{sym, subst}
+use lib.{Arith.{le→nltb}, Dec.{T}, Ieee.{Bits.{nanBits-above}, binary32, nanBits}}
+use mathlib.Core.{Bool.{Bool, not}, Path.{sym, subst}}
 use native.Mathlib.Omega.{arith}
-use Rattle.numbers.proofs.float.Rounding.{pattern}
-use Rattle.numbers.proofs.float.nearest.assembled.Statement.{statement}
+use Rattle.numbers.proofs.float.{Rounding.{pattern}, nearest.assembled.Statement.{statement}}
 use Rattle.numbers.proofs.float.nearest.assembled.Tie as tie
 
 no-nan : (b : ℕ) → b ≤ 2130706432 → T (not (nanBits binary32 b))

@@ -1,13 +1,9 @@
 -- `numbers::float::nearest::digits` meets its contract: the zeros above the leading digit, and the digits from it on, make 64. Assumes nothing.
 use Prim.Native.Nat.{ℕ, suc, _+_, _-_, _^_, _<_}
-use lib.Count.{leadingZeros, leading-le, leading-of-zero, leading-top}
-use lib.Ieee.{size}
-use mathlib.Core.Logic.{inl, inr}
-use mathlib.Core.Path.{_≡_, refl, sym, ap, _∙_}
-use native.Mathlib.Nat.{eq-zero-or-pos}
-use native.Mathlib.Omega.{arith}
-use Rattle.numbers.proofs.float.Rounding.{size-is}
-use Rattle.numbers.proofs.float.nearest.digits.Statement.{statement}
+use lib.{Count.{leadingZeros, leading-le, leading-of-zero, leading-top}, Ieee.{size}}
+use mathlib.Core.{Logic.{inl, inr}, Path.{_≡_, refl, sym, ap, _∙_}}
+use native.Mathlib.{Nat.{eq-zero-or-pos}, Omega.{arith}}
+use Rattle.numbers.proofs.float.{Rounding.{size-is}, nearest.digits.Statement.{statement}}
 use Rattle.numbers.proofs.float.nearest.digits.Tie as tie
 
 zero-size : size 0 ≡ 0

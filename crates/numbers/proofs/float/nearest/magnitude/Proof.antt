@@ -1,18 +1,11 @@
 -- `numbers::float::nearest::magnitude` meets its contract. The machine reads each signed number back from its bits, which changes nothing that fits. Assumes nothing.
 use Prim.Native.Nat.{ℕ, suc, _^_, _≤_, _<_}
 use borrow.Author.Needs.{sfits-of}
-use lib.Dec.{T, lit≤}
-use lib.IntN.{ℤ, pos, negsuc, negℤ, natAbs, _-ℤ_, +ℤ-idl}
-use lib.Signed.{ltZ, nonNeg}
-use mathlib.Core.Bool.{Bool, true, false}
-use mathlib.Core.Path.{_≡_, refl, sym, ap, _∙_, subst}
-use mir.Syntax.{w32, w64}
-use mir.Val.{Fits, SFits, toZ, ofZ}
-use mir.ValLaws.{toZ-ofZ}
-use native.Mathlib.Nat.{lt-of-lt-of-le}
-use native.Mathlib.Omega.{arith}
-use Rattle.numbers.proofs.float.Rounding.{not-negative}
-use Rattle.numbers.proofs.float.nearest.magnitude.Statement.{statement}
+use lib.{Dec.{T, lit≤}, IntN.{ℤ, pos, negsuc, negℤ, natAbs, _-ℤ_, +ℤ-idl}, Signed.{ltZ, nonNeg}}
+use mathlib.Core.{Bool.{Bool, true, false}, Path.{_≡_, refl, sym, ap, _∙_, subst}}
+use mir.{Syntax.{w32, w64}, Val.{Fits, SFits, toZ, ofZ}, ValLaws.{toZ-ofZ}}
+use native.Mathlib.{Nat.{lt-of-lt-of-le}, Omega.{arith}}
+use Rattle.numbers.proofs.float.{Rounding.{not-negative}, nearest.magnitude.Statement.{statement}}
 use Rattle.numbers.proofs.float.nearest.magnitude.Tie as tie
 
 widened : (n : ℤ) → SFits w32 n → SFits w64 n

@@ -1,15 +1,10 @@
 -- `numbers::float::nearest::nearest_shifted` meets its contract: each branch has one of the three orders of twice the remainder and the unit. Assumes nothing.
 use Prim.Native.Nat.{ℕ, _-_, _*_, _/_, _%_, _^_, _≤_, _<_, Ordering, Ordering·lt, Ordering·eq, Ordering·gt}
 use borrow.Author.Needs.{needs}
-use lib.Ieee.Nearest.{closest}
-use lib.Ieee.{nearest}
-use lib.Pow.{pow-pos, pow-mono}
+use lib.{Ieee.{Nearest.{closest}, nearest}, Pow.{pow-pos, pow-mono}}
 use mathlib.Core.Path.{_≡_, sym, ap, _∙_, subst}
-use native.Mathlib.Nat.{mod-lt, mod-eq-of-lt, le-antisymm, lt-of-le-of-lt, div-mul-le-self, div-add-mod'}
-use native.Mathlib.Numerals.{add-one}
-use native.Mathlib.Omega.{arith}
-use Rattle.numbers.proofs.float.Rounding.{Cmp, order-is}
-use Rattle.numbers.proofs.float.nearest.nearest_shifted.Statement.{statement}
+use native.Mathlib.{Nat.{mod-lt, mod-eq-of-lt, le-antisymm, lt-of-le-of-lt, div-mul-le-self, div-add-mod'}, Numerals.{add-one}, Omega.{arith}}
+use Rattle.numbers.proofs.float.{Rounding.{Cmp, order-is}, nearest.nearest_shifted.Statement.{statement}}
 use Rattle.numbers.proofs.float.nearest.nearest_shifted.Tie as tie
 
 -- n less its kept digits is the remainder

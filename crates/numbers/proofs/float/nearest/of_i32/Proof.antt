@@ -1,17 +1,10 @@
 -- `numbers::float::nearest::of_i32` meets its contract: a negative number rounds as its size does. Assumes nothing.
 use Prim.Native.Nat.{ℕ}
 use borrow.Author.Needs.{needs}
-use lib.Dec.{T}
-use lib.Ieee.{binary32, neg}
-use lib.IntN.{ℤ, pos, negsuc, natAbs}
-use lib.Signed.{ltZ}
-use mathlib.Core.Bool.{true, false}
-use mathlib.Core.Path.{_≡_, refl, sym, ap, _∙_, subst}
-use mir.Syntax.{w32}
-use mir.Val.{toZ, ofZ}
-use mir.ValLaws.{toZ-ofZ}
-use Rattle.numbers.proofs.float.Rounding.{ofInt-neg, not-negative, signed-held}
-use Rattle.numbers.proofs.float.nearest.of_i32.Statement.{statement}
+use lib.{Dec.{T}, Ieee.{binary32, neg}, IntN.{ℤ, pos, negsuc, natAbs}, Signed.{ltZ}}
+use mathlib.Core.{Bool.{true, false}, Path.{_≡_, refl, sym, ap, _∙_, subst}}
+use mir.{Syntax.{w32}, Val.{toZ, ofZ}, ValLaws.{toZ-ofZ}}
+use Rattle.numbers.proofs.float.{Rounding.{ofInt-neg, not-negative, signed-held}, nearest.of_i32.Statement.{statement}}
 use Rattle.numbers.specs.Float.{toF32}
 use Rattle.numbers.proofs.float.nearest.of_i32.Tie as tie
 

@@ -1,17 +1,10 @@
 -- `numbers::float::nearest::of_u64` meets its contract, by the law over the width (proofs/float/Rounding.antt, `round-whole`). Assumes nothing.
 use Prim.Native.Nat.{ℕ, _+_, _-_, _/_, _%_, _*_, _^_, _≤_, _<_, compare}
 use borrow.Author.Needs.{needs}
-use lib.Ieee.Digits.{size-le}
-use lib.Ieee.Fits.{kept-lt, nearest-le}
-use lib.Ieee.Nearest.{closest, nearest-ge}
-use lib.Ieee.{binary32, ofInt, round, units, size}
-use lib.IntN.{pos}
-use mathlib.Core.Bool.{false}
-use mathlib.Core.Path.{_≡_, refl, sym, ap, _∙_, subst}
-use native.Mathlib.Nat.{le-trans, le-of-lt}
-use native.Mathlib.Omega.{arith}
-use Rattle.numbers.proofs.float.Rounding.{round-whole, reaches-size, kept-least, whole-held}
-use Rattle.numbers.proofs.float.nearest.of_u64.Statement.{statement}
+use lib.{Ieee.{Digits.{size-le}, Fits.{kept-lt, nearest-le}, Nearest.{closest, nearest-ge}, binary32, ofInt, round, units, size}, IntN.{pos}}
+use mathlib.Core.{Bool.{false}, Path.{_≡_, refl, sym, ap, _∙_, subst}}
+use native.Mathlib.{Nat.{le-trans, le-of-lt}, Omega.{arith}}
+use Rattle.numbers.proofs.float.{Rounding.{round-whole, reaches-size, kept-least, whole-held}, nearest.of_u64.Statement.{statement}}
 use Rattle.numbers.proofs.float.nearest.of_u64.Tie as tie
 
 -- the 24 digits that are kept of the z of n

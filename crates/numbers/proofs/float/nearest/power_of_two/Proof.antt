@@ -1,10 +1,8 @@
 -- `numbers::float::nearest::power_of_two` meets its contract: nothing is shifted out. Assumes nothing.
 use borrow.Author.Needs.{needs}
-use lib.Dec.{lit<}
-use lib.Pow.{shl-exact}
+use lib.{Dec.{lit<}, Pow.{shl-exact}}
 use mathlib.Core.Path.{_∙_}
-use native.Mathlib.Nat.{one-mul}
-use native.Mathlib.Omega.{arith}
+use native.Mathlib.{Nat.{one-mul}, Omega.{arith}}
 use Rattle.numbers.proofs.float.nearest.power_of_two.Statement.{statement}
 use Rattle.numbers.proofs.float.nearest.power_of_two.Tie as tie
 

@@ -1,13 +1,10 @@
 -- `numbers::float::root::nearest_root` meets its contract: a number has one whole root, so the one found is the definition's. Assumes nothing.
 use Prim.Native.Nat.{ℕ, suc, _+_, _*_, _<_}
-use borrow.Author.Needs.{needs}
-use borrow.Author.Tests.{lt-ltb, le-ltb}
+use borrow.Author.{Needs.{needs}, Tests.{lt-ltb, le-ltb}}
 use lib.Dec.{ltb}
-use mathlib.Core.Bool.{Bool, cond}
-use mathlib.Core.Path.{_≡_, sym, ap, _∙_}
+use mathlib.Core.{Bool.{Bool, cond}, Path.{_≡_, sym, ap, _∙_}}
 use native.Mathlib.Numerals.{add-one}
-use Rattle.numbers.proofs.float.Squares.{IsRoot, one-root, wholeRoot-is}
-use Rattle.numbers.proofs.float.root.nearest_root.Statement.{statement}
+use Rattle.numbers.proofs.float.{Squares.{IsRoot, one-root, wholeRoot-is}, root.nearest_root.Statement.{statement}}
 use Rattle.numbers.specs.Float.Root.{nearestRoot}
 use Rattle.numbers.proofs.float.root.nearest_root.Tie as tie
 

@@ -1,14 +1,10 @@
 -- `numbers::float::root::positive_root` meets its contract: the code scales the digits as the definition does (proofs/Smallest.antt). Assumes nothing.
 use Prim.Native.Nat.{ℕ, _+_, _-_, _*_, _/_, _^_, _≤_, _<_}
 use borrow.Author.Needs.{needs}
-use lib.Dec.{lit<, lit≤}
-use lib.Ieee.{binary32, size, units}
-use mathlib.Core.Bool.{false}
-use mathlib.Core.Path.{_≡_, sym, ap, _∙_, subst}
-use native.Mathlib.Nat.{lt-of-lt-of-le}
-use native.Mathlib.Omega.{arith}
-use Rattle.numbers.proofs.float.Smallest.{Even, even, root-by-digits}
-use Rattle.numbers.proofs.float.Squares.{IsNearest, nearestRoot-is, nearest-range}
+use lib.{Dec.{lit<, lit≤}, Ieee.{binary32, size, units}}
+use mathlib.Core.{Bool.{false}, Path.{_≡_, sym, ap, _∙_, subst}}
+use native.Mathlib.{Nat.{lt-of-lt-of-le}, Omega.{arith}}
+use Rattle.numbers.proofs.float.{Smallest.{Even, even, root-by-digits}, Squares.{IsNearest, nearestRoot-is, nearest-range}}
 use Rattle.numbers.proofs.float.root.positive_root.Statement.{statement}
 use Rattle.numbers.specs.Float.Root.{nearestRoot}
 use Rattle.numbers.proofs.float.root.positive_root.Tie as tie

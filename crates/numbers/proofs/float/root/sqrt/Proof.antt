@@ -2,14 +2,9 @@
 use Prim.Native.Nat.{ℕ, zero, suc, _*_, _≤_, _<_}
 use borrow.Author.Needs.{needs}
 use lib.Dec.{T, ltb, eqb, ltb→lt, lt→ltb, eqb→eq, T-not}
-use lib.Ieee.Fits.{up-pos, and-l}
-use lib.Ieee.Positive.{positive, first-pos}
-use lib.Ieee.{Float, nan, inf, fin, up, down, lt, eq, level, div, ofBits}
-use lib.IntN.{ℤ, pos}
-use mathlib.Core.Bool.{Bool, true, false, not}
-use mathlib.Core.Path.{_≡_, refl, sym, ap, _∙_, subst}
-use native.Mathlib.Nat.{zero-lt-suc, mul-pos, zero-mul, lt-of-le-of-lt}
-use native.Mathlib.Omega.{arith}
+use lib.{Ieee.{Fits.{up-pos, and-l}, Positive.{positive, first-pos}, Float, nan, inf, fin, up, down, lt, eq, level, div, ofBits}, IntN.{ℤ, pos}}
+use mathlib.Core.{Bool.{Bool, true, false, not}, Path.{_≡_, refl, sym, ap, _∙_, subst}}
+use native.Mathlib.{Nat.{zero-lt-suc, mul-pos, zero-mul, lt-of-le-of-lt}, Omega.{arith}}
 use Rattle.numbers.proofs.float.root.sqrt.Statement.{statement}
 use Rattle.numbers.specs.Float.Root.{root}
 use Rattle.numbers.proofs.float.root.sqrt.Tie as tie

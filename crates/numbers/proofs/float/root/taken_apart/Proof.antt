@@ -1,14 +1,10 @@
 -- `numbers::float::root::taken_apart` meets its contract (proofs/Smallest.antt, `decoded`). Assumes nothing.
 use Prim.Native.Nat.{ℕ, _+_, _%_, _<_}
 use borrow.Author.Needs.{needs}
-use lib.Dec.{T, lit<, lit≤}
-use lib.Ieee.Bits.{toBits-lt}
-use lib.Ieee.{binary32, fits, toBits}
+use lib.{Dec.{T, lit<, lit≤}, Ieee.{Bits.{toBits-lt}, binary32, fits, toBits}}
 use mathlib.Core.Path.{sym, _∙_, subst}
-use native.Mathlib.Nat.{mul-one, lt-of-lt-of-le}
-use native.Mathlib.Omega.{arith}
-use Rattle.numbers.proofs.float.Smallest.{Decoded, decoded, positive-no-nan}
-use Rattle.numbers.proofs.float.root.taken_apart.Statement.{statement}
+use native.Mathlib.{Nat.{mul-one, lt-of-lt-of-le}, Omega.{arith}}
+use Rattle.numbers.proofs.float.{Smallest.{Decoded, decoded, positive-no-nan}, root.taken_apart.Statement.{statement}}
 use Rattle.numbers.specs.Float.Root.{unitsOf}
 use Rattle.numbers.proofs.float.root.taken_apart.Tie as tie
 

@@ -2,10 +2,8 @@
 use Prim.Native.Nat.{ℕ, _+_, _-_, _*_, _≤_, _<_}
 use lib.Dec.{lit<}
 use mathlib.Core.Path.{_≡_, subst}
-use native.Mathlib.Nat.{lt-of-le-of-lt}
-use native.Mathlib.Omega.{arith}
-use Rattle.numbers.proofs.float.Squares.{square-le}
-use Rattle.numbers.proofs.float.root.whole_root.Statement.{statement}
+use native.Mathlib.{Nat.{lt-of-le-of-lt}, Omega.{arith}}
+use Rattle.numbers.proofs.float.{Squares.{square-le}, root.whole_root.Statement.{statement}}
 use Rattle.numbers.proofs.float.root.whole_root.Tie as tie
 
 abbrev Inv-loop : tie.InvT-loop

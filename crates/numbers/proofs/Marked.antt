@@ -1,10 +1,8 @@
 -- Document 01's worked numbers, those it marks to be proved, as one table.
-use mathlib.Core.Path.{_≡_, refl}
-use mathlib.Core.List.{List, [], _∷_, map}
+use mathlib.Core.{Path.{_≡_, refl}, List.{List, [], _∷_, map}}
 use Prim.Native.Nat.{ℕ, _-_, _^_}
 use lib.IntN.{ℤ, pos, negsuc}
-use Rattle.numbers.specs.Answer.{Answer, failed}
-use Rattle.numbers.specs.Varint.{Numeral, numeral, valueOf, sizeOf, tooLong, startOf, forwardAt, backwardAt}
+use Rattle.numbers.specs.{Answer.{Answer, failed}, Varint.{Numeral, numeral, valueOf, sizeOf, tooLong, startOf, forwardAt, backwardAt}}
 use Rattle.numbers.specs.Point.{signedOf, evenBits, pointOf}
 
 -- a row: what is read and where, and what the document says of it
