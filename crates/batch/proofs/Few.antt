@@ -4,7 +4,8 @@ use Prim.Native.Nat.{ℕ, zero, suc, _+_, _-_, _/_, _≤_, _<_}
 use borrow.Author.Tests.{ltb-true}
 use native.Mathlib.Omega.{arith}
 use lib.{Dec.{ltb, eqb}, ListN.{length, length-append}}
-use Rattle.border.specs.{Verdict.{Judgement}, declared.place.Point.{Point}}
+use Rattle.verdict.specs.Verdict.{Judgement}
+use Rattle.border.specs.declared.place.Point.{Point}
 use Rattle.numbers.{proofs.Replies.{given-from, demanded}, specs.{Answer.{Answer, if_then_else_}, Reply.{Reply, given, plain}, Varint.{Numeral, readingOf}}}
 use Rattle.numbers.specs.Answer as A
 use Rattle.numbers.specs.Reply as R

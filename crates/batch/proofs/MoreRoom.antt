@@ -4,7 +4,8 @@ use borrow.Author.Tests.{ltb-true, leb-true, lt-ltb, le-leb}
 use lib.{Dec.{ltb, leb}, ListN.{length}}
 use mathlib.Core.{Bool.{Bool, true, false}, List.{List, [], _∷_, _++_}, Path.{_≡_, refl, sym, ap, _∙_}}
 use native.Mathlib.Omega.{arith}
-use Rattle.border.specs.{Verdict.{Judgement}, declared.place.Point.{Point}}
+use Rattle.verdict.specs.Verdict.{Judgement}
+use Rattle.border.specs.declared.place.Point.{Point}
 use Rattle.numbers.{proofs.Replies.{given-from, onward, demanded}, specs.{Answer.{if_then_else_}, Reply.{Reply, given, plain, demand, _>>_, _>>=_}}}
 use Rattle.numbers.specs.Reply as R
 use Rattle.header.specs.{Field.{Field, field, fieldAt}, Text.{textAt, bytesOf}, declared.header.Head.{Head}}

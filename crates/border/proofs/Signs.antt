@@ -1,11 +1,10 @@
 -- Coordinates and windings are i32: read back from their bits, widened, compared. Assumes nothing.
-use Prim.Native.Nat.{ℕ, zero, suc, _+_, _-_, _≤_, _<_, _^_}
-use native.Mathlib.{Nat.{lt-of-le-of-lt, le-refl}, Omega.{arith}}
-use mathlib.Core.{Path.{_≡_, refl, sym, ap, _∙_, subst}, Bool.{Bool, true, false, cond, _&&_}}
-use lib.{Dec.{T, ltb, leb, eqb}, IntN.{ℤ, pos, negsuc, negℤ, _+ℤ_, _-ℤ_}, Signed.{mag, leZ, ltZ}}
-use mir.{Syntax.{w32, w64}, Val.{SFits, toZ, ofZ}, Facts.{toZ-ofZ, sfits-widen}}
-use borrow.Author.Tests.{ltb-true, leb-true, lt-ltb, le-leb, eq-eqb, ne-eqb, eqb-true}
-use Rattle.border.specs.Edge.{sameZ, between}
+use Prim.Native.Nat.{ℕ, suc, _^_}
+use native.Mathlib.Omega.{arith}
+use mathlib.Core.{Path.{_≡_, refl, sym, _∙_, subst}, Bool.{Bool, true, false, _&&_}}
+use lib.{Dec.{T, ltb, leb}, IntN.{ℤ, pos, negsuc, _+ℤ_, _-ℤ_}, Signed.{mag, leZ}}
+use mir.{Syntax.{w32, w64}, Val.{SFits, toZ, ofZ}, Facts.{toZ-ofZ}}
+use borrow.Author.Tests.{ltb-true, leb-true, lt-ltb, le-leb}
 use Rattle.border.proofs.place.Whole.{widened, sum-fits, difference-fits}
 
 -- ---- tests
@@ -35,42 +34,14 @@ pub in-i32 : (z : ℤ) → (leZ (negsuc 2147483647) z && leZ z (pos 2147483647))
 in-i32 (pos n) = leb-ltb n 2147483647
 in-i32 (negsuc n) = and-true (leb n 2147483647) ∙ leb-ltb n 2147483647
 
--- ---- equality
-
-same-self : (a : ℤ) → sameZ a a ≡ true
-same-self (pos n) = rw (le-leb n n (le-refl n))
-same-self (negsuc n) = rw (le-leb n n (le-refl n))
-
-same-eq : (a b : ℤ) → sameZ a b ≡ true → a ≡ b
-same-eq (pos a) (pos b) e = let p = both (leb a b) (leb b a) e in ap pos (omega (arith, leb-true a b (p .0), leb-true b a (p .1)))
-same-eq (pos a) (negsuc b) e = differ e
-same-eq (negsuc a) (pos b) e = differ e
-same-eq (negsuc a) (negsuc b) e = let p = both (leb b a) (leb a b) e in ap negsuc (omega (arith, leb-true b a (p .0), leb-true a b (p .1)))
-
 -- ---- an i32 that is passed to a call or tested is read back from its bits
 
 module _ {a b : ℤ} (f : SFits w32 a) (g : SFits w32 b) where
-  -- equality is tested on the bits
-  pub same-bits : eqb (ofZ w32 a) (ofZ w32 b) ≡ sameZ a b
-  same-bits =
-      by-test (eqb (ofZ w32 a) (ofZ w32 b)) (sameZ a b)
-      (λ e. ap (sameZ a) (sym (toZ-ofZ g) ∙ ap (toZ w32) (sym (eqb-true (ofZ w32 a) (ofZ w32 b) e)) ∙ toZ-ofZ f) ∙ same-self a)
-      (λ e. eq-eqb _ _ (ap (ofZ w32) (same-eq a b e)))
-
-  pub same-read : ofZ w32 a ≡ ofZ w32 b → sameZ a b ≡ true
-  same-read e = sym same-bits ∙ eq-eqb _ _ e
-
-  pub differ-read : (ofZ w32 a ≡ ofZ w32 b → ⊥) → sameZ a b ≡ false
-  differ-read e = sym same-bits ∙ ne-eqb _ _ e
-
   pub read-le : leZ (toZ w32 (ofZ w32 a)) (toZ w32 (ofZ w32 b)) ≡ leZ a b
   read-le = rw (toZ-ofZ {w = w32} f, toZ-ofZ {w = w32} g)
 
   pub le-read : {t : Bool} → leZ (toZ w32 (ofZ w32 a)) (toZ w32 (ofZ w32 b)) ≡ t → leZ a b ≡ t
   le-read e = sym read-le ∙ e
-
-pub between-read : {a b c : ℤ} {t : Bool} → SFits w32 a → SFits w32 b → SFits w32 c → t ≡ between (toZ w32 (ofZ w32 a)) (toZ w32 (ofZ w32 b)) (toZ w32 (ofZ w32 c)) → t ≡ between a b c
-between-read f g h e = rw (toZ-ofZ {w = w32} f, toZ-ofZ {w = w32} g, toZ-ofZ {w = w32} h) at e
 
 -- ---- exact sums and differences, in an i64
 
@@ -80,3 +51,7 @@ module _ {a b : ℤ} (f : SFits w32 a) (g : SFits w32 b) where
 
   pub exact-difference : toZ w64 (ofZ w64 (toZ w64 (ofZ w64 (toZ w32 (ofZ w32 a))) -ℤ toZ w64 (ofZ w64 (toZ w32 (ofZ w32 b))))) ≡ a -ℤ b
   exact-difference = rw (widened f, widened g, toZ-ofZ {w = w64} (difference-fits f g))
+
+-- what is below 2^31 in size is an i32
+pub narrow : (z : ℤ) {t : Bool} → t ≡ ltb (mag z) (2 ^ 31) → t ≡ true → SFits w32 z
+narrow z e h = record { sfits = ltb-true _ _ (sym e ∙ h) }

@@ -1,19 +1,14 @@
--- A border read strictly (request Q-6): refused 31, or judged as in the plain reading. Assumes nothing.
+-- A border read strictly (request Q-6): refused 31, or the points of the plain reading. Assumes nothing.
 use Prim.Native.Nat.{ℕ, zero, suc}
-use lib.{Dec.{eqb}, IntN.{pos}}
-use mathlib.Core.{Bool.{Bool, true, false}, List.{List}}
-use Rattle.numbers.proofs.Readings.{Strictly, cut, same, then-strictly, strictly-either, reading-strictly}
-use Rattle.numbers.specs.{Answer.{Answer, found}, Varint.{readingOf, backwardAt}}
+use lib.Dec.{eqb}
+use mathlib.Core.{Bool.{true, false}, List.{List}}
+use Rattle.numbers.{proofs.Readings.{Strictly, cut, same, then-strictly, strictly-either, reading-strictly}, specs.{Answer.{Answer, found}, Varint.{readingOf}}}
 use Rattle.numbers.specs.Answer as A
-use Rattle.border.specs.{Encoding.{encodedBy}, Reader.{Turn, gives, again, ends, onward, plainPair, plainTurn, reference, marker, packedTurn, turnOf}, Step.{Step}}
-use Rattle.border.specs.Trace.{Given, reaches, ended, roundAgain, turns, nextWithin, nextPoint, Trace, traceThen, traceWithin, traceOf, borderAt}
-use Rattle.border.specs.Verdict.{Judgement, Last, none, after, passing, thenOn, judge, judgedAt}
-use Rattle.border.specs.declared.place.{FixedLat.{FixedLat}, FixedLon.{FixedLon}, Point.{Point}}
+use Rattle.border.specs.{Encoding.{encodedBy}, Reader.{Turn, gives, again, ends, onward, plainPair, plainTurn, reference, marker, packedTurn, turnOf}}
+use Rattle.border.specs.Trace.{Given, reaches, ended, roundAgain, turns, nextWithin, nextPoint, Trace, traceThen, traceWithin, traceOf}
+use Rattle.border.specs.declared.place.Point.{Point}
 use Rattle.border.specs.declared.reader.{Reader.{Reader}, Run.{Run, the-variants.{Idle, Forward, Backward}}, Version.{Version, the-variants.{Plain, Packed}}}
-use Rattle.border.specs.declared.verdict.Tally.{Tally}
-use Rattle.border.specs.Step as S
 use Rattle.border.specs.Trace as T
-use Rattle.border.specs.Verdict as J
 
 -- ---- one turn
 module _ (f : List ℕ) where
@@ -89,26 +84,3 @@ module _ (f : List ℕ) (version : Version) (base : ℕ) where
   pub trace-strictly : (s : Reader) → StrictTrace (traceOf f (encodedBy true version base) s) (traceOf f (encodedBy false version base) s)
   unfolding traceOf
   trace-strictly s = trace-within (turns f) s
-
--- ---- the verdict: 31, or the same judgement
-pub data StrictJudgement : Judgement → Judgement → Type 0 where
-  refused : {plain : Judgement} → StrictJudgement (J.refused 31) plain
-  equal : {judgement : Judgement} → StrictJudgement judgement judgement
-
-module _ (fix : Point) (asked : Bool) where
-  judge-strictly : {strict plain : Trace} → StrictTrace strict plain → (last : Last) (tally : Tally) → StrictJudgement (judge fix asked last tally strict) (judge fix asked last tally plain)
-  unfolding judge thenOn
-  judge-strictly (point {p = p} h) last tally = go (passing fix asked last p tally) (judge-strictly h (after p))
-    where
-      go : {k k′ : Tally → Judgement} (step : Step Tally) → ((later : Tally) → StrictJudgement (k later) (k′ later)) → StrictJudgement (thenOn asked (tally .least) step k) (thenOn asked (tally .least) step k′)
-      go (S.found later) k = k later
-      go (S.meets verdict) k = equal
-      go (S.refused n) k = equal
-  judge-strictly cut-off last tally = refused
-  judge-strictly alike last tally = equal
-
--- `strict-or-plain` of a border: refused 31, or the judgement of the plain reading
-pub judged-strictly : (file : List ℕ) (version : Version) (base place : ℕ) (lat : FixedLat) (lon : FixedLon) (asked : Bool) (least : ℕ)
-    → StrictJudgement (judgedAt file (encodedBy true version base) place lat lon asked least) (judgedAt file (encodedBy false version base) place lat lon asked least)
-unfolding judgedAt
-judged-strictly file version base place lat lon asked least = judge-strictly (record { lat = lat; lon = lon }) asked (trace-strictly file version base (borderAt place)) none (record { winding = pos 0; least = least })

@@ -5,15 +5,3 @@ pub mod Encoding
 pub mod Trace
 pub mod Told
 pub mod Written
-pub mod Step
-pub mod Edge
-pub mod Winding
-pub mod Distance
-pub mod Verdict
-pub mod Kept
-pub mod Gliding
-pub mod Moves
-pub mod Pieces
-pub mod Writer
-pub mod Stored
-pub mod WrittenAt

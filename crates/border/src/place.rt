@@ -15,7 +15,7 @@ pub struct Point {
 }
 
 // Whether an exact result fits an i32.
-pub(crate) fn fits_i32(wide: i64) -> bool
+pub fn fits_i32(wide: i64) -> bool
     ensures { λ r. ⌜ r ≡ ltb (mag wide) (2 ^ 31) ⌝ }
 {
     -2147483648 <= wide && wide <= 2147483647
@@ -44,13 +44,13 @@ pub(crate) fn move_by(p: Point, by: RawPoint) -> Moved
     })
 }
 
-pub(crate) enum Away {
+pub enum Away {
     By(RawPoint),
     Over,
 }
 
 // The move back.
-pub(crate) fn negate(by: RawPoint) -> Away
+pub fn negate(by: RawPoint) -> Away
     ensures { λ r. ⌜ toldAway r ≡ negated by ⌝ }
 {
     let lat = 0 - (by.lat as i64);
@@ -68,7 +68,7 @@ pub(crate) fn negate(by: RawPoint) -> Away
 }
 
 // Whether a move is two zeros.
-pub(crate) fn is_still(by: RawPoint) -> bool
+pub fn is_still(by: RawPoint) -> bool
     ensures { λ r. ⌜ r ≡ isStill by ⌝ }
 {
     by.lat == 0 && by.lon == 0

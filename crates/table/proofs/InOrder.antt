@@ -4,9 +4,8 @@ use borrow.Author.Tests.{ltb-true, leb-true, lt-ltb}
 use lib.{Dec.{ltb}, IntN.{ℤ, pos, negsuc}, ListN.{length}, Signed.{leZ, ltZ}}
 use mathlib.Core.{Bool.{Bool, true, false, _&&_}, List.{List, _∷_, [], _++_}, Path.{_≡_, refl, sym, ap, subst, _∙_}}
 use native.Mathlib.Omega.{arith}
-use Rattle.border.proofs.{OutsideBox.{standing-outside-box}, Signs.{differ}}
-use Rattle.border.specs.{Box.{boxOf}, Encoding.{versionOf, encodedBy}, Verdict.{Judgement, reached, judgedAt}}
-use Rattle.border.specs.declared.{place.Point.{Point}, verdict.Verdict.the-variants.{NotInZone}}
+use Rattle.verdict.{proofs.OutsideBox.{standing-outside-box}, specs.{Verdict.{Judgement, reached, judgedAt}, declared.step.Verdict.the-variants.{NotInZone}}}
+use Rattle.border.{proofs.Signs.{differ}, specs.{Box.{boxOf}, Encoding.{versionOf, encodedBy}, declared.place.Point.{Point}}}
 use Rattle.numbers.specs.{Answer.{if_then_else_}, Reply.{Reply, plain}}
 use Rattle.table.proofs.{Unstopped.{unchanged}, rest.Remaining.{not-held}}
 use Rattle.table.proofs.search.Turns as W

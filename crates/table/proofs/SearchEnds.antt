@@ -5,8 +5,9 @@ use native.Mathlib.Omega.{arith}
 use lib.{Dec.{ltb, eqb}, ListN.{length}}
 use Rattle.numbers.{proofs.{Refusals.{Listed}, Replies.{given-from}}, specs.{Answer.{if_then_else_}, Reply.{Reply, given, plain, demand, _>>_}}}
 use Rattle.numbers.specs.Reply as R
-use Rattle.border.specs.{Verdict.{Judgement, reached}, declared.{place.Point.{Point}, verdict.Verdict.{Verdict}}}
-use Rattle.border.specs.Verdict as J
+use Rattle.verdict.specs.{Verdict.{Judgement, reached}, declared.step.Verdict.{Verdict}}
+use Rattle.border.specs.declared.place.Point.{Point}
+use Rattle.verdict.specs.Verdict as J
 use Rattle.header.specs.{Header.{headOf}, declared.header.Head.{Head}}
 use Rattle.table.specs.Ending.{hitsOf, Through, here, outside, judged, Ends, at-the-end, above, unread, broken, Ending, Behind}
 use Rattle.table.specs.{Find.{fixOf, isPrecision, Matched, matchedWith}, Merge.{merged}, Rest.{restMark}, Rows.{Rows, row, tableEnd, unreadable, rowsIn}}

@@ -3,7 +3,8 @@ use Prim.Native.Nat.{ℕ}
 use lib.{Dec.{ltb}, ListN.{length}}
 use mathlib.Core.{Bool.{Bool, true, false}, List.{List, [], _∷_, _++_}, Path.{_≡_, refl, sym, ap, _∙_}}
 use native.Mathlib.Omega.{arith}
-use Rattle.border.specs.{Verdict.{Judgement}, declared.place.Point.{Point}}
+use Rattle.verdict.specs.Verdict.{Judgement}
+use Rattle.border.specs.declared.place.Point.{Point}
 use Rattle.header.specs.declared.header.Head.{Head}
 use Rattle.numbers.{proofs.Replies.{given-from}, specs.{Answer.{if_then_else_}, Reply.{Reply, given, plain, demand, _>>=_, _>>_}}}
 use Rattle.numbers.specs.Reply as R

@@ -3,8 +3,8 @@ use Prim.Native.Nat.{ℕ}
 use lib.IntN.{pos}
 use mathlib.Core.{Bool.{false}, List.{List, [], _∷_, _++_, zipWith}, Path.{_≡_, refl, _∙_}}
 use native.Mathlib.Omega.{arith}
-use Rattle.border.proofs.{WorkedBytes.{packed-bytes}, WrittenTrace.{written-stands}}
-use Rattle.border.specs.{Box.{minZ, maxZ, boxOver, boxOf}, Moves.{pointsOf}, Written.{Placed}, declared.place.Point.{Point}}
+use Rattle.writer.{proofs.{WorkedBytes.{packed-bytes}, WrittenTrace.{written-stands}}, specs.Moves.{pointsOf}}
+use Rattle.border.specs.{Box.{minZ, maxZ, boxOver, boxOf}, Written.{Placed}, declared.place.Point.{Point}}
 use Rattle.numbers.specs.{Point.{signedOf}, Varint.{readingOf, forwardAt, valueOf, sizeOf, tooLong}}
 use Rattle.table.proofs.InOrder.{early-stop-loses-nothing, boxes-change-nothing}
 use Rattle.table.specs.{Ordered.{Ordered, ends, next, AllBoxed, none, one, seekAlone}, Rows.{rowsThen, rowBy, rowsWithin, rowsFrom, rowsIn}}

@@ -3,8 +3,9 @@ use mathlib.Core.{Path.{_≡_}, Bool.{Bool, true, false}, List.{List, [], _∷_,
 use Prim.Native.Nat.{ℕ}
 use lib.{Dec.{eqb}, ListN.{length}}
 use Rattle.numbers.specs.{Answer.{if_then_else_}, Lists.{padded}, Reply.{given}}
-use Rattle.border.specs.{Verdict.{Judgement, reached}, declared.{place.Point.{Point}, verdict.Verdict.{Verdict}}}
-use Rattle.border.specs.Verdict as J
+use Rattle.verdict.specs.{Verdict.{Judgement, reached}, declared.step.Verdict.{Verdict}}
+use Rattle.border.specs.declared.place.Point.{Point}
+use Rattle.verdict.specs.Verdict as J
 use Rattle.table.specs.{Find.{fixOf}, Hits.{words}, Merge.{merged}, Rows.{Rows, row, tableEnd, unreadable, rowsIn}}
 use Rattle.table.specs.{Search.{kindOf, rowHit, Found, judgeIn, farthest}, Table.{isAbove, holds}}
 use Rattle.table.specs.{declared.{hits.Hit.{Hit}, location.Location.{Location}, rows.Row.{Row}}, Rest.{restMark}}

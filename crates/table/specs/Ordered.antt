@@ -2,7 +2,8 @@
 use Prim.Native.Nat.{ℕ, _+_, _%_, _^_}
 use lib.{Dec.{ltb}, IntN.{ℤ}, Signed.{leZ}}
 use mathlib.Core.{Bool.{true, false}, List.{List, [], _∷_}, Path.{_≡_}}
-use Rattle.border.specs.{Box.{Box, boxOf}, Encoding.{versionOf}, Verdict.{Judgement}, Written.{Stands}, declared.place.Point.{Point}}
+use Rattle.border.specs.{Box.{Box, boxOf}, Encoding.{versionOf}, Written.{Stands}, declared.place.Point.{Point}}
+use Rattle.verdict.specs.Verdict.{Judgement}
 use Rattle.numbers.specs.Reply.{Reply, plain}
 use Rattle.table.specs.{Rows.{Rows, row, tableEnd, unreadable}, Search.{Found, ended, afterTurn, judgedTurn}, Table.{holds}}
 use Rattle.table.specs.declared.{hits.Hit.{Hit}, rows.Row.{Row}, table.Bounds.{Bounds}}

@@ -2,13 +2,14 @@
 use Prim.Native.Nat.{ℕ, _+_, _-_, _%_, _^_}
 use lib.{Dec.{ltb, eqb}, ListN.{length}}
 use mathlib.Core.{Bool.{Bool}, List.{List, [], _∷_, _++_}, Path.{_≡_}}
-use Rattle.border.specs.{Encoding.{versionOf, encodedBy}, Verdict.{Judgement, reached, judgedAt}}
-use Rattle.border.specs.declared.{place.Point.{Point}, verdict.Verdict.{the-variants.{NotInZone, InZone, InExcludedZone, OnBorderVertex, OnBorderSegment}, Verdict}}
+use Rattle.border.specs.{Encoding.{versionOf, encodedBy}, declared.place.Point.{Point}}
+use Rattle.verdict.specs.Verdict.{Judgement, reached, judgedAt}
+use Rattle.verdict.specs.declared.step.Verdict.{the-variants.{NotInZone, InZone, InExcludedZone, OnBorderVertex, OnBorderSegment}, Verdict}
 use Rattle.numbers.specs.{Answer.{if_then_else_}, Lists.{padded}, Reply.{Reply, given, plain}}
 use Rattle.table.specs.{Hits.{hitOf, words, Real}, Rest.{restMark}, Rows.{Rows, row, tableEnd, unreadable, rowsIn}, Table.{isAbove, holds}}
 use Rattle.table.specs.declared.{hits.Hit.{Hit}, rows.Row.{Row}, search.{Ended.{Ended}, Searched.{Searched}, Turn.{the-variants.{On, Met, Stopped, Refused}, Turn}}}
 use Rattle.header.specs.declared.header.Head.{Head}
-use Rattle.border.specs.Verdict as J
+use Rattle.verdict.specs.Verdict as J
 use Rattle.numbers.specs.Reply as R
 use Rattle.table.specs.Rows as T
 use Rattle.table.specs.declared.search.Searched.the-variants as S

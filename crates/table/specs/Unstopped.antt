@@ -1,7 +1,8 @@
 -- The search that never stops early: what mark 1 is held against.
 use mathlib.Core.{Bool.{Bool, true}, List.{List, []}, Path.{_≡_}}
 use Prim.Native.Nat.{ℕ}
-use Rattle.border.specs.{Verdict.{Judgement}, declared.place.Point.{Point}}
+use Rattle.verdict.specs.Verdict.{Judgement}
+use Rattle.border.specs.declared.place.Point.{Point}
 use Rattle.header.specs.declared.header.Head.{Head}
 use Rattle.numbers.specs.Reply.{Reply, plain}
 use Rattle.numbers.specs.Reply as R

@@ -2,7 +2,8 @@
 ghost use mathlib.Core.Path.{_≡_};
 ghost use Prim.Native.Nat.{_/_};
 ghost use lib.ListN.{length};
-ghost use Rattle.border.specs.{Encoding.{versionOf}, Verdict.{told}};
+ghost use Rattle.border.specs.Encoding.{versionOf};
+ghost use Rattle.verdict.specs.Verdict.{told};
 ghost use Rattle.numbers.specs.Lists.{zeros};
 ghost use Rattle.table.specs.{Hits.{width}, Agreeing.{Agrees}, Search.{kindOf, judgedTurn, rowTurn, judgeIn, searched, toldSearched, Sought}};
 use crate::codes::BROKEN;
@@ -29,13 +30,13 @@ use crate::table::is_above;
 use border::place::Point;
 use border::reader::Encoding;
 use border::reader::Version;
-use border::verdict::Judged;
-use border::verdict::Verdict;
-use border::verdict::point_in_polygon;
 use header::header::Head;
 use numbers::refusal::Refusal;
 use numbers::refusal::plain;
 use std::num::wrapping_add_u32;
+use verdict::judge::Judged;
+use verdict::judge::point_in_polygon;
+use verdict::step::Verdict;
 
 // What one row does to the search: it goes on with the least squared distance so far, it met a zone, or it stops.
 pub enum Turn {

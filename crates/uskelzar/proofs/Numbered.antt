@@ -7,7 +7,7 @@ use lib.{IntN.{ℤ}, Ieee.{Float}}
 use Rattle.batch.{proofs.NumberedMany.{manyNumbers, many-refusals}, specs.{Many.{Batch, lookedUpMany}, declared.many.Totals.{Totals}}}
 use Rattle.batch.specs.Many as B
 use Rattle.numbers.{proofs.Refusals.{Listed}, specs.{Reply.{Reply, given, refused}, declared.refusal.Refusal.{Refusal}}}
-use Rattle.border.{proofs.NumberedWriter.{writerNumbers, writer-refusals}, specs.{Writer.{borderOf, fitted}, declared.writer.Piece.{Piece}}}
+use Rattle.writer.{proofs.NumberedWriter.{writerNumbers, writer-refusals}, specs.{Writer.{borderOf, fitted}, declared.write.Piece.{Piece}}}
 use Rattle.footer.{proofs.Numbered.{footerNumbers, local-time-refusals}, specs.Local.{localTime}}
 use Rattle.tzif.specs.declared.local.LocalTime.{LocalTime}
 use Rattle.tzif.specs.declared.local.LocalTime.the-variants as L

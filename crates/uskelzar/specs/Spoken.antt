@@ -2,7 +2,7 @@
 use mathlib.Core.{List.{List, [], _∷_}, Option.{Option, none, some}}
 use mir.{Syntax.{w32}, Val.{ofZ}}
 use Prim.Native.Nat.{ℕ}
-use Rattle.border.specs.Writer as W
+use Rattle.writer.specs.Writer as W
 use Rattle.tzif.specs.Local as T
 use Rattle.tzif.specs.declared.local.{Local.{Local}, LocalTime.{LocalTime}}
 use Rattle.tzif.specs.declared.local.LocalTime.the-variants as L

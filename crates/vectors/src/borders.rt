@@ -16,9 +16,9 @@ use border::reader::Next;
 use border::reader::Version;
 use border::reader::next_point;
 use border::reader::open_border;
-use border::verdict::Judged;
-use border::verdict::Verdict;
-use border::verdict::point_in_polygon;
+use verdict::judge::Judged;
+use verdict::judge::point_in_polygon;
+use verdict::step::Verdict;
 
 // More words than any line has.
 const MOST: usize = 256;

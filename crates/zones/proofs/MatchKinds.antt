@@ -4,8 +4,8 @@ use Prim.Native.Nat.{ℕ, zero, suc, _<_}
 use native.Mathlib.Omega.{arith}
 use lib.{Dec.{eqb}, ListN.{length, getD}}
 use Rattle.numbers.{proofs.Refusals.{Listed}, specs.{Answer.{if_then_else_}, Lists.{zeros, padded}, Reply.{given}}}
-use Rattle.border.specs.Verdict.{Judgement}
-use Rattle.border.specs.declared.{place.Point.{Point}, verdict.Verdict.{Verdict, the-variants.{NotInZone, InZone, InExcludedZone, OnBorderVertex, OnBorderSegment}}}
+use Rattle.verdict.specs.{Verdict.{Judgement}, declared.step.Verdict.{Verdict, the-variants.{NotInZone, InZone, InExcludedZone, OnBorderVertex, OnBorderSegment}}}
+use Rattle.border.specs.declared.place.Point.{Point}
 use Rattle.table.specs.{Ending.{hitsOf, Through, here, outside, judged, Answered}, Hits.{noHit, hitAt}}
 use Rattle.table.specs.{Merge.{Summary, summed, later, _⊕_, single, summary, differs, groupKind, seen, matchOf, mergedAfter, merged}, Rows.{Rows}}
 use Rattle.table.specs.declared.{hits.Hit.{Hit}, location.Location.{Location}, rows.Row.{Row}}

@@ -3,8 +3,8 @@ use Prim.Native.Nat.{ℕ, zero, suc, _+_, _-_, _/_}
 use lib.{Dec.{ltb, leb, eqb}, ListN.{length}}
 use mathlib.Core.{Bool.{Bool, true, false}, List.{List, [], _∷_, _++_}, Path.{_≡_, refl, subst}}
 use native.Mathlib.Omega.{arith}
-use Rattle.border.proofs.{Signs.{differ}, Numbered.{NumberedJudgement, judged, unjudged, not-judged, judged-numbered}}
-use Rattle.border.specs.{Verdict.{Judgement}, declared.place.Point.{Point}}
+use Rattle.border.{proofs.Signs.{differ}, specs.declared.place.Point.{Point}}
+use Rattle.verdict.{proofs.Numbered.{NumberedJudgement, judged, unjudged, not-judged, judged-numbered}, specs.Verdict.{Judgement}}
 use Rattle.numbers.proofs.{Refusals.{Listed, still-listed, Numbered, as-found, as-failed, as-refused, either, then-numbered}, Readings.{reading-numbered}}
 use Rattle.numbers.proofs.Replies.{NumberedReply, answers, refuses, then-reply, and-then, demands, number-of}
 use Rattle.numbers.specs.{Answer.{Answer, if_then_else_}, Varint.{readingOf}, Reply.{Reply, given, refused, plain, _>>=_}, declared.refusal.Refusal.{Refusal}}

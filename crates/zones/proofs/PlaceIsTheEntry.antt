@@ -4,7 +4,8 @@ use Prim.Native.Nat.{ℕ, _%_, _^_, _≤_, _<_}
 use native.Mathlib.Omega.{arith}
 use borrow.Author.Tests.{leb-true}
 use lib.{Dec.{eqb, leb}, ListN.{length}}
-use Rattle.border.specs.{Verdict.{Judgement}, declared.place.Point.{Point}}
+use Rattle.verdict.specs.Verdict.{Judgement}
+use Rattle.border.specs.declared.place.Point.{Point}
 use Rattle.numbers.proofs.{Laws.{Read, forward-read}, Answers.{All}, Replies.{given-from, demanded}}
 use Rattle.numbers.specs.{Answer.{Answer, found, _>>=_}, Reply.{given, plain}, Varint.{Numeral, forwardAt, readingOf}}
 use Rattle.numbers.specs.Answer as A

@@ -4,8 +4,9 @@ use Prim.Native.Nat.{ℕ, zero, suc, _-_, _*_, _/_}
 use lib.{Dec.{ltb, eqb}, ListN.{length, length-map}}
 use mathlib.Core.{Bool.{Bool, true, false}, List.{List, [], _∷_, _++_, map}, Option.{Option}, Path.{_≡_, refl, ap, _∙_}}
 use native.Mathlib.Omega.{arith}
-use Rattle.border.specs.{Verdict.{Judgement, reached}, declared.place.Point.{Point}}
-use Rattle.border.specs.Verdict as J
+use Rattle.verdict.specs.Verdict.{Judgement, reached}
+use Rattle.border.specs.declared.place.Point.{Point}
+use Rattle.verdict.specs.Verdict as J
 use Rattle.numbers.specs.{Answer.{if_then_else_}, Lists.{zeros, padded}, Reply.{Reply, given, plain, demand, _>>=_, _>>_}}
 use Rattle.numbers.specs.Reply as R
 use Rattle.header.{proofs.Unless.{shown}, specs.{Header.{headOf}, declared.header.Head.{Head}}}

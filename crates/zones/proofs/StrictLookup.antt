@@ -3,8 +3,9 @@ use Prim.Native.Nat.{ℕ, zero, suc, _+_, _-_, _/_, _%_, _^_, _≤_}
 use lib.{Dec.{ltb}, ListN.{length}}
 use mathlib.Core.{Bool.{Bool, true, false}, List.{List, [], _∷_, _++_}, Logic.{_⊎_, inl, inr}, Path.{_≡_, refl, sym, ap, subst, _∙_}}
 use native.Mathlib.Omega.{arith}
-use Rattle.border.{proofs.Strict.{StrictJudgement, judged-strictly}, specs.{Encoding.{versionOf}, Verdict.{Judgement}, declared.place.Point.{Point}}}
-use Rattle.border.proofs.Strict as B
+use Rattle.verdict.{proofs.Strict.{StrictJudgement, judged-strictly}, specs.Verdict.{Judgement}}
+use Rattle.border.specs.{Encoding.{versionOf}, declared.place.Point.{Point}}
+use Rattle.verdict.proofs.Strict as B
 use Rattle.numbers.specs.{Answer.{if_then_else_}, Reply.{Reply, given, refused, plain, _>>=_}}
 use Rattle.header.proofs.StrictHead.{Or31, then-same, shown-same, text-strictly, unstrict, head-strictly, table-within, head-strict}
 use Rattle.header.proofs.Unless.{shown, Unless, refuses, alike, unless-demand}

@@ -4,7 +4,8 @@ use borrow.Author.Tests.{lt-ltb, le-ltb}
 use lib.ListN.{length, length-append, length-replicate}
 use mathlib.Core.{List.{List, [], _∷_, _++_}, Path.{_≡_, refl, sym, ap, _∙_}, Bool.{true, false}}
 use native.Mathlib.{Nat.{sub-zero}, Omega.{arith}}
-use Rattle.border.specs.{Verdict.{Judgement}, declared.place.Point.{Point}}
+use Rattle.verdict.specs.Verdict.{Judgement}
+use Rattle.border.specs.declared.place.Point.{Point}
 use Rattle.table.proofs.{Agreeing.{agree-given, agree-refused}, Words.{words-length, put-padded, real-append}}
 use Rattle.table.specs.{Hits.{width, words, putHit, Real}, Agreeing.{Agrees}, Rows.{Rows, row, tableEnd, unreadable}}
 use Rattle.table.specs.Search.{rowTurn, Found, ended, afterTurn, seek, Sought}

@@ -3,14 +3,14 @@ use Prim.Native.Nat.{ℕ, _+_, _%_, _^_}
 use borrow.Author.Tests.{eq-eqb, ne-eqb, eqb-false}
 use lib.Dec.{eqb}
 use mathlib.Core.{Bool.{Bool, true, false}, List.{List}, Path.{_≡_, refl, sym, ap, subst, _∙_}}
-use Rattle.border.specs.{Encoding.{versionOf, encodedBy}, Verdict.{Judgement, told, judgedAt}}
-use Rattle.border.specs.declared.{place.Point.{Point}, reader.Version.{Version}, verdict.{Judged.{Judged}, Verdict.{Verdict}}}
+use Rattle.border.specs.{Encoding.{versionOf, encodedBy}, declared.{place.Point.{Point}, reader.Version.{Version}}}
+use Rattle.verdict.specs.{Verdict.{Judgement, told, judgedAt}, declared.{judge.Judged.{Judged}, step.Verdict.{Verdict}}}
 use Rattle.numbers.specs.Answer.{if_then_else_}
 use Rattle.table.specs.{Search.{kindOf, rowHit, judgedTurn, rowTurn, judgeIn}, Table.{holds}}
 use Rattle.table.specs.declared.{hits.Hit.{Hit}, rows.Row.{Row}, search.Turn.{the-variants.{On, Met, Stopped, Refused}, Turn}}
 use Rattle.header.specs.declared.header.Head.{Head}
-use Rattle.border.specs.Verdict as B
-use Rattle.border.specs.declared.verdict.Judged.the-variants as J
+use Rattle.verdict.specs.Verdict as B
+use Rattle.verdict.specs.declared.judge.Judged.the-variants as J
 
 -- ---- a judged border
 module _ (file : List ℕ) (head : Head) (fix : Point) (asked : Bool) (polygon least : ℕ) where

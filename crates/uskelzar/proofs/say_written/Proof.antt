@@ -1,5 +1,5 @@
 use mathlib.Core.Path.{ap, sym, _∙_}
-use Rattle.border.specs.{Writer.{told}, declared.writer.Written.{Written}}
+use Rattle.writer.specs.{Writer.{told}, declared.write.Written.{Written}}
 use Rattle.numbers.specs.Reply.{refused}
 use Rattle.uskelzar.proofs.{Saying.{said-given, said-refused}, say_written.Statement.{statement}}
 use Rattle.uskelzar.specs.Spoken.{lengthValue}

@@ -5,7 +5,7 @@ use borrow.Author.Needs.{needs}
 use Rattle.uskelzar.proofs.uskelzar_write_border.Tie as tie
 use Rattle.uskelzar.proofs.uskelzar_write_border.Reads as reads
 use Rattle.uskelzar.proofs.uskelzar_write_border.Lts as lts
-use Rattle.border.proofs.writer.write_border_words.Reads as write-border-words-reads
+use Rattle.writer.proofs.write.write_border_words.Reads as write-border-words-reads
 use Rattle.uskelzar.proofs.say_written.Reads as say-written-reads
 use Rattle.uskelzar.proofs.speak.Reads as speak-reads
 

@@ -1,0 +1,34 @@
+-- What is kept of a point: its quadrant, one of four, and its floats where the distance is asked for. Assumes nothing.
+use Prim.Native.Nat.{ℕ, _≤_}
+use mathlib.Core.{Path.{_≡_, sym, ap, _∙_}, Bool.{Bool, true, false}}
+use lib.{Dec.{lit≤}, Signed.{leZ}}
+use Rattle.numbers.specs.Answer.{if_then_else_}
+use Rattle.verdict.specs.{Edge.{quadrantOf, locationOf}, Kept.{seenFrom}, declared.edge.{Location.{Location}, Seen.{Seen}}}
+use Rattle.border.specs.declared.place.Point.{Point}
+
+one-of-four : (t u : Bool) → (if t then (if u then 0 else 1) else (if u then 3 else 2)) ≤ 3
+one-of-four true true = lit≤ tt
+one-of-four true false = lit≤ tt
+one-of-four false true = lit≤ tt
+one-of-four false false = lit≤ tt
+
+pub quadrant-small : (fix p : Point) → quadrantOf fix p ≤ 3
+unfolding quadrantOf
+quadrant-small fix p = one-of-four (leZ (fix .lat .0) (p .lat .0)) (leZ (fix .lon .0) (p .lon .0))
+
+module _ (fix : Point) (asked : Bool) {s : Seen} (kept : s ≡ seenFrom fix asked (s .point)) where
+  pub quadrant-kept : s .quadrant ≡ quadrantOf fix (s .point)
+  unfolding seenFrom
+  quadrant-kept = ap (λ (x : Seen). x .quadrant) kept
+
+  pub location-kept : asked ≡ true → s .location ≡ locationOf (s .point)
+  unfolding seenFrom
+  location-kept e = ap (λ (x : Seen). x .location) kept ∙ ap (λ (t : Bool). if t then locationOf (s .point) else locationOf fix) e
+
+module _ (fix : Point) (asked : Bool) (p : Point) {s : Seen} (seen : s ≡ seenFrom fix asked p) where
+  pub point-kept : s .point ≡ p
+  unfolding seenFrom
+  point-kept = ap (λ (x : Seen). x .point) seen
+
+  pub seen-again : s ≡ seenFrom fix asked (s .point)
+  seen-again = seen ∙ ap (seenFrom fix asked) (sym point-kept)

@@ -1,0 +1,13 @@
+-- Laws on plain values that the functions' proofs cite.
+pub mod Compared
+pub mod Checks
+pub mod Squares
+pub mod Kept
+pub mod Gliding
+pub mod Verdicts
+pub mod Replies
+pub mod Unasked
+pub mod OutsideBox
+pub mod Strict
+pub mod LeftBound
+pub mod Numbered

@@ -1,0 +1,52 @@
+-- `verdict::edge::closest` meets its contract: in each arm the edge is that arm's constructor, at which the definition computes. Assumes nothing.
+use borrow.Author.Needs.{needs}
+use Rattle.numbers.proofs.Laws.{float-of}
+use Rattle.verdict.proofs.edge.closest.Statement.{statement}
+use Rattle.verdict.specs.Edge.{closestOn}
+use Rattle.verdict.proofs.edge.closest.Tie as tie
+
+enum-known-edge : tie.Need-enum-known-edge
+enum-known-edge c = search needs
+
+foot-requires : tie.Need-foot-requires
+foot-requires c κs = search needs
+
+enum-known-edge-2 : tie.Need-enum-known-edge-2
+enum-known-edge-2 c = search needs
+
+of-i32-requires : tie.Need-of-i32-requires
+of-i32-requires c κs = search needs
+
+enum-known-edge-3 : tie.Need-enum-known-edge-3
+enum-known-edge-3 c = search needs
+
+of-i32-requires-2 : tie.Need-of-i32-requires-2
+of-i32-requires-2 c κs = search needs
+
+returns : tie.Need-returns
+returns c =
+    rw (c .before .before .edge .given .1) (c .foot .ensures)
+
+returns-2 : tie.Need-returns-2
+unfolding closestOn
+returns-2 c =
+    rw (c .before .before .before .edge2 .given .1, float-of (c .before .before .before .edge2 .given .0 .0 .0) (search needs) (c .of-i32 .ensures))
+
+returns-3 : tie.Need-returns-3
+unfolding closestOn
+returns-3 c =
+    rw (c .before .before .before .edge3 .given .1, float-of (c .before .before .before .edge3 .given .0 .0 .0) (search needs) (c .of-i322 .ensures))
+
+pub closest-spec : {M : Type 1} → statement M
+closest-spec =
+    tie.close
+    (tie.spec
+    enum-known-edge
+    foot-requires
+    enum-known-edge-2
+    of-i32-requires
+    enum-known-edge-3
+    of-i32-requires-2
+    returns
+    returns-2
+    returns-3)

@@ -1,0 +1,28 @@
+-- `verdict::edge::seen_from` meets its contract: what its calls ensure. Assumes nothing.
+use borrow.Author.Needs.{needs}
+use Rattle.verdict.proofs.edge.seen_from.Statement.{statement}
+use Rattle.verdict.specs.Kept.{seenFrom}
+use Rattle.verdict.proofs.edge.seen_from.Tie as tie
+
+quadrant-of-requires : tie.Need-quadrant-of-requires
+quadrant-of-requires c κs = search needs
+
+location-of-requires : tie.Need-location-of-requires
+location-of-requires c κs = search needs
+
+returns : tie.Need-returns
+unfolding seenFrom
+returns c =
+    let if1 = c .before .if1 in
+    let quadrant-of = c .before .before .quadrant-of in
+    rw (if1 .taken, quadrant-of .ensures, c .location-of .ensures)
+
+returns-2 : tie.Need-returns-2
+unfolding seenFrom
+returns-2 c =
+    let quadrant-of = c .before .quadrant-of in
+    let pre = c .before .before .pre in
+    rw (c .if1 .left, quadrant-of .ensures, pre)
+
+pub seen-from-spec : {M : Type 1} → statement M
+seen-from-spec = tie.close (tie.spec quadrant-of-requires location-of-requires returns returns-2)

@@ -1,0 +1,21 @@
+-- `verdict::glide::field_of` meets its contract: what `side_of` ensures, twice. Assumes nothing.
+use borrow.Author.Needs.{needs}
+use mir.{Facts.{toZ-ofZ}, Syntax.{w32}, Val.{SFits}}
+use Rattle.verdict.proofs.{Gliding.{aside-of}, glide.field_of.Statement.{statement}}
+use Rattle.verdict.proofs.glide.field_of.Tie as tie
+
+side-of-requires : tie.Need-side-of-requires
+side-of-requires c κs = search needs
+
+side-of-requires-2 : tie.Need-side-of-requires-2
+side-of-requires-2 c κs = search needs
+
+returns : tie.Need-returns
+returns c =
+    let a = c .before .before .before .before .before .before .args in
+    let lat : SFits w32 (a .fix .lat .0) = search needs in
+    let lon : SFits w32 (a .fix .lon .0) = search needs in
+    aside-of (a .fix) _ (rw (toZ-ofZ {w = w32} lat) at (c .before .before .before .side-of .ensures)) (rw (toZ-ofZ {w = w32} lon) at (c .side-of2 .ensures))
+
+pub field-of-spec : {M : Type 1} → statement M
+field-of-spec = tie.close (tie.spec side-of-requires side-of-requires-2 returns)

@@ -1,0 +1,108 @@
+-- `verdict::glide::glide_back` meets its contract. The loop's invariant is the contract itself; the measure is the place, which falls. Assumes nothing.
+use borrow.Author.Needs.{needs}
+use denote.Ref.{now}
+use mathlib.Core.Path.{sym, ap, _∙_}
+use Rattle.verdict.proofs.{Gliding.{back-stays, back-on, less-below}, glide.glide_back.Statement.{statement}}
+use Rattle.verdict.specs.Gliding.{GlidesBack}
+use Rattle.verdict.proofs.glide.glide_back.Tie as tie
+
+abbrev Inv-loop : tie.InvT-loop
+Inv-loop file field start end place₀ point₀ place point = GlidesBack file field end start point₀ place point
+
+abbrev μ-loop : tie.MeasureT-loop
+μ-loop file field start end place₀ point₀ place point = place
+
+loop-holds : tie.Need-loop-holds Inv-loop μ-loop
+loop-holds c = back-stays _ _ _ _ _
+
+read-backward-requires : tie.Need-read-backward-requires Inv-loop μ-loop
+read-backward-requires c κs = search needs
+
+enum-known-n : tie.Need-enum-known-n Inv-loop μ-loop
+enum-known-n c = search needs
+
+returns : tie.Need-returns Inv-loop μ-loop
+returns c = c .before .before .loop .inv
+
+returns-2 : tie.Need-returns-2 Inv-loop μ-loop
+returns-2 c = c .before .before .before .before .before .before .loop .inv
+
+returns-3 : tie.Need-returns-3 Inv-loop μ-loop
+returns-3 c = c .before .before .before .before .before .before .before .before .loop .inv
+
+decode-point-requires : tie.Need-decode-point-requires Inv-loop μ-loop
+decode-point-requires c κs = search needs
+
+negate-requires : tie.Need-negate-requires Inv-loop μ-loop
+negate-requires c κs = search needs
+
+enum-known-by : tie.Need-enum-known-by Inv-loop μ-loop
+enum-known-by c = search needs
+
+enum-told : tie.Need-enum-told Inv-loop μ-loop
+enum-told c = search needs
+
+returns-4 : tie.Need-returns-4 Inv-loop μ-loop
+returns-4 c = c .before .before .before .before .before .before .before .before .before .before .before .before .loop .inv
+
+lead-requires : tie.Need-lead-requires Inv-loop μ-loop
+lead-requires c κs = search needs
+
+enum-known-to : tie.Need-enum-known-to Inv-loop μ-loop
+enum-known-to c = search needs
+
+enum-told-2 : tie.Need-enum-told-2 Inv-loop μ-loop
+enum-told-2 c = search needs
+
+returns-5 : tie.Need-returns-5 Inv-loop μ-loop
+returns-5 c = c .before .before .before .before .before .before .before .before .before .before .before .before .before .before .before .before .loop .inv
+
+loop-less : tie.Need-loop-less Inv-loop μ-loop
+loop-less c =
+    let a = c .before .before .before .before .before .before .before .before .before .before .before .before .before .before .before .before .before .before .before .args in
+    let loop = c .before .before .before .before .before .before .before .before .before .before .before .before .before .before .before .before .before .loop in
+    let read-backward = c .before .before .before .before .before .before .before .before .before .before .before .before .before .before .before .before .read-backward in
+    let n = c .before .before .before .before .before .before .before .before .before .before .before .before .before .before .n in
+    less-below (now (a .file)) (a .field) (a .end) (loop .place) (rw (n .given .1) at (read-backward .ensures))
+
+loop-again : tie.Need-loop-again Inv-loop μ-loop
+loop-again c =
+    let a = c .before .before .before .before .before .before .before .before .before .before .before .before .before .before .before .before .before .before .before .args in
+    let loop = c .before .before .before .before .before .before .before .before .before .before .before .before .before .before .before .before .before .loop in
+    let read-backward = c .before .before .before .before .before .before .before .before .before .before .before .before .before .before .before .before .read-backward in
+    let n = c .before .before .before .before .before .before .before .before .before .before .before .before .before .before .n in
+    let if1 = c .before .before .before .before .before .before .before .before .before .before .before .if1 in
+    let if2 = c .before .before .before .before .before .before .before .before .before .if2 in
+    let decode-point = c .before .before .before .before .before .before .before .before .decode-point in
+    let negate = c .before .before .before .before .before .before .before .negate in
+    let by = c .before .before .before .before .before .by in
+    let lead = c .before .before .before .lead in
+    let to = c .before .to in
+    let led = rw (to .given .1) at (lead .ensures) in
+    let number = rw (n .given .1) at (read-backward .ensures) in
+    let negated = rw (by .given .1, decode-point .ensures) at (negate .ensures) in
+    back-on (now (a .file)) (a .field) (a .end) (loop .inv) number (if1 .left) (if2 .left) negated (led .0) (led .1)
+
+pub glide-back-spec : {M : Type 1} → statement M
+glide-back-spec =
+    tie.close
+    (tie.spec
+    Inv-loop
+    μ-loop
+    loop-holds
+    read-backward-requires
+    enum-known-n
+    returns
+    returns-2
+    returns-3
+    decode-point-requires
+    negate-requires
+    enum-known-by
+    enum-told
+    returns-4
+    lead-requires
+    enum-known-to
+    enum-told-2
+    returns-5
+    loop-less
+    loop-again)

@@ -1,0 +1,85 @@
+-- `verdict::glide::glide_forth` meets its contract. The loop's invariant is the contract itself; the measure is the rest of the file. Assumes nothing.
+use Prim.Native.Nat.{_-_}
+use borrow.Author.Needs.{needs}
+use denote.Ref.{now}
+use lib.ListN.{length}
+use mathlib.Core.Path.{sym, ap, _∙_}
+use Rattle.verdict.proofs.{Gliding.{forth-stays, forth-on, less-left}, glide.glide_forth.Statement.{statement}}
+use Rattle.verdict.specs.Gliding.{GlidesForth}
+use Rattle.verdict.proofs.glide.glide_forth.Tie as tie
+
+abbrev Inv-loop : tie.InvT-loop
+Inv-loop file strict field start place₀ point₀ place point = GlidesForth file strict field start point₀ place point
+
+abbrev μ-loop : tie.MeasureT-loop
+μ-loop file strict field start place₀ point₀ place point = length file - place
+
+loop-holds : tie.Need-loop-holds Inv-loop μ-loop
+loop-holds c = forth-stays _ _ _ _ _
+
+read-number-requires : tie.Need-read-number-requires Inv-loop μ-loop
+read-number-requires c κs = search needs
+
+enum-known-n : tie.Need-enum-known-n Inv-loop μ-loop
+enum-known-n c = search needs
+
+returns : tie.Need-returns Inv-loop μ-loop
+returns c = c .before .before .loop .inv
+
+returns-2 : tie.Need-returns-2 Inv-loop μ-loop
+returns-2 c = c .before .before .before .before .before .before .loop .inv
+
+decode-point-requires : tie.Need-decode-point-requires Inv-loop μ-loop
+decode-point-requires c κs = search needs
+
+lead-requires : tie.Need-lead-requires Inv-loop μ-loop
+lead-requires c κs = search needs
+
+enum-known-to : tie.Need-enum-known-to Inv-loop μ-loop
+enum-known-to c = search needs
+
+enum-told : tie.Need-enum-told Inv-loop μ-loop
+enum-told c = search needs
+
+returns-3 : tie.Need-returns-3 Inv-loop μ-loop
+returns-3 c = c .before .before .before .before .before .before .before .before .before .before .loop .inv
+
+loop-less : tie.Need-loop-less Inv-loop μ-loop
+loop-less c =
+    let a = c .before .before .before .before .before .before .before .before .before .before .before .before .before .args in
+    let loop = c .before .before .before .before .before .before .before .before .before .before .before .loop in
+    let read-number = c .before .before .before .before .before .before .before .before .before .before .read-number in
+    let n = c .before .before .before .before .before .before .before .before .n in
+    less-left (now (a .file)) (a .strict) (a .field) (loop .place) (rw (n .given .1) at (read-number .ensures))
+
+loop-again : tie.Need-loop-again Inv-loop μ-loop
+loop-again c =
+    let a = c .before .before .before .before .before .before .before .before .before .before .before .before .before .args in
+    let loop = c .before .before .before .before .before .before .before .before .before .before .before .loop in
+    let read-number = c .before .before .before .before .before .before .before .before .before .before .read-number in
+    let n = c .before .before .before .before .before .before .before .before .n in
+    let if1 = c .before .before .before .before .before .if1 in
+    let decode-point = c .before .before .before .before .decode-point in
+    let lead = c .before .before .before .lead in
+    let to = c .before .to in
+    let led = rw (to .given .1, decode-point .ensures) at (lead .ensures) in
+    forth-on (now (a .file)) (a .strict) (a .field) (loop .inv) (rw (n .given .1) at (read-number .ensures)) (if1 .left) (led .0) (led .1)
+
+pub glide-forth-spec : {M : Type 1} → statement M
+glide-forth-spec =
+    tie.close
+    (tie.spec
+    Inv-loop
+    μ-loop
+    loop-holds
+    read-number-requires
+    enum-known-n
+    returns
+    returns-2
+    decode-point-requires
+    lead-requires
+    enum-known-to
+    enum-told
+    returns-3
+    loop-less
+    loop-again)

@@ -1,0 +1,116 @@
+-- `verdict::glide::glide_plain` meets its contract. The loop's invariant is the contract itself; the measure is the moves that are left. Assumes nothing.
+use borrow.Author.Needs.{needs, sfits-of}
+use denote.Ref.{now}
+use mathlib.Core.Path.{sym, _∙_}
+use mir.{Syntax.{w32}, ValLaws.{toZ-ofZ}}
+use native.Mathlib.Omega.{arith}
+use Rattle.verdict.proofs.{Gliding.{plain-stays, plain-on}, glide.glide_plain.Statement.{statement}}
+use Rattle.verdict.specs.Gliding.{GlidesPlain}
+use Rattle.verdict.proofs.glide.glide_plain.Tie as tie
+
+abbrev Inv-loop : tie.InvT-loop
+Inv-loop file strict field start count place₀ moves₀ point₀ place moves point = GlidesPlain file strict field start count point₀ place moves point
+
+abbrev μ-loop : tie.MeasureT-loop
+μ-loop file strict field start count place₀ moves₀ point₀ place moves point = moves
+
+loop-holds : tie.Need-loop-holds Inv-loop μ-loop
+loop-holds c = plain-stays _ _ _ _ _ _
+
+read-number-requires : tie.Need-read-number-requires Inv-loop μ-loop
+read-number-requires c κs = search needs
+
+enum-known-n : tie.Need-enum-known-n Inv-loop μ-loop
+enum-known-n c = search needs
+
+returns : tie.Need-returns Inv-loop μ-loop
+returns c = c .before .before .before .loop .inv
+
+read-number-requires-2 : tie.Need-read-number-requires-2 Inv-loop μ-loop
+read-number-requires-2 c κs = search needs
+
+enum-known-m : tie.Need-enum-known-m Inv-loop μ-loop
+enum-known-m c = search needs
+
+returns-2 : tie.Need-returns-2 Inv-loop μ-loop
+returns-2 c = c .before .before .before .before .before .before .before .loop .inv
+
+signed-requires : tie.Need-signed-requires Inv-loop μ-loop
+signed-requires c κs = search needs
+
+signed-requires-2 : tie.Need-signed-requires-2 Inv-loop μ-loop
+signed-requires-2 c κs = search needs
+
+is-still-requires : tie.Need-is-still-requires Inv-loop μ-loop
+is-still-requires c κs = search needs
+
+returns-3 : tie.Need-returns-3 Inv-loop μ-loop
+returns-3 c = c .before .before .before .before .before .before .before .before .before .before .before .before .before .loop .inv
+
+lead-requires : tie.Need-lead-requires Inv-loop μ-loop
+lead-requires c κs = search needs
+
+enum-known-to : tie.Need-enum-known-to Inv-loop μ-loop
+enum-known-to c = search needs
+
+enum-told : tie.Need-enum-told Inv-loop μ-loop
+enum-told c = search needs
+
+returns-4 : tie.Need-returns-4 Inv-loop μ-loop
+returns-4 c = c .before .before .before .before .before .before .before .before .before .before .before .before .before .before .before .before .loop .inv
+
+sub-moves : tie.Need-sub-moves Inv-loop μ-loop
+sub-moves c = search needs
+
+loop-less : tie.Need-loop-less Inv-loop μ-loop
+loop-less c = omega (arith, c .before .before .before .before .before .before .before .before .before .before .before .before .before .before .before .before .loop-test .taken)
+
+loop-again : tie.Need-loop-again Inv-loop μ-loop
+loop-again c =
+    let a = c .before .before .before .before .before .before .before .before .before .before .before .before .before .before .before .before .before .before .before .args in
+    let loop = c .before .before .before .before .before .before .before .before .before .before .before .before .before .before .before .before .before .loop in
+    let n = c .before .before .before .before .before .before .before .before .before .before .before .before .before .n in
+    let m = c .before .before .before .before .before .before .before .before .before .m in
+    let read-number = c .before .before .before .before .before .before .before .before .before .before .before .before .before .before .before .read-number in
+    let read-number2 = c .before .before .before .before .before .before .before .before .before .before .before .read-number2 in
+    let signed = c .before .before .before .before .before .before .before .signed in
+    let signed2 = c .before .before .before .before .before .before .signed2 in
+    let is-still = c .before .before .before .before .before .is-still in
+    let to = c .before .to in
+    let lead = c .before .before .before .lead in
+    let lat = rw (n .given .1) at (read-number .ensures) in
+    let lon = rw (m .given .1) at (read-number2 .ensures) in
+    let north = toZ-ofZ w32 _ (sfits-of (signed .ok)) ∙ signed .ensures in
+    let east = toZ-ofZ w32 _ (sfits-of (signed2 .ok)) ∙ signed2 .ensures in
+    let stirs = rw (north, east) at (sym (is-still .ensures) ∙ c .before .before .before .before .if1 .left) in
+    let led = rw (to .given .1, north, east) at (lead .ensures) in
+    plain-on (now (a .file)) (a .strict) (a .field) (loop .inv) lat lon (c .before .before .before .before .before .before .before .before .before .before .before .before .before .before .before .before .loop-test .taken) stirs (led .0) (led .1)
+
+returns-5 : tie.Need-returns-5 Inv-loop μ-loop
+returns-5 c = c .before .loop .inv
+
+pub glide-plain-spec : {M : Type 1} → statement M
+glide-plain-spec =
+    tie.close
+    (tie.spec
+    Inv-loop
+    μ-loop
+    loop-holds
+    read-number-requires
+    enum-known-n
+    returns
+    read-number-requires-2
+    enum-known-m
+    returns-2
+    signed-requires
+    signed-requires-2
+    is-still-requires
+    returns-3
+    lead-requires
+    enum-known-to
+    enum-told
+    returns-4
+    sub-moves
+    loop-less
+    loop-again
+    returns-5)

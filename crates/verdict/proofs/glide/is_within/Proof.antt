@@ -1,0 +1,43 @@
+-- `verdict::glide::is_within` meets its contract: what `lies_in` ensures, twice. Assumes nothing.
+use borrow.Author.Needs.{needs}
+use mir.{Syntax.{w32}, Val.{SFits}}
+use Rattle.verdict.proofs.glide.is_within.Statement.{statement}
+use Rattle.border.proofs.place.Whole.{widened, widens}
+use Rattle.verdict.specs.Gliding.{within}
+use Rattle.verdict.proofs.glide.is_within.Tie as tie
+
+cast-lies-in : tie.Need-cast-lies-in
+cast-lies-in c =
+    let lat : SFits w32 (c .before .before .args .p .lat .0) = search needs in
+    widens lat
+
+lies-in-requires : tie.Need-lies-in-requires
+lies-in-requires c κs = search needs
+
+cast-lies-in-2 : tie.Need-cast-lies-in-2
+cast-lies-in-2 c =
+    let lon : SFits w32 (c .before .before .before .before .before .before .args .p .lon .0) = search needs in
+    widens lon
+
+lies-in-requires-2 : tie.Need-lies-in-requires-2
+lies-in-requires-2 c κs = search needs
+
+returns : tie.Need-returns
+unfolding within
+returns c =
+    let a = c .before .before .before .before .before .before .before .args in
+    let lat : SFits w32 (a .p .lat .0) = search needs in
+    let lon : SFits w32 (a .p .lon .0) = search needs in
+    let first = rw (widened lat) at (c .before .before .before .before .lies-in .ensures .0) in
+    rw (← first, c .before .before .before .if1 .taken) (rw (widened lon) at (c .lies-in2 .ensures .0))
+
+returns-2 : tie.Need-returns-2
+unfolding within
+returns-2 c =
+    let a = c .before .before .before .before .args in
+    let lat : SFits w32 (a .p .lat .0) = search needs in
+    let first = rw (widened lat) at (c .before .lies-in .ensures .0) in
+    rw (← first, c .if1 .left)
+
+pub is-within-spec : {M : Type 1} → statement M
+is-within-spec = tie.close (tie.spec cast-lies-in lies-in-requires cast-lies-in-2 lies-in-requires-2 returns returns-2)

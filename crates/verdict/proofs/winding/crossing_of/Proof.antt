@@ -1,0 +1,20 @@
+-- `verdict::winding::crossing_of` meets its contract: what `to_i32` ensures. Assumes nothing.
+use borrow.Author.Needs.{needs}
+use mathlib.Core.Path.{_≡_}
+use mir.{Syntax.{w32}, Val.{toZ, ofZ}}
+use Rattle.verdict.proofs.winding.crossing_of.Statement.{statement}
+use Rattle.verdict.specs.Winding.{crossingOf}
+use Rattle.verdict.proofs.winding.crossing_of.Tie as tie
+
+to-i32-requires : tie.Need-to-i32-requires
+to-i32-requires c κs = search needs
+
+returns : tie.Need-returns
+unfolding crossingOf
+returns c =
+    let pre = c .before .before .before .before .pre in
+    let p : toZ w32 (ofZ w32 (c .to-i32 .result)) ≡ c .to-i32 .result = search needs in
+    rw (p, c .to-i32 .ensures, pre)
+
+pub crossing-of-spec : {M : Type 1} → statement M
+crossing-of-spec = tie.close (tie.spec to-i32-requires returns)

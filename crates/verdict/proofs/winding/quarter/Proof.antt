@@ -1,0 +1,31 @@
+-- `verdict::winding::quarter` meets its contract: the two tests decide as the definition does. Assumes nothing.
+use borrow.Author.{Needs.{needs}, Tests.{eq-eqb, ne-eqb}}
+use Rattle.verdict.proofs.winding.quarter.Statement.{statement}
+use Rattle.verdict.specs.Winding.{quarterBy}
+use Rattle.verdict.proofs.winding.quarter.Tie as tie
+
+turn-requires : tie.Need-turn-requires
+turn-requires c κs = search needs
+
+returns : tie.Need-returns
+unfolding quarterBy
+returns c =
+    rw (eq-eqb _ _ (c .before .if1 .taken)) (c .turn .ensures)
+
+turn-requires-2 : tie.Need-turn-requires-2
+turn-requires-2 c κs = search needs
+
+returns-2 : tie.Need-returns-2
+unfolding quarterBy
+returns-2 c =
+    let if1 = c .before .before .if1 in
+    let if2 = c .before .if2 in
+    rw (ne-eqb _ _ (if1 .left), eq-eqb _ _ (if2 .taken)) (c .turn2 .ensures)
+
+returns-3 : tie.Need-returns-3
+unfolding quarterBy
+returns-3 c =
+    rw (ne-eqb _ _ (c .before .if1 .left), ne-eqb _ _ (c .if2 .left))
+
+pub quarter-spec : {M : Type 1} → statement M
+quarter-spec = tie.close (tie.spec turn-requires returns turn-requires-2 returns-2 returns-3)

@@ -1,0 +1,43 @@
+-- The squared distance of a location from an edge. The longitude counts twice: it has half the scale.
+use Prim.Native.Nat.{ℕ, _+_, _*_, _%_, _^_, min}
+use mathlib.Core.Bool.{Bool}
+use lib.IntN.{ℤ, _-ℤ_, _*ℤ_, natAbs}
+use Rattle.numbers.specs.{Answer.{if_then_else_}, Float.{cut64, _⊟_}}
+use Rattle.verdict.specs.{Step.{Step, found, refused, _>>=_, checked}, Edge.{inBox, locationOf, edgeOf, closestOn, cutOf}}
+use Rattle.verdict.specs.declared.{edge.Location.{Location}, step.Tally.{Tally}, distance.Distance.{Distance, the-variants.{Is, Over}}}
+use Rattle.border.specs.declared.place.Point.{Point}
+
+-- what the enum's cases say
+abbrev pub told : Distance → Step ℕ
+told (Is d) = found d
+told Over = refused 13
+
+-- "squares must fit i64"; their sum wraps
+unfoldable pub squared : ℤ → ℤ → Step ℕ
+squared lat lon = do
+  y ← checked 63 (lat *ℤ lat)
+  x ← checked 63 (lon *ℤ lon)
+  found ((natAbs y + 4 * natAbs x) % 2 ^ 64)
+
+unfoldable pub toSegment : Location → Location → Step ℕ
+toSegment near at = squared (cut64 (near .lat ⊟ at .lat)) (cut64 (near .lon ⊟ at .lon))
+
+unfoldable pub toVertex : Point → Point → Step ℕ
+toVertex to fix = do
+  lat ← checked 31 (to .lat .0 -ℤ fix .lat .0)
+  lon ← checked 31 (to .lon .0 -ℤ fix .lon .0)
+  squared lat lon
+
+-- to the closest point, if its cut is in the edge's box; else to the vertex
+unfoldable pub distanceOf : Point → Point → Point → Step ℕ
+distanceOf fix from to =
+    let at = locationOf fix in
+    let near = closestOn (edgeOf from to) at in
+    if inBox to (cutOf near) from then toSegment near at else toVertex to fix
+
+-- the least distance after an edge, if it is asked for
+unfoldable pub measured : Bool → Point → Point → Point → Tally → Step Tally
+measured asked fix from to tally =
+    if asked
+    then (distanceOf fix from to >>= λ new. found (record { winding = tally .winding; least = min new (tally .least) }))
+    else found tally

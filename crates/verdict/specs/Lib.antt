@@ -1,0 +1,7 @@
+pub mod Step
+pub mod Edge
+pub mod Winding
+pub mod Distance
+pub mod Verdict
+pub mod Kept
+pub mod Gliding

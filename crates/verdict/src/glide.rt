@@ -1,0 +1,322 @@
+// Points that change nothing: while a border stays in a field that lies strictly on one side of the location's latitude and of its
+// longitude, it neither turns about the location nor meets it. A reader of the verdict may skip this file: it only hurries.
+ghost use mathlib.Core.{Path.{_≡_}, Bool.{true, false}};
+ghost use Prim.Native.Nat.{_^_, _<_};
+ghost use lib.Signed.{mag};
+ghost use Rattle.border.specs.Encoding.{encodedBy};
+ghost use Rattle.verdict.specs.Gliding.{inSpan, beside, aside, within, LedTo, GlidesForth, GlidesBack, GlidesPlain, GlidesTo, GlidesOn, standing};
+use crate::step::Tally;
+use border::place::Away;
+use border::place::FixedLat;
+use border::place::FixedLon;
+use border::place::Point;
+use border::place::is_still;
+use border::place::negate;
+use border::reader::Encoding;
+use border::reader::Reader;
+use border::reader::Run;
+use border::reader::Version;
+use numbers::point::RawPoint;
+use numbers::point::decode_point;
+use numbers::point::signed;
+use numbers::varint::Varint;
+use numbers::varint::read_backward;
+use numbers::varint::read_number;
+
+// The numbers between two others.
+pub(crate) struct Span {
+    pub low: i32,
+    pub high: i32,
+}
+
+// The points whose latitude and longitude lie in two spans.
+pub(crate) struct Field {
+    pub lat: Span,
+    pub lon: Span,
+}
+
+fn lies_in(span: Span, x: i64) -> bool
+    ensures { λ r. ⌜ (r ≡ inSpan span x) × (r ≡ true → mag x < 2 ^ 31) ⌝ }
+{
+    (span.low as i64) < x && x < (span.high as i64)
+}
+
+fn is_within(field: Field, p: Point) -> bool
+    ensures { λ r. ⌜ r ≡ within field p ⌝ }
+{
+    if lies_in(field.lat, p.lat.0 as i64) {
+        return lies_in(field.lon, p.lon.0 as i64);
+    }
+    false
+}
+
+// The numbers on the side of x where another one lies.
+fn side_of(x: i32, other: i32) -> Span
+    ensures { λ r. ⌜ beside x r ≡ true ⌝ }
+{
+    if x < other {
+        return Span {
+            low: x,
+            high: 2147483647,
+        };
+    }
+    Span {
+        low: -2147483648,
+        high: x,
+    }
+}
+
+// The quadrant about a location in which a point lies.
+fn field_of(fix: Point, p: Point) -> Field
+    ensures { λ r. ⌜ aside fix r ≡ true ⌝ }
+{
+    Field {
+        lat: side_of(fix.lat.0, p.lat.0),
+        lon: side_of(fix.lon.0, p.lon.0),
+    }
+}
+
+// Where a move leads inside the field.
+pub(crate) enum Led {
+    To(Point),
+    Out,
+}
+
+fn lead(field: Field, p: Point, by: RawPoint) -> Led
+    ensures { λ r. ⌜ LedTo field p by r ⌝ }
+{
+    let lat = (p.lat.0 as i64) + (by.lat as i64);
+    if !lies_in(field.lat, lat) {
+        return Led::Out;
+    }
+    let lon = (p.lon.0 as i64) + (by.lon as i64);
+    if !lies_in(field.lon, lon) {
+        return Led::Out;
+    }
+    Led::To(Point {
+        lat: FixedLat(lat as i32),
+        lon: FixedLon(lon as i32),
+    })
+}
+
+// A place of the border, and the point there.
+pub(crate) struct Glided {
+    pub place: usize,
+    pub point: Point,
+}
+
+// Version 1, outside a reference.
+fn glide_forth(file: &[u8], strict: bool, field: Field, start: usize, from: Point) -> Glided
+    ensures { λ r. ⌜ GlidesForth (now (file .entry)) strict field start «from» (r .place) (r .point) ⌝ }
+{
+    let mut place = start;
+    let mut point = from;
+    loop {
+        let n = read_number(file, place, strict);
+        let Varint::Number(number) = n else {
+            return Glided { place, point };
+        };
+        if number.value == 0 {
+            return Glided { place, point };
+        }
+        let Led::To(to) = lead(field, point, decode_point(number.value)) else {
+            return Glided { place, point };
+        };
+        place = number.place;
+        point = to;
+    }
+}
+
+// Version 1, inside a reference that is read backward, up to its last move.
+fn glide_back(file: &[u8], field: Field, start: usize, end: usize, from: Point) -> Glided
+    ensures { λ r. ⌜ GlidesBack (now (file .entry)) field end start «from» (r .place) (r .point) ⌝ }
+{
+    let mut place = start;
+    let mut point = from;
+    loop {
+        let n = read_backward(file, place);
+        let Varint::Number(number) = n else {
+            return Glided { place, point };
+        };
+        if number.value == 0 {
+            return Glided { place, point };
+        }
+        if number.place <= end {
+            return Glided { place, point };
+        }
+        let Away::By(by) = negate(decode_point(number.value)) else {
+            return Glided { place, point };
+        };
+        let Led::To(to) = lead(field, point, by) else {
+            return Glided { place, point };
+        };
+        place = number.place;
+        point = to;
+    }
+}
+
+// A place of the border, the moves that are left, and the point there.
+pub(crate) struct Counted {
+    pub place: usize,
+    pub moves: u64,
+    pub point: Point,
+}
+
+// Version 0, up to the closing pair. A move of nothing is left to the reader.
+fn glide_plain(
+    file: &[u8],
+    strict: bool,
+    field: Field,
+    start: usize,
+    count: u64,
+    from: Point,
+) -> Counted
+    ensures { λ r. ⌜ GlidesPlain (now (file .entry)) strict field start count «from» (r .place) (r .moves) (r .point) ⌝ }
+{
+    let mut place = start;
+    let mut moves = count;
+    let mut point = from;
+    while 0 < moves {
+        let n = read_number(file, place, strict);
+        let Varint::Number(lat) = n else {
+            return Counted {
+                place,
+                moves,
+                point,
+            };
+        };
+        let m = read_number(file, lat.place, strict);
+        let Varint::Number(lon) = m else {
+            return Counted {
+                place,
+                moves,
+                point,
+            };
+        };
+        let by = RawPoint {
+            lat: signed(lat.value),
+            lon: signed(lon.value),
+        };
+        if is_still(by) {
+            return Counted {
+                place,
+                moves,
+                point,
+            };
+        }
+        let Led::To(to) = lead(field, point, by) else {
+            return Counted {
+                place,
+                moves,
+                point,
+            };
+        };
+        place = lon.place;
+        moves -= 1;
+        point = to;
+    }
+    Counted {
+        place,
+        moves,
+        point,
+    }
+}
+
+// The state at a place, a run and a point of the border.
+fn stand(reader: Reader, place: usize, moves: u64, run: Run, point: Point) -> Reader
+    ensures { λ r. ⌜ r ≡ standing (reader .first) place moves run point ⌝ }
+{
+    let first = reader.first;
+    Reader {
+        place,
+        moves,
+        begun: true,
+        closed: false,
+        run,
+        point,
+        first,
+    }
+}
+
+// Version 1.
+fn glide_packed(file: &[u8], encoding: Encoding, field: Field, reader: Reader) -> Reader
+    requires { ⌜ (reader .begun ≡ true) × (reader .closed ≡ false) ⌝ }
+    ensures { λ r. ⌜ GlidesTo (now (file .entry)) (encodedBy (encoding .strict) Version.Packed (encoding .«data»)) field reader r ⌝ }
+{
+    let run = reader.run;
+    let from = reader.point;
+    match run {
+        Run::Idle => {
+            let glided = glide_forth(file, encoding.strict, field, reader.place, from);
+            let point = glided.point;
+            stand(reader, glided.place, reader.moves, Run::Idle, point)
+        }
+        Run::Backward { next, end } => {
+            let glided = glide_back(file, field, next, end, from);
+            let point = glided.point;
+            let rest = Run::Backward {
+                next: glided.place,
+                end,
+            };
+            stand(reader, reader.place, reader.moves, rest, point)
+        }
+        Run::Forward { next: _, end: _ } => reader,
+    }
+}
+
+// Version 0.
+fn glide_counted(file: &[u8], encoding: Encoding, field: Field, reader: Reader) -> Reader
+    requires { ⌜ (reader .begun ≡ true) × (reader .closed ≡ false) ⌝ }
+    ensures { λ r. ⌜ GlidesTo (now (file .entry)) (encodedBy (encoding .strict) Version.Plain (encoding .«data»)) field reader r ⌝ }
+{
+    let run = reader.run;
+    let Run::Idle = run else {
+        return reader;
+    };
+    let from = reader.point;
+    let glided = glide_plain(
+        file,
+        encoding.strict,
+        field,
+        reader.place,
+        reader.moves,
+        from,
+    );
+    let point = glided.point;
+    stand(reader, glided.place, glided.moves, Run::Idle, point)
+}
+
+fn glide_within(file: &[u8], encoding: Encoding, field: Field, reader: Reader) -> Reader
+    requires { ⌜ (reader .begun ≡ true) × (reader .closed ≡ false) ⌝ }
+    ensures { λ r. ⌜ GlidesTo (now (file .entry)) encoding field reader r ⌝ }
+{
+    let version = encoding.version;
+    match version {
+        Version::Packed => glide_packed(file, encoding, field, reader),
+        Version::Plain => glide_counted(file, encoding, field, reader),
+    }
+}
+
+// The state after the points that change nothing, as far as they are read quickly.
+pub(crate) fn glide_on(
+    file: &[u8],
+    encoding: Encoding,
+    fix: Point,
+    tally: Tally,
+    reader: Reader,
+) -> Reader
+    ensures { λ r. ⌜ GlidesOn (now (file .entry)) encoding fix false tally reader r ⌝ }
+{
+    if reader.closed {
+        return reader;
+    }
+    if !reader.begun {
+        return reader;
+    }
+    let from = reader.point;
+    let field = field_of(fix, from);
+    if !is_within(field, from) {
+        return reader;
+    }
+    glide_within(file, encoding, field, reader)
+}

@@ -1,0 +1,7 @@
+// What a border says of a location.
+pub mod distance;
+pub mod edge;
+pub mod glide;
+pub mod judge;
+pub mod step;
+pub mod winding;

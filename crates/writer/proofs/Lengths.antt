@@ -1,0 +1,23 @@
+-- How long the bytes of moves and pieces are at most. Assumes nothing.
+use Prim.Native.Nat.{ℕ, _*_, _≤_}
+use native.Mathlib.{Nat.{le-trans}, Omega.{arith}}
+use mathlib.Core.List.{List, flatMap}
+use lib.{ListN.{length, length-append}, Seq.{slice}}
+use Rattle.numbers.{specs.{declared.point.RawPoint.{RawPoint}, Spelling.{signedForm}}, proofs.Spelling.{varint-few}}
+use Rattle.writer.specs.Moves.{plainMoveBytes, packedMoveBytes, packedNumber}
+use Rattle.writer.proofs.Indexed.{each-few, slice-few}
+
+plain-one : (m : RawPoint) → length (plainMoveBytes m) ≤ 20
+unfolding plainMoveBytes
+plain-one m = simp length-append (omega (arith, varint-few (signedForm (m .lat)), varint-few (signedForm (m .lon))))
+
+packed-one : (m : RawPoint) → length (packedMoveBytes m) ≤ 10
+unfolding packedMoveBytes
+packed-one m = varint-few (packedNumber m)
+
+module _ (ms : List RawPoint) (from to : ℕ) where
+  pub plain-few : length (flatMap plainMoveBytes (slice from to ms)) ≤ 20 * length ms
+  plain-few = le-trans (each-few plainMoveBytes 20 plain-one (slice from to ms)) (omega (arith, slice-few from to ms))
+
+  pub packed-few : length (flatMap packedMoveBytes (slice from to ms)) ≤ 10 * length ms
+  packed-few = le-trans (each-few packedMoveBytes 10 packed-one (slice from to ms)) (omega (arith, slice-few from to ms))

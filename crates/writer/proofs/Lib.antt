@@ -1,0 +1,20 @@
+-- Laws on plain values that the functions' proofs cite.
+pub mod Stores
+pub mod Signs
+pub mod Indexed
+pub mod Elements
+pub mod Gathering
+pub mod Spelling
+pub mod Lengths
+pub mod Accepting
+pub mod Faults
+pub mod Replying
+pub mod Packing
+pub mod Records
+pub mod Inverse
+pub mod Standing
+pub mod WrittenTrace
+pub mod OneVerdict
+pub mod WorkedBytes
+pub mod Replies
+pub mod NumberedWriter

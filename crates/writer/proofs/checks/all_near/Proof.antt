@@ -1,0 +1,75 @@
+-- `writer::checks::all_near` meets its contract. Assumes nothing.
+use mathlib.Core.{Path.{_≡_, refl, sym, ap, _∙_}, Bool.{true, false}}
+use native.Mathlib.Omega.{arith}
+use borrow.Author.Tests.{not-true, not-false}
+use Prim.Native.Nat.{_-_, _≤_}
+use lib.{IntN.{pos}, ListN.{length, drop, getD}}
+use mir.{Facts.{toZ-ofZ}, Syntax.{w32}, Val.{SFits}}
+use Rattle.writer.specs.Writer.{every, near}
+use Rattle.writer.proofs.{Indexed.{every-bad, every-good, every-done}, checks.all_near.Statement.{statement}}
+use Rattle.writer.proofs.checks.all_near.Tie as tie
+
+abbrev Inv-loop : tie.InvT-loop
+Inv-loop list i₀ i = (i ≤ length list) × (every near (drop i list) ≡ every near list)
+
+abbrev μ-loop : tie.MeasureT-loop
+μ-loop list i₀ i = length list - i
+
+loop-holds : tie.Need-loop-holds Inv-loop μ-loop
+loop-holds c = (omega arith, refl)
+
+mul-is-near : tie.Need-mul-is-near Inv-loop μ-loop
+mul-is-near c = omega arith
+
+shared-slice-copy-out-is-near : tie.Need-shared-slice-copy-out-is-near Inv-loop μ-loop
+shared-slice-copy-out-is-near c = omega arith
+
+returns : tie.Need-returns Inv-loop μ-loop
+returns c =
+    let args = c .before .before .before .before .before .args in
+    let l = c .before .before .before .before .loop in
+    let loop-test = c .before .before .before .loop-test in
+    let is-near-arg = c .before .before .is-near-arg in
+    let is-near = c .before .is-near in
+    let zs = args .list .now in
+    let fit : SFits w32 (getD zs (l .i) (pos 0)) = record { sfits = is-near-arg .given } in
+    let bad : near (getD zs (l .i) (pos 0)) ≡ false = ap near (sym (toZ-ofZ fit)) ∙ sym (is-near .ensures) ∙ not-true _ (c .if1 .taken) in
+    sym (every-bad near zs (l .i) (pos 0) (loop-test .taken) bad) ∙ l .inv .1
+
+add-i : tie.Need-add-i Inv-loop μ-loop
+add-i c = omega arith
+
+loop-less : tie.Need-loop-less Inv-loop μ-loop
+loop-less c = omega arith
+
+loop-again : tie.Need-loop-again Inv-loop μ-loop
+loop-again c =
+    let args = c .before .before .before .before .before .args in
+    let l = c .before .before .before .before .loop in
+    let loop-test = c .before .before .before .loop-test in
+    let is-near-arg = c .before .before .is-near-arg in
+    let is-near = c .before .is-near in
+    let zs = args .list .now in
+    let fit : SFits w32 (getD zs (l .i) (pos 0)) = record { sfits = is-near-arg .given } in
+    let good : near (getD zs (l .i) (pos 0)) ≡ true = ap near (sym (toZ-ofZ fit)) ∙ sym (is-near .ensures) ∙ not-false _ (c .if1 .left) in
+    (omega arith, every-good near zs (l .i) (pos 0) (loop-test .taken) good ∙ l .inv .1)
+
+returns-2 : tie.Need-returns-2 Inv-loop μ-loop
+unfolding every
+returns-2 c = let l = c .before .loop in sym (every-done near (c .before .before .args .list .now) (l .i) (c .loop-test .left)) ∙ l .inv .1
+
+pub all-near-spec : {M : Type 1} → statement M
+all-near-spec =
+    tie.close
+    (tie.spec
+    Inv-loop
+    μ-loop
+    loop-holds
+    mul-is-near
+    shared-slice-copy-out-is-near
+    (λ c κs. tt)
+    returns
+    add-i
+    loop-less
+    loop-again
+    returns-2)

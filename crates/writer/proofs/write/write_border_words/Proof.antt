@@ -1,0 +1,27 @@
+-- `writer::write::write_border_words` meets its contract. Assumes nothing.
+use native.Mathlib.Omega.{arith}
+use Rattle.writer.specs.Pieces.{piecesOf}
+use Rattle.writer.proofs.write.write_border_words.Statement.{statement}
+use Rattle.writer.proofs.write.write_border_words.Tie as tie
+
+no-pieces-requires : tie.Need-no-pieces-requires
+no-pieces-requires c κs = tt
+
+check-words-requires : tie.Need-check-words-requires
+check-words-requires c κs = tt
+
+write-checked-requires : tie.Need-write-checked-requires
+write-checked-requires c κs = tt
+
+returns : tie.Need-returns
+returns c =
+    let a = c .before .before .before .before .before .before .before .before .before .args in
+    let no-pieces = c .before .before .before .before .before .no-pieces in
+    let check-words = c .before .before .before .before .check-words in
+    let write-checked = c .before .before .write-checked in
+    write-checked .ensures (piecesOf (a .words .now)) (check-words .ensures (no-pieces .ensures (a .earlier .now) (a .lats .now) (a .lons .now)))
+
+pub write-border-words-spec : {M : Type 1} → statement M
+write-border-words-spec =
+    tie.close
+    (tie.spec no-pieces-requires check-words-requires write-checked-requires (λ c. omega arith) returns)

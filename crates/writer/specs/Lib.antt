@@ -1,0 +1,5 @@
+pub mod Moves
+pub mod Pieces
+pub mod Writer
+pub mod Stored
+pub mod WrittenAt
