@@ -1,5 +1,5 @@
 -- Points strictly inside one quadrant about a location leave the winding as it is. Assumes nothing.
-use Prim.Native.Nat.{ℕ, suc, _+_, _-_, _%_, _^_, _≤_, _<_}
+use Prim.Native.Nat.{ℕ, _+_, _-_, _%_, _^_, _≤_, _<_}
 use borrow.Author.Tests.{ltb-true, leb-true, le-leb, lt-leb, lt-ltb}
 use lib.{IntN.{ℤ, pos, negsuc, _+ℤ_}, ListN.{length}, Signed.{ltZ, leZ, mag}}
 use mir.{Syntax.{w32}, Val.{SFits}}
@@ -12,9 +12,9 @@ use Rattle.border.specs.Trace.{Trace, point, traceOf}
 use Rattle.border.specs.declared.place.Point.{Point}
 use Rattle.border.specs.declared.reader.{Reader.{Reader}, Encoding.{Encoding}, Version.{Version, the-variants.{Plain, Packed}}, Run.{Run, the-variants.{Idle, Backward}}}
 use Rattle.verdict.specs.{Distance.{measured}, Edge.{sameZ, samePoint, straight, between, inBox, quadrantOf}}
-use Rattle.verdict.specs.Gliding.{sameSide, inOneQuadrant, inSpan, beside, aside, within, Glides, stays, glides, GlidesTo, standing, GlidesForth, GlidesBack, GlidesPlain, points, GlidesOn}
+use Rattle.verdict.specs.Gliding.{sameSide, inOneQuadrant, inSpan, beside, aside, within, Glides, stays, glides, GlidesTo, standing, GlidesForth, GlidesBack, GlidesPlain, points, Calm}
 use Rattle.verdict.specs.{Verdict.{after, along, passing, thenOn, judge}, Winding.{quarterBy, clearOf, woundBy}}
-use Rattle.verdict.specs.declared.{glide.{Span.{Span}, Field.{Field}}, step.Tally.{Tally}}
+use Rattle.verdict.specs.declared.{field.{Span.{Span}, Field.{Field}}, step.Tally.{Tally}}
 use Rattle.numbers.specs.{Answer.{found, checked, if_then_else_}, Point.{signedOf, pointOf}, Varint.{Numeral, numeral, readingOf, backwardAt}}
 use Rattle.numbers.specs.declared.point.RawPoint.{RawPoint}
 use Rattle.numbers.proofs.{Answers.{All}, Laws.{Read, Before, backward-read}, Readings.{reading-read}}
@@ -22,13 +22,13 @@ use Rattle.verdict.specs.Step as S
 
 -- ---- the order of whole numbers
 
-less-le : (x a : ℤ) → ltZ x a ≡ true → (leZ x a ≡ true) × (leZ a x ≡ false)
+pub less-le : (x a : ℤ) → ltZ x a ≡ true → (leZ x a ≡ true) × (leZ a x ≡ false)
 less-le (pos n) (pos m) e = (le-leb n m (omega (arith, ltb-true n m e)), lt-leb m n (ltb-true n m e))
 less-le (pos n) (negsuc m) e = differ e
 less-le (negsuc n) (pos m) e = (refl, refl)
 less-le (negsuc n) (negsuc m) e = (le-leb m n (omega (arith, ltb-true m n e)), lt-leb n m (ltb-true m n e))
 
-le-less : (x a b : ℤ) → leZ x a ≡ true → ltZ a b ≡ true → ltZ x b ≡ true
+pub le-less : (x a b : ℤ) → leZ x a ≡ true → ltZ a b ≡ true → ltZ x b ≡ true
 le-less (pos x) (pos a) (pos b) h k = lt-ltb x b (omega (arith, leb-true x a h, ltb-true a b k))
 le-less (pos x) (pos a) (negsuc b) h k = differ k
 le-less (pos x) (negsuc a) b h k = differ h
@@ -37,7 +37,7 @@ le-less (negsuc x) (pos a) (negsuc b) h k = differ k
 le-less (negsuc x) (negsuc a) (pos b) h k = refl
 le-less (negsuc x) (negsuc a) (negsuc b) h k = lt-ltb b x (omega (arith, leb-true a x h, ltb-true b a k))
 
-less-le-less : (a b x : ℤ) → ltZ a b ≡ true → leZ b x ≡ true → ltZ a x ≡ true
+pub less-le-less : (a b x : ℤ) → ltZ a b ≡ true → leZ b x ≡ true → ltZ a x ≡ true
 less-le-less (pos a) (pos b) (pos x) h k = lt-ltb a x (omega (arith, ltb-true a b h, leb-true b x k))
 less-le-less (pos a) (pos b) (negsuc x) h k = differ k
 less-le-less (pos a) (negsuc b) x h k = differ h
@@ -129,7 +129,7 @@ le-self : (x : ℤ) → leZ x x ≡ true
 le-self (pos n) = le-leb n n (le-refl n)
 le-self (negsuc n) = le-leb n n (le-refl n)
 
-or-true : (t : Bool) → (t || true) ≡ true
+pub or-true : (t : Bool) → (t || true) ≡ true
 or-true true = refl
 or-true false = refl
 
@@ -204,10 +204,6 @@ not-in-span span x h = (rw h, λ e. differ e)
 pub moved-to : (p : Point) (by : RawPoint) → SFits w32 (p .lat .0 +ℤ by .lat) → SFits w32 (p .lon .0 +ℤ by .lon) → found (pointAt (p .lat .0 +ℤ by .lat) (p .lon .0 +ℤ by .lon)) ≡ movedBy p by
 unfolding movedBy checked
 moved-to p by f g = rw (lt-ltb _ _ (f .sfits), lt-ltb _ _ (g .sfits))
-
--- between any two points of a field a step changes nothing
-pub record Calm (fix : Point) (asked : Bool) (tally : Tally) (field : Field) : Type 0 where
-  pub keeps : (from to : Point) → within field from ≡ true → within field to ≡ true → passing fix asked (after from) to tally ≡ S.found tally
 
 pub quadrant-calm : (fix : Point) (tally : Tally) (field : Field) → aside fix field ≡ true → Calm fix false tally field
 quadrant-calm fix tally field beyond = record { keeps = λ from to h k. gliding-keeps fix from to (field-quadrant fix field beyond from to h k) tally }
@@ -322,18 +318,13 @@ module _ (f : List ℕ) (strict : Bool) (field : Field) where
 
 -- ---- any state
 
-pub on-stays : (f : List ℕ) (encoding : Encoding) (fix : Point) (asked : Bool) (tally : Tally) (s : Reader) → GlidesOn f encoding fix asked tally s s
-on-stays f encoding fix asked tally s = record { alike = refl; onward = le-refl _ }
-
-pub on-glides : (f : List ℕ) (encoding : Encoding) (s r : Reader) {fix : Point} {asked : Bool} {tally : Tally} {field : Field} → Calm fix asked tally field → within field (s .point) ≡ true → GlidesTo f encoding field s r → GlidesOn f encoding fix asked tally s r
-on-glides f encoding s r calm h g = record { alike = glide-trace calm (s .point) h g; onward = glides-shorter g }
-
--- where no distance is asked for, with the points that were kept of the two states
-pub carried : (f : List ℕ) (encoding : Encoding) (fix : Point) (asked : Bool) (tally : Tally) (s r : Reader) (p q : Point) → asked ≡ false → GlidesOn f encoding fix false tally s r → p ≡ r .point → q ≡ s .point
-    → judge fix asked (after p) tally (traceOf f encoding r) ≡ judge fix asked (after q) tally (traceOf f encoding s)
-carried f encoding fix asked tally s r p q unasked g h k =
-    subst (λ (t : Bool). judge fix t (after p) tally (traceOf f encoding r) ≡ judge fix t (after q) tally (traceOf f encoding s)) (sym unasked)
-    (ap (λ (o : Point). judge fix false (after o) tally (traceOf f encoding r)) h ∙ g .alike ∙ ap (λ (o : Point). judge fix false (after o) tally (traceOf f encoding s)) (sym k))
+-- with the points that were kept of the two states
+pub carried : (f : List ℕ) (encoding : Encoding) (fix : Point) (asked : Bool) (tally : Tally) (s r : Reader) (p q : Point) {field : Field} → Calm fix asked tally field → within field (s .point) ≡ true → GlidesTo f encoding field s r
+    → p ≡ r .point → q ≡ s .point → judge fix asked (after p) tally (traceOf f encoding r) ≡ judge fix asked (after q) tally (traceOf f encoding s)
+carried f encoding fix asked tally s r p q calm inside g h k =
+    ap (λ (o : Point). judge fix asked (after o) tally (traceOf f encoding r)) h
+    ∙ glide-trace calm (s .point) inside g
+    ∙ ap (λ (o : Point). judge fix asked (after o) tally (traceOf f encoding s)) (sym k)
 
 module _ (s : Reader) (begun : s .begun ≡ true) (unclosed : s .closed ≡ false) {run : Run} (runs : s .run ≡ run) where
   stands : s ≡ standing (s .first) (s .place) (s .moves) run (s .point)

@@ -4,6 +4,10 @@ pub mod Checks
 pub mod Squares
 pub mod Kept
 pub mod Gliding
+pub mod CutDifference
+pub mod Beyond
+pub mod FarFields
+pub mod WorkedGliding
 pub mod Verdicts
 pub mod Replies
 pub mod Unasked

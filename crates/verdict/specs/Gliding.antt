@@ -1,13 +1,16 @@
 -- Points of a border that change nothing about a location. No promise of a public function speaks of it.
-use Prim.Native.Nat.{ℕ, suc, _≤_}
+use Prim.Native.Nat.{ℕ, suc, _+_, _*_, _≤_}
 use mathlib.Core.{Path.{_≡_}, Bool.{Bool, true, false, _&&_, _||_}, List.{List}}
-use lib.{IntN.{ℤ}, Signed.{leZ, ltZ}}
+use lib.{IntN.{ℤ, pos, negsuc, _+ℤ_, _-ℤ_}, Signed.{leZ, ltZ, mag}}
 use Rattle.numbers.specs.{Answer.{found}, declared.point.RawPoint.{RawPoint}}
 use Rattle.border.specs.{Encoding.{encodedBy}, Place.{movedBy}, Trace.{Trace, point, traceOf}}
 use Rattle.border.specs.declared.place.Point.{Point}
 use Rattle.border.specs.declared.reader.{Reader.{Reader}, Encoding.{Encoding}, Version.the-variants.{Plain, Packed}, Run.{Run, the-variants.{Idle, Backward}}}
-use Rattle.verdict.specs.{Verdict.{after, judge}, declared.{glide.{Span.{Span}, Field.{Field}, Led.{Led, the-variants.{To, Out}}}, step.Tally.{Tally}}}
+use Rattle.verdict.specs.Verdict.{after, passing}
+use Rattle.verdict.specs.declared.{field.{Span.{Span}, Field.{Field}, Open.{Open, the-variants.{About, Shut}}}, glide.Led.{Led, the-variants.{To, Out}}}
+use Rattle.verdict.specs.declared.step.Tally.{Tally}
 use Rattle.border.specs.Trace as T
+use Rattle.verdict.specs.Step as S
 
 -- two numbers lie on one side of x, strictly
 unfoldable pub sameSide : ℤ → ℤ → ℤ → Bool
@@ -71,7 +74,65 @@ points T.closed = 0
 points T.failed = 0
 points (T.refused n) = 0
 
--- from the state r, after its point, a border is judged as from the state s, after its own; and it has no more points to come
-pub record GlidesOn (file : List ℕ) (encoding : Encoding) (fix : Point) (asked : Bool) (tally : Tally) (s r : Reader) : Type 0 where
-  pub alike : judge fix asked (after (r .point)) tally (traceOf file encoding r) ≡ judge fix asked (after (s .point)) tally (traceOf file encoding s)
-  pub onward : points (traceOf file encoding r) ≤ points (traceOf file encoding s)
+-- between any two points of a field a step changes nothing
+pub record Calm (fix : Point) (asked : Bool) (tally : Tally) (field : Field) : Type 0 where
+  pub keeps : (from to : Point) → within field from ≡ true → within field to ≡ true → passing fix asked (after from) to tally ≡ S.found tally
+
+-- the field, if it holds the point
+abbrev pub Held : Field → Point → Open → Type 0
+Held field p (About that) = (that ≡ field) × (within that p ≡ true)
+Held field p Shut = Unit
+
+-- a calm field that holds the point, or none
+abbrev pub Opens : Point → Bool → Tally → Point → Open → Type 0
+Opens fix asked tally p (About field) = Calm fix asked tally field × (within field p ≡ true)
+Opens fix asked tally p Shut = Unit
+
+-- ---- fields far from the fix
+
+-- the numbers of a span are all more than r away from x
+unfoldable pub farFrom : ℕ → ℤ → Span → Bool
+farFrom r x span = leZ (x +ℤ pos r) (span .low) || leZ (span .high +ℤ pos r) x
+
+-- they are less than 2 ^ 22 in size
+unfoldable pub nearby : Span → Bool
+nearby span = leZ (negsuc 4194303) (span .low) && leZ (span .high) (pos 4194304)
+
+-- a field is so far from the fix that no edge in it comes nearer than the least distance so far; neither coordinate is 0 there, which is what a NaN is cut to
+pub record Remote (fix : Point) (least : ℕ) (field : Field) : Type 0 where
+  pub lat-near : nearby (field .lat) ≡ true
+  pub lon-near : nearby (field .lon) ≡ true
+  pub lat-sign : beside (pos 0) (field .lat) ≡ true
+  pub lon-sign : beside (pos 0) (field .lon) ≡ true
+  pub lat-fix : mag (fix .lat .0) ≤ 4194304
+  pub lon-fix : mag (fix .lon .0) ≤ 4194304
+  pub lat-reach : ℕ
+  pub lon-reach : ℕ
+  pub lat-far : farFrom lat-reach (fix .lat .0) (field .lat) ≡ true
+  pub lon-far : farFrom lon-reach (fix .lon .0) (field .lon) ≡ true
+  pub enough : least ≤ lat-reach * lat-reach + 4 * (lon-reach * lon-reach)
+
+-- a number counted from 2 ^ 22 below 0
+abbrev pub lowered : ℕ → ℤ
+lowered n = pos n -ℤ pos 4194304
+
+-- n is x so counted, or 2 ^ 23 + 1 where x is not near 0
+abbrev pub LiftedTo : ℤ → ℕ → Type 0
+LiftedTo x n = (n ≤ 8388609) × (n ≤ 8388608 → x ≡ lowered n)
+
+-- a span of numbers near 0, on one side of it and of x, all more than r away from x
+pub record FarSpan (x : ℤ) (r : ℕ) (span : Span) : Type 0 where
+  pub side : beside x span ≡ true
+  pub near : nearby span ≡ true
+  pub sign : beside (pos 0) span ≡ true
+  pub far : farFrom r x span ≡ true
+
+-- a field of two such spans that holds the point, or none
+abbrev pub FarAbout : ℕ → ℕ → ℕ → ℕ → Point → Open → Type 0
+FarAbout y r x q p (About field) = FarSpan (lowered y) r (field .lat) × FarSpan (lowered x) q (field .lon) × (within field p ≡ true)
+FarAbout y r x q p Shut = Unit
+
+-- a remote field that holds the point and lies inside one quadrant about the fix, or none
+abbrev pub OpensFar : Point → ℕ → Point → Open → Type 0
+OpensFar fix least p (About field) = (aside fix field ≡ true) × Remote fix least field × (within field p ≡ true)
+OpensFar fix least p Shut = Unit

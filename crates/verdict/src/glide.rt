@@ -1,11 +1,9 @@
-// Points that change nothing: while a border stays in a field that lies strictly on one side of the location's latitude and of its
-// longitude, it neither turns about the location nor meets it. A reader of the verdict may skip this file: it only hurries.
+// A border that stays in a field, read quickly. A reader of the verdict may skip this file: it only hurries.
 ghost use mathlib.Core.{Path.{_≡_}, Bool.{true, false}};
-ghost use Prim.Native.Nat.{_^_, _<_};
-ghost use lib.Signed.{mag};
 ghost use Rattle.border.specs.Encoding.{encodedBy};
-ghost use Rattle.verdict.specs.Gliding.{inSpan, beside, aside, within, LedTo, GlidesForth, GlidesBack, GlidesPlain, GlidesTo, GlidesOn, standing};
-use crate::step::Tally;
+ghost use Rattle.verdict.specs.Gliding.{LedTo, GlidesForth, GlidesBack, GlidesPlain, GlidesTo, standing};
+use crate::field::Field;
+use crate::field::lies_in;
 use border::place::Away;
 use border::place::FixedLat;
 use border::place::FixedLon;
@@ -22,59 +20,6 @@ use numbers::point::signed;
 use numbers::varint::Varint;
 use numbers::varint::read_backward;
 use numbers::varint::read_number;
-
-// The numbers between two others.
-pub(crate) struct Span {
-    pub low: i32,
-    pub high: i32,
-}
-
-// The points whose latitude and longitude lie in two spans.
-pub(crate) struct Field {
-    pub lat: Span,
-    pub lon: Span,
-}
-
-fn lies_in(span: Span, x: i64) -> bool
-    ensures { λ r. ⌜ (r ≡ inSpan span x) × (r ≡ true → mag x < 2 ^ 31) ⌝ }
-{
-    (span.low as i64) < x && x < (span.high as i64)
-}
-
-fn is_within(field: Field, p: Point) -> bool
-    ensures { λ r. ⌜ r ≡ within field p ⌝ }
-{
-    if lies_in(field.lat, p.lat.0 as i64) {
-        return lies_in(field.lon, p.lon.0 as i64);
-    }
-    false
-}
-
-// The numbers on the side of x where another one lies.
-fn side_of(x: i32, other: i32) -> Span
-    ensures { λ r. ⌜ beside x r ≡ true ⌝ }
-{
-    if x < other {
-        return Span {
-            low: x,
-            high: 2147483647,
-        };
-    }
-    Span {
-        low: -2147483648,
-        high: x,
-    }
-}
-
-// The quadrant about a location in which a point lies.
-fn field_of(fix: Point, p: Point) -> Field
-    ensures { λ r. ⌜ aside fix r ≡ true ⌝ }
-{
-    Field {
-        lat: side_of(fix.lat.0, p.lat.0),
-        lon: side_of(fix.lon.0, p.lon.0),
-    }
-}
 
 // Where a move leads inside the field.
 pub(crate) enum Led {
@@ -162,6 +107,16 @@ pub(crate) struct Counted {
     pub point: Point,
 }
 
+fn counted_at(place: usize, moves: u64, point: Point) -> Counted
+    ensures { λ r. ⌜ r ≡ record { place = place; moves = moves; point = point } ⌝ }
+{
+    Counted {
+        place,
+        moves,
+        point,
+    }
+}
+
 // Version 0, up to the closing pair. A move of nothing is left to the reader.
 fn glide_plain(
     file: &[u8],
@@ -179,47 +134,27 @@ fn glide_plain(
     while 0 < moves {
         let n = read_number(file, place, strict);
         let Varint::Number(lat) = n else {
-            return Counted {
-                place,
-                moves,
-                point,
-            };
+            return counted_at(place, moves, point);
         };
         let m = read_number(file, lat.place, strict);
         let Varint::Number(lon) = m else {
-            return Counted {
-                place,
-                moves,
-                point,
-            };
+            return counted_at(place, moves, point);
         };
         let by = RawPoint {
             lat: signed(lat.value),
             lon: signed(lon.value),
         };
         if is_still(by) {
-            return Counted {
-                place,
-                moves,
-                point,
-            };
+            return counted_at(place, moves, point);
         }
         let Led::To(to) = lead(field, point, by) else {
-            return Counted {
-                place,
-                moves,
-                point,
-            };
+            return counted_at(place, moves, point);
         };
         place = lon.place;
         moves -= 1;
         point = to;
     }
-    Counted {
-        place,
-        moves,
-        point,
-    }
+    counted_at(place, moves, point)
 }
 
 // The state at a place, a run and a point of the border.
@@ -297,25 +232,14 @@ fn glide_within(file: &[u8], encoding: Encoding, field: Field, reader: Reader) -
     }
 }
 
-// The state after the points that change nothing, as far as they are read quickly.
-pub(crate) fn glide_on(
-    file: &[u8],
-    encoding: Encoding,
-    fix: Point,
-    tally: Tally,
-    reader: Reader,
-) -> Reader
-    ensures { λ r. ⌜ GlidesOn (now (file .entry)) encoding fix false tally reader r ⌝ }
+// The state after the points that stay in the field, as far as they are read quickly.
+pub(crate) fn glide_on(file: &[u8], encoding: Encoding, field: Field, reader: Reader) -> Reader
+    ensures { λ r. ⌜ GlidesTo (now (file .entry)) encoding field reader r ⌝ }
 {
     if reader.closed {
         return reader;
     }
     if !reader.begun {
-        return reader;
-    }
-    let from = reader.point;
-    let field = field_of(fix, from);
-    if !is_within(field, from) {
         return reader;
     }
     glide_within(file, encoding, field, reader)

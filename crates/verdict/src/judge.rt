@@ -9,6 +9,8 @@ use crate::edge::Seen;
 use crate::edge::location_of;
 use crate::edge::same_point;
 use crate::edge::seen_from;
+use crate::far::open_field;
+use crate::field::Open;
 use crate::glide::glide_on;
 use crate::step::Passed;
 use crate::step::Tally;
@@ -157,13 +159,16 @@ pub fn point_in_polygon(
         };
         begun = true;
         tally = counted;
-        if asked {
-            reader = later;
-            last = here;
-        } else {
-            // As long as the border stays in one quadrant about the location, nothing changes.
-            reader = glide_on(file, encoding, fix, counted, later);
-            last = seen_from(fix, at, asked, reader.point);
+        // As long as the border stays in such a field, nothing changes.
+        match open_field(fix, asked, counted, later.point) {
+            Open::Shut => {
+                reader = later;
+                last = here;
+            }
+            Open::About(field) => {
+                reader = glide_on(file, encoding, field, later);
+                last = seen_from(fix, at, asked, reader.point);
+            }
         }
     }
 }

@@ -1,6 +1,8 @@
 // What a border says of a location.
 pub mod distance;
 pub mod edge;
+pub mod far;
+pub mod field;
 pub mod glide;
 pub mod judge;
 pub mod step;

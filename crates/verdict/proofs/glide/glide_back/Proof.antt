@@ -1,7 +1,6 @@
 -- `verdict::glide::glide_back` meets its contract. The loop's invariant is the contract itself; the measure is the place, which falls. Assumes nothing.
 use borrow.Author.Needs.{needs}
 use denote.Ref.{now}
-use mathlib.Core.Path.{sym, ap, _∙_}
 use Rattle.verdict.proofs.{Gliding.{back-stays, back-on, less-below}, glide.glide_back.Statement.{statement}}
 use Rattle.verdict.specs.Gliding.{GlidesBack}
 use Rattle.verdict.proofs.glide.glide_back.Tie as tie

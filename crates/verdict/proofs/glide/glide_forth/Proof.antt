@@ -3,7 +3,6 @@ use Prim.Native.Nat.{_-_}
 use borrow.Author.Needs.{needs}
 use denote.Ref.{now}
 use lib.ListN.{length}
-use mathlib.Core.Path.{sym, ap, _∙_}
 use Rattle.verdict.proofs.{Gliding.{forth-stays, forth-on, less-left}, glide.glide_forth.Statement.{statement}}
 use Rattle.verdict.specs.Gliding.{GlidesForth}
 use Rattle.verdict.proofs.glide.glide_forth.Tie as tie

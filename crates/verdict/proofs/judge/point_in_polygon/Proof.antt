@@ -5,7 +5,7 @@ use denote.Ref.{now}
 use lib.IntN.{pos}
 use mathlib.Core.Path.{_≡_, sym, ap, _∙_}
 use native.Mathlib.Nat.{lt-of-le-of-lt}
-use Rattle.verdict.proofs.{Kept.{point-kept, seen-again}, Gliding.{point-shorter, carried}}
+use Rattle.verdict.proofs.{Kept.{point-kept, seen-again}, Gliding.{point-shorter, glides-shorter, carried}}
 use Rattle.verdict.proofs.judge.{Cases.{judge-end, decides}, point_in_polygon.Statement.{statement}}
 use Rattle.border.{proofs.Trace.{trace-step, point-trace}, specs.{Trace.{Given, point, traceThen, traceOf, borderAt}, declared.place.Point.{Point}}}
 use Rattle.verdict.specs.{Gliding.{points}, Kept.{seenFrom, lastOf}, Step.{Step, told}, Verdict.{none, after, thenOn, judge, judgedAt}, declared.step.Tally.{Tally}}
@@ -111,55 +111,52 @@ returns-2 c =
     let match2 = c .before .match2 in
     c .stopped .ensures ∙ decides (judge-point .result) _ _ _ (match2 .keys2) ∙ stepped (c .before .before)
 
+open-field-requires : tie.Need-open-field-requires Inv-loop μ-loop
+open-field-requires c κs = search needs
+
+enum-told : tie.Need-enum-told Inv-loop μ-loop
+enum-told c = search needs
+
+enum-known-field : tie.Need-enum-known-field Inv-loop μ-loop
+enum-known-field c = search needs
+
 loop-less : tie.Need-loop-less Inv-loop μ-loop
 loop-less c =
-    let a = c .before .before .before .before .before .before .before .before .before .before .before .before .before .before .before .args in
-    let l = c .before .before .before .before .before .before .before .before .before .before .loop in
-    let next = c .before .before .before .before .before .before .before .next in
-    let next-point = c .before .before .before .before .before .before .before .before .before .next-point in
-    let said = ap R.told (sym (next .given .1)) ∙ next-point .ensures in
-    point-shorter (point-trace (now (a .file)) (a .encoding) (l .reader) (next .given .0 .0) said)
+    let a = c .before .before .before .before .before .before .before .before .before .before .before .before .before .before .before .before .before .args in
+    let next = c .before .before .before .before .before .before .before .before .before .next in
+    let said = ap R.told (sym (next .given .1)) ∙ c .before .before .before .before .before .before .before .before .before .before .before .next-point .ensures in
+    point-shorter (point-trace (now (a .file)) (a .encoding) (c .before .before .before .before .before .before .before .before .before .before .before .before .loop .reader) (next .given .0 .0) said)
 
 loop-again : tie.Need-loop-again Inv-loop μ-loop
 unfolding thenOn
 loop-again c =
-    let passed = c .before .before .passed in
-    let seen-from2 = c .before .before .before .before .before .seen-from2 in
-    (rw (passed .given .1) at (stepped (c .before .before .before .before)), seen-again _ _ _ (seen-from2 .ensures))
+    (rw (c .before .before .before .before .passed .given .1) at (stepped (c .before .before .before .before .before .before)), seen-again _ _ _ (c .before .before .before .before .before .before .before .seen-from2 .ensures))
 
 glide-on-requires : tie.Need-glide-on-requires Inv-loop μ-loop
 glide-on-requires c κs = search needs
 
 seen-from-requires-3 : tie.Need-seen-from-requires-3 Inv-loop μ-loop
-seen-from-requires-3 c κs =
-    let location-of = c .before .before .before .before .before .before .before .before .before .before .before .before .before .before .location-of in
-    location-of .ensures
+seen-from-requires-3 c κs = c .before .before .before .before .before .before .before .before .before .before .before .before .before .before .before .before .before .location-of .ensures
 
 loop-less-2 : tie.Need-loop-less-2 Inv-loop μ-loop
 loop-less-2 c =
-    let a = c .before .before .before .before .before .before .before .before .before .before .before .before .before .before .before .before .before .args in
-    let l = c .before .before .before .before .before .before .before .before .before .before .before .before .loop in
-    let next = c .before .before .before .before .before .before .before .before .before .next in
-    let next-point = c .before .before .before .before .before .before .before .before .before .before .before .next-point in
-    let glide-on = c .before .glide-on in
-    let said = ap R.told (sym (next .given .1)) ∙ next-point .ensures in
-    lt-of-le-of-lt (glide-on .ensures .onward) (point-shorter (point-trace (now (a .file)) (a .encoding) (l .reader) (next .given .0 .0) said))
+    let a = c .before .before .before .before .before .before .before .before .before .before .before .before .before .before .before .before .before .before .before .before .args in
+    let next = c .before .before .before .before .before .before .before .before .before .before .before .before .next in
+    let said = ap R.told (sym (next .given .1)) ∙ c .before .before .before .before .before .before .before .before .before .before .before .before .before .before .next-point .ensures in
+    lt-of-le-of-lt (glides-shorter (c .before .glide-on .ensures)) (point-shorter (point-trace (now (a .file)) (a .encoding) (c .before .before .before .before .before .before .before .before .before .before .before .before .before .before .before .loop .reader) (next .given .0 .0) said))
 
 loop-again-2 : tie.Need-loop-again-2 Inv-loop μ-loop
 unfolding thenOn
 loop-again-2 c =
-    let a = c .before .before .before .before .before .before .before .before .before .before .before .before .before .before .before .before .before .args in
+    let a = c .before .before .before .before .before .before .before .before .before .before .before .before .before .before .before .before .before .before .before .before .args in
     let fix : Point = record { lat = a .lat; lon = a .lon } in
-    let next = c .before .before .before .before .before .before .before .before .before .next in
-    let passed = c .before .before .before .before .passed in
-    let seen-from2 = c .before .before .before .before .before .before .before .seen-from2 in
-    let if1 = c .before .before .if1 in
-    let glide-on = c .before .glide-on in
-    let seen-from3 = c .seen-from3 in (
-      carried (now (a .file)) (a .encoding) fix (a .asked) (passed .given .0 .0) (next .given .0 .0) (glide-on .result) (seen-from3 .result .point) (seen-from2 .result .point)
-          (if1 .left) (glide-on .ensures) (point-kept _ _ _ (seen-from3 .ensures)) (point-kept _ _ _ (seen-from2 .ensures))
-          ∙ rw (passed .given .1) at (stepped (c .before .before .before .before .before .before)),
-      seen-again _ _ _ (seen-from3 .ensures),
+    let field = c .before .before .before .field in
+    let calm = rw (field .given .1) at (c .before .before .before .before .before .open-field .ensures) in
+    let seen = c .seen-from3 in (
+      carried (now (a .file)) (a .encoding) fix (a .asked) (c .before .before .before .before .before .before .before .passed .given .0 .0) (c .before .before .before .before .before .before .before .before .before .before .before .before .next .given .0 .0) (c .before .glide-on .result) (seen .result .point) (c .before .before .before .before .before .before .before .before .before .before .seen-from2 .result .point)
+          (calm .0) (calm .1) (c .before .glide-on .ensures) (point-kept _ _ _ (seen .ensures)) (point-kept _ _ _ (c .before .before .before .before .before .before .before .before .before .before .seen-from2 .ensures))
+          ∙ rw (c .before .before .before .before .before .before .before .passed .given .1) at (stepped (c .before .before .before .before .before .before .before .before .before)),
+      seen-again _ _ _ (seen .ensures),
     )
 
 pub point-in-polygon-spec : {M : Type 1} → statement M
@@ -181,8 +178,11 @@ point-in-polygon-spec =
     enum-known-passed
     stopped-requires
     returns-2
+    open-field-requires
+    enum-told
     loop-less
     loop-again
+    enum-known-field
     glide-on-requires
     seen-from-requires-3
     loop-less-2

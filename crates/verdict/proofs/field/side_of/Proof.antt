@@ -1,7 +1,7 @@
--- `verdict::glide::side_of` meets its contract. Assumes nothing.
+-- `verdict::field::side_of` meets its contract. Assumes nothing.
 use mir.{Facts.{toZ-ofZ}, Syntax.{w32}}
-use Rattle.verdict.proofs.{Gliding.{beside-above, beside-below}, glide.side_of.Statement.{statement}}
-use Rattle.verdict.proofs.glide.side_of.Tie as tie
+use Rattle.verdict.proofs.{Gliding.{beside-above, beside-below}, field.side_of.Statement.{statement}}
+use Rattle.verdict.proofs.field.side_of.Tie as tie
 
 returns : tie.Need-returns
 returns c = rw (toZ-ofZ {w = w32} (c .before .fits .x)) (beside-above _ _)

@@ -1,10 +1,10 @@
--- `verdict::glide::is_within` meets its contract: what `lies_in` ensures, twice. Assumes nothing.
+-- `verdict::field::is_within` meets its contract: what `lies_in` ensures, twice. Assumes nothing.
 use borrow.Author.Needs.{needs}
 use mir.{Syntax.{w32}, Val.{SFits}}
-use Rattle.verdict.proofs.glide.is_within.Statement.{statement}
+use Rattle.verdict.proofs.field.is_within.Statement.{statement}
 use Rattle.border.proofs.place.Whole.{widened, widens}
 use Rattle.verdict.specs.Gliding.{within}
-use Rattle.verdict.proofs.glide.is_within.Tie as tie
+use Rattle.verdict.proofs.field.is_within.Tie as tie
 
 cast-lies-in : tie.Need-cast-lies-in
 cast-lies-in c =

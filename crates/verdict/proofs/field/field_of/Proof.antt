@@ -1,8 +1,8 @@
--- `verdict::glide::field_of` meets its contract: what `side_of` ensures, twice. Assumes nothing.
+-- `verdict::field::field_of` meets its contract: what `side_of` ensures, twice. Assumes nothing.
 use borrow.Author.Needs.{needs}
 use mir.{Facts.{toZ-ofZ}, Syntax.{w32}, Val.{SFits}}
-use Rattle.verdict.proofs.{Gliding.{aside-of}, glide.field_of.Statement.{statement}}
-use Rattle.verdict.proofs.glide.field_of.Tie as tie
+use Rattle.verdict.proofs.{Gliding.{aside-of}, field.field_of.Statement.{statement}}
+use Rattle.verdict.proofs.field.field_of.Tie as tie
 
 side-of-requires : tie.Need-side-of-requires
 side-of-requires c κs = search needs

@@ -1,9 +1,9 @@
--- `verdict::glide::lies_in` meets its contract: the two tests decide as the definition does. Assumes nothing.
+-- `verdict::field::lies_in` meets its contract: the two tests decide as the definition does. Assumes nothing.
 use borrow.Author.Needs.{needs}
 use mir.{Facts.{toZ-ofZ}, Syntax.{w32, w64}, Val.{SFits}}
-use Rattle.verdict.proofs.{Gliding.{in-span, not-in-span}, glide.lies_in.Statement.{statement}}
+use Rattle.verdict.proofs.{Gliding.{in-span, not-in-span}, field.lies_in.Statement.{statement}}
 use Rattle.border.proofs.place.Whole.{widened, widens}
-use Rattle.verdict.proofs.glide.lies_in.Tie as tie
+use Rattle.verdict.proofs.field.lies_in.Tie as tie
 
 cast-if1 : tie.Need-cast-if1
 cast-if1 c =
