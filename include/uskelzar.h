@@ -1,7 +1,7 @@
 /* uskelzar.h: which zone holds a fix, by a PLB border file; a writer of borders; local time, by a TZif file; and dates.
  *
  * For libuskelzar.a. What its functions answer, write and touch, and that they end, is proved for every input; what it calls
- * is seen to by a test of the archive. What holds for all nine:
+ * is seen to by a test of the archive. What holds for all thirteen:
  *
  * You bring    pointers that are not null, aligned for their type and good for their length: to read from, or where the
  *              buffer is lent (no const), to write to. Lent buffers and `reply` do not overlap each other or an input, and
@@ -59,6 +59,9 @@ enum uskelzar_refusal {
     USKELZAR_OUTPUT_ROOM = 24,        /* border doesn't fit the output */
     USKELZAR_INCOMPLETE = 31,         /* a number that the file's end cuts; of the two strict functions alone */
     USKELZAR_FIXES = 33,              /* many fixes: lists of unequal length, over 4,096 fixes, or `answers` too short */
+    USKELZAR_INDEX_TABLE = 34,        /* no index: the table is not in order, can't be read, or runs past the metadata start */
+    USKELZAR_INDEX_ROOM = 35,         /* index doesn't fit the lent words */
+    USKELZAR_OTHER_INDEX = 36,        /* index and file differ: in length, header or table; or the words are no index */
     /* of a TZif file: the rule of RFC 8536 or 9636 that is broken; detail: a place in the file, that of .. */
     USKELZAR_TZIF_MAGIC = 40,         /* a header does not begin with "TZif": the header */
     USKELZAR_TZIF_VERSION = 41,       /* version missing, not 0, '2', '3' or '4', or the second not the first: the octet */
@@ -134,6 +137,7 @@ enum {
     USKELZAR_MANY_INDEX = 2           /* of a refusal: the index of its fix, 0 for 33 and what opening refuses */
 };
 enum { USKELZAR_WRITE_LENGTH = 0 };
+enum { USKELZAR_INDEX_USED = 0 };     /* words of an index */
 enum {
     USKELZAR_CIVIL_YEAR = 0,
     USKELZAR_CIVIL_MONTH = 1,         /* 1 to 12 */
@@ -216,6 +220,34 @@ uint8_t uskelzar_lookup_many(const uint8_t *file, size_t file_length, const floa
                              size_t lons_length, bool asked, uint32_t *hits, size_t hits_length, uint8_t *text,
                              size_t text_length, uint32_t *answers, size_t answers_length,
                              uint64_t reply[USKELZAR_REPLY_WORDS]);
+
+/* A tile index beside a file: for each of 32 by 64 tiles the entries whose box meets it, so that a lookup reads only those. It keeps the header and the
+ * table of its file, and goes with every file that has the same length, header and table.
+ * Answers: the words used.
+ * index: the index, 32 bits a word, for this machine's memory; a file of it is a copy of the words.
+ * Refuses: what open refuses but for its 18; then 16, 34 over the whole table, 35 last. */
+uint8_t uskelzar_build_index(const uint8_t *file, size_t file_length, uint32_t *index, size_t index_length,
+                             uint64_t reply[USKELZAR_REPLY_WORDS]);
+
+/* Whether words are an index of this file, or of one with the same length, header and table: every byte of both is compared.
+ * Answers: no value; 0 says that they are.
+ * Refuses: what open refuses but for its 18; then 16, 36. */
+uint8_t uskelzar_index_tied(const uint8_t *file, size_t file_length, const uint32_t *index, size_t index_length,
+                            uint64_t reply[USKELZAR_REPLY_WORDS]);
+
+/* uskelzar_lookup through an index: it answers, writes and refuses what uskelzar_lookup does, where uskelzar_build_index gave the words and uskelzar_index_tied
+ * said 0 of them and this file. Any words are taken; of others the answer is theirs, and nothing outside them is touched.
+ * Refuses: what open refuses but for its 18; then 16; then 36 where length and metadata start are not the file's or the tile's list is not inside the words;
+ *       then as lookup, and 36 at a number in the list that has no entry. */
+uint8_t uskelzar_lookup_through(const uint8_t *file, size_t file_length, const uint32_t *index, size_t index_length, float lat,
+                                float lon, bool asked, uint32_t *hits, size_t hits_length, uint8_t *text, size_t text_length,
+                                uint64_t reply[USKELZAR_REPLY_WORDS]);
+
+/* The same after a comparison: uskelzar_index_tied, then uskelzar_lookup_through. For words that uskelzar_build_index gave, it is uskelzar_lookup wherever it does
+ * not refuse with 36. */
+uint8_t uskelzar_lookup_indexed(const uint8_t *file, size_t file_length, const uint32_t *index, size_t index_length, float lat,
+                                float lon, bool asked, uint32_t *hits, size_t hits_length, uint8_t *text, size_t text_length,
+                                uint64_t reply[USKELZAR_REPLY_WORDS]);
 
 /* The zone that holds a fix, as one text: of time zones TimezoneIdPrefix and TimezoneId joined ("Europe/" "Berlin"), of
  * countries Name; of the first match, and of fields with one name the last.

@@ -12,16 +12,29 @@ pub enum Question {
     WithSafezone,
     WithoutSafezone,
     Simple,
+    /// No city: the map's index is built.
+    Build,
 }
 
-/// The words `MAP CITIES QUESTION ROUNDS`. A question may end in `:N`: so many fixes a call, where a program has such a call. In 0 rounds each city is
+/// By which call, where a program has several.
+#[derive(Clone, Copy)]
+pub enum Way {
+    Plain,
+    /// So many fixes a call.
+    Together(usize),
+    /// Through an index, without a comparison and with one.
+    Through,
+    Indexed,
+}
+
+/// The words `MAP CITIES QUESTION ROUNDS`. A question may end in `:N`, so many fixes a call, in `:through` or in `:indexed`. In 0 rounds each city is
 /// looked up once, with what is read of the map watched.
 pub struct Task {
     pub map: String,
     pub question: Question,
-    pub together: Option<usize>,
+    pub way: Way,
+    pub rounds: u32,
     cities: Vec<(f32, f32)>,
-    rounds: u32,
 }
 
 extern "C" {
@@ -42,24 +55,27 @@ impl Task {
     pub fn from_args() -> Task {
         let words: Vec<String> = env::args().skip(1).collect();
         let [map, cities, question, rounds] = &words[..] else {
-            panic!("words: MAP CITIES with|without|simple[:N] ROUNDS");
+            panic!("words: MAP CITIES with|without|simple|build[:N|:through|:indexed] ROUNDS");
         };
-        let (question, together) = match question.split_once(':') {
-            Some((question, fixes)) => (question, Some(fixes.parse().expect("fixes"))),
-            None => (&question[..], None),
+        let (question, way) = match question.split_once(':') {
+            Some((question, "through")) => (question, Way::Through),
+            Some((question, "indexed")) => (question, Way::Indexed),
+            Some((question, fixes)) => (question, Way::Together(fixes.parse().expect("fixes"))),
+            None => (&question[..], Way::Plain),
         };
         let question = match question {
             "with" => Question::WithSafezone,
             "without" => Question::WithoutSafezone,
             "simple" => Question::Simple,
+            "build" => Question::Build,
             other => panic!("no such question: {other}"),
         };
         Task {
             map: map.clone(),
             question,
-            together,
-            cities: read_cities(cities),
+            way,
             rounds: rounds.parse().expect("rounds"),
+            cities: read_cities(cities),
         }
     }
 

@@ -10,7 +10,7 @@
 //! # }
 //! ```
 //!
-//! [`Printer`] has the whole question of a slip: which hour holds at a fix and an instant, or why none is printed. [`raw`] has the nine functions as they are, over lent buffers, and needs no `std` (`default-features = false`); [`Map`] and [`TimeZone`] lend the buffers themselves.
+//! [`Printer`] has the whole question of a slip: which hour holds at a fix and an instant, or why none is printed. [`raw`] has the thirteen functions as they are, over lent buffers, and needs no `std` (`default-features = false`); [`Map`] and [`TimeZone`] lend the buffers themselves.
 
 #![cfg_attr(not(feature = "std"), no_std)]
 #![deny(unsafe_op_in_unsafe_fn, missing_docs)]
@@ -20,6 +20,8 @@ mod entries;
 #[cfg(feature = "std")]
 mod entry;
 mod hit;
+#[cfg(feature = "std")]
+mod index;
 #[cfg(feature = "std")]
 mod local;
 #[cfg(feature = "std")]
@@ -37,6 +39,8 @@ mod survey;
 
 #[cfg(feature = "std")]
 pub use entry::Entry;
+#[cfg(feature = "std")]
+pub use index::Index;
 #[cfg(feature = "std")]
 pub use local::{CivilTime, LocalTime, TimeZone};
 #[cfg(feature = "std")]

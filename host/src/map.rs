@@ -2,6 +2,7 @@
 
 use crate::entries::{text_of, Entries};
 use crate::entry::{entry_at, Entry};
+use crate::index::Index;
 use crate::raw::{self, Reply, HIT_WORDS};
 use crate::refusal::Refusal;
 use std::fmt;
@@ -281,9 +282,23 @@ impl<B: AsRef<[u8]>> Map<B> {
         self.lookup_by(raw::lookup_strict, lat, lon)
     }
 
+    /// The same through an index, which is held against the file at each call; refusal 36 says that it does not go with it.
+    pub fn lookup_indexed(&self, index: &Index, lat: f32, lon: f32) -> Result<Zones, Error> {
+        self.found_by(|hits, text| raw::lookup_indexed(self.bytes(), index.words(), (lat, lon, true), hits, text))
+    }
+
+    /// The same without the comparison: for an index of which [`Index::is_tied`] said yes.
+    pub fn lookup_through(&self, index: &Index, lat: f32, lon: f32) -> Result<Zones, Error> {
+        self.found_by(|hits, text| raw::lookup_through(self.bytes(), index.words(), (lat, lon, true), hits, text))
+    }
+
     fn lookup_by(&self, call: Lookup, lat: f32, lon: f32) -> Result<Zones, Error> {
+        self.found_by(|hits, text| call(self.bytes(), lat, lon, true, hits, text))
+    }
+
+    fn found_by(&self, call: impl FnOnce(&mut [u32], &mut [u8]) -> Result<Reply, Refusal>) -> Result<Zones, Error> {
         let (mut hits, mut text) = self.buffers(1);
-        let reply = call(self.bytes(), lat, lon, true, &mut hits, &mut text)?;
+        let reply = call(&mut hits, &mut text)?;
         let [matches, mark, safezone, used, _] = reply;
         let mut fields = Entries(&text[..used as usize]);
         Ok(self.zones_of([matches, mark, safezone], &hits, &mut fields)?)

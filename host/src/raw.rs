@@ -1,4 +1,4 @@
-//! The library's nine functions over lent buffers (include/uskelzar.h has their contracts). It asks nothing of `std`, and all that is unsafe
+//! The library's thirteen functions over lent buffers (include/uskelzar.h has their contracts). It asks nothing of `std`, and all that is unsafe
 //! in this crate is here, but for the mapping of files.
 
 pub use crate::hit::HIT_WORDS;
@@ -74,6 +74,48 @@ mod library {
             file_length: usize,
             lat: f32,
             lon: f32,
+            hits: *mut u32,
+            hits_length: usize,
+            text: *mut u8,
+            text_length: usize,
+            reply: *mut [u64; 5],
+        ) -> u8;
+        pub fn uskelzar_build_index(
+            file: *const u8,
+            file_length: usize,
+            index: *mut u32,
+            index_length: usize,
+            reply: *mut [u64; 5],
+        ) -> u8;
+        pub fn uskelzar_index_tied(
+            file: *const u8,
+            file_length: usize,
+            index: *const u32,
+            index_length: usize,
+            reply: *mut [u64; 5],
+        ) -> u8;
+        pub fn uskelzar_lookup_through(
+            file: *const u8,
+            file_length: usize,
+            index: *const u32,
+            index_length: usize,
+            lat: f32,
+            lon: f32,
+            asked: bool,
+            hits: *mut u32,
+            hits_length: usize,
+            text: *mut u8,
+            text_length: usize,
+            reply: *mut [u64; 5],
+        ) -> u8;
+        pub fn uskelzar_lookup_indexed(
+            file: *const u8,
+            file_length: usize,
+            index: *const u32,
+            index_length: usize,
+            lat: f32,
+            lon: f32,
+            asked: bool,
             hits: *mut u32,
             hits_length: usize,
             text: *mut u8,
@@ -254,6 +296,86 @@ pub fn simple_lookup(
             reply,
         )
     })
+}
+
+/// The words used; the index in the words.
+pub fn build_index(file: &[u8], index: &mut [u32]) -> Result<Reply, Refusal> {
+    // SAFETY: as in `open_by`.
+    answered(|reply| unsafe {
+        library::uskelzar_build_index(file.as_ptr(), file.len(), index.as_mut_ptr(), index.len(), reply)
+    })
+}
+
+/// Whether words are an index of this file, or of one with the same length, header and table; no value.
+pub fn index_tied(file: &[u8], index: &[u32]) -> Result<Reply, Refusal> {
+    // SAFETY: as in `open_by`.
+    answered(|reply| unsafe {
+        library::uskelzar_index_tied(file.as_ptr(), file.len(), index.as_ptr(), index.len(), reply)
+    })
+}
+
+/// Lookup through an index in the library, without a comparison of header and table or with one.
+type Through = unsafe extern "C" fn(
+    *const u8,
+    usize,
+    *const u32,
+    usize,
+    f32,
+    f32,
+    bool,
+    *mut u32,
+    usize,
+    *mut u8,
+    usize,
+    *mut Reply,
+) -> u8;
+
+fn through_by(
+    looking: Through,
+    (file, index): (&[u8], &[u32]),
+    (lat, lon, asked): (f32, f32, bool),
+    hits: &mut [u32],
+    text: &mut [u8],
+) -> Result<Reply, Refusal> {
+    // SAFETY: as in `open_by`.
+    answered(|reply| unsafe {
+        looking(
+            file.as_ptr(),
+            file.len(),
+            index.as_ptr(),
+            index.len(),
+            lat,
+            lon,
+            asked,
+            hits.as_mut_ptr(),
+            hits.len(),
+            text.as_mut_ptr(),
+            text.len(),
+            reply,
+        )
+    })
+}
+
+/// As `lookup`, through an index that `index_tied` answered for.
+pub fn lookup_through(
+    file: &[u8],
+    index: &[u32],
+    (lat, lon, asked): (f32, f32, bool),
+    hits: &mut [u32],
+    text: &mut [u8],
+) -> Result<Reply, Refusal> {
+    through_by(library::uskelzar_lookup_through, (file, index), (lat, lon, asked), hits, text)
+}
+
+/// `index_tied`, then `lookup_through`.
+pub fn lookup_indexed(
+    file: &[u8],
+    index: &[u32],
+    (lat, lon, asked): (f32, f32, bool),
+    hits: &mut [u32],
+    text: &mut [u8],
+) -> Result<Reply, Refusal> {
+    through_by(library::uskelzar_lookup_indexed, (file, index), (lat, lon, asked), hits, text)
 }
 
 /// The border's length; the border in `out`. A piece is five words: start, bytes, direction, first move, move count.

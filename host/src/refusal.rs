@@ -33,6 +33,9 @@ pub enum Number {
     OutputRoom = 24,
     Incomplete = 31,
     Fixes = 33,
+    IndexTable = 34,
+    IndexRoom = 35,
+    OtherIndex = 36,
     TzifMagic = 40,
     TzifVersion = 41,
     TzifHeader = 42,
@@ -60,7 +63,7 @@ pub enum Number {
 use Number::*;
 
 /// Each number with document 01's words for it, in order.
-const TABLE: [(Number, &str); 48] = [
+const TABLE: [(Number, &str); 51] = [
     (
         TooLarge,
         "file, or the writer's earlier data, over 1,073,741,824 bytes",
@@ -102,6 +105,12 @@ const TABLE: [(Number, &str); 48] = [
         Fixes,
         "many fixes: lists of unequal length, over 4,096 fixes, or a third list too short",
     ),
+    (
+        IndexTable,
+        "a table that is not in order, can't be read or runs past the metadata start",
+    ),
+    (IndexRoom, "index doesn't fit"),
+    (OtherIndex, "index and file differ"),
     (TzifMagic, "a header does not begin with TZif"),
     (
         TzifVersion,
@@ -141,7 +150,7 @@ impl Number {
     fn of(number: u8) -> Number {
         let known = TABLE.iter().find(|(known, _)| *known as u8 == number);
         known
-            .expect("the library's refusals are 1 to 24, 31, 33 and 40 to 61")
+            .expect("the library's refusals are 1 to 24, 31, 33 to 36 and 40 to 61")
             .0
     }
 
@@ -245,7 +254,7 @@ mod tests {
 
     #[test]
     fn the_table_is_in_order() {
-        let numbers: Vec<u8> = (1..=24).chain([31, 33]).chain(40..=61).collect();
+        let numbers: Vec<u8> = (1..=24).chain([31]).chain(33..=36).chain(40..=61).collect();
         assert_eq!(TABLE.map(|(number, _)| number as u8).to_vec(), numbers);
         for (number, words) in TABLE {
             assert_eq!(Number::of(number as u8), number);

@@ -1,7 +1,7 @@
 //! The library's archive, with buffers as firmware lends them.
 
 use bench::hit::HIT_WORDS;
-use bench::{Checksum, Question, Task};
+use bench::{Checksum, Question, Task, Way};
 use std::fs;
 
 const WORDS: usize = 16 * HIT_WORDS;
@@ -48,11 +48,72 @@ extern "C" {
         text_len: usize,
         reply: *mut [u64; 5],
     ) -> u8;
+    fn uskelzar_build_index(file: *const u8, file_len: usize, index: *mut u32, index_len: usize, reply: *mut [u64; 5]) -> u8;
+    fn uskelzar_index_tied(file: *const u8, file_len: usize, index: *const u32, index_len: usize, reply: *mut [u64; 5]) -> u8;
+    fn uskelzar_lookup_through(
+        file: *const u8,
+        file_len: usize,
+        index: *const u32,
+        index_len: usize,
+        lat: f32,
+        lon: f32,
+        asked: bool,
+        hits: *mut u32,
+        hits_len: usize,
+        text: *mut u8,
+        text_len: usize,
+        reply: *mut [u64; 5],
+    ) -> u8;
+    fn uskelzar_lookup_indexed(
+        file: *const u8,
+        file_len: usize,
+        index: *const u32,
+        index_len: usize,
+        lat: f32,
+        lon: f32,
+        asked: bool,
+        hits: *mut u32,
+        hits_len: usize,
+        text: *mut u8,
+        text_len: usize,
+        reply: *mut [u64; 5],
+    ) -> u8;
+}
+
+/// Builds an index and answers the words used.
+fn build_index(file: &[u8], index: &mut [u32]) -> usize {
+    let mut reply = [0; 5];
+    // SAFETY: as for `Ours`.
+    let refusal = unsafe { uskelzar_build_index(file.as_ptr(), file.len(), index.as_mut_ptr(), index.len(), &mut reply) };
+    assert_eq!(refusal, 0, "no index");
+    reply[0] as usize
+}
+
+/// An index in no more words than it takes, held against its file.
+fn index_of(file: &[u8]) -> Vec<u32> {
+    let mut index = vec![0; 1 << 24];
+    let used = build_index(file, &mut index);
+    index.truncate(used);
+    // SAFETY: as for `Ours`.
+    let refusal = unsafe { uskelzar_index_tied(file.as_ptr(), file.len(), index.as_ptr(), index.len(), &mut [0; 5]) };
+    assert_eq!(refusal, 0, "the index does not go with its file");
+    index
+}
+
+/// Builds the index so many times, and prints how many words it takes.
+fn run_build(task: &Task, file: &[u8]) {
+    let mut index = index_of(file);
+    for _ in 0..task.rounds {
+        build_index(file, &mut index);
+    }
+    println!("{}", index.len());
 }
 
 struct Ours<'a> {
     file: &'a [u8],
+    index: &'a [u32],
     question: Question,
+    way: Way,
     hits: [u32; WORDS],
     text: [u8; BYTES],
     reply: [u64; 5],
@@ -77,21 +138,16 @@ impl Ours<'_> {
                     &mut self.reply,
                 )
             },
-            question => unsafe {
+            question => {
                 let asked = matches!(question, Question::WithSafezone);
-                uskelzar_lookup(
-                    file,
-                    len,
-                    lat,
-                    lon,
-                    asked,
-                    hits,
-                    WORDS,
-                    text,
-                    BYTES,
-                    &mut self.reply,
-                )
-            },
+                let (index, words) = (self.index.as_ptr(), self.index.len());
+                let reply = &mut self.reply;
+                match self.way {
+                    Way::Through => unsafe { uskelzar_lookup_through(file, len, index, words, lat, lon, asked, hits, WORDS, text, BYTES, reply) },
+                    Way::Indexed => unsafe { uskelzar_lookup_indexed(file, len, index, words, lat, lon, asked, hits, WORDS, text, BYTES, reply) },
+                    _ => unsafe { uskelzar_lookup(file, len, lat, lon, asked, hits, WORDS, text, BYTES, reply) },
+                }
+            }
         };
         assert_eq!(refusal, 0, "refused at {lat} {lon}");
     }
@@ -103,7 +159,7 @@ impl Ours<'_> {
                 self.fold_matches(sum);
                 sum.number(self.reply[2]);
             }
-            Question::WithoutSafezone => self.fold_matches(sum),
+            _ => self.fold_matches(sum),
         }
     }
 
@@ -208,12 +264,17 @@ fn run_together(task: &Task, file: &[u8], size: usize) {
 fn main() {
     let task = Task::from_args();
     let file = fs::read(&task.map).expect("map");
-    if let Some(size) = task.together {
-        return run_together(&task, &file, size);
-    }
+    let index = match (task.question, task.way) {
+        (Question::Build, _) => return run_build(&task, &file),
+        (_, Way::Together(size)) => return run_together(&task, &file, size),
+        (_, Way::Plain) => vec![],
+        (_, Way::Through | Way::Indexed) => index_of(&file),
+    };
     let mut ours = Ours {
         file: &file,
+        index: &index,
         question: task.question,
+        way: task.way,
         hits: [0; WORDS],
         text: [0; BYTES],
         reply: [0; 5],

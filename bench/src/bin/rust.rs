@@ -61,5 +61,6 @@ fn main() {
         Question::WithSafezone => with_safezone(&task),
         Question::WithoutSafezone => without_safezone(&task),
         Question::Simple => simple(&task),
+        Question::Build => panic!("the Rust has no index"),
     }
 }

@@ -3,6 +3,7 @@ ghost use mathlib.Core.Path.{_≡_};
 ghost use Prim.Native.Nat.{_+_, _*_, _≤_};
 ghost use lib.ListN.{length};
 use crate::calls::run;
+use crate::index::index_right;
 use crate::many::recorded_many;
 use crate::many::run_many;
 use crate::record::byte_at;
@@ -255,8 +256,21 @@ fn judge_many(record: &[u8]) -> Verdict {
     )
 }
 
+fn judge_index(record: &[u8]) -> Verdict {
+    if index_right(record) {
+        return Verdict::Right;
+    }
+    io::write_all(STDOUT_FILENO, b"wrong index: op ");
+    io::print_decimal(STDOUT_FILENO, byte_at(record, 0) as u64);
+    io::write_all(STDOUT_FILENO, b" id ");
+    io::print_decimal(STDOUT_FILENO, long_at(record, 1));
+    io::write_all(STDOUT_FILENO, b"\n");
+    Verdict::Wrong
+}
+
 pub fn judge(record: &[u8]) -> Verdict {
     match byte_at(record, 0) {
+        13 | 18 => judge_index(record),
         1 | 2 | 3 | 5 | 6 | 7 | 8 | 14 | 15 | 16 | 20 | 21 => judge_file(record),
         4 => judge_write(record),
         9 | 17 => judge_many(record),

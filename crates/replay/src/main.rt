@@ -1,6 +1,7 @@
 // Runs the recorded cases of standard input and prints each that does not come out as recorded.
 mod calls;
 mod case;
+mod index;
 mod many;
 mod record;
 mod reply;
@@ -113,6 +114,8 @@ fn report(tally: &[u64]) {
     print_op(b"open strictly", counted(tally, 7));
     print_op(b"lookup strictly", counted(tally, 16));
     print_op(b"lookup strictly in three words", counted(tally, 8));
+    print_op(b"index", counted(tally, 18));
+    print_op(b"index in three words", counted(tally, 13));
     print_op(b"write", counted(tally, 4));
     print_op(b"string", counted(tally, 5));
     print_op(b"utf8", counted(tally, 6));

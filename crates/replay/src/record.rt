@@ -47,15 +47,32 @@ pub fn instant_at(record: &[u8], at: usize) -> i64 {
     with_bits(long_at(record, at) | long_at(record, next) << 32)
 }
 
-pub fn same_words(words: &[u32], bytes: &[u8]) -> bool {
+// Whether a record has these words from a place on.
+pub fn same_words_at(words: &[u32], record: &[u8], from: usize) -> bool {
     let mut i = 0;
-    let mut at = 0;
+    let mut at = from;
     while i < words.len() {
-        if words[i] != word_at(bytes, at) {
+        if words[i] != word_at(record, at) {
             return false;
         }
         i += 1;
         at = std::num::wrapping_add_usize(at, 4);
     }
     true
+}
+
+// The same of bytes.
+pub fn same_bytes_at(bytes: &[u8], record: &[u8], from: usize) -> bool {
+    let mut i = 0;
+    while i < bytes.len() {
+        if bytes[i] != byte_at(record, std::num::wrapping_add_usize(from, i)) {
+            return false;
+        }
+        i += 1;
+    }
+    true
+}
+
+pub fn same_words(words: &[u32], bytes: &[u8]) -> bool {
+    same_words_at(words, bytes, 0)
 }

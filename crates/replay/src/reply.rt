@@ -2,6 +2,7 @@
 use crate::record::byte_at;
 use crate::record::long_at;
 use libc::STDOUT_FILENO;
+use std::num::wrapping_add_usize;
 
 pub struct Reply {
     // 0 answered, 1 refused, 2 failed or none.
@@ -79,21 +80,29 @@ pub fn known(number: u8, words: [u64; 5]) -> Reply {
     answered_none([words[1], words[2], words[3], words[4], words[0]])
 }
 
-// The reply that 34 bytes of a record hold.
-pub fn recorded(bytes: &[u8]) -> Reply {
+fn next_long(record: &[u8], at: usize, k: usize) -> u64 {
+    long_at(record, wrapping_add_usize(at, k))
+}
+
+// The reply that 34 bytes of a record hold, from a place on.
+pub fn recorded_at(record: &[u8], at: usize) -> Reply {
     Reply {
-        outcome: byte_at(bytes, 0),
-        number: long_at(bytes, 1),
-        cause: byte_at(bytes, 5) as u64,
-        detail: long_at(bytes, 6) | long_at(bytes, 10) << 32,
+        outcome: byte_at(record, at),
+        number: next_long(record, at, 1),
+        cause: byte_at(record, wrapping_add_usize(at, 5)) as u64,
+        detail: next_long(record, at, 6) | next_long(record, at, 10) << 32,
         words: [
-            long_at(bytes, 14),
-            long_at(bytes, 18),
-            long_at(bytes, 22),
-            long_at(bytes, 26),
-            long_at(bytes, 30),
+            next_long(record, at, 14),
+            next_long(record, at, 18),
+            next_long(record, at, 22),
+            next_long(record, at, 26),
+            next_long(record, at, 30),
         ],
     }
+}
+
+pub fn recorded(bytes: &[u8]) -> Reply {
+    recorded_at(bytes, 0)
 }
 
 pub fn same_reply(a: Reply, b: Reply) -> bool {

@@ -9,10 +9,11 @@ use Rattle.border.{proofs.Signs.{differ}, specs.{Box.{boxOf}, Encoding.{version
 use Rattle.numbers.specs.{Answer.{if_then_else_}, Reply.{Reply, plain}}
 use Rattle.table.proofs.{Unstopped.{unchanged}, rest.Remaining.{not-held}}
 use Rattle.table.proofs.search.Turns as W
-use Rattle.table.specs.{Ordered.{lowest, Ordered, ends, next, Thinned, done, kept, left, boundsAround, Boxed, AllBoxed, none, one, seekAlone}, Rest.{restMark}}
-use Rattle.table.specs.{Rows.{Rows, row}, Search.{Found, ended, afterTurn, judgedTurn, rowTurn, seek, judgeIn}, Table.{isAbove, holds}, Unstopped.{seekAll}}
-use Rattle.table.specs.declared.{hits.Hit.{Hit}, rows.Row.{Row}, search.Turn.{the-variants.{On, Met, Stopped, Refused}, Turn}}
+use Rattle.table.specs.Ordered.{lowest, Ordered, ends, next, followedAt, Thinned, done, kept, left, boundsAround, Boxed, AllBoxed, none, one, seekAlone}
+use Rattle.table.specs.{Rest.{restMark}, Rows.{Rows, row}, Search.{Found, ended, afterTurn, judgedTurn, rowTurn, seek, judgeIn}, Table.{isAbove, holds}}
+use Rattle.table.specs.{Unstopped.{seekAll}, declared.{hits.Hit.{Hit}, rows.Row.{Row}, search.Turn.{the-variants.{On, Met, Stopped, Refused}, Turn}}}
 use Rattle.header.specs.declared.header.Head.{Head}
+use Rattle.verdict.specs.Verdict as J
 use Rattle.numbers.specs.Reply as R
 
 -- what follows a turn is followed alike
@@ -63,13 +64,25 @@ module _ (end : ℕ) (fix : Point) where
         by-above false above same = turn-alike room (seek judge fix end room rows) (seekAll judge fix room rows) same (rowTurn judge fix r least) hits
 
 -- ---- rows left out
+judged-followed : (r : Row) (k : ℕ) (judgement : Judgement) → judgedTurn r judgement ≡ judgedTurn (followedAt r k) judgement
+unfolding judgedTurn
+judged-followed r k (reached verdict least) = refl
+judged-followed r k (J.failed least) = refl
+judged-followed r k (J.refused n) = refl
+
 module _ (judge : ℕ → ℕ → Judgement) (fix : Point) (room : ℕ) where
+  -- a row's turn is the same, whatever follows it
+  turn-followed : (r : Row) (k least : ℕ) → rowTurn judge fix r least ≡ rowTurn judge fix (followedAt r k) least
+  unfolding rowTurn
+  turn-followed r k least = ap (λ (t : Turn). if holds (r .bounds) fix then t else On least) (judged-followed r k (judge (r .polygon) least))
+
   -- The search of some rows finds what that of all finds, if no box that was left out holds the location.
   pub rows-left-out : {rows some : Rows} → Thinned fix rows some → (least : ℕ) (hits : List Hit) → seekAll judge fix room rows least hits ≡ seekAll judge fix room some least hits
   unfolding seekAll
   rows-left-out done least hits = refl
-  rows-left-out (kept {r = r} {rows = rows} {some = some} later) least hits =
-      turn-alike room (seekAll judge fix room rows) (seekAll judge fix room some) (rows-left-out later) (rowTurn judge fix r least) hits
+  rows-left-out (kept {r = r} k {rows = rows} {some = some} later) least hits =
+      turn-alike room (seekAll judge fix room rows) (seekAll judge fix room some) (λ l h. rows-left-out later l h) (rowTurn judge fix r least) hits
+      ∙ ap (λ (t : Turn). afterTurn t hits room (seekAll judge fix room some)) (turn-followed r k least)
   rows-left-out (left {r = r} {rows = rows} out later) least hits =
       ap (λ (t : Turn). afterTurn t hits room (seekAll judge fix room rows)) (sym (W.not-held judge fix r least out)) ∙ rows-left-out later least hits
 

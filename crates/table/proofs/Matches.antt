@@ -6,8 +6,8 @@ use native.Mathlib.Omega.{arith}
 use Rattle.header.specs.declared.header.Head.{Head}
 use Rattle.numbers.specs.Reply.{Reply, given, refused}
 use Rattle.table.proofs.Words.{padded-slots, padded-room}
-use Rattle.table.specs.{Agreeing.{Agrees}, Find.{Matched, matchedWith, Finding, finding, findingOf, foundWith, Matching}, Hits.{width, slots}}
-use Rattle.table.specs.declared.{find.Matches.{Matches}, location.Location.{Location}}
+use Rattle.table.specs.{Agreeing.{Agrees}, Find.{Matched, matchedWith, Finding, finding, findingOf, foundWith, Matching}, GivenRows.{matchedListed, foundListed}}
+use Rattle.table.specs.{Hits.{width, slots}, declared.{find.Matches.{Matches}, location.Location.{Location}}}
 
 module _ {n : ℕ} {ws : List ℕ} {found : Matched} {matches : Matches} (m : Matching n ws found matches) where
   pub count-is : matches .count ≡ length (found .matches)
@@ -31,3 +31,9 @@ pub found-agrees : (file : List ℕ) (head : Head) (location : Location) (asked 
     → Agrees (Matching n ws) (matchedWith file head location asked (n / width)) reply
 unfolding foundWith
 found-agrees file head location asked n = finding-agrees n (matchedWith file head location asked (n / width))
+
+-- and the same of rows that are given
+pub listed-agrees : (file : List ℕ) (head : Head) (location : Location) (asked : Bool) (records numbers : List ℕ) (n : ℕ) (reply : Reply Matches) (ws : List ℕ)
+    → finding reply ws ≡ foundListed file head location asked records numbers n → Agrees (Matching n ws) (matchedListed file head location asked records numbers (n / width)) reply
+unfolding foundListed
+listed-agrees file head location asked records numbers n = finding-agrees n (matchedListed file head location asked records numbers (n / width))

@@ -1,2 +1,3 @@
 mod Searching
+pub mod SoFar
 pub mod Turns

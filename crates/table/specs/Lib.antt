@@ -10,3 +10,5 @@ pub mod Find
 pub mod Ending
 pub mod Unstopped
 pub mod Ordered
+pub mod GivenRows
+pub mod Passing

@@ -20,10 +20,14 @@ pub data Ordered (end : ℕ) : ℤ → Rows → Type 0 where
   ends : {floor : ℤ} → Ordered end floor tableEnd
   next : {floor : ℤ} {r : Row} {rows : Rows} → leZ floor (lowest r) ≡ true → ltb end (r .next) ≡ false → Ordered end (lowest r) rows → Ordered end floor (row r rows)
 
--- some rows of a table, in its order: the box of each row that is left out does not hold the location
+-- the same row, whatever follows it
+abbrev pub followedAt : Row → ℕ → Row
+followedAt r k = record { place = r .place; id = r .id; metadata = r .metadata; polygon = r .polygon; bounds = r .bounds; next = k }
+
+-- some rows of a table, in its order, whatever follows each: the box of each row that is left out does not hold the location
 pub data Thinned (fix : Point) : Rows → Rows → Type 0 where
   done : Thinned fix tableEnd tableEnd
-  kept : {r : Row} {rows some : Rows} → Thinned fix rows some → Thinned fix (row r rows) (row r some)
+  kept : {r : Row} (k : ℕ) {rows some : Rows} → Thinned fix rows some → Thinned fix (row r rows) (row (followedAt r k) some)
   left : {r : Row} {rows some : Rows} → holds (r .bounds) fix ≡ false → Thinned fix rows some → Thinned fix (row r rows) some
 
 -- a box as a table has it

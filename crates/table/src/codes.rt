@@ -5,6 +5,9 @@ pub const BAD_PRECISION: u8 = 16;
 
 pub const HITS_FULL: u8 = 17;
 
+// Among rows that are given as words: a number that has no record (request Q-11).
+pub const NO_RECORD: u8 = 36;
+
 // End marks.
 pub const WHOLE: u8 = 1;
 

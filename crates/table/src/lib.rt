@@ -2,8 +2,10 @@
 pub mod codes;
 pub mod find;
 pub mod hits;
+pub mod listed;
 pub mod location;
 mod merge;
+mod pass;
 mod rest;
 pub mod rows;
 pub mod search;

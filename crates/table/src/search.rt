@@ -18,6 +18,7 @@ use crate::codes::WHOLE;
 use crate::hits::Hit;
 use crate::hits::put_hit;
 use crate::hits::room;
+use crate::pass::pass_over;
 use crate::rest::rest_mark;
 use crate::rows::Row;
 use crate::rows::after;
@@ -81,7 +82,7 @@ fn version_of(byte: u8) -> Version
 }
 
 // The turn of a row whose border was judged.
-fn judged(row: Row, judgement: Judged) -> Turn
+pub(crate) fn judged(row: Row, judgement: Judged) -> Turn
     ensures { λ r. ⌜ r ≡ judgedTurn row (told judgement) ⌝ }
 {
     match judgement {
@@ -107,7 +108,14 @@ fn judged(row: Row, judgement: Judged) -> Turn
 }
 
 // The judging of the border at a place of the data.
-fn judge(file: &[u8], head: Head, fix: Point, asked: bool, polygon: u32, least: u64) -> Judged
+pub(crate) fn judge(
+    file: &[u8],
+    head: Head,
+    fix: Point,
+    asked: bool,
+    polygon: u32,
+    least: u64,
+) -> Judged
     ensures { λ r. ⌜ told r ≡ judgeIn (now (file .entry)) head fix asked polygon least ⌝ }
 {
     let preamble = head.preamble;
@@ -132,7 +140,7 @@ pub fn on_row(file: &[u8], head: Head, fix: Point, asked: bool, row: Row, least:
     Turn::On(least)
 }
 
-fn end_with(count: usize, mark: u8, least: u64) -> Searched
+pub(crate) fn end_with(count: usize, mark: u8, least: u64) -> Searched
     ensures { λ r. ⌜ r ≡ Searched.Ended (record { count = count; mark = mark; least = least }) ⌝ }
 {
     Searched::Ended(Ended { count, mark, least })
@@ -149,7 +157,8 @@ pub(crate) fn search(file: &[u8], head: Head, fix: Point, asked: bool, hits: &mu
     let room = room(hits);
     let mut count = 0;
     let mut least = 0xffff_ffff_ffff_ffff;
-    let mut at = start_at(sections.table as usize);
+    let start = start_at(sections.table as usize);
+    let mut at = pass_over(file, end, fix, start);
     while at.place < end {
         let entry = match entry_at(file, at.place, head.strict) {
             Entered::Entry(entry) => entry,
@@ -164,7 +173,8 @@ pub(crate) fn search(file: &[u8], head: Head, fix: Point, asked: bool, hits: &mu
             );
         }
         let row = row_of(at, entry);
-        at = after(row);
+        let later = after(row);
+        at = pass_over(file, end, fix, later);
         let turn = on_row(file, head, fix, asked, row, least);
         match turn {
             Turn::On(closer) => least = closer,

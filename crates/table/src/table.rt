@@ -133,7 +133,7 @@ fn lat_between(low: FixedLat, lat: FixedLat, high: FixedLat) -> bool
     false
 }
 
-fn lon_between(low: FixedLon, lon: FixedLon, high: FixedLon) -> bool
+pub(crate) fn lon_between(low: FixedLon, lon: FixedLon, high: FixedLon) -> bool
     ensures { λ r. ⌜ r ≡ between (low .0) (lon .0) (high .0) ⌝ }
 {
     if lon_upto(low, lon) {

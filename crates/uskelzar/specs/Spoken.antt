@@ -3,6 +3,7 @@ use mathlib.Core.{List.{List, [], _∷_}, Option.{Option, none, some}}
 use mir.{Syntax.{w32}, Val.{ofZ}}
 use Prim.Native.Nat.{ℕ}
 use Rattle.writer.specs.Writer as W
+use Rattle.index.specs.Index.{Indexed}
 use Rattle.tzif.specs.Local as T
 use Rattle.tzif.specs.declared.local.{Local.{Local}, LocalTime.{LocalTime}}
 use Rattle.tzif.specs.declared.local.LocalTime.the-variants as L
@@ -71,3 +72,10 @@ writtenSpoken left = record { said = saidOf lengthValue (left .reply); lent = le
 
 abbrev pub localSpoken : T.Replied → Spoken
 localSpoken left = record { said = saidOf localValues (localReply (left .reply)); lent = left .text ∷ [] }
+
+-- request Q-11: how many words an index has, with all lent words; and that it goes with a file, which has no value
+abbrev pub indexSpoken : Indexed → Spoken
+indexSpoken left = record { said = saidOf lengthValue (left .reply); lent = left .words ∷ [] }
+
+abbrev pub noValues : Unit {0} → List ℕ
+noValues u = []

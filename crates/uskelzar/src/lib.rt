@@ -2,6 +2,7 @@
 // Each returns 0 where it answers, with the answer's values in `reply`, or a refusal's number, with its cause and detail there.
 pub mod civil;
 pub mod many;
+pub mod tiles;
 
 ghost use mathlib.Core.{Path.{_≡_}, List.{[], _∷_}};
 ghost use lib.ListN.{length};
@@ -35,7 +36,7 @@ pub struct Said {
     pub words: [u64; 5],
 }
 
-fn say_refused(why: Refusal) -> Said
+pub(crate) fn say_refused(why: Refusal) -> Said
     ensures { λ r. ⌜ r ≡ refusedSaid why ⌝ }
 {
     Said {
@@ -62,7 +63,7 @@ fn say_opened(opened: Opened) -> Said
     }
 }
 
-fn say_looked(looked: Looked) -> Said
+pub(crate) fn say_looked(looked: Looked) -> Said
     ensures { λ r. ⌜ r ≡ saidOf zonesValues (toldLooked looked) ⌝ }
 {
     match looked {
@@ -131,7 +132,7 @@ fn say_local(time: LocalTime) -> Said
     }
 }
 
-fn speak(said: Said, reply: &mut [u64; 5]) -> u8
+pub(crate) fn speak(said: Said, reply: &mut [u64; 5]) -> u8
     ensures { λ r. ⌜ spoken r (now (reply .exit)) [] ≡ record { said = said; lent = [] } ⌝ }
 {
     let words = said.words;

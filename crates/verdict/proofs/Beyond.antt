@@ -6,9 +6,9 @@ use mathlib.Core.{Bool.{Bool, true, false, cond, _&&_, _||_}, Path.{_≡_, refl,
 use native.Mathlib.{Nat.{mul-le-mul, mod-eq-of-lt}, Omega.{arith}}
 use Rattle.verdict.proofs.{Checks.{checked-fits}, CutDifference.{close}, Gliding.{less-le, le-less, less-le-less, within-both, field-quadrant, gliding-measures}}
 use Rattle.border.{proofs.Signs.{differ, both}, specs.declared.place.Point.{Point}}
-use Rattle.verdict.specs.{Distance.{squared, toSegment, toVertex, distanceOf, measured}, Edge.{between, inBox, locationOf, edgeOf, closestOn, cutOf}}
+use Rattle.verdict.specs.{Distance.{squared, toSegment, toVertex, distanceOf, measured}, Edge.{between, inBox, spotOf, edgeOf, closestOn, cutOf}}
 use Rattle.verdict.specs.{Gliding.{inSpan, beside, aside, within, farFrom, nearby, Remote, Calm}, Step.{Step, found}}
-use Rattle.verdict.specs.declared.{edge.Location.{Location}, field.{Span.{Span}, Field.{Field}}, step.Tally.{Tally}}
+use Rattle.verdict.specs.declared.{edge.Spot.{Spot}, field.{Span.{Span}, Field.{Field}}, step.Tally.{Tally}}
 use Rattle.numbers.specs.{Answer.{if_then_else_}, Float.{toF32, cut32, cut64, _⊟_}}
 
 -- ---- numbers of a span
@@ -185,7 +185,7 @@ module _ (fix : Point) (field : Field) (least : ℕ) (remote : Remote fix least 
       (let z = far-size (remote .lon-reach) (fix .lon .0) (field .lon) (to .lon .0) (remote .lon-far) (p .1) in omega (arith, z))
       my mx (remote .enough))
 
-  to-segment-far : (near : Location) → inSpan (field .lat) (cut32 (near .lat)) ≡ true → inSpan (field .lon) (cut32 (near .lon)) ≡ true → Further least (toSegment near (locationOf fix))
+  to-segment-far : (near : Spot) → inSpan (field .lat) (cut32 (near .lat)) ≡ true → inSpan (field .lon) (cut32 (near .lon)) ≡ true → Further least (toSegment near (spotOf fix))
   unfolding toSegment
   to-segment-far near h k =
       let y = close (near .lat) (cut32 (near .lat)) (fix .lat .0) refl (not-zero (field .lat) (cut32 (near .lat)) (remote .lat-sign) h) (nearby-size (field .lat) (cut32 (near .lat)) (remote .lat-near) h) (remote .lat-fix) in
@@ -200,10 +200,10 @@ module _ (fix : Point) (field : Field) (least : ℕ) (remote : Remote fix least 
   unfolding distanceOf
   too-far from to h k = by (inBox to (cutOf near) from) refl
     where
-      near : Location
-      near = closestOn (edgeOf from to) (locationOf fix)
+      near : Spot
+      near = closestOn (edgeOf from to) (spotOf fix)
 
-      by : (t : Bool) → inBox to (cutOf near) from ≡ t → Further least (if t then toSegment near (locationOf fix) else toVertex to fix)
+      by : (t : Bool) → inBox to (cutOf near) from ≡ t → Further least (if t then toSegment near (spotOf fix) else toVertex to fix)
       by true e =
           let p = within-both field from h in
           let q = within-both field to k in

@@ -3,7 +3,7 @@ use Prim.Native.Nat.{ℕ, _≤_}
 use mathlib.Core.{Path.{_≡_, sym, ap, _∙_}, Bool.{Bool, true, false}}
 use lib.{Dec.{lit≤}, Signed.{leZ}}
 use Rattle.numbers.specs.Answer.{if_then_else_}
-use Rattle.verdict.specs.{Edge.{quadrantOf, locationOf}, Kept.{seenFrom}, declared.edge.{Location.{Location}, Seen.{Seen}}}
+use Rattle.verdict.specs.{Edge.{quadrantOf, spotOf}, Kept.{seenFrom}, declared.edge.{Spot.{Spot}, Seen.{Seen}}}
 use Rattle.border.specs.declared.place.Point.{Point}
 
 one-of-four : (t u : Bool) → (if t then (if u then 0 else 1) else (if u then 3 else 2)) ≤ 3
@@ -21,9 +21,9 @@ module _ (fix : Point) (asked : Bool) {s : Seen} (kept : s ≡ seenFrom fix aske
   unfolding seenFrom
   quadrant-kept = ap (λ (x : Seen). x .quadrant) kept
 
-  pub location-kept : asked ≡ true → s .location ≡ locationOf (s .point)
+  pub spot-kept : asked ≡ true → s .spot ≡ spotOf (s .point)
   unfolding seenFrom
-  location-kept e = ap (λ (x : Seen). x .location) kept ∙ ap (λ (t : Bool). if t then locationOf (s .point) else locationOf fix) e
+  spot-kept e = ap (λ (x : Seen). x .spot) kept ∙ ap (λ (t : Bool). if t then spotOf (s .point) else spotOf fix) e
 
 module _ (fix : Point) (asked : Bool) (p : Point) {s : Seen} (seen : s ≡ seenFrom fix asked p) where
   pub point-kept : s .point ≡ p

@@ -4,10 +4,10 @@ use Prim.Native.Nat.{ℕ, _+_, _-_, _%_, _^_}
 use lib.{Dec.{ltb, eqb}, IntN.{ℤ, pos, negsuc}, Signed.{mag, ltZ}}
 use Rattle.numbers.proofs.Refusals.{either}
 use Rattle.verdict.specs.Distance.{squared, toSegment, toVertex, distanceOf, measured}
-use Rattle.verdict.specs.{Edge.{samePoint, sameZ, inBox, straight, quadrantOf, locationOf, edgeOf, closestOn, cutOf}, Step.{Step}}
+use Rattle.verdict.specs.{Edge.{samePoint, sameZ, inBox, straight, quadrantOf, spotOf, edgeOf, closestOn, cutOf}, Step.{Step}}
 use Rattle.verdict.specs.Verdict.{Judgement, Last, none, after, along, passing, closedAt, thenOn, judge, judgedAt}
 use Rattle.verdict.specs.Winding.{turned, quarterBy, turnAt, acrossBy, clearOf, woundBy}
-use Rattle.verdict.specs.declared.edge.{Edge.{Edge, the-variants.{Sloped, EqualLongitude, EqualLatitude}}, Location.{Location}}
+use Rattle.verdict.specs.declared.edge.{Edge.{Edge, the-variants.{Sloped, EqualLongitude, EqualLatitude}}, Spot.{Spot}}
 use Rattle.verdict.specs.declared.step.{Tally.{Tally}, Verdict.{Verdict}}
 use Rattle.border.specs.{Trace.{Trace}, declared.{place.{FixedLat.{FixedLat}, FixedLon.{FixedLon}, Point.{Point}}, reader.Encoding.{Encoding}}}
 use Rattle.border.proofs.Numbered.{NumberedTrace, point, closed, failed, stopped, trace-numbered}
@@ -40,7 +40,7 @@ module _ {P : ℕ → Type 0} (twelve : P 12) (thirteen : P 13) where
   unfolding squared
   squares lat lon = then-step (step-fits 63 _) (λ y. then-step (step-fits 63 _) (λ x. goes))
 
-  segment : (near at : Location) → NumberedStep P (toSegment near at)
+  segment : (near at : Spot) → NumberedStep P (toSegment near at)
   unfolding toSegment
   segment near at = squares _ _
 
@@ -51,7 +51,7 @@ module _ {P : ℕ → Type 0} (twelve : P 12) (thirteen : P 13) where
   distance : (fix from to : Point) → NumberedStep P (distanceOf fix from to)
   unfolding distanceOf
   distance fix from to =
-      let at = locationOf fix in
+      let at = spotOf fix in
       let near = closestOn (edgeOf from to) at in
       either (NumberedStep P) (inBox to (cutOf near) from) (segment near at) (vertex to fix)
 

@@ -6,7 +6,7 @@ use lib.{Dec.{ltb, eqb}, IntN.{ℤ, pos, negsuc, _+ℤ_, _-ℤ_, _*ℤ_}, Signed
 use Rattle.numbers.specs.Answer.{if_then_else_}
 use Rattle.border.specs.Trace as T
 use Rattle.border.specs.{Trace.{Trace, point, closed}, declared.{place.{Point.{Point}, FixedLat.{FixedLat}, FixedLon.{FixedLon}}, reader.Encoding.{Encoding}}}
-use Rattle.verdict.specs.{Step.{Step, found, meets, _>>=_, checked}, Edge.{sameZ, samePoint, straight, inBox, quadrantOf, locationOf, edgeOf, closestOn, cutOf}}
+use Rattle.verdict.specs.{Step.{Step, found, meets, _>>=_, checked}, Edge.{sameZ, samePoint, straight, inBox, quadrantOf, spotOf, edgeOf, closestOn, cutOf}}
 use Rattle.verdict.specs.Winding.{turned, quarterBy, turnAt, crossingOf, acrossBy, clearOf, woundBy}
 use Rattle.verdict.specs.Distance.{squared, toSegment, toVertex, distanceOf, measured}
 use Rattle.verdict.specs.Verdict.{Judgement, reached, failed, refused, Last, none, after, along, passing, onBorder, closedAt, thenOn, judge, judgedAt}
@@ -43,7 +43,7 @@ squared-plain lat lon =
 distance-plain : (fix from to : Point) → Plain (distanceOf fix from to)
 unfolding distanceOf toSegment toVertex
 distance-plain fix from to =
-    if-plain (inBox to (cutOf (closestOn (edgeOf from to) (locationOf fix))) from) _ _ (squared-plain _ _)
+    if-plain (inBox to (cutOf (closestOn (edgeOf from to) (spotOf fix))) from) _ _ (squared-plain _ _)
     (bound-plain (checked 31 (to .lat .0 -ℤ fix .lat .0)) _ (checked-plain 31 _)
     (λ lat. bound-plain (checked 31 (to .lon .0 -ℤ fix .lon .0)) _ (checked-plain 31 _) (λ lon. squared-plain lat lon)))
 

@@ -3,8 +3,8 @@ use Prim.Native.Nat.{ℕ, _+_, _*_, _%_, _^_, min}
 use mathlib.Core.Bool.{Bool}
 use lib.IntN.{ℤ, _-ℤ_, _*ℤ_, natAbs}
 use Rattle.numbers.specs.{Answer.{if_then_else_}, Float.{cut64, _⊟_}}
-use Rattle.verdict.specs.{Step.{Step, found, refused, _>>=_, checked}, Edge.{inBox, locationOf, edgeOf, closestOn, cutOf}}
-use Rattle.verdict.specs.declared.{edge.Location.{Location}, step.Tally.{Tally}, distance.Distance.{Distance, the-variants.{Is, Over}}}
+use Rattle.verdict.specs.{Step.{Step, found, refused, _>>=_, checked}, Edge.{inBox, spotOf, edgeOf, closestOn, cutOf}}
+use Rattle.verdict.specs.declared.{edge.Spot.{Spot}, step.Tally.{Tally}, distance.Distance.{Distance, the-variants.{Is, Over}}}
 use Rattle.border.specs.declared.place.Point.{Point}
 
 -- what the enum's cases say
@@ -19,7 +19,7 @@ squared lat lon = do
   x ← checked 63 (lon *ℤ lon)
   found ((natAbs y + 4 * natAbs x) % 2 ^ 64)
 
-unfoldable pub toSegment : Location → Location → Step ℕ
+unfoldable pub toSegment : Spot → Spot → Step ℕ
 toSegment near at = squared (cut64 (near .lat ⊟ at .lat)) (cut64 (near .lon ⊟ at .lon))
 
 unfoldable pub toVertex : Point → Point → Step ℕ
@@ -31,7 +31,7 @@ toVertex to fix = do
 -- to the closest point, if its cut is in the edge's box; else to the vertex
 unfoldable pub distanceOf : Point → Point → Point → Step ℕ
 distanceOf fix from to =
-    let at = locationOf fix in
+    let at = spotOf fix in
     let near = closestOn (edgeOf from to) at in
     if inBox to (cutOf near) from then toSegment near at else toVertex to fix
 

@@ -4,7 +4,7 @@ use mathlib.Core.Bool.{Bool, false, _&&_, _||_}
 use lib.{IntN.{ℤ, pos}, Ieee.{Float, fin}, Signed.{leZ}}
 use Rattle.numbers.specs.{Answer.{if_then_else_}, Float.{toF32, cut32, _⊞_, _⊟_, _⊠_, _⊘_}}
 use Rattle.border.specs.{Place.{pointAt}, declared.place.Point.{Point}}
-use Rattle.verdict.specs.declared.edge.{Location.{Location}, Slope.{Slope}, Edge.{Edge, the-variants.{Sloped, EqualLongitude, EqualLatitude}}}
+use Rattle.verdict.specs.declared.edge.{Spot.{Spot}, Slope.{Slope}, Edge.{Edge, the-variants.{Sloped, EqualLongitude, EqualLatitude}}}
 
 -- ---- points
 
@@ -31,11 +31,11 @@ quadrantOf fix p =
 
 -- ---- edges
 
-abbrev pub locationOf : Point → Location
-locationOf p = record { lat = toF32 (p .lat .0); lon = toF32 (p .lon .0) }
+abbrev pub spotOf : Point → Spot
+spotOf p = record { lat = toF32 (p .lat .0); lon = toF32 (p .lon .0) }
 
 -- latitude = a * longitude + b
-unfoldable pub slopeOf : Location → Location → Slope
+unfoldable pub slopeOf : Spot → Spot → Slope
 slopeOf from to =
     let a = (to .lat ⊟ from .lat) ⊘ (to .lon ⊟ from .lon) in
     record { a = a; b = to .lat ⊟ a ⊠ to .lon }
@@ -45,7 +45,7 @@ unfoldable pub edgeOf : Point → Point → Edge
 edgeOf from to =
     if sameZ (to .lon .0) (from .lon .0)
     then EqualLongitude (to .lon)
-    else (if sameZ (to .lat .0) (from .lat .0) then EqualLatitude (to .lat) else Sloped (slopeOf (locationOf from) (locationOf to)))
+    else (if sameZ (to .lat .0) (from .lat .0) then EqualLatitude (to .lat) else Sloped (slopeOf (spotOf from) (spotOf to)))
 
 unfoldable pub straight : Point → Point → Bool
 straight from to = sameZ (to .lon .0) (from .lon .0) || sameZ (to .lat .0) (from .lat .0)
@@ -54,7 +54,7 @@ abbrev one : Float
 one = fin false 1 (pos 0)
 
 -- the point of an edge's line that is closest to a location
-unfoldable pub closestOn : Edge → Location → Location
+unfoldable pub closestOn : Edge → Spot → Spot
 closestOn (Sloped line) at =
     let a = line .a in
     let b = line .b in
@@ -66,5 +66,5 @@ closestOn (EqualLongitude lon) at = record { lat = at .lat; lon = toF32 (lon .0)
 closestOn (EqualLatitude lat) at = record { lat = toF32 (lat .0); lon = at .lon }
 
 -- a location cut to a point
-abbrev pub cutOf : Location → Point
+abbrev pub cutOf : Spot → Point
 cutOf at = pointAt (cut32 (at .lat)) (cut32 (at .lon))

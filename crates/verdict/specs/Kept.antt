@@ -1,18 +1,18 @@
 -- What inner functions of the verdict keep from edge to edge and say to each other. No promise of a public function speaks of it.
 use mathlib.Core.{Path.{_≡_}, Bool.{Bool}}
 use Rattle.numbers.specs.Answer.{if_then_else_}
-use Rattle.verdict.specs.{Edge.{quadrantOf, locationOf}, Verdict.{Judgement, failed, refused, Last, none, after, closedAt}}
-use Rattle.verdict.specs.declared.{edge.{Location.{Location}, Seen.{Seen}}, step.Tally.{Tally}}
+use Rattle.verdict.specs.{Edge.{quadrantOf, spotOf}, Verdict.{Judgement, failed, refused, Last, none, after, closedAt}}
+use Rattle.verdict.specs.declared.{edge.{Spot.{Spot}, Seen.{Seen}}, step.Tally.{Tally}}
 use Rattle.border.specs.declared.{place.Point.{Point}, reader.Next.{Next}}
 use Rattle.border.specs.declared.reader.Next.the-variants as N
 
 -- a point with its quadrant, and with its floats if the distance is asked for
 unfoldable pub seenFrom : Point → Bool → Point → Seen
-seenFrom fix asked p = record { point = p; quadrant = quadrantOf fix p; location = if asked then locationOf p else locationOf fix }
+seenFrom fix asked p = record { point = p; quadrant = quadrantOf fix p; spot = if asked then spotOf p else spotOf fix }
 
 -- the fix's floats, and what is kept of an edge's two ends, are right
-pub record Sighted (fix : Point) (at : Location) (asked : Bool) (last next : Seen) : Type 0 where
-  pub fixed : at ≡ locationOf fix
+pub record Sighted (fix : Point) (at : Spot) (asked : Bool) (last next : Seen) : Type 0 where
+  pub fixed : at ≡ spotOf fix
   pub left : last ≡ seenFrom fix asked (last .point)
   pub reached : next ≡ seenFrom fix asked (next .point)
 

@@ -3,10 +3,10 @@ ghost use mathlib.Core.{Path.{_≡_}, Bool.{true}};
 ghost use Prim.Native.Nat.{_+_, _*_, _%_, _^_, _<_};
 ghost use lib.{Dec.{ltb}, IntN.{_-ℤ_, _*ℤ_, natAbs}, Signed.{mag}};
 ghost use Rattle.numbers.specs.Float.{cut64, _⊟_};
-ghost use Rattle.verdict.specs.{Edge.{locationOf}, Distance.{told, toSegment, toVertex, distanceOf, measured}};
+ghost use Rattle.verdict.specs.{Edge.{spotOf}, Distance.{told, toSegment, toVertex, distanceOf, measured}};
 ghost use Rattle.verdict.specs.Step as step;
-use crate::edge::Location;
 use crate::edge::Seen;
+use crate::edge::Spot;
 use crate::edge::closest;
 use crate::edge::edge_between;
 use crate::edge::holds_cut;
@@ -50,7 +50,7 @@ fn apart(one: f32, other: f32) -> i64
     to_i64(one - other)
 }
 
-fn to_segment(near: Location, at: Location) -> Distance
+fn to_segment(near: Spot, at: Spot) -> Distance
     ensures { λ r. ⌜ told r ≡ toSegment near at ⌝ }
 {
     let lat = apart(near.lat, at.lat);
@@ -79,13 +79,13 @@ fn to_vertex(to: Point, fix: Point) -> Distance
 }
 
 // To the closest point, if that is in the edge's box. Else to the vertex: the border is closed, so one of the two is enough.
-fn distance_of(fix: Point, at: Location, from: Seen, to: Seen) -> Distance
-    requires { ⌜ (at ≡ locationOf fix) × («from» .location ≡ locationOf («from» .point)) × (to .location ≡ locationOf (to .point)) ⌝ }
+fn distance_of(fix: Point, at: Spot, from: Seen, to: Seen) -> Distance
+    requires { ⌜ (at ≡ spotOf fix) × («from» .spot ≡ spotOf («from» .point)) × (to .spot ≡ spotOf (to .point)) ⌝ }
     ensures { λ r. ⌜ told r ≡ distanceOf fix («from» .point) (to .point) ⌝ }
 {
     let start = from.point;
     let end = to.point;
-    let edge = edge_between(start, from.location, end, to.location);
+    let edge = edge_between(start, from.spot, end, to.spot);
     let near = closest(edge, at);
     if holds_cut(end, near, start) {
         to_segment(near, at)
@@ -95,8 +95,8 @@ fn distance_of(fix: Point, at: Location, from: Seen, to: Seen) -> Distance
 }
 
 // The least distance after an edge.
-pub(crate) fn measure(fix: Point, at: Location, from: Seen, to: Seen, tally: Tally) -> Passed
-    requires { ⌜ (at ≡ locationOf fix) × («from» .location ≡ locationOf («from» .point)) × (to .location ≡ locationOf (to .point)) ⌝ }
+pub(crate) fn measure(fix: Point, at: Spot, from: Seen, to: Seen, tally: Tally) -> Passed
+    requires { ⌜ (at ≡ spotOf fix) × («from» .spot ≡ spotOf («from» .point)) × (to .spot ≡ spotOf (to .point)) ⌝ }
     ensures { λ r. ⌜ step.told r ≡ measured true fix («from» .point) (to .point) tally ⌝ }
 {
     let Distance::Is(new) = distance_of(fix, at, from, to) else {

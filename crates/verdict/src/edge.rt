@@ -1,14 +1,15 @@
 // Edges of a border in f32, each operation rounded once, in the order of the Rust; boxes; quadrants.
 ghost use mathlib.Core.{Path.{_≡_}, Bool.{_&&_}};
 ghost use lib.Signed.{leZ};
-ghost use Rattle.verdict.specs.{Edge.{samePoint, between, inBox, quadrantOf, locationOf, slopeOf, edgeOf, closestOn, cutOf, straight}, Kept.{seenFrom}};
+ghost use Rattle.verdict.specs.{Edge.{samePoint, between, inBox, quadrantOf, spotOf, slopeOf, edgeOf, closestOn, cutOf, straight}, Kept.{seenFrom}};
 use border::place::FixedLat;
 use border::place::FixedLon;
 use border::place::Point;
 use numbers::float::cut::to_i32;
 use numbers::float::nearest::of_i32;
 
-pub struct Location {
+// A point of the grid in f32.
+pub struct Spot {
     pub lat: f32,
     pub lon: f32,
 }
@@ -30,7 +31,7 @@ pub enum Edge {
 pub struct Seen {
     pub point: Point,
     pub quadrant: u8,
-    pub location: Location,
+    pub spot: Spot,
 }
 
 pub(crate) fn same_point(one: Point, other: Point) -> bool
@@ -86,17 +87,17 @@ fn quadrant_of(fix: Point, point: Point) -> u8
     }
 }
 
-pub(crate) fn location_of(point: Point) -> Location
-    ensures { λ r. ⌜ r ≡ locationOf point ⌝ }
+pub(crate) fn spot_of(point: Point) -> Spot
+    ensures { λ r. ⌜ r ≡ spotOf point ⌝ }
 {
-    Location {
+    Spot {
         lat: of_i32(point.lat.0),
         lon: of_i32(point.lon.0),
     }
 }
 
-pub(crate) fn seen_from(fix: Point, at: Location, asked: bool, point: Point) -> Seen
-    requires { ⌜ at ≡ locationOf fix ⌝ }
+pub(crate) fn seen_from(fix: Point, at: Spot, asked: bool, point: Point) -> Seen
+    requires { ⌜ at ≡ spotOf fix ⌝ }
     ensures { λ r. ⌜ r ≡ seenFrom fix asked point ⌝ }
 {
     let quadrant = quadrant_of(fix, point);
@@ -104,13 +105,13 @@ pub(crate) fn seen_from(fix: Point, at: Location, asked: bool, point: Point) -> 
         return Seen {
             point,
             quadrant,
-            location: location_of(point),
+            spot: spot_of(point),
         };
     }
     Seen {
         point,
         quadrant,
-        location: at,
+        spot: at,
     }
 }
 
@@ -121,7 +122,7 @@ pub(crate) fn is_straight(from: Point, to: Point) -> bool
 }
 
 // The line from one location to another.
-fn slope_between(from: Location, to: Location) -> Slope
+fn slope_between(from: Spot, to: Spot) -> Slope
     ensures { λ r. ⌜ r ≡ slopeOf from to ⌝ }
 {
     let a = (to.lat - from.lat) / (to.lon - from.lon);
@@ -132,8 +133,8 @@ fn slope_between(from: Location, to: Location) -> Slope
 }
 
 // The edge between two points, of which `left` and `reached` are the floats. Equal points are an edge of equal longitude.
-pub(crate) fn edge_between(from: Point, left: Location, to: Point, reached: Location) -> Edge
-    requires { ⌜ (left ≡ locationOf from) × (reached ≡ locationOf to) ⌝ }
+pub(crate) fn edge_between(from: Point, left: Spot, to: Point, reached: Spot) -> Edge
+    requires { ⌜ (left ≡ spotOf from) × (reached ≡ spotOf to) ⌝ }
     ensures { λ r. ⌜ r ≡ edgeOf from to ⌝ }
 {
     let lon = to.lon;
@@ -148,30 +149,30 @@ pub(crate) fn edge_between(from: Point, left: Location, to: Point, reached: Loca
 }
 
 // The foot of the perpendicular from a location to a line.
-fn foot(line: Slope, at: Location) -> Location
+fn foot(line: Slope, at: Spot) -> Spot
     ensures { λ r. ⌜ r ≡ closestOn (Edge.Sloped line) at ⌝ }
 {
     let a = line.a;
     let b = line.b;
     let lat = at.lat;
     let lon = at.lon;
-    Location {
+    Spot {
         lat: (a * (lon + a * lat) + b) / (a * a + 1.0),
         lon: (lon + a * lat - a * b) / (a * a + 1.0),
     }
 }
 
 // The point of an edge's line that is closest to a location.
-pub(crate) fn closest(edge: Edge, at: Location) -> Location
+pub(crate) fn closest(edge: Edge, at: Spot) -> Spot
     ensures { λ r. ⌜ r ≡ closestOn edge at ⌝ }
 {
     match edge {
         Edge::Sloped(line) => foot(line, at),
-        Edge::EqualLongitude(lon) => Location {
+        Edge::EqualLongitude(lon) => Spot {
             lat: at.lat,
             lon: of_i32(lon.0),
         },
-        Edge::EqualLatitude(lat) => Location {
+        Edge::EqualLatitude(lat) => Spot {
             lat: of_i32(lat.0),
             lon: at.lon,
         },
@@ -179,7 +180,7 @@ pub(crate) fn closest(edge: Edge, at: Location) -> Location
 }
 
 // Whether the box with two opposite corners holds a location that is cut to a point. The longitude is cut only if the latitude is held.
-pub(crate) fn holds_cut(one: Point, at: Location, other: Point) -> bool
+pub(crate) fn holds_cut(one: Point, at: Spot, other: Point) -> bool
     ensures { λ r. ⌜ r ≡ inBox one (cutOf at) other ⌝ }
 {
     if lat_between(one.lat, FixedLat(to_i32(at.lat)), other.lat) {

@@ -4,11 +4,11 @@ ghost use Rattle.verdict.specs.{Kept.{Sighted, lastOf, endedAt}, Verdict
 ghost use Rattle.verdict.specs.Verdict as verdict;
 ghost use Rattle.verdict.specs.Step as step;
 use crate::distance::measure;
-use crate::edge::Location;
 use crate::edge::Seen;
-use crate::edge::location_of;
+use crate::edge::Spot;
 use crate::edge::same_point;
 use crate::edge::seen_from;
+use crate::edge::spot_of;
 use crate::far::open_field;
 use crate::field::Open;
 use crate::glide::glide_on;
@@ -33,7 +33,7 @@ pub enum Judged {
 }
 
 // The edge between two points: the winding, then the distance, if it is asked for.
-fn judge_edge(fix: Point, at: Location, asked: bool, from: Seen, to: Seen, tally: Tally) -> Passed
+fn judge_edge(fix: Point, at: Spot, asked: bool, from: Seen, to: Seen, tally: Tally) -> Passed
     requires { ⌜ Sighted fix at asked «from» to ⌝ }
     ensures { λ r. ⌜ step.told r ≡ along fix asked (after («from» .point)) (to .point) tally ⌝ }
 {
@@ -50,7 +50,7 @@ fn judge_edge(fix: Point, at: Location, asked: bool, from: Seen, to: Seen, tally
 // One more point. The vertex is tested first; no edge leads to the first point.
 fn judge_point(
     fix: Point,
-    at: Location,
+    at: Spot,
     asked: bool,
     begun: bool,
     last: Seen,
@@ -142,7 +142,7 @@ pub fn point_in_polygon(
     ensures { λ r. ⌜ told r ≡ judgedAt (now (file .entry)) encoding place lat lon asked least ⌝ }
 {
     let fix = Point { lat, lon };
-    let at = location_of(fix);
+    let at = spot_of(fix);
     let mut reader = open_border(place);
     let mut begun = false;
     let mut last = seen_from(fix, at, asked, fix);

@@ -1,15 +1,15 @@
 // How often a border winds about a location, in quarter turns.
 ghost use mathlib.Core.Path.{_≡_};
 ghost use Rattle.verdict.specs.Step as step;
-ghost use Rattle.verdict.specs.{Edge.{quadrantOf, locationOf}, Winding.{told, turned, quarterBy, halfTurn, turnAt, crossingOf, acrossBy, clearOf, woundBy}};
+ghost use Rattle.verdict.specs.{Edge.{quadrantOf, spotOf}, Winding.{told, turned, quarterBy, halfTurn, turnAt, crossingOf, acrossBy, clearOf, woundBy}};
 use crate::edge::Edge;
-use crate::edge::Location;
 use crate::edge::Seen;
 use crate::edge::Slope;
+use crate::edge::Spot;
 use crate::edge::edge_between;
 use crate::edge::in_box;
 use crate::edge::is_straight;
-use crate::edge::location_of;
+use crate::edge::spot_of;
 use crate::step::Passed;
 use crate::step::Tally;
 use crate::step::Verdict;
@@ -86,16 +86,16 @@ fn turn_at(crossing: FixedLon, fix: FixedLon, quadrant: u8) -> Crossing
 }
 
 // The longitude at which a line has the location's latitude.
-fn crossing_of(fix: Point, at: Location, line: Slope) -> FixedLon
-    requires { ⌜ at ≡ locationOf fix ⌝ }
+fn crossing_of(fix: Point, at: Spot, line: Slope) -> FixedLon
+    requires { ⌜ at ≡ spotOf fix ⌝ }
     ensures { λ r. ⌜ r ≡ crossingOf fix line ⌝ }
 {
     FixedLon(to_i32((at.lat - line.b) / line.a))
 }
 
 // An edge that leads across two quadrants; a straight one has the location on it.
-fn cross(fix: Point, at: Location, edge: Edge, quadrant: u8, tally: Tally) -> Passed
-    requires { ⌜ at ≡ locationOf fix ⌝ }
+fn cross(fix: Point, at: Spot, edge: Edge, quadrant: u8, tally: Tally) -> Passed
+    requires { ⌜ at ≡ spotOf fix ⌝ }
     ensures { λ r. ⌜ step.told r ≡ acrossBy fix edge quadrant tally ⌝ }
 {
     let Edge::Sloped(line) = edge else {
@@ -121,8 +121,8 @@ fn keep_clear(fix: Point, from: Point, to: Point, tally: Tally) -> Passed
 }
 
 // The winding after the edge between two points. Most edges stay in one quadrant.
-pub(crate) fn wound(fix: Point, at: Location, from: Seen, to: Seen, tally: Tally) -> Passed
-    requires { ⌜ (at ≡ locationOf fix) × («from» .quadrant ≡ quadrantOf fix («from» .point)) × (to .quadrant ≡ quadrantOf fix (to .point)) ⌝ }
+pub(crate) fn wound(fix: Point, at: Spot, from: Seen, to: Seen, tally: Tally) -> Passed
+    requires { ⌜ (at ≡ spotOf fix) × («from» .quadrant ≡ quadrantOf fix («from» .point)) × (to .quadrant ≡ quadrantOf fix (to .point)) ⌝ }
     ensures { λ r. ⌜ step.told r ≡ woundBy fix («from» .point) (to .point) tally ⌝ }
 {
     let start = from.point;
@@ -132,7 +132,7 @@ pub(crate) fn wound(fix: Point, at: Location, from: Seen, to: Seen, tally: Tally
     }
     let quarters = (to.quadrant + 4 - from.quadrant) % 4;
     if quarters == 2 {
-        let edge = edge_between(start, location_of(start), end, location_of(end));
+        let edge = edge_between(start, spot_of(start), end, spot_of(end));
         return cross(fix, at, edge, to.quadrant, tally);
     }
     let turned = quarter(quarters, tally);

@@ -8,7 +8,7 @@ use Rattle.numbers.specs.{Lists.{zeros}, Reply.{Reply, given, refused}, declare
 use Rattle.header.specs.Opening as O
 use Rattle.table.specs.declared.location.Location.{Location}
 
-both-zero : {A : Type 0} (n room : ℕ) (reply : Reply (Outcome A)) (why : Refusal) → repliedOf n room reply .reply ≡ refused why
+pub both-zero : {A : Type 0} (n room : ℕ) (reply : Reply (Outcome A)) (why : Refusal) → repliedOf n room reply .reply ≡ refused why
     → (repliedOf n room reply .hits ≡ zeros n) × (repliedOf n room reply .text ≡ zeros room)
 unfolding repliedOf
 both-zero n room (given o) why e = let z : _≡_ {A = ℕ} 0 1 = cc in absurd (omega arith)

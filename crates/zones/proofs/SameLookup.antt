@@ -33,6 +33,10 @@ unfolding simpleBack
 simple-again (S.Described described) = refl
 simple-again (S.Refused why) = refl
 
+-- of every function that answers as lookup does
+pub same-looked : {promised : Replied Zones} (r r′ : Looked) (hs hs′ ts ts′ : List ℕ) → replied (toldLooked r) hs ts ≡ promised → replied (toldLooked r′) hs′ ts′ ≡ promised → (r ≡ r′) × (hs ≡ hs′) × (ts ≡ ts′)
+same-looked {promised} = one-reply toldLooked lookedBack looked-again promised
+
 pub same-lookup : (file : List ℕ) (location : Location) (asked : Bool) (n room : ℕ) (r r′ : Looked) (hs hs′ ts ts′ : List ℕ)
     → replied (toldLooked r) hs ts ≡ lookedUp file location asked n room → replied (toldLooked r′) hs′ ts′ ≡ lookedUp file location asked n room
     → (r ≡ r′) × (hs ≡ hs′) × (ts ≡ ts′)

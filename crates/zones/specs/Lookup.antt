@@ -1,10 +1,10 @@
 -- Lookup, as document 01 has it.
-use mathlib.Core.{Bool.{Bool, true}, List.{List, []}}
+use mathlib.Core.{Bool.{Bool, true}, List.{List, []}, Path.{_≡_}}
 use Prim.Native.Nat.{ℕ, _/_}
 use lib.{IntN.{pos}, Ieee.{binary32, toBits}, ListN.{length}}
-use Rattle.numbers.specs.{Answer.{if_then_else_}, Float.{toF32, oneShifted, _⊠_, _⊘_, Root.{root}}, Reply.{Reply, given, refused, _>>=_}}
+use Rattle.numbers.specs.{Answer.{if_then_else_}, Float.{toF32, oneShifted, _⊠_, _⊘_, Root.{root}}, Lists.{padded}, Reply.{Reply, given, refused, _>>=_}}
 use Rattle.header.specs.{Header.{headBy, headOf}, declared.header.Head.{Head}}
-use Rattle.table.specs.{Hits.{width}, Find.{ninety, Matched, matchedWith}, declared.location.Location.{Location}}
+use Rattle.table.specs.{Hits.{width}, Find.{ninety, Matched, matchedWith}, GivenRows.{matchedListed}, declared.{find.Matches.{Matches}, location.Location.{Location}}}
 use Rattle.zones.specs.{Fields.{fieldsOf}, Lent.{Outcome, Replied, repliedOf}, declared.lookup.{Zones.{Zones}, Looked.{Looked}}}
 use Rattle.zones.specs.declared.lookup.Looked.the-variants as L
 
@@ -55,6 +55,19 @@ lookedUp file location asked n room = repliedOf n room (zonesIn file location as
 -- request Q-6: opened and read strictly
 unfoldable pub lookedStrictly : List ℕ → Location → Bool → ℕ → ℕ → Replied Zones
 lookedStrictly file location asked n room = lookedBy true file location asked n room
+
+-- request Q-11: among rows that are given as words, in a file with this header
+unfoldable pub zonesListed : List ℕ → Head → Location → Bool → List ℕ → List ℕ → ℕ → ℕ → Reply (Outcome Zones)
+zonesListed file head location asked records numbers n room = zonesFrom file head asked room (matchedListed file head location asked records numbers (n / width))
+
+unfoldable pub lookedListed : List ℕ → Head → Location → Bool → List ℕ → List ℕ → ℕ → ℕ → Replied Zones
+lookedListed file head location asked records numbers n room = repliedOf n room (zonesListed file head location asked records numbers n room)
+
+-- ---- the code's answers
+-- after a search: what is said of the matches, and the fields in so many bytes of text
+pub record Told (room : ℕ) (text : List ℕ) (asked : Bool) (precision : ℕ) (found : Matches) (out : List ℕ) (zones : Zones) : Type 0 where
+  pub said : zones ≡ record { matches = found .count; mark = found .mark; safezone = safezoneBits asked (found .least) precision; used = length out }
+  pub kept : text ≡ padded room out
 
 abbrev pub toldLooked : Looked → Reply Zones
 toldLooked (L.Zones zones) = given zones

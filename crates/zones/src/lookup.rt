@@ -1,9 +1,11 @@
 // Lookup: the matches in the lent words, their fields in the lent text.
-ghost use mathlib.Core.Path.{_≡_};
-ghost use lib.ListN.{length};
+ghost use mathlib.Core.{Path.{_≡_}, List.{[]}};
+ghost use Prim.Native.Nat.{_/_, _≤_};
+ghost use lib.ListN.{length, take};
 ghost use Rattle.numbers.specs.Lists.{zeros};
-ghost use Rattle.table.specs.Agreeing.{Agrees};
-ghost use Rattle.zones.specs.{Lent.{Filled, replied}, Lookup.{safezoneBits, zonesWith, lookedWith, lookedBy, lookedUp, lookedStrictly, toldLooked}};
+ghost use Rattle.table.specs.{Agreeing.{Agrees}, Hits.{width, slots}};
+ghost use Rattle.zones.specs.{Fields.{fieldsOf}, Lent.{Filled, replied}};
+ghost use Rattle.zones.specs.Lookup.{safezoneBits, zonesWith, zonesListed, lookedWith, lookedBy, lookedUp, lookedStrictly, lookedListed, Told, toldLooked};
 use crate::fields::Fields;
 use crate::fields::write_fields;
 use header::field::zero;
@@ -17,7 +19,9 @@ use numbers::float::nearest::of_u64;
 use numbers::float::root::sqrt;
 use numbers::refusal::Refusal;
 use table::find::Found;
+use table::find::Matches;
 use table::find::find_in;
+use table::listed::find_listed;
 use table::location::Location;
 
 // How many matches, the end mark, the safezone's bits (0 if not asked), and how much of the text is used.
@@ -42,6 +46,34 @@ fn safezone(asked: bool, least: u64, precision: u8) -> u32
     0
 }
 
+// After a search: the fields of its matches go into a text that is zero.
+fn tell(
+    file: &[u8],
+    head: Head,
+    asked: bool,
+    found: Matches,
+    hits: &[u32],
+    text: &mut [u8],
+) -> Looked
+    requires { ⌜ (now text ≡ zeros (length (now text))) × (found .count ≤ length (now hits) / width) ⌝ }
+    ensures { λ r. ⌜ Agrees (Told (length (now (text .entry))) (now (text .exit)) asked (head .preamble .precision) found)
+        (fieldsOf (now (file .entry)) head (length (now (text .entry))) (take (found .count) (slots (now (hits .entry)))) []) (toldLooked r) ⌝ }
+{
+    let preamble = head.preamble;
+    let matches = found.count;
+    let used = match write_fields(text, file, head, hits, matches) {
+        Fields::Used(used) => used,
+        Fields::Refused(why) => return Looked::Refused(why),
+    };
+    let safezone = safezone(asked, found.least, preamble.precision);
+    Looked::Zones(Zones {
+        matches,
+        mark: found.mark,
+        safezone,
+        used,
+    })
+}
+
 // In a text that is zero.
 fn look(
     file: &[u8],
@@ -59,19 +91,7 @@ fn look(
         Found::Matches(found) => found,
         Found::Refused(why) => return Looked::Refused(why),
     };
-    let preamble = head.preamble;
-    let matches = found.count;
-    let used = match write_fields(text, file, head, hits, matches) {
-        Fields::Used(used) => used,
-        Fields::Refused(why) => return Looked::Refused(why),
-    };
-    let safezone = safezone(asked, found.least, preamble.precision);
-    Looked::Zones(Zones {
-        matches,
-        mark: found.mark,
-        safezone,
-        used,
-    })
+    tell(file, head, asked, found, hits, text)
 }
 
 // In a file whose header was read; any header is taken.
@@ -144,4 +164,51 @@ pub fn lookup_strict(
         ≡ lookedStrictly (now (file .entry)) location asked (length (now (hits .entry))) (length (now (text .entry))) ⌝ }
 {
     lookup_by(file, true, location, asked, hits, text)
+}
+
+// Among rows that are given as words, in a text that is zero.
+fn look_listed(
+    file: &[u8],
+    head: Head,
+    location: Location,
+    asked: bool,
+    records: &[u32],
+    numbers: &[u32],
+    hits: &mut [u32],
+    text: &mut [u8],
+) -> Looked
+    requires { ⌜ now text ≡ zeros (length (now text)) ⌝ }
+    ensures { λ r. ⌜ Agrees (Filled (length (now (hits .entry))) (length (now (text .entry))) (now (hits .exit)) (now (text .exit)))
+        (zonesListed (now (file .entry)) head location asked (now (records .entry)) (now (numbers .entry)) (length (now (hits .entry))) (length (now (text .entry)))) (toldLooked r) ⌝ }
+{
+    let found = match find_listed(file, head, location, asked, records, numbers, hits) {
+        Found::Matches(found) => found,
+        Found::Refused(why) => return Looked::Refused(why),
+    };
+    tell(file, head, asked, found, hits, text)
+}
+
+// Among rows that are given as words, in a file whose header was read: `lookup_in` with these rows for the table's. Any header and any words are taken.
+pub fn lookup_listed(
+    file: &[u8],
+    head: Head,
+    location: Location,
+    asked: bool,
+    records: &[u32],
+    numbers: &[u32],
+    hits: &mut [u32],
+    text: &mut [u8],
+) -> Looked
+    ensures { λ r. ⌜ replied (toldLooked r) (now (hits .exit)) (now (text .exit))
+        ≡ lookedListed (now (file .entry)) head location asked (now (records .entry)) (now (numbers .entry)) (length (now (hits .entry))) (length (now (text .entry))) ⌝ }
+{
+    zero(text);
+    let zones = match look_listed(file, head, location, asked, records, numbers, hits, text) {
+        Looked::Zones(zones) => zones,
+        Looked::Refused(why) => {
+            zero_both(hits, text);
+            return Looked::Refused(why);
+        }
+    };
+    Looked::Zones(zones)
 }

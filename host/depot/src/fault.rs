@@ -44,6 +44,7 @@ fn advice(number: uskelzar::Number) -> &'static str {
         TooShort | Magic => "\n  this is no PLB file: give the file of borders",
         LengthMismatch => "\n  the file is cut, or something was added: copy it again",
         Incomplete => "\n  the file was cut inside a number: copy it again, or look it up without --strict",
+        IndexTable => "\n  depot check names the entries; lookups without an index are answered still",
         Precision => "\n  the file's precision must be 1 to 32 for a lookup",
         _ => "",
     }

@@ -6,6 +6,7 @@ pub mod draw;
 pub mod fault;
 pub mod geojson;
 pub mod grid;
+pub mod index;
 pub mod output;
 pub mod pieces;
 pub mod plan;

@@ -5,7 +5,8 @@ use depot::build::{self, Library};
 use depot::draw::{self, Frame};
 use depot::fault::{Fault, Said};
 use depot::plan::Form;
-use depot::{check, show, stamp, zone};
+use depot::zone::Way;
+use depot::{check, index, show, stamp, zone};
 use std::io::Write;
 use std::path::PathBuf;
 use std::process::ExitCode;
@@ -74,7 +75,7 @@ enum Verb {
         output: Option<PathBuf>,
     },
     /// Say which zones hold a fix, and how the search ended
-    #[command(after_help = "Example:\n  depot zone 52.52 13.40 examples/world-9.plb --explain\n\nExit status 0 only if a zone holds the fix and the search was whole.")]
+    #[command(after_help = "Examples:\n  depot zone 52.52 13.40 examples/world-9.plb --explain\n  depot zone 52.52 13.40 examples/world-9.plb --index world-9.index\n\nExit status 0 only if a zone holds the fix and the search was whole.")]
     Zone {
         /// Latitude in degrees
         #[arg(allow_negative_numbers = true, value_parser = latitude)]
@@ -86,6 +87,9 @@ enum Verb {
         /// Refuse a number that the file's end cuts
         #[arg(long)]
         strict: bool,
+        /// Read only the entries near the fix, by an index of the file (depot index); the answer is the same
+        #[arg(long, value_name = "INDEX", conflicts_with = "strict")]
+        index: Option<PathBuf>,
         /// With the table entry behind each match, and the distance to the nearest border
         #[arg(long)]
         explain: bool,
@@ -93,6 +97,16 @@ enum Verb {
     /// Read all of a file strictly, and ask what lookups would meet
     #[command(after_help = "Example:\n  depot check examples/world-9.plb && echo good\n\nExit status 0 only if nothing is wrong.")]
     Check { file: PathBuf },
+    /// Build the index of a file, for lookups that read only the entries near a fix
+    ///
+    /// It goes with the file as long as its length, header and table stay as they are. No lookup through it answers other than without it.
+    #[command(after_help = "Example:\n  depot index examples/world-9.plb -o world-9.index")]
+    Index {
+        file: PathBuf,
+        /// The index to write
+        #[arg(short, long)]
+        output: PathBuf,
+    },
     /// Stamp the local hour on every line of a day
     ///
     /// A line has a latitude, a longitude and an instant: seconds from 1970, or like 2026-07-01T11:59:59Z. The first line may name
@@ -149,7 +163,11 @@ fn run(verb: Verb) -> Result<Said, Fault> {
         }
         Verb::Show { file, geojson: true, output } => show::geojson(&file, output.as_deref()),
         Verb::Show { file, .. } => show::run(&file),
-        Verb::Zone { lat, lon, file, strict, explain } => zone::run(&file, lat, lon, strict, explain),
+        Verb::Zone { lat, lon, file, strict, index, explain } => {
+            let plain = if strict { Way::Strict } else { Way::Plain };
+            zone::run(&file, lat, lon, index.map_or(plain, Way::Through), explain)
+        }
+        Verb::Index { file, output } => index::run(&file, &output),
         Verb::Check { file } => check::run(&file),
         Verb::Stamp { day, output, map, folder } => stamp::run(&day, &output, &map, &folder),
         Verb::Draw { file, output, columns, frame } => draw::run(&file, &output, columns, frame),

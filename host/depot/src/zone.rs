@@ -1,17 +1,30 @@
 //! `depot zone`: which zones hold a fix.
 
 use crate::fault::{Fault, Said};
-use crate::{source, words};
+use crate::{index, source, words};
 use std::fmt::Write;
-use std::path::Path;
+use std::path::{Path, PathBuf};
 use uskelzar::{End, Field, Map, Table};
 
+/// How a file is read.
+pub enum Way {
+    Plain,
+    /// A number that its end cuts is refused.
+    Strict,
+    /// Plainly, with its entries from an index.
+    Through(PathBuf),
+}
+
 /// Says the zones that hold a fix, and how the search ended; explained, with the entry behind each.
-pub fn run(path: &Path, lat: f64, lon: f64, strict: bool, explain: bool) -> Result<Said, Fault> {
-    let map = source::open(path, strict)?;
+pub fn run(path: &Path, lat: f64, lon: f64, way: Way, explain: bool) -> Result<Said, Fault> {
+    let map = source::open(path, matches!(way, Way::Strict))?;
     let (lat, lon) = (lat as f32, lon as f32);
-    let zones = if strict { map.lookup_strict(lat, lon) } else { map.lookup(lat, lon) };
-    let zones = zones.map_err(|error| Fault::map(path, error))?;
+    let refused = |error| Fault::map(path, error);
+    let zones = match way {
+        Way::Plain => map.lookup(lat, lon).map_err(refused)?,
+        Way::Strict => map.lookup_strict(lat, lon).map_err(refused)?,
+        Way::Through(index) => index::lookup(&index, (path, &map), (lat, lon))?,
+    };
     let mut text = String::new();
     for zone in &zones.matches {
         let _ = writeln!(text, "{}: {}", title(map.header().table, &zone.fields, zone.metadata), words::kind(zone.kind));

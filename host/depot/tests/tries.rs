@@ -20,8 +20,8 @@ fn said(ran: &Ran, status: i32, words: &[&str]) {
 
 #[test]
 fn help_has_an_example_for_each_verb() {
-    said(&depot(&["--help"]), 0, &["build", "show", "zone", "check", "stamp", "draw", "Exit status"]);
-    for verb in ["build", "show", "zone", "check", "stamp", "draw"] {
+    said(&depot(&["--help"]), 0, &["build", "show", "zone", "check", "index", "stamp", "draw", "Exit status"]);
+    for verb in ["build", "show", "zone", "check", "index", "stamp", "draw"] {
         said(&depot(&[verb, "--help"]), 0, &["Example", &format!("depot {verb} ")]);
     }
 }
@@ -131,17 +131,56 @@ fn damaged_files_are_not_in_order() {
     }
 }
 
+/// A zone, an entry above it, and behind that a hole of the zone.
+const OUT_OF_ORDER: [u8; 54] = [
+    0x50, 0x4C, 0x42, 0x43, 0x01, 0x10, 0x01, 0x04, 0xCE, 0xE1, 0xED, 0xE5, 0x00, 0x12, 0x02, 0x12, 0x04, 0x04, 0x14, 0x14, 0x00, 0x00, 0x28, 0x28, 0x28, 0x28, 0x00, 0x00, 0x04, 0x04, 0x14, 0x14, 0x00, 0x09,
+    0x01, 0xC1, 0x30, 0x80, 0x02, 0x80, 0x04, 0x81, 0x02, 0x00, 0x00, 0x30, 0x80, 0x04, 0x80, 0x02, 0x82, 0x04, 0x00, 0x00,
+];
+
 #[test]
 fn a_table_out_of_order() {
     let folder = Folder::new("order");
-    // a zone, an entry above it, and behind that a hole of the zone
-    let file = [
-        0x50, 0x4C, 0x42, 0x43, 0x01, 0x10, 0x01, 0x04, 0xCE, 0xE1, 0xED, 0xE5, 0x00, 0x12, 0x02, 0x12, 0x04, 0x04, 0x14, 0x14, 0x00, 0x00, 0x28, 0x28, 0x28, 0x28, 0x00, 0x00, 0x04, 0x04, 0x14,
-        0x14, 0x00, 0x09, 0x01, 0xC1, 0x30, 0x80, 0x02, 0x80, 0x04, 0x81, 0x02, 0x00, 0x00, 0x30, 0x80, 0x04, 0x80, 0x02, 0x82, 0x04, 0x00, 0x00,
-    ];
-    let path = folder.with("order.plb", file);
+    let path = folder.with("order.plb", OUT_OF_ORDER);
     said(&depot(&["check", &path]), 1, &["entry 2 at byte 28: its lower latitude is below", "(mark 4)", "outside its box"]);
     said(&depot(&["zone", "0.0137", "0.0275", &path]), 1, &["A: in the zone", "(mark 4)"]);
+}
+
+#[test]
+fn zones_through_an_index() {
+    let folder = Folder::new("index");
+    let index = folder.path("world.index");
+    said(&depot(&["index", WORLD, "-o", &index]), 0, &["world.index: 13,412 words, 53,648 bytes for 868 entries; a lookup reads 1.5 of them, at most 13"]);
+    assert_eq!(folder.names(), ["world.index"]);
+    for (lat, lon) in [("52.52", "13.40"), ("41.88", "-87.63"), ("-33.87", "151.21"), ("0", "-30"), ("90", "180"), ("-90", "-180")] {
+        let plain = depot(&["zone", lat, lon, WORLD, "--explain"]);
+        assert_eq!(depot(&["zone", lat, lon, WORLD, "--explain", "--index", &index]), plain);
+    }
+    // the yards' own, and that of another file
+    let file = yards(&folder);
+    let zone = |index: &str| depot(&["zone", "0.0035", "109.338", &file, "--index", index]);
+    said(&zone(&index), 1, &["world.index: refusal 36: index and file differ", "it was not built for", "yards.plb -o"]);
+    let own = folder.path("yards.index");
+    said(&depot(&["index", &file, "-o", &own]), 0, &["for 12 entries"]);
+    said(&zone(&own), 0, &["Asia/Pontianak, Tank farm: in the zone", "search: whole"]);
+    said(&depot(&["zone", "52.52", "13.40", WORLD, "--index", &own]), 1, &["refusal 36"]);
+    said(&depot(&["zone", "52.52", "13.40", WORLD, "--index", &index, "--strict"]), 2, &["--strict"]);
+}
+
+#[test]
+fn indexes_that_are_none() {
+    let folder = Folder::new("no-index");
+    let zone = |index: &str| depot(&["zone", "52.52", "13.40", WORLD, "--index", index]);
+    said(&zone(&folder.path("missing")), 2, &["missing: No such file"]);
+    said(&zone(&folder.with("odd", "12345")), 2, &["odd: 5 bytes are no whole number of words", "build it again"]);
+    said(&zone(&folder.with("zeros", [0; 12000])), 1, &["refusal 36", "depot index"]);
+    said(&zone(WORLD), 2, &["no whole number of words"]);
+    said(&depot(&["index", WORLD]), 2, &["--output"]);
+    let out = folder.path("out.index");
+    said(&depot(&["index", &folder.path("missing"), "-o", &out]), 2, &["No such file"]);
+    said(&depot(&["index", &folder.with("picture.plb", "GIF89a.."), "-o", &out]), 1, &["refusal 3"]);
+    said(&depot(&["index", &folder.with("order.plb", OUT_OF_ORDER), "-o", &out]), 1, &["refusal 34: a table that is not in order", "depot check names the entries"]);
+    said(&depot(&["index", WORLD, "-o", &folder.path("none/out.index")]), 2, &["nothing was written"]);
+    assert_eq!(folder.names(), ["odd", "order.plb", "picture.plb", "zeros"]);
 }
 
 #[test]

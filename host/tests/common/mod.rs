@@ -111,6 +111,34 @@ impl Buffers {
         })
     }
 
+    /// Through an index, held against the file at each call.
+    pub fn lookup_indexed(
+        &mut self,
+        (file, index): (&[u8], &[u32]),
+        fix: Fix,
+        words: usize,
+        bytes: usize,
+        edge: Edge,
+    ) -> Outcome {
+        self.call(words, bytes, edge, |hits, text| {
+            raw::lookup_indexed(file, index, (fix.lat, fix.lon, fix.asked), hits, text)
+        })
+    }
+
+    /// Through an index, without that.
+    pub fn lookup_through(
+        &mut self,
+        (file, index): (&[u8], &[u32]),
+        fix: Fix,
+        words: usize,
+        bytes: usize,
+        edge: Edge,
+    ) -> Outcome {
+        self.call(words, bytes, edge, |hits, text| {
+            raw::lookup_through(file, index, (fix.lat, fix.lon, fix.asked), hits, text)
+        })
+    }
+
     pub fn simple(
         &mut self,
         file: &[u8],

@@ -13,7 +13,7 @@ use Rattle.table.specs.{Rest.{restMark, fiveBy, heldBy, isHeld}, Rows.{R
 use Rattle.table.specs.{Table.{stepsBy, entryBy, isAbove, holds}, declared.{rows.{Cursor.{Cursor}, Row.{Row}}, table.{Bounds.{Bounds}, Entry.{Entry}}}}
 
 -- ---- a box above the location does not hold it
-above-not : (a b : ℤ) → ltZ a b ≡ true → leZ b a ≡ false
+pub above-not : (a b : ℤ) → ltZ a b ≡ true → leZ b a ≡ false
 above-not (pos a) (pos b) e = lt-leb b a (ltb-true a b e)
 above-not (pos a) (negsuc b) e = sym e
 above-not (negsuc a) (pos b) e = refl

@@ -2,16 +2,16 @@
 use Prim.Native.Nat.{ℕ, _+_, _/_, _≤_, _<_}
 use borrow.Author.Tests.{lt-ltb, le-ltb}
 use lib.ListN.{length, length-append, length-replicate}
-use mathlib.Core.{List.{List, [], _∷_, _++_}, Path.{_≡_, refl, sym, ap, _∙_}, Bool.{true, false}}
+use mathlib.Core.{List.{List, [], _∷_, _++_}, Path.{_≡_, refl, sym, ap, _∙_}, Bool.{Bool, true, false}}
 use native.Mathlib.{Nat.{sub-zero}, Omega.{arith}}
 use Rattle.verdict.specs.Verdict.{Judgement}
 use Rattle.border.specs.declared.place.Point.{Point}
 use Rattle.table.proofs.{Agreeing.{agree-given, agree-refused}, Words.{words-length, put-padded, real-append}}
-use Rattle.table.specs.{Hits.{width, words, putHit, Real}, Agreeing.{Agrees}, Rows.{Rows, row, tableEnd, unreadable}}
+use Rattle.table.specs.{Hits.{width, words, putHit, Real}, Agreeing.{Agrees}, Passing.{PassedOver}, Rows.{Rows, row, tableEnd, unreadable, rowsFrom}}
 use Rattle.table.specs.Search.{rowTurn, Found, ended, afterTurn, seek, Sought}
-use Rattle.table.specs.{declared.{hits.Hit.{Hit}, rows.Row.{Row}, search.{Ended.{Ended}, Turn.{the-variants.{On, Met, Stopped, Refused}, Turn}}}, Rest.{restMark}}
-use Rattle.table.specs.Table.{isAbove}
-use Rattle.numbers.{specs.{Lists.{zeros, padded}, Reply.{Reply, given, plain}}, proofs.Answers.{chosen, other}}
+use Rattle.table.specs.declared.{hits.Hit.{Hit}, rows.{Cursor.{Cursor}, Row.{Row}}, search.{Ended.{Ended}, Turn.{the-variants.{On, Met, Stopped, Refused}, Turn}}}
+use Rattle.table.specs.{Rest.{restMark}, Table.{isAbove}}
+use Rattle.numbers.{specs.{Lists.{zeros, padded}, Reply.{Reply, given, plain}, Varint.{readingOf}}, proofs.Answers.{chosen, other}}
 use Rattle.numbers.specs.Reply as R
 use Rattle.table.specs.Rows as T
 
@@ -28,6 +28,11 @@ module _ (judge : ℕ → ℕ → Judgement) (fix : Point) (end n : ℕ) where
   pub starts : {rows all : Rows} (ws : List ℕ) (least : ℕ) → ws ≡ zeros n → rows ≡ all → Going judge fix end n (seek judge fix end (n / width) all least []) rows ws 0 least
   unfolding words Real
   starts ws least z e = record { hits = []; counted = refl; fits = omega arith; kept = simp sub-zero z; real = tt; so-far = ap (λ (r : Rows). seek judge fix end (n / width) r least []) e }
+
+  -- rows that may be passed over make no difference
+  pub passed-on : (strict : Bool) {file : List ℕ} {at next : Cursor} {whole : Reply Found} {ws : List ℕ} {count least : ℕ} → PassedOver file end fix at next
+      → Going judge fix end n whole (rowsFrom (readingOf strict file) end at) ws count least → Going judge fix end n whole (rowsFrom (readingOf strict file) end next) ws count least
+  passed-on strict {least = least} p g = record { hits = g .hits; counted = g .counted; fits = g .fits; kept = g .kept; real = g .real; so-far = sym (p .same strict judge (n / width) least (g .hits)) ∙ g .so-far }
 
   module _ {whole : Reply Found} {rows : Rows} {ws : List ℕ} {count least : ℕ} (g : Going judge fix end n whole rows ws count least) where
     pub kept-length : length ws ≡ n

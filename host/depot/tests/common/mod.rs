@@ -52,7 +52,7 @@ impl Drop for Folder {
 }
 
 /// What the program said.
-#[derive(Debug)]
+#[derive(Debug, PartialEq)]
 pub struct Ran {
     pub status: i32,
     pub out: String,

@@ -6,9 +6,10 @@ use lib.ListN.{length}
 use mathlib.Core.Path.{refl, sym, ap, _∙_}
 use native.Mathlib.Omega.{arith}
 use Rattle.numbers.specs.Varint.{readingOf}
-use Rattle.table.proofs.{TableRows.{reading-grows, at-end, at-row, at-unreadable, at-refused, row-less}, rest.Remaining.{stopped-mark}}
+use Rattle.table.proofs.{TableRows.{reading-grows, at-end, at-row, at-unreadable, at-refused, row-less}, pass.Passing.{over-less}, rest.Remaining.{stopped-mark}}
 use Rattle.table.proofs.rows.Entering.{row-read, row-failed, row-refused}
-use Rattle.table.proofs.search.{Searching.{Going, starts, kept-length, early, stops, refuses, on, full, met}, Turns.{met-kind}, search.Statement.{statement}}
+use Rattle.table.proofs.search.{Searching.{Going, starts, passed-on, kept-length, early, stops, refuses, on, full, met}, Turns.{met-kind}}
+use Rattle.table.proofs.search.search.Statement.{statement}
 use Rattle.table.specs.{Hits.{width}, Rows.{rowsFrom, rowsIn}, Search.{judgeIn, searched}, Table.{isAbove, toldEntered}, declared.rows.Row.{Row}}
 use Rattle.table.proofs.search.Searching as S
 use Rattle.table.proofs.search.search.Tie as tie
@@ -23,8 +24,9 @@ abbrev μ-loop : tie.MeasureT-loop
 loop-holds : tie.Need-loop-holds Inv-loop μ-loop
 unfolding searched rowsIn
 loop-holds c =
-    let pre = c .before .before .before .before .before .before .before .before .pre in
-    starts _ _ _ _ _ _ (pre) (ap (rowsFrom _ _) (c .start-at .ensures))
+    let pre = c .before .before .before .before .before .before .before .before .before .pre in
+    let start-at = c .before .start-at in
+    passed-on _ _ _ _ _ (c .pass-over .ensures) (starts _ _ _ _ _ _ (pre) (ap (rowsFrom _ _) (start-at .ensures)))
 
 enum-told : tie.Need-enum-told Inv-loop μ-loop
 enum-told c = search needs
@@ -56,7 +58,7 @@ returns-2 c =
 
 rest-mark-requires : tie.Need-rest-mark-requires Inv-loop μ-loop
 rest-mark-requires c κs =
-    let struct-known = c .before .before .before .before .before .before .before .before .before .before .before .before .before .struct-known in
+    let struct-known = c .before .before .before .before .before .before .before .before .before .before .before .before .before .before .struct-known in
     omega (arith, struct-known .given)
 
 same-length-3 : tie.Need-same-length-3 Inv-loop μ-loop
@@ -77,126 +79,130 @@ returns-3 c =
 
 loop-less : tie.Need-loop-less Inv-loop μ-loop
 loop-less c =
-    let if1 = c .before .before .before .before .before .before .before .before .before .before .before .before .if1 in
-    let entry = c .before .before .before .before .before .before .before .before .before .entry in
-    let entry-at = c .before .before .before .before .before .before .before .before .before .before .before .entry-at in
-    let row-of = c .before .before .before .before .before .row-of in
-    let after = c .before .before .before .before .after in
-    row-less _ (reading-grows _ _) _ (if1 .taken) (row-read _ _ (sym (ap toldEntered (entry .given .1)) ∙ entry-at .ensures) (row-of .ensures)) (after .ensures)
+    let if1 = c .before .before .before .before .before .before .before .before .before .before .before .before .before .if1 in
+    let entry = c .before .before .before .before .before .before .before .before .before .before .entry in
+    let entry-at = c .before .before .before .before .before .before .before .before .before .before .before .before .entry-at in
+    let row-of = c .before .before .before .before .before .before .row-of in
+    let after = c .before .before .before .before .before .after in
+    let pass-over2 = c .before .before .before .before .pass-over2 in
+    over-less _ (row-less _ (reading-grows _ _) _ (if1 .taken) (row-read _ _ (sym (ap toldEntered (entry .given .1)) ∙ entry-at .ensures) (row-of .ensures)) (after .ensures)) (pass-over2 .ensures)
 
 loop-again : tie.Need-loop-again Inv-loop μ-loop
 loop-again c =
-    let loop = c .before .before .before .before .before .before .before .before .before .before .before .before .before .before .loop in
-    let if1 = c .before .before .before .before .before .before .before .before .before .before .before .before .if1 in
-    let entry = c .before .before .before .before .before .before .before .before .before .entry in
-    let entry-at = c .before .before .before .before .before .before .before .before .before .before .before .entry-at in
-    let row-of = c .before .before .before .before .before .row-of in
-    let after = c .before .before .before .before .after in
-    let args = c .before .before .before .before .before .before .before .before .before .before .before .before .before .before .before .before .before .before .before .before .before .before .before .args in
-    let is-above = c .before .before .before .before .before .before .before .is-above in
-    let if2 = c .before .before .before .before .before .before .if2 in
+    let pass-over2 = c .before .before .before .before .pass-over2 in
+    let loop = c .before .before .before .before .before .before .before .before .before .before .before .before .before .before .before .loop in
+    let if1 = c .before .before .before .before .before .before .before .before .before .before .before .before .before .if1 in
+    let entry = c .before .before .before .before .before .before .before .before .before .before .entry in
+    let entry-at = c .before .before .before .before .before .before .before .before .before .before .before .before .entry-at in
+    let row-of = c .before .before .before .before .before .before .row-of in
+    let after = c .before .before .before .before .before .after in
+    let args = c .before .before .before .before .before .before .before .before .before .before .before .before .before .before .before .before .before .before .before .before .before .before .before .before .before .args in
+    let is-above = c .before .before .before .before .before .before .before .before .is-above in
+    let if2 = c .before .before .before .before .before .before .before .if2 in
     let turn = c .before .turn in
     let on-row = c .before .before .before .on-row in
-    on _ _ _ _ (loop .inv) (at-row _ (reading-grows _ _) _ (if1 .taken) (row-read _ _ (sym (ap toldEntered (entry .given .1)) ∙ entry-at .ensures) (row-of .ensures)) (after .ensures)) (ap (λ (r : Row). isAbove (r .bounds) (args .fix)) (row-of .ensures) ∙ sym (is-above .ensures) ∙ if2 .left) (sym (turn .given .1) ∙ on-row .ensures)
+    passed-on _ _ _ _ _ (pass-over2 .ensures) (on _ _ _ _ (loop .inv) (at-row _ (reading-grows _ _) _ (if1 .taken) (row-read _ _ (sym (ap toldEntered (entry .given .1)) ∙ entry-at .ensures) (row-of .ensures)) (after .ensures)) (ap (λ (r : Row). isAbove (r .bounds) (args .fix)) (row-of .ensures) ∙ sym (is-above .ensures) ∙ if2 .left) (sym (turn .given .1) ∙ on-row .ensures))
 
 same-length-4 : tie.Need-same-length-4 Inv-loop μ-loop
 same-length-4 c =
-    let loop = c .before .before .before .before .before .before .before .before .before .before .before .before .before .before .before .before .loop in
+    let loop = c .before .before .before .before .before .before .before .before .before .before .before .before .before .before .before .before .before .loop in
     kept-length _ _ _ _ (loop .inv)
 
 returns-4 : tie.Need-returns-4 Inv-loop μ-loop
 returns-4 c =
+    let loop = c .before .before .before .before .before .before .before .before .before .before .before .before .before .before .before .before .before .loop in
+    let if1 = c .before .before .before .before .before .before .before .before .before .before .before .before .before .before .before .if1 in
+    let entry = c .before .before .before .before .before .before .before .before .before .before .before .before .entry in
+    let entry-at = c .before .before .before .before .before .before .before .before .before .before .before .before .before .before .entry-at in
+    let row-of = c .before .before .before .before .before .before .before .before .row-of in
+    let after = c .before .before .before .before .before .before .before .after in
+    let args = c .before .before .before .before .before .before .before .before .before .before .before .before .before .before .before .before .before .before .before .before .before .before .before .before .before .before .before .args in
+    let is-above = c .before .before .before .before .before .before .before .before .before .before .is-above in
+    let if2 = c .before .before .before .before .before .before .before .before .before .if2 in
+    let turn2 = c .before .before .before .turn2 in
+    let on-row = c .before .before .before .before .before .on-row in
+    let if3 = c .before .if3 in
+    let room = c .before .before .before .before .before .before .before .before .before .before .before .before .before .before .before .before .before .before .before .before .before .room in
+    rw (c .plain2 .ensures) (full _ _ _ _ (loop .inv) (at-row _ (reading-grows _ _) _ (if1 .taken) (row-read _ _ (sym (ap toldEntered (entry .given .1)) ∙ entry-at .ensures) (row-of .ensures)) (after .ensures)) (ap (λ (r : Row). isAbove (r .bounds) (args .fix)) (row-of .ensures) ∙ sym (is-above .ensures) ∙ if2 .left) (sym (turn2 .given .1) ∙ on-row .ensures) _ (omega (arith, if3 .taken, room .ensures)))
+
+put-hit-requires : tie.Need-put-hit-requires Inv-loop μ-loop
+put-hit-requires c κs =
+    let loop = c .before .before .before .before .before .before .before .before .before .before .before .before .before .before .before .before .before .loop in
+    let if3 = c .before .if3 in
+    let room = c .before .before .before .before .before .before .before .before .before .before .before .before .before .before .before .before .before .before .before .before .before .room in
+    omega (arith, kept-length _ _ _ _ (loop .inv), if3 .left, room .ensures)
+
+add-count : tie.Need-add-count Inv-loop μ-loop
+add-count c =
+    let if3 = c .before .before .before .before .if3 in
+    let room = c .before .before .before .before .before .before .before .before .before .before .before .before .before .before .before .before .before .before .before .before .before .before .before .before .room in
+    omega (arith, if3 .left, room .ok)
+
+loop-less-2 : tie.Need-loop-less-2 Inv-loop μ-loop
+loop-less-2 c =
+    let if1 = c .before .before .before .before .before .before .before .before .before .before .before .before .before .before .before .before .before .before .if1 in
+    let entry = c .before .before .before .before .before .before .before .before .before .before .before .before .before .before .before .entry in
+    let entry-at = c .before .before .before .before .before .before .before .before .before .before .before .before .before .before .before .before .before .entry-at in
+    let row-of = c .before .before .before .before .before .before .before .before .before .before .before .row-of in
+    let after = c .before .before .before .before .before .before .before .before .before .before .after in
+    let pass-over2 = c .before .before .before .before .before .before .before .before .before .pass-over2 in
+    over-less _ (row-less _ (reading-grows _ _) _ (if1 .taken) (row-read _ _ (sym (ap toldEntered (entry .given .1)) ∙ entry-at .ensures) (row-of .ensures)) (after .ensures)) (pass-over2 .ensures)
+
+loop-again-2 : tie.Need-loop-again-2 Inv-loop μ-loop
+loop-again-2 c =
+    let put-hit = c .before .before .put-hit in
+    let pass-over2 = c .before .before .before .before .before .before .before .before .before .pass-over2 in
+    let loop = c .before .before .before .before .before .before .before .before .before .before .before .before .before .before .before .before .before .before .before .before .loop in
+    let if1 = c .before .before .before .before .before .before .before .before .before .before .before .before .before .before .before .before .before .before .if1 in
+    let entry = c .before .before .before .before .before .before .before .before .before .before .before .before .before .before .before .entry in
+    let entry-at = c .before .before .before .before .before .before .before .before .before .before .before .before .before .before .before .before .before .entry-at in
+    let row-of = c .before .before .before .before .before .before .before .before .before .before .before .row-of in
+    let after = c .before .before .before .before .before .before .before .before .before .before .after in
+    let args = c .before .before .before .before .before .before .before .before .before .before .before .before .before .before .before .before .before .before .before .before .before .before .before .before .before .before .before .before .before .before .args in
+    let is-above = c .before .before .before .before .before .before .before .before .before .before .before .before .before .is-above in
+    let if2 = c .before .before .before .before .before .before .before .before .before .before .before .before .if2 in
+    let turn2 = c .before .before .before .before .before .before .turn2 in
+    let on-row = c .before .before .before .before .before .before .before .before .on-row in
+    let if3 = c .before .before .before .before .if3 in
+    let room = c .before .before .before .before .before .before .before .before .before .before .before .before .before .before .before .before .before .before .before .before .before .before .before .before .room in
+    rw (put-hit .ensures) (passed-on _ _ _ _ _ (pass-over2 .ensures) (met _ _ _ _ (loop .inv) (at-row _ (reading-grows _ _) _ (if1 .taken) (row-read _ _ (sym (ap toldEntered (entry .given .1)) ∙ entry-at .ensures) (row-of .ensures)) (after .ensures)) (ap (λ (r : Row). isAbove (r .bounds) (args .fix)) (row-of .ensures) ∙ sym (is-above .ensures) ∙ if2 .left) (sym (turn2 .given .1) ∙ on-row .ensures) (omega (arith, if3 .left, room .ensures)) (met-kind _ _ _ _ (sym (turn2 .given .1) ∙ on-row .ensures))))
+
+same-length-5 : tie.Need-same-length-5 Inv-loop μ-loop
+same-length-5 c =
+    let loop = c .before .before .before .before .before .before .before .before .before .before .before .before .before .before .before .before .loop in
+    kept-length _ _ _ _ (loop .inv)
+
+returns-5 : tie.Need-returns-5 Inv-loop μ-loop
+returns-5 c =
     let loop = c .before .before .before .before .before .before .before .before .before .before .before .before .before .before .before .before .loop in
     let if1 = c .before .before .before .before .before .before .before .before .before .before .before .before .before .before .if1 in
     let entry = c .before .before .before .before .before .before .before .before .before .before .before .entry in
     let entry-at = c .before .before .before .before .before .before .before .before .before .before .before .before .before .entry-at in
     let row-of = c .before .before .before .before .before .before .before .row-of in
     let after = c .before .before .before .before .before .before .after in
-    let args = c .before .before .before .before .before .before .before .before .before .before .before .before .before .before .before .before .before .before .before .before .before .before .before .before .before .args in
+    let args = c .before .before .before .before .before .before .before .before .before .before .before .before .before .before .before .before .before .before .before .before .before .before .before .before .before .before .args in
     let is-above = c .before .before .before .before .before .before .before .before .before .is-above in
     let if2 = c .before .before .before .before .before .before .before .before .if2 in
-    let turn2 = c .before .before .before .turn2 in
-    let on-row = c .before .before .before .before .before .on-row in
-    let if3 = c .before .if3 in
-    let room = c .before .before .before .before .before .before .before .before .before .before .before .before .before .before .before .before .before .before .before .room in
-    rw (c .plain2 .ensures) (full _ _ _ _ (loop .inv) (at-row _ (reading-grows _ _) _ (if1 .taken) (row-read _ _ (sym (ap toldEntered (entry .given .1)) ∙ entry-at .ensures) (row-of .ensures)) (after .ensures)) (ap (λ (r : Row). isAbove (r .bounds) (args .fix)) (row-of .ensures) ∙ sym (is-above .ensures) ∙ if2 .left) (sym (turn2 .given .1) ∙ on-row .ensures) _ (omega (arith, if3 .taken, room .ensures)))
-
-put-hit-requires : tie.Need-put-hit-requires Inv-loop μ-loop
-put-hit-requires c κs =
-    let loop = c .before .before .before .before .before .before .before .before .before .before .before .before .before .before .before .before .loop in
-    let if3 = c .before .if3 in
-    let room = c .before .before .before .before .before .before .before .before .before .before .before .before .before .before .before .before .before .before .before .room in
-    omega (arith, kept-length _ _ _ _ (loop .inv), if3 .left, room .ensures)
-
-add-count : tie.Need-add-count Inv-loop μ-loop
-add-count c =
-    let if3 = c .before .before .before .before .if3 in
-    let room = c .before .before .before .before .before .before .before .before .before .before .before .before .before .before .before .before .before .before .before .before .before .before .room in
-    omega (arith, if3 .left, room .ok)
-
-loop-less-2 : tie.Need-loop-less-2 Inv-loop μ-loop
-loop-less-2 c =
-    let if1 = c .before .before .before .before .before .before .before .before .before .before .before .before .before .before .before .before .before .if1 in
-    let entry = c .before .before .before .before .before .before .before .before .before .before .before .before .before .before .entry in
-    let entry-at = c .before .before .before .before .before .before .before .before .before .before .before .before .before .before .before .before .entry-at in
-    let row-of = c .before .before .before .before .before .before .before .before .before .before .row-of in
-    let after = c .before .before .before .before .before .before .before .before .before .after in
-    row-less _ (reading-grows _ _) _ (if1 .taken) (row-read _ _ (sym (ap toldEntered (entry .given .1)) ∙ entry-at .ensures) (row-of .ensures)) (after .ensures)
-
-loop-again-2 : tie.Need-loop-again-2 Inv-loop μ-loop
-loop-again-2 c =
-    let put-hit = c .before .before .put-hit in
-    let loop = c .before .before .before .before .before .before .before .before .before .before .before .before .before .before .before .before .before .before .before .loop in
-    let if1 = c .before .before .before .before .before .before .before .before .before .before .before .before .before .before .before .before .before .if1 in
-    let entry = c .before .before .before .before .before .before .before .before .before .before .before .before .before .before .entry in
-    let entry-at = c .before .before .before .before .before .before .before .before .before .before .before .before .before .before .before .before .entry-at in
-    let row-of = c .before .before .before .before .before .before .before .before .before .before .row-of in
-    let after = c .before .before .before .before .before .before .before .before .before .after in
-    let args = c .before .before .before .before .before .before .before .before .before .before .before .before .before .before .before .before .before .before .before .before .before .before .before .before .before .before .before .before .args in
-    let is-above = c .before .before .before .before .before .before .before .before .before .before .before .before .is-above in
-    let if2 = c .before .before .before .before .before .before .before .before .before .before .before .if2 in
-    let turn2 = c .before .before .before .before .before .before .turn2 in
-    let on-row = c .before .before .before .before .before .before .before .before .on-row in
-    let if3 = c .before .before .before .before .if3 in
-    let room = c .before .before .before .before .before .before .before .before .before .before .before .before .before .before .before .before .before .before .before .before .before .before .room in
-    rw (put-hit .ensures) (met _ _ _ _ (loop .inv) (at-row _ (reading-grows _ _) _ (if1 .taken) (row-read _ _ (sym (ap toldEntered (entry .given .1)) ∙ entry-at .ensures) (row-of .ensures)) (after .ensures)) (ap (λ (r : Row). isAbove (r .bounds) (args .fix)) (row-of .ensures) ∙ sym (is-above .ensures) ∙ if2 .left) (sym (turn2 .given .1) ∙ on-row .ensures) (omega (arith, if3 .left, room .ensures)) (met-kind _ _ _ _ (sym (turn2 .given .1) ∙ on-row .ensures)))
-
-same-length-5 : tie.Need-same-length-5 Inv-loop μ-loop
-same-length-5 c =
-    let loop = c .before .before .before .before .before .before .before .before .before .before .before .before .before .before .before .loop in
-    kept-length _ _ _ _ (loop .inv)
-
-returns-5 : tie.Need-returns-5 Inv-loop μ-loop
-returns-5 c =
-    let loop = c .before .before .before .before .before .before .before .before .before .before .before .before .before .before .before .loop in
-    let if1 = c .before .before .before .before .before .before .before .before .before .before .before .before .before .if1 in
-    let entry = c .before .before .before .before .before .before .before .before .before .before .entry in
-    let entry-at = c .before .before .before .before .before .before .before .before .before .before .before .before .entry-at in
-    let row-of = c .before .before .before .before .before .before .row-of in
-    let after = c .before .before .before .before .before .after in
-    let args = c .before .before .before .before .before .before .before .before .before .before .before .before .before .before .before .before .before .before .before .before .before .before .before .before .args in
-    let is-above = c .before .before .before .before .before .before .before .before .is-above in
-    let if2 = c .before .before .before .before .before .before .before .if2 in
     let turn3 = c .before .before .turn3 in
     let on-row = c .before .before .before .before .on-row in
     rw (c .end-with3 .ensures) (stops _ _ _ _ (loop .inv) (at-row _ (reading-grows _ _) _ (if1 .taken) (row-read _ _ (sym (ap toldEntered (entry .given .1)) ∙ entry-at .ensures) (row-of .ensures)) (after .ensures)) (ap (λ (r : Row). isAbove (r .bounds) (args .fix)) (row-of .ensures) ∙ sym (is-above .ensures) ∙ if2 .left) (sym (turn3 .given .1) ∙ on-row .ensures))
 
 same-length-6 : tie.Need-same-length-6 Inv-loop μ-loop
 same-length-6 c =
-    let loop = c .before .before .before .before .before .before .before .before .before .before .before .before .before .before .before .loop in
+    let loop = c .before .before .before .before .before .before .before .before .before .before .before .before .before .before .before .before .loop in
     kept-length _ _ _ _ (loop .inv)
 
 returns-6 : tie.Need-returns-6 Inv-loop μ-loop
 returns-6 c =
-    let loop = c .before .before .before .before .before .before .before .before .before .before .before .before .before .before .before .loop in
-    let if1 = c .before .before .before .before .before .before .before .before .before .before .before .before .before .if1 in
-    let entry = c .before .before .before .before .before .before .before .before .before .before .entry in
-    let entry-at = c .before .before .before .before .before .before .before .before .before .before .before .before .entry-at in
-    let row-of = c .before .before .before .before .before .before .row-of in
-    let after = c .before .before .before .before .before .after in
-    let args = c .before .before .before .before .before .before .before .before .before .before .before .before .before .before .before .before .before .before .before .before .before .before .before .before .args in
-    let is-above = c .before .before .before .before .before .before .before .before .is-above in
-    let if2 = c .before .before .before .before .before .before .before .if2 in
+    let loop = c .before .before .before .before .before .before .before .before .before .before .before .before .before .before .before .before .loop in
+    let if1 = c .before .before .before .before .before .before .before .before .before .before .before .before .before .before .if1 in
+    let entry = c .before .before .before .before .before .before .before .before .before .before .before .entry in
+    let entry-at = c .before .before .before .before .before .before .before .before .before .before .before .before .before .entry-at in
+    let row-of = c .before .before .before .before .before .before .before .row-of in
+    let after = c .before .before .before .before .before .before .after in
+    let args = c .before .before .before .before .before .before .before .before .before .before .before .before .before .before .before .before .before .before .before .before .before .before .before .before .before .before .args in
+    let is-above = c .before .before .before .before .before .before .before .before .before .is-above in
+    let if2 = c .before .before .before .before .before .before .before .before .if2 in
     let turn4 = c .before .before .turn4 in
     let on-row = c .before .before .before .before .on-row in
     rw (c .plain3 .ensures) (refuses _ _ _ _ (loop .inv) (at-row _ (reading-grows _ _) _ (if1 .taken) (row-read _ _ (sym (ap toldEntered (entry .given .1)) ∙ entry-at .ensures) (row-of .ensures)) (after .ensures)) (ap (λ (r : Row). isAbove (r .bounds) (args .fix)) (row-of .ensures) ∙ sym (is-above .ensures) ∙ if2 .left) _ (sym (turn4 .given .1) ∙ on-row .ensures))
@@ -220,6 +226,7 @@ search-spec =
     (λ c κs. tt)
     (λ c. omega arith)
     (λ c κs. tt)
+    (λ c κs. tt)
     loop-holds
     (λ c κs. tt)
     (λ c. omega arith)
@@ -236,6 +243,7 @@ search-spec =
     (λ c κs. tt)
     same-length-3
     returns-3
+    (λ c κs. tt)
     (λ c κs. tt)
     (λ c κs. tt)
     (λ c κs. tt)

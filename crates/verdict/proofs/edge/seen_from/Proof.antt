@@ -7,15 +7,15 @@ use Rattle.verdict.proofs.edge.seen_from.Tie as tie
 quadrant-of-requires : tie.Need-quadrant-of-requires
 quadrant-of-requires c κs = search needs
 
-location-of-requires : tie.Need-location-of-requires
-location-of-requires c κs = search needs
+spot-of-requires : tie.Need-spot-of-requires
+spot-of-requires c κs = search needs
 
 returns : tie.Need-returns
 unfolding seenFrom
 returns c =
     let if1 = c .before .if1 in
     let quadrant-of = c .before .before .quadrant-of in
-    rw (if1 .taken, quadrant-of .ensures, c .location-of .ensures)
+    rw (if1 .taken, quadrant-of .ensures, c .spot-of .ensures)
 
 returns-2 : tie.Need-returns-2
 unfolding seenFrom
@@ -25,4 +25,4 @@ returns-2 c =
     rw (c .if1 .left, quadrant-of .ensures, pre)
 
 pub seen-from-spec : {M : Type 1} → statement M
-seen-from-spec = tie.close (tie.spec quadrant-of-requires location-of-requires returns returns-2)
+seen-from-spec = tie.close (tie.spec quadrant-of-requires spot-of-requires returns returns-2)

@@ -1,6 +1,6 @@
 -- `verdict::judge::judge_edge` meets its contract: what its calls ensure, in the order of the definition. Assumes nothing.
 use borrow.Author.Needs.{needs}
-use Rattle.verdict.proofs.{Kept.{quadrant-kept, location-kept}, judge.judge_edge.Statement.{statement}, winding.Cases.{stays}}
+use Rattle.verdict.proofs.{Kept.{quadrant-kept, spot-kept}, judge.judge_edge.Statement.{statement}, winding.Cases.{stays}}
 use Rattle.verdict.specs.{Distance.{measured}, Verdict.{along}}
 use Rattle.verdict.proofs.judge.judge_edge.Tie as tie
 
@@ -19,7 +19,7 @@ returns c =
 measure-requires : tie.Need-measure-requires
 measure-requires c κs =
     let pre = c .before .before .before .before .before .pre in
-    (pre .fixed, location-kept _ _ (pre .left) (c .if1 .taken), location-kept _ _ (pre .reached) (c .if1 .taken))
+    (pre .fixed, spot-kept _ _ (pre .left) (c .if1 .taken), spot-kept _ _ (pre .reached) (c .if1 .taken))
 
 returns-2 : tie.Need-returns-2
 unfolding along

@@ -23,14 +23,14 @@ abbrev μ-loop : tie.MeasureT-loop
 μ-loop file encoding place asked least fix at reader₀ begun₀ last₀ tally₀ reader begun last tally =
     points (traceOf file encoding reader)
 
-location-of-requires : tie.Need-location-of-requires Inv-loop μ-loop
-location-of-requires c κs = search needs
+spot-of-requires : tie.Need-spot-of-requires Inv-loop μ-loop
+spot-of-requires c κs = search needs
 
 open-border-requires : tie.Need-open-border-requires Inv-loop μ-loop
 open-border-requires c κs = search needs
 
 seen-from-requires : tie.Need-seen-from-requires Inv-loop μ-loop
-seen-from-requires c κs = c .before .location-of .ensures
+seen-from-requires c κs = c .before .spot-of .ensures
 
 loop-holds : tie.Need-loop-holds Inv-loop μ-loop
 loop-holds c = (rw (c .before .open-border .ensures), seen-again _ _ _ (c .seen-from .ensures))
@@ -63,14 +63,14 @@ returns c =
 
 seen-from-requires-2 : tie.Need-seen-from-requires-2 Inv-loop μ-loop
 seen-from-requires-2 c κs =
-    let location-of = c .before .before .before .before .before .before .before .location-of in
-    location-of .ensures
+    let spot-of = c .before .before .before .before .before .before .before .spot-of in
+    spot-of .ensures
 
 judge-point-requires : tie.Need-judge-point-requires Inv-loop μ-loop
 judge-point-requires c κs =
-    let location-of = c .before .before .before .before .before .before .before .before .location-of in
+    let spot-of = c .before .before .before .before .before .before .before .before .spot-of in
     let loop = c .before .before .before .before .before .loop in
-    record { fixed = location-of .ensures; left = loop .inv .1; reached = seen-again _ _ _ (c .seen-from2 .ensures) }
+    record { fixed = spot-of .ensures; left = loop .inv .1; reached = seen-again _ _ _ (c .seen-from2 .ensures) }
 
 enum-known-passed : tie.Need-enum-known-passed Inv-loop μ-loop
 enum-known-passed c = search needs
@@ -136,7 +136,7 @@ glide-on-requires : tie.Need-glide-on-requires Inv-loop μ-loop
 glide-on-requires c κs = search needs
 
 seen-from-requires-3 : tie.Need-seen-from-requires-3 Inv-loop μ-loop
-seen-from-requires-3 c κs = c .before .before .before .before .before .before .before .before .before .before .before .before .before .before .before .before .before .location-of .ensures
+seen-from-requires-3 c κs = c .before .before .before .before .before .before .before .before .before .before .before .before .before .before .before .before .before .spot-of .ensures
 
 loop-less-2 : tie.Need-loop-less-2 Inv-loop μ-loop
 loop-less-2 c =
@@ -165,7 +165,7 @@ point-in-polygon-spec =
     (tie.spec
     Inv-loop
     μ-loop
-    location-of-requires
+    spot-of-requires
     open-border-requires
     seen-from-requires
     loop-holds

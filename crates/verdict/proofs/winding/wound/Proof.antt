@@ -33,11 +33,11 @@ sub-quarters c =
     let p = pre in
     omega (arith, p .1, quadrant-small (a .fix) (a .from .point))
 
-location-of-requires : tie.Need-location-of-requires
-location-of-requires c κs = search needs
+spot-of-requires : tie.Need-spot-of-requires
+spot-of-requires c κs = search needs
 
-location-of-requires-2 : tie.Need-location-of-requires-2
-location-of-requires-2 c κs = search needs
+spot-of-requires-2 : tie.Need-spot-of-requires-2
+spot-of-requires-2 c κs = search needs
 
 edge-between-requires : tie.Need-edge-between-requires
 edge-between-requires c κs = search needs
@@ -87,8 +87,8 @@ wound-spec =
     returns
     add-quarters
     sub-quarters
-    location-of-requires
-    location-of-requires-2
+    spot-of-requires
+    spot-of-requires-2
     edge-between-requires
     cross-requires
     returns-2

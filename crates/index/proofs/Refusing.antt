@@ -1,0 +1,65 @@
+-- Which numbers building and tying can be refused with, and that a refused building leaves zeros. Assumes nothing.
+use Prim.Native.Nat.{ℕ}
+use lib.{IntN.{ℤ}, ListN.{length}}
+use mathlib.Core.{Bool.{false}, List.{List, [], _∷_, _++_}, Path.{_≡_, refl}}
+use native.Mathlib.Omega.{arith}
+use Rattle.border.proofs.Signs.{differ}
+use Rattle.numbers.proofs.{Refusals.{Listed, still-listed}, Replies.{NumberedReply, answers, refuses, then-reply, and-then, demands, number-of}}
+use Rattle.numbers.specs.{Lists.{zeros}, Reply.{Reply, given, refused, plain}, declared.refusal.Refusal.{Refusal}}
+use Rattle.header.{proofs.Numbered.{headerNumbers, head-numbered}, specs.declared.header.Head.{Head}}
+use Rattle.table.specs.{Find.{isPrecision}, Ordered.{lowest}, Rows.{Rows, row, tableEnd, unreadable, rowsIn}}
+use Rattle.table.specs.Rows as T
+use Rattle.index.specs.{Index.{indexOf, hasRoom, indexWith, indexIn, indexedBy, indexedOf}, Table.{isNext, tableFrom, bottom, tableOf}, Tied.{isTied, tiedOf}}
+
+-- opening's, and: precision 16, table 34, room 35
+abbrev pub buildingNumbers : List ℕ
+buildingNumbers = headerNumbers ++ (16 ∷ 34 ∷ 35 ∷ [])
+
+-- opening's, and: precision 16, another index 36
+abbrev pub tyingNumbers : List ℕ
+tyingNumbers = headerNumbers ++ (16 ∷ 36 ∷ [])
+
+-- ---- building
+table-numbered : (end : ℕ) (floor : ℤ) (table : Rows) → NumberedReply (Listed buildingNumbers) (tableFrom end floor table)
+unfolding tableFrom
+table-numbered end floor (row r table) = and-then (demands (isNext end floor r) (plain 34) refl) (then-reply (table-numbered end (lowest r) table) (λ rest. answers))
+table-numbered end floor tableEnd = answers
+table-numbered end floor unreadable = refuses refl
+table-numbered end floor (T.refused n) = refuses refl
+
+words-numbered : (file : List ℕ) (head : Head) (room : ℕ) → NumberedReply (Listed buildingNumbers) (indexWith file head room)
+unfolding indexWith tableOf
+words-numbered file head room =
+    and-then (demands (isPrecision (head .preamble .precision)) (plain 16) refl)
+    (then-reply (table-numbered (head .sections .metadata) bottom (rowsIn file head))
+    (λ rows. and-then (demands (hasRoom room (length (indexOf file head rows))) (plain 35) refl) answers))
+
+replied-numbered : (n : ℕ) {reply : Reply (List ℕ)} → NumberedReply (Listed buildingNumbers) reply → NumberedReply (Listed buildingNumbers) (indexedBy n reply .reply)
+unfolding indexedBy
+replied-numbered n answers = answers
+replied-numbered n (refuses h) = refuses h
+
+-- A building that is not answered is refused with one of these.
+pub index-refusals : (file : List ℕ) (n : ℕ) (why : Refusal) → indexedOf file n .reply ≡ refused why → Listed buildingNumbers (why .number)
+unfolding indexedOf indexIn
+index-refusals file n why =
+    number-of (replied-numbered n (then-reply (head-numbered (still-listed headerNumbers (16 ∷ 34 ∷ 35 ∷ [])) false differ file) (λ head. words-numbered file head n)))
+
+no-words : (n : ℕ) (reply : Reply (List ℕ)) (why : Refusal) → indexedBy n reply .reply ≡ refused why → indexedBy n reply .words ≡ zeros n
+unfolding indexedBy
+no-words n (given words) why e = let z : _≡_ {A = ℕ} 0 1 = cc in absurd (omega arith)
+no-words n (refused why′) why e = refl
+
+-- A refused building leaves every word zero.
+pub index-refusal-zeroes : (file : List ℕ) (n : ℕ) (why : Refusal) → indexedOf file n .reply ≡ refused why → indexedOf file n .words ≡ zeros n
+unfolding indexedOf
+index-refusal-zeroes file n = no-words n (indexIn file n)
+
+-- ---- tying
+-- Words that are not tied are refused with one of these.
+pub tied-refusals : (file words : List ℕ) (why : Refusal) → tiedOf file words ≡ refused why → Listed tyingNumbers (why .number)
+unfolding tiedOf
+tied-refusals file words why =
+    number-of
+    (then-reply (head-numbered (still-listed headerNumbers (16 ∷ 36 ∷ [])) false differ file)
+    (λ head. and-then (demands (isPrecision (head .preamble .precision)) (plain 16) refl) (demands (isTied file head words) (plain 36) refl)))

@@ -1,0 +1,49 @@
+-- `index::build::build_index` meets its contract. Assumes nothing.
+use borrow.Author.Needs.{needs}
+use lib.ListN.{length}
+use mathlib.Core.Path.{sym, ap, _∙_}
+use native.Mathlib.Omega.{arith}
+use Rattle.numbers.specs.Lists.{zeros}
+use Rattle.header.{proofs.Buffers.{of-length, all-zero}, specs.Header.{toldHead}}
+use Rattle.index.specs.Index.{toldBuilt}
+use Rattle.index.proofs.{Filling.{not-opened, built, not-built}, Opened.{opened-small}, build.build_index.Statement.{statement}}
+use Rattle.index.proofs.build.build_index.Tie as tie
+
+returns : tie.Need-returns
+returns c = not-opened _ _ (sym (ap toldHead (c .before .why .given .1)) ∙ c .before .before .before .head-of .ensures) (c .before .before .before .before .before .before .zero-words .ensures)
+
+fill-requires : tie.Need-fill-requires
+fill-requires c κs =
+    (all-zero _ (length (c .before .before .before .before .before .before .before .before .before .before .before .args .index .now)) (c .before .before .before .before .before .before .before .zero-words .ensures), omega (arith, opened-small _ (sym (ap toldHead (c .before .before .head .given .1)) ∙ c .before .before .before .before .head-of .ensures)))
+
+same-length-2 : tie.Need-same-length-2
+same-length-2 c = search needs
+
+returns-2 : tie.Need-returns-2
+returns-2 c =
+    let same = of-length _ (length (c .before .before .before .before .before .before .before .before .before .before .before .before .before .before .before .before .before .before .before .before .before .args .index .now)) (c .before .before .before .before .before .before .before .before .before .before .before .before .before .before .before .before .before .zero-words .ensures) in
+    not-built _ _ (sym (ap toldHead (c .before .before .before .before .before .before .before .before .before .before .before .before .head .given .1)) ∙ c .before .before .before .before .before .before .before .before .before .before .before .before .before .before .head-of .ensures) same (toldBuilt (c .before .before .before .before .before .before .before .before .before .fill .result)) _ (c .before .before .before .before .before .before .before .before .before .fill .ensures) (ap toldBuilt (c .before .before .before .before .before .why2 .given .1)) (all-zero _ (length (c .before .before .before .before .before .before .before .before .before .fill .last .1 .1 .0)) (c .before .before .zero-words2 .ensures) ∙ ap zeros (same-length-2 c))
+
+returns-3 : tie.Need-returns-3
+returns-3 c =
+    let same = of-length _ (length (c .before .before .before .before .before .before .before .before .before .before .before .before .before .before .before .before .before .args .index .now)) (c .before .before .before .before .before .before .before .before .before .before .before .before .before .zero-words .ensures) in
+    built _ _ (sym (ap toldHead (c .before .before .before .before .before .before .before .before .head .given .1)) ∙ c .before .before .before .before .before .before .before .before .before .before .head-of .ensures) same (toldBuilt (c .before .before .before .before .before .fill .result)) _ (c .before .before .before .before .before .fill .ensures) (ap toldBuilt (c .before .used .given .1))
+
+pub build-index-spec : {M : Type 1} → statement M
+build-index-spec =
+    tie.close
+    (tie.spec
+    (λ c κs. search needs)
+    (λ c κs. search needs)
+    (λ c. search needs)
+    (λ c. search needs)
+    (λ c. search needs)
+    returns
+    fill-requires
+    (λ c. search needs)
+    (λ c. search needs)
+    (λ c κs. search needs)
+    same-length-2
+    returns-2
+    (λ c. search needs)
+    returns-3)

@@ -1,0 +1,44 @@
+-- `index::entries::put_box` meets its contract. Assumes nothing.
+use borrow.Author.Needs.{needs}
+use mathlib.Core.{List.{List, [], _∷_, _++_}, Path.{subst, ap, _∙_}}
+use native.Mathlib.Omega.{arith}
+use mir.{Syntax.{w32}, Val.{SFits, ofZ}, ValLaws.{toZ-ofZ}}
+use Prim.Native.Nat.{ℕ}
+use Rattle.writer.specs.Stored.{Stored}
+use Rattle.index.specs.Tiles.{wordOf}
+use Rattle.index.proofs.{Stores.{stored-then, same-word}, entries.put_box.Statement.{statement}}
+use Rattle.index.proofs.entries.put_box.Tie as tie
+
+put-requires-2 : tie.Need-put-requires-2
+put-requires-2 c κs = omega (arith, c .before .before .before .before .before .put .ensures .place-after, c .before .before .before .before .before .before .before .before .before .before .pre)
+
+put-requires-3 : tie.Need-put-requires-3
+put-requires-3 c κs = omega (arith, c .before .before .before .before .before .before .before .before .before .before .before .put .ensures .place-after, c .before .before .before .before .before .put2 .ensures .place-after, c .before .before .before .before .before .before .before .before .before .before .before .before .before .before .before .before .pre)
+
+put-requires-4 : tie.Need-put-requires-4
+put-requires-4 c κs = omega (arith, c .before .before .before .before .before .before .before .before .before .before .before .before .before .before .before .before .before .put .ensures .place-after, c .before .before .before .before .before .before .before .before .before .before .before .put2 .ensures .place-after, c .before .before .before .before .before .put3 .ensures .place-after, c .before .before .before .before .before .before .before .before .before .before .before .before .before .before .before .before .before .before .before .before .before .before .pre)
+
+returns : tie.Need-returns
+returns c =
+    let told = c .before .before .before .before .before .before .before .before .before .before .before .before .before .before .before .before .before .before .before .before .before .before .struct-told .given in
+    let b = c .before .before .before .before .before .before .before .before .before .before .before .before .before .before .before .before .before .before .before .before .before .before .before .before .before .args .bounds in
+    let one = same-word (c .before .before .before .before .before .before .before .before .before .before .before .before .before .before .before .before .before .before .before .before .before .word-of .ensures ∙ ap (ofZ w32) (toZ-ofZ w32 (b .«min_lat» .0) (search needs))) (c .before .before .before .before .before .before .before .before .before .before .before .before .before .before .before .before .before .before .before .before .put .ensures) in
+    let two = same-word (c .before .before .before .before .before .before .before .before .before .before .before .before .before .before .before .word-of2 .ensures ∙ ap (ofZ w32) (toZ-ofZ w32 (b .«min_lon» .0) (search needs))) (c .before .before .before .before .before .before .before .before .before .before .before .before .before .before .put2 .ensures) in
+    let three = same-word (c .before .before .before .before .before .before .before .before .before .word-of3 .ensures ∙ ap (ofZ w32) (toZ-ofZ w32 (b .«max_lat» .0) (search needs))) (c .before .before .before .before .before .before .before .before .put3 .ensures) in
+    let four = same-word (c .before .before .before .word-of4 .ensures ∙ ap (ofZ w32) (toZ-ofZ w32 (b .«max_lon» .0) (search needs))) (c .before .before .put4 .ensures) in
+    stored-then _ _ (stored-then _ _ (stored-then _ _ one two) three) four
+
+pub put-box-spec : {M : Type 1} → statement M
+put-box-spec =
+    tie.close
+    (tie.spec
+    (λ c κs. search needs)
+    (λ c κs. search needs)
+    (λ c κs. search needs)
+    put-requires-2
+    (λ c κs. search needs)
+    put-requires-3
+    (λ c κs. search needs)
+    put-requires-4
+    (λ c. search needs)
+    returns)

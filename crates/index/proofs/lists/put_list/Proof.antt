@@ -1,0 +1,63 @@
+-- `index::lists::put_list` meets its contract. The loop's invariant is `Going`. Assumes nothing.
+use Prim.Native.Nat.{_-_}
+use native.Mathlib.Omega.{arith}
+use mathlib.Core.Path.{sym, _∙_}
+use Rattle.index.proofs.{Listing.{Going, going-starts, going-met, going-not, going-ends}, lists.put_list.Statement.{statement}}
+use Rattle.index.proofs.lists.put_list.Tie as tie
+
+abbrev Inv-loop : tie.InvT-loop
+Inv-loop index₀ tile n from at₀ k₀ index at k = Going index₀ tile n from index at k
+
+abbrev μ-loop : tie.MeasureT-loop
+μ-loop index₀ tile n from at₀ k₀ index at k = n - k
+
+loop-holds : tie.Need-loop-holds Inv-loop μ-loop
+loop-holds c = going-starts
+
+add-k : tie.Need-add-k Inv-loop μ-loop
+add-k c = omega (arith, c .loop-test .taken, c .before .before .before .pre .0)
+
+is-met-in-requires : tie.Need-is-met-in-requires Inv-loop μ-loop
+is-met-in-requires c κs = (omega (arith, c .before .loop-test .taken, c .before .before .before .before .pre .0), omega (arith, c .before .loop-test .taken, c .before .before .before .before .pre .3, c .before .before .loop .inv .left .size))
+
+cast-put : tie.Need-cast-put Inv-loop μ-loop
+cast-put c = omega (arith, c .before .before .before .before .loop-test .taken, c .before .before .before .before .before .before .before .pre .0)
+
+put-requires : tie.Need-put-requires Inv-loop μ-loop
+put-requires c κs = omega (arith, c .before .before .before .before .before .loop .inv .few, c .before .before .before .before .loop-test .taken, c .before .before .before .before .before .before .before .pre .0, c .before .before .before .before .before .before .before .pre .2)
+
+loop-less : tie.Need-loop-less Inv-loop μ-loop
+loop-less c = omega (arith, c .before .before .before .before .before .before .before .loop-test .taken)
+
+loop-again : tie.Need-loop-again Inv-loop μ-loop
+loop-again c = going-met (c .before .before .before .before .before .before .before .before .loop .inv) (c .before .before .before .before .before .before .before .loop-test .taken) (c .before .before .before .before .before .before .before .before .before .before .pre .1) (sym (c .before .before .before .before .before .is-met-in .ensures) ∙ c .before .before .before .before .if1 .taken) (c .before .before .put .ensures)
+
+loop-less-2 : tie.Need-loop-less-2 Inv-loop μ-loop
+loop-less-2 c = omega (arith, c .before .before .before .loop-test .taken)
+
+loop-again-2 : tie.Need-loop-again-2 Inv-loop μ-loop
+loop-again-2 c = going-not (c .before .before .before .before .loop .inv) (c .before .before .before .loop-test .taken) (c .before .before .before .before .before .before .pre .1) (sym (c .before .is-met-in .ensures) ∙ c .if1 .left)
+
+same-length : tie.Need-same-length Inv-loop μ-loop
+same-length c = c .before .loop .inv .left .size
+
+returns : tie.Need-returns Inv-loop μ-loop
+returns c = going-ends (c .before .loop .inv) (c .loop-test .left)
+
+pub put-list-spec : {M : Type 1} → statement M
+put-list-spec =
+    tie.close
+    (tie.spec
+    Inv-loop
+    μ-loop
+    loop-holds
+    add-k
+    is-met-in-requires
+    cast-put
+    put-requires
+    loop-less
+    loop-again
+    loop-less-2
+    loop-again-2
+    same-length
+    returns)

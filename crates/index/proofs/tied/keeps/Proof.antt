@@ -1,0 +1,64 @@
+-- `index::tied::keeps` meets its contract. The loop's invariant is `Comparing`. Assumes nothing.
+use Prim.Native.Nat.{_+_, _-_, _<_}
+use borrow.Author.{Needs.{needs}, Tests.{eq-eqb, ne-eqb}}
+use lib.ListN.{length, take}
+use mathlib.Core.Path.{sym, _∙_}
+use native.Mathlib.Omega.{arith}
+use Rattle.index.proofs.Tying.{Comparing, comparing-starts, comparing-inside, comparing-next, comparing-differs, comparing-ends}
+use Rattle.index.proofs.tied.keeps.Statement.{statement}
+use Rattle.index.proofs.tied.keeps.Tie as tie
+
+abbrev Inv-loop : tie.InvT-loop
+Inv-loop file size index from at₀ place₀ at place = Comparing index from (take size file) size at place
+
+abbrev μ-loop : tie.MeasureT-loop
+μ-loop file size index from at₀ place₀ at place = size + 3 - place
+
+loop-holds : tie.Need-loop-holds Inv-loop μ-loop
+loop-holds c = comparing-starts _ _ _ _
+
+mul-if1 : tie.Need-mul-if1 Inv-loop μ-loop
+mul-if1 c =
+    let inside : c .before .loop .at < length (c .before .before .before .before .args .index .now) = omega (arith, comparing-inside _ _ _ _ (c .before .loop .inv) (c .loop-test .taken), c .before .before .before .before .pre .1) in
+    search needs
+
+shared-slice-read-if1 : tie.Need-shared-slice-read-if1 Inv-loop μ-loop
+shared-slice-read-if1 c = omega (arith, comparing-inside _ _ _ _ (c .before .before .loop .inv) (c .before .loop-test .taken), c .before .before .before .before .before .pre .1)
+
+four-at-requires : tie.Need-four-at-requires Inv-loop μ-loop
+four-at-requires c κs = omega (arith, c .before .loop-test .taken, c .before .before .before .before .before .pre .0)
+
+returns : tie.Need-returns Inv-loop μ-loop
+returns c = comparing-differs _ _ _ _ (c .before .before .before .before .loop .inv) (c .before .before .before .loop-test .taken) (ne-eqb _ _ (λ e. c .if1 .taken (e ∙ sym (c .before .four-at .ensures))))
+
+add-at : tie.Need-add-at Inv-loop μ-loop
+add-at c = omega (arith, comparing-inside _ _ _ _ (c .before .before .before .before .loop .inv) (c .before .before .before .loop-test .taken), c .before .before .before .before .before .before .before .pre .0, c .before .before .before .before .before .before .before .pre .2)
+
+add-place : tie.Need-add-place Inv-loop μ-loop
+add-place c = omega (arith, c .before .before .before .loop-test .taken, c .before .before .before .before .before .before .before .pre .0)
+
+loop-less : tie.Need-loop-less Inv-loop μ-loop
+loop-less c = omega (arith, c .before .before .before .loop-test .taken)
+
+loop-again : tie.Need-loop-again Inv-loop μ-loop
+loop-again c = comparing-next _ _ _ _ (c .before .before .before .before .loop .inv) (c .before .before .before .loop-test .taken) (eq-eqb _ _ (c .if1 .left ∙ c .before .four-at .ensures))
+
+returns-2 : tie.Need-returns-2 Inv-loop μ-loop
+returns-2 c = comparing-ends _ _ _ _ (c .before .loop .inv) (c .loop-test .left)
+
+pub keeps-spec : {M : Type 1} → statement M
+keeps-spec =
+    tie.close
+    (tie.spec
+    Inv-loop
+    μ-loop
+    loop-holds
+    mul-if1
+    shared-slice-read-if1
+    four-at-requires
+    returns
+    add-at
+    add-place
+    loop-less
+    loop-again
+    returns-2)

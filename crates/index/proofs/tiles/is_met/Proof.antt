@@ -1,0 +1,16 @@
+-- `index::tiles::is_met` meets its contract. Assumes nothing.
+use borrow.Author.Tests.{le-leb, lt-leb, lt-ltb, le-ltb}
+use Rattle.index.proofs.{Sides.{and-true, and-second, and-self}, tiles.is_met.Statement.{statement}}
+use Rattle.index.proofs.tiles.is_met.Tie as tie
+
+returns : tie.Need-returns
+returns c = and-true _ _ _ (le-leb _ _ (c .before .before .before .if1 .taken)) (lt-ltb _ _ (c .before .if2 .taken))
+
+returns-2 : tie.Need-returns-2
+returns-2 c = and-second _ _ _ (le-leb _ _ (c .before .before .if1 .taken)) (le-ltb _ _ (c .if2 .left))
+
+returns-3 : tie.Need-returns-3
+returns-3 c = and-self _ _ (lt-leb _ _ (c .if1 .left))
+
+pub is-met-spec : {M : Type 1} → statement M
+is-met-spec = tie.close (tie.spec returns returns-2 returns-3)

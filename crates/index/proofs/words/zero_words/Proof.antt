@@ -1,0 +1,58 @@
+-- `index::words::zero_words` meets its contract. The loop's invariant: i zeros stand over the front. Assumes nothing.
+use Prim.Native.Nat.{_≤_, _-_}
+use lib.ListN.{length}
+use mathlib.Core.Path.{_≡_, refl, ap, _∙_}
+use native.Mathlib.Omega.{arith}
+use Rattle.header.proofs.Buffers.{zeroed, zeroed-suc, zeroed-length, zeroed-all}
+use Rattle.index.proofs.words.zero_words.Statement.{statement}
+use Rattle.index.proofs.words.zero_words.Tie as tie
+
+abbrev Inv-loop : tie.InvT-loop
+Inv-loop index₀ i₀ index i = (i ≤ length index₀) × (index ≡ zeroed i index₀)
+
+abbrev μ-loop : tie.MeasureT-loop
+μ-loop index₀ i₀ index i = length index₀ - i
+
+loop-holds : tie.Need-loop-holds Inv-loop μ-loop
+loop-holds c = (omega arith, refl)
+
+slice-write-index : tie.Need-slice-write-index Inv-loop μ-loop
+slice-write-index c =
+    let loop = c .before .loop in
+    let args = c .before .before .args in
+    omega (arith, ap length (loop .inv .1) ∙ zeroed-length (args .index .now) (loop .i) (omega arith))
+
+add-i : tie.Need-add-i Inv-loop μ-loop
+add-i c =
+    let loop = c .before .loop in
+    let args = c .before .before .args in
+    omega (arith, ap length (loop .inv .1) ∙ zeroed-length (args .index .now) (loop .i) (omega arith))
+
+loop-less : tie.Need-loop-less Inv-loop μ-loop
+loop-less c =
+    let loop = c .before .loop in
+    let args = c .before .before .args in
+    omega (arith, ap length (loop .inv .1) ∙ zeroed-length (args .index .now) (loop .i) (omega arith))
+
+loop-again : tie.Need-loop-again Inv-loop μ-loop
+loop-again c =
+    let loop = c .before .loop in
+    let args = c .before .before .args in
+    let l = ap length (loop .inv .1) ∙ zeroed-length (args .index .now) (loop .i) (omega arith) in
+    (omega arith, rw (loop .inv .1) (zeroed-suc (args .index .now) (loop .i) (omega arith)))
+
+same-length : tie.Need-same-length Inv-loop μ-loop
+same-length c =
+    let loop = c .before .loop in
+    let args = c .before .before .args in
+    ap length (loop .inv .1) ∙ zeroed-length (args .index .now) (loop .i) (omega arith)
+
+returns : tie.Need-returns Inv-loop μ-loop
+returns c =
+    let loop = c .before .loop in
+    let args = c .before .before .args in
+    let l = ap length (loop .inv .1) ∙ zeroed-length (args .index .now) (loop .i) (omega arith) in
+    loop .inv .1 ∙ zeroed-all (args .index .now) (loop .i) (omega arith) (omega arith)
+
+pub zero-words-spec : {M : Type 1} → statement M
+zero-words-spec = tie.close (tie.spec Inv-loop μ-loop loop-holds (λ c. omega arith) slice-write-index add-i loop-less loop-again same-length returns)

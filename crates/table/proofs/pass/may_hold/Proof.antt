@@ -1,0 +1,82 @@
+-- `table::pass::may_hold` meets its contract, by the test that led to each answer. Assumes nothing.
+use borrow.Author.Needs.{needs, sfits-of}
+use mathlib.Core.Path.{sym, _∙_}
+use mir.{Syntax.{w32}, ValLaws.{toZ-ofZ}}
+use Rattle.border.specs.Box.{between}
+use Rattle.table.proofs.pass.{Passing.{untrue, below-missed, lons-missed}, may_hold.Statement.{statement}}
+use Rattle.table.proofs.pass.may_hold.Tie as tie
+
+lat-below-requires : tie.Need-lat-below-requires
+lat-below-requires c κs = search needs
+
+returns : tie.Need-returns
+returns c =
+    let args = c .before .before .before .args in
+    let lat-below = c .before .lat-below in
+    λ e. below-missed (args .bounds) (args .fix) (sym (lat-below .ensures) ∙ c .if1 .taken)
+
+short-at-requires : tie.Need-short-at-requires
+short-at-requires c κs = search needs
+
+enum-known-first : tie.Need-enum-known-first
+enum-known-first c = search needs
+
+enum-told : tie.Need-enum-told
+enum-told c = search needs
+
+returns-2 : tie.Need-returns-2
+returns-2 c = λ e. untrue e
+
+short-at-requires-2 : tie.Need-short-at-requires-2
+short-at-requires-2 c κs = search needs
+
+enum-known-second : tie.Need-enum-known-second
+enum-known-second c = search needs
+
+enum-told-2 : tie.Need-enum-told-2
+enum-told-2 c = search needs
+
+returns-3 : tie.Need-returns-3
+returns-3 c = λ e. untrue e
+
+signed-requires : tie.Need-signed-requires
+signed-requires c κs = search needs
+
+signed-requires-2 : tie.Need-signed-requires-2
+signed-requires-2 c κs = search needs
+
+lon-between-requires : tie.Need-lon-between-requires
+lon-between-requires c κs = search needs
+
+returns-4 : tie.Need-returns-4
+returns-4 c =
+    let signed = c .before .before .signed in
+    let signed2 = c .before .signed2 in
+    let args = c .before .before .before .before .before .before .before .before .before .before .before .before .before .before .args in
+    let pre = c .before .before .before .before .before .before .before .before .before .before .before .before .before .before .pre in
+    let first = c .before .before .before .before .before .before .before .before .first in
+    let short-at = c .before .before .before .before .before .before .before .before .before .before .short-at in
+    let second = c .before .before .before .before .second in
+    let short-at2 = c .before .before .before .before .before .before .short-at2 in
+    let low = toZ-ofZ w32 _ (sfits-of (signed .ok)) ∙ signed .ensures in
+    let high = toZ-ofZ w32 _ (sfits-of (signed2 .ok)) ∙ signed2 .ensures in
+    lons-missed (args .fix) (pre) (rw (first .given .1) at (short-at .ensures)) (rw (second .given .1) at (short-at2 .ensures)) (c .lon-between .ensures ∙ (λ i. between (low i) (args .fix .lon .0) (high i)))
+
+pub may-hold-spec : {M : Type 1} → statement M
+may-hold-spec =
+    tie.close
+    (tie.spec
+    lat-below-requires
+    returns
+    short-at-requires
+    enum-known-first
+    enum-told
+    returns-2
+    short-at-requires-2
+    enum-known-second
+    enum-told-2
+    returns-3
+    signed-requires
+    signed-requires-2
+    lon-between-requires
+    returns-4)

@@ -1,0 +1,48 @@
+-- Rows that a search passes over. No promise of a public function speaks of it.
+use Prim.Native.Nat.{ℕ, _+_, _<_, _≤_}
+use mathlib.Core.{Bool.{Bool, false}, List.{List}, Path.{_≡_}}
+use lib.ListN.{length}
+use Rattle.verdict.specs.Verdict.{Judgement}
+use Rattle.border.specs.declared.place.Point.{Point}
+use Rattle.numbers.specs.{Answer.{found}, Point.{signedOf}, Varint.{Numeral, readingOf}}
+use Rattle.table.specs.{Rows.{after, rowBy, rowsFrom}, Search.{seek}, Table.{isAbove, holds}}
+use Rattle.table.specs.declared.{hits.Hit.{Hit}, pass.{Pass.{Pass, the-variants.{On, Stop}}, Short.{Short, the-variants.{Is, Other}}}}
+use Rattle.table.specs.declared.{rows.{Cursor.{Cursor}, Row.{Row}}, table.Bounds.{Bounds}}
+
+-- a number of at most three bytes, which both readings find
+pub record Near (file : List ℕ) (place : ℕ) (number : Numeral) : Type 0 where
+  pub reads : (strict : Bool) → found number ≡ readingOf strict file place
+  pub close : number .place ≤ place + 3
+
+abbrev pub Shortly : List ℕ → ℕ → Short → Type 0
+Shortly file place (Is number) = Near file place number
+Shortly file place Other = Unit
+
+-- the longitudes of a box stand at two places
+pub record Lons (file : List ℕ) (bounds : Bounds) (west east : ℕ) : Type 0 where
+  pub low : Numeral
+  pub high : Numeral
+  pub low-there : Near file west low
+  pub high-there : Near file east high
+  pub low-is : bounds .«min_lon» .0 ≡ signedOf (low .value)
+  pub high-is : bounds .«max_lon» .0 ≡ signedOf (high .value)
+  pub west-inside : west + 2 < length file
+  pub east-inside : east + 2 < length file
+
+-- the row at a cursor is read, is not above the location and does not hold it; the next cursor is the one after it
+pub record PassedRow (file : List ℕ) (fix : Point) (at next : Cursor) : Type 0 where
+  pub row : Row
+  pub reads : (strict : Bool) → found row ≡ rowBy (readingOf strict file) at
+  pub low : isAbove (row .bounds) fix ≡ false
+  pub missed : holds (row .bounds) fix ≡ false
+  pub then : next ≡ after row
+
+abbrev pub Passing : List ℕ → Point → Cursor → Pass → Type 0
+Passing file fix at (On next) = PassedRow file fix at next
+Passing file fix at Stop = Unit
+
+-- whatever the borders say, a search goes on from the later cursor as from the earlier one
+pub record PassedOver (file : List ℕ) (end : ℕ) (fix : Point) (at next : Cursor) : Type 0 where
+  pub on : at .place ≤ next .place
+  pub same : (strict : Bool) (judge : ℕ → ℕ → Judgement) (room least : ℕ) (hits : List Hit) →
+      seek judge fix end room (rowsFrom (readingOf strict file) end at) least hits ≡ seek judge fix end room (rowsFrom (readingOf strict file) end next) least hits

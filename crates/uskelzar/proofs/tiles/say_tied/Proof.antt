@@ -1,0 +1,23 @@
+-- `uskelzar::tiles::say_tied` meets its contract, by the answer's cases. Assumes nothing.
+use borrow.Author.Needs.{needs}
+use mathlib.Core.Path.{ap}
+use Rattle.index.specs.Tied.{toldTied}
+use Rattle.uskelzar.proofs.{Saying.{said-given, said-refused}, tiles.say_tied.Statement.{statement}}
+use Rattle.uskelzar.specs.Spoken.{noValues}
+use Rattle.uskelzar.proofs.tiles.say_tied.Tie as tie
+
+returns : tie.Need-returns
+returns c = said-given noValues (ap toldTied (c .enum-told .given .1))
+
+returns-2 : tie.Need-returns-2
+returns-2 c = said-refused noValues (c .say-refused .ensures) (ap toldTied (c .before .before .tied .given .1))
+
+pub say-tied-spec : {M : Type 1} → statement M
+say-tied-spec =
+    tie.close
+    (tie.spec
+    (λ c. search needs)
+    (λ c. search needs)
+    (λ c κs. search needs)
+    returns
+    returns-2)
