@@ -1,7 +1,7 @@
-/* uskelzar.h: which zone holds a fix, by a PLB border file; a writer of borders; local time, by a TZif file; and dates.
+/* uskelzar.h: which zone holds a fix, by a PLB border file; a writer of borders; salvage of a damaged file; local time, by a TZif file; and dates.
  *
  * For libuskelzar.a. What its functions answer, write and touch, and that they end, is proved for every input; what it calls
- * is seen to by a test of the archive. What holds for all thirteen:
+ * is seen to by a test of the archive. What holds for all fourteen:
  *
  * You bring    pointers that are not null, aligned for their type and good for their length: to read from, or where the
  *              buffer is lent (no const), to write to. Lent buffers and `reply` do not overlap each other or an input, and
@@ -57,7 +57,10 @@ enum uskelzar_refusal {
     USKELZAR_FIRST_POINT_ZERO = 22,   /* first point (0,0) */
     USKELZAR_PIECE = 23,              /* piece list; detail: the piece's index */
     USKELZAR_OUTPUT_ROOM = 24,        /* border doesn't fit the output */
-    USKELZAR_INCOMPLETE = 31,         /* a number that the file's end cuts; of the two strict functions alone */
+    USKELZAR_TEXT = 26,               /* salvage: a name or notice of 256 bytes, which can't stand inline */
+    USKELZAR_FILE_ROOM = 28,          /* salvage: output or list too short, or a file over 1,073,741,824 bytes */
+    USKELZAR_INCOMPLETE = 31,         /* a number that the file's end cuts; of the two strict functions and of salvage */
+    USKELZAR_NOTHING_LEFT = 32,       /* salvage: no entry is left */
     USKELZAR_FIXES = 33,              /* many fixes: lists of unequal length, over 4,096 fixes, or `answers` too short */
     USKELZAR_INDEX_TABLE = 34,        /* no index: the table is not in order, can't be read, or runs past the metadata start */
     USKELZAR_INDEX_ROOM = 35,         /* index doesn't fit the lent words */
@@ -139,6 +142,11 @@ enum {
 enum { USKELZAR_WRITE_LENGTH = 0 };
 enum { USKELZAR_INDEX_USED = 0 };     /* words of an index */
 enum {
+    USKELZAR_SALVAGE_LENGTH = 0,      /* the new file's bytes */
+    USKELZAR_SALVAGE_LINES = 1,       /* lines of the list */
+    USKELZAR_SALVAGE_KEPT = 2         /* entries in the new file */
+};
+enum {
     USKELZAR_CIVIL_YEAR = 0,
     USKELZAR_CIVIL_MONTH = 1,         /* 1 to 12 */
     USKELZAR_CIVIL_DAY = 2,           /* 1 to 31 */
@@ -175,6 +183,17 @@ enum {
     USKELZAR_PIECE_FIRST = 3,         /* the first move that the run stands for */
     USKELZAR_PIECE_COUNT = 4,         /* how many moves */
     USKELZAR_PIECE_WORDS = 5
+};
+
+/* ---- a line of salvage's list: two words */
+enum { USKELZAR_DROPPED_ENTRY = 0, USKELZAR_DROPPED_REASON = 1, USKELZAR_DROPPED_WORDS = 2 };
+
+/* ---- why salvage dropped an entry: the first reason met; or 12, 13, 14, 15 or 31, as lookup_strict has them */
+enum uskelzar_reason {
+    USKELZAR_REASON_ENTRY = 70,       /* one of its six numbers is not there; no later entry can be found */
+    USKELZAR_REASON_BORDER = 71,      /* its border fails */
+    USKELZAR_REASON_STRING = 72,      /* one of its strings, length included, is not wholly in the metadata section */
+    USKELZAR_REASON_REST = 73         /* no entry: behind one whose numbers can't be read, what follows it is unknown */
 };
 
 /* What the file's header says.
@@ -270,6 +289,19 @@ uint8_t uskelzar_write_border(uint8_t version, const int32_t *lats, size_t lats_
                               size_t lons_length, const uint32_t *pieces, size_t pieces_length, const uint8_t *earlier,
                               size_t earlier_length, uint8_t *out, size_t out_length,
                               uint64_t reply[USKELZAR_REPLY_WORDS]);
+
+/* A new file with what is left of a damaged one: each entry whose six numbers, border and strings all read strictly and whose strings, lengths
+ * included, lie wholly in the metadata section, in the old order.
+ * The first seven bytes and the metadata section stay as they are; names and notice go inline; each kept entry has its old box and metadata id,
+ * and its border is written without borrowed runs, move by move, so that its verdict and distance at every fix are the old ones.
+ * Answers: the new file's length, the list's lines, the entries kept.
+ * dropped: two words a line: the entry's number, from 0, and the first reason met (enum uskelzar_reason, or 12, 13, 14, 15, 31). Behind an entry
+ *       whose numbers can't be read a last line has the next number and 73.
+ * out:  the new file.
+ * Refuses: what open_strict refuses but for its 18; then 26; then, every entry judged, 28 for the file against `out` and 1 GiB or for the list
+ *       against `dropped`; 32 last. */
+uint8_t uskelzar_salvage(const uint8_t *file, size_t file_length, uint32_t *dropped, size_t dropped_length, uint8_t *out,
+                         size_t out_length, uint64_t reply[USKELZAR_REPLY_WORDS]);
 
 /* Local time at an instant, by a TZif file (RFC 8536 and 9636, versions 1 to 4) and the TZ string of its footer, all of
  * which is checked first. The instant is in seconds from 1970-01-01 00:00:00 UT, on the file's own scale.

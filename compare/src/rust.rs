@@ -137,7 +137,7 @@ pub fn open(file: &[u8]) -> Result<Opening, Refusal> {
 }
 
 /// Where no number is cut, strict opening takes the same steps.
-fn open_strictly(file: &[u8]) -> Result<Opening, Refusal> {
+pub fn open_strictly(file: &[u8]) -> Result<Opening, Refusal> {
     match strictly(|| caught(|| hooked::Database::from_vec(file.to_vec()).is_ok())) {
         Err(why) if why.number == 31 => Err(why),
         _ => open(file),
@@ -245,7 +245,7 @@ fn merged(hits: &[Zone]) -> Vec<Zone> {
     }).collect()
 }
 
-fn field(raw: &hooked::Database, at: u32) -> Result<(Vec<u8>, u32), Refusal> {
+pub fn field(raw: &hooked::Database, at: u32) -> Result<(Vec<u8>, u32), Refusal> {
     let (bytes, next) = caught(|| hooks::string(raw, at))?.ok_or_else(|| refused(15, 1, 0))?;
     match std::str::from_utf8(&bytes) {
         Ok(_) => Ok((bytes, next)),
@@ -294,7 +294,7 @@ fn hooked_kind(k: hooked::ZoneMatchKind) -> u8 {
     }
 }
 
-fn real_full(file: &[u8], lat: f32, lon: f32) -> Result<Answer, Refusal> {
+pub fn real_full(file: &[u8], lat: f32, lon: f32) -> Result<Answer, Refusal> {
     let db = Database::from_vec(file.to_vec()).ok().unwrap();
     let found = caught(|| db.lookup(Location { latitude: lat, longitude: lon }))?;
     let matches = found.matches.into_iter().map(|m| ((m.zone.polygon_id, m.zone.meta_id, kind(m.kind)), m.zone.fields));

@@ -10,7 +10,7 @@
 //! # }
 //! ```
 //!
-//! [`Printer`] has the whole question of a slip: which hour holds at a fix and an instant, or why none is printed. [`raw`] has the thirteen functions as they are, over lent buffers, and needs no `std` (`default-features = false`); [`Map`] and [`TimeZone`] lend the buffers themselves.
+//! [`Printer`] has the whole question of a slip: which hour holds at a fix and an instant, or why none is printed. [`raw`] has the fourteen functions as they are, over lent buffers, and needs no `std` (`default-features = false`); [`Map`] and [`TimeZone`] lend the buffers themselves.
 
 #![cfg_attr(not(feature = "std"), no_std)]
 #![deny(unsafe_op_in_unsafe_fn, missing_docs)]
@@ -35,6 +35,8 @@ mod printer;
 pub mod raw;
 mod refusal;
 #[cfg(feature = "std")]
+mod salvage;
+#[cfg(feature = "std")]
 mod survey;
 
 #[cfg(feature = "std")]
@@ -52,6 +54,8 @@ pub use printer::{Hour, NotStamped, Printer};
 #[cfg(feature = "std")]
 pub use mapping::Mapping;
 pub use refusal::{Cause, Number, Refusal, Stop};
+#[cfg(feature = "std")]
+pub use salvage::{salvage, Dropped, Reason, Salvaged};
 #[cfg(feature = "std")]
 pub use survey::{Sizes, Unread};
 

@@ -18,6 +18,8 @@ pub enum Unknown {
     End(u64),
     /// Where in a zone a fix is.
     Kind(u32),
+    /// Why an entry was dropped.
+    Reason(u32),
 }
 
 impl fmt::Display for Unknown {
@@ -26,6 +28,7 @@ impl fmt::Display for Unknown {
             Unknown::Table(byte) => write!(f, "unknown table type {byte}"),
             Unknown::End(mark) => write!(f, "unknown end mark {mark}"),
             Unknown::Kind(kind) => write!(f, "unknown kind of match {kind}"),
+            Unknown::Reason(reason) => write!(f, "unknown reason {reason}"),
         }
     }
 }

@@ -1,4 +1,4 @@
-//! The library's thirteen functions over lent buffers (include/uskelzar.h has their contracts). It asks nothing of `std`, and all that is unsafe
+//! The library's fourteen functions over lent buffers (include/uskelzar.h has their contracts). It asks nothing of `std`, and all that is unsafe
 //! in this crate is here, but for the mapping of files.
 
 pub use crate::hit::HIT_WORDS;
@@ -9,6 +9,9 @@ pub type Reply = [u64; 5];
 
 /// The third list of many fixes has so many words of each.
 pub const ANSWER_WORDS: usize = 3;
+
+/// Salvage's list has so many words a line.
+pub const DROPPED_WORDS: usize = 2;
 
 /// Many fixes are at most so many.
 pub const MOST_FIXES: usize = 4096;
@@ -132,6 +135,15 @@ mod library {
             pieces_length: usize,
             earlier: *const u8,
             earlier_length: usize,
+            out: *mut u8,
+            out_length: usize,
+            reply: *mut [u64; 5],
+        ) -> u8;
+        pub fn uskelzar_salvage(
+            file: *const u8,
+            file_length: usize,
+            dropped: *mut u32,
+            dropped_length: usize,
             out: *mut u8,
             out_length: usize,
             reply: *mut [u64; 5],
@@ -399,6 +411,22 @@ pub fn write_border(
             pieces.len(),
             earlier.as_ptr(),
             earlier.len(),
+            out.as_mut_ptr(),
+            out.len(),
+            reply,
+        )
+    })
+}
+
+/// The new file's length, the list's lines, the entries kept; the new file in `out`, and of each dropped entry its number and first reason.
+pub fn salvage(file: &[u8], dropped: &mut [u32], out: &mut [u8]) -> Result<Reply, Refusal> {
+    // SAFETY: as in `open_by`.
+    answered(|reply| unsafe {
+        library::uskelzar_salvage(
+            file.as_ptr(),
+            file.len(),
+            dropped.as_mut_ptr(),
+            dropped.len(),
             out.as_mut_ptr(),
             out.len(),
             reply,

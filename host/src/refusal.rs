@@ -31,7 +31,10 @@ pub enum Number {
     FirstPointZero = 22,
     Piece = 23,
     OutputRoom = 24,
+    Text = 26,
+    FileRoom = 28,
     Incomplete = 31,
+    NothingLeft = 32,
     Fixes = 33,
     IndexTable = 34,
     IndexRoom = 35,
@@ -100,7 +103,10 @@ const TABLE: [(Number, &str); 51] = [
     (FirstPointZero, "first point (0,0)"),
     (Piece, "piece list"),
     (OutputRoom, "border doesn't fit the output"),
+    (Text, "a text over 255 bytes"),
+    (FileRoom, "output full or the file over 1 GiB"),
     (Incomplete, "a number that the file's end cuts"),
+    (NothingLeft, "no entry is left"),
     (
         Fixes,
         "many fixes: lists of unequal length, over 4,096 fixes, or a third list too short",
@@ -147,11 +153,14 @@ impl Number {
         TABLE.iter().map(|(known, _)| *known)
     }
 
-    fn of(number: u8) -> Number {
+    pub(crate) fn known(number: u8) -> Option<Number> {
         let known = TABLE.iter().find(|(known, _)| *known as u8 == number);
-        known
-            .expect("the library's refusals are 1 to 24, 31, 33 to 36 and 40 to 61")
-            .0
+        known.map(|(known, _)| *known)
+    }
+
+    fn of(number: u8) -> Number {
+        Number::known(number)
+            .expect("the library's refusals are 1 to 24, 26, 28, 31 to 36 and 40 to 61")
     }
 
     /// The documents' words.
@@ -254,7 +263,7 @@ mod tests {
 
     #[test]
     fn the_table_is_in_order() {
-        let numbers: Vec<u8> = (1..=24).chain([31]).chain(33..=36).chain(40..=61).collect();
+        let numbers: Vec<u8> = (1..=24).chain([26, 28]).chain(31..=36).chain(40..=61).collect();
         assert_eq!(TABLE.map(|(number, _)| number as u8).to_vec(), numbers);
         for (number, words) in TABLE {
             assert_eq!(Number::of(number as u8), number);

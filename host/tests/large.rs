@@ -6,6 +6,7 @@ use common::files::{header, sections, Zone, LAT_STEP, LON_STEP};
 use std::fs::File;
 use std::os::unix::fs::FileExt;
 use std::path::PathBuf;
+use uskelzar::raw::{self, Reply};
 use uskelzar::{write_border, End, Error, Map, Mapping, Number, Refusal, TimeZone};
 
 const LARGEST: usize = 1_073_741_824;
@@ -110,4 +111,16 @@ fn a_time_zone_has_the_same_limit() {
     assert_eq!(refusal(mapping.as_ref()), TOO_LARGE);
     let largest = refusal(&mapping.as_ref()[..LARGEST]);
     assert_eq!((largest.number, largest.detail), (Number::TzifMagic, 0));
+}
+
+#[test]
+fn the_largest_file_is_salvaged() {
+    let (mut dropped, mut out) = ([0; 2], [0; 64]);
+    let mut salvage = |name, length| -> Result<Reply, Refusal> { raw::salvage(mapped(name, length).as_ref(), &mut dropped, &mut out) };
+    assert_eq!(salvage("salvaged-too-large.plb", LARGEST + 1), Err(TOO_LARGE));
+    let [length, lines, kept, ..] = salvage("salvaged.plb", LARGEST).unwrap();
+    assert_eq!((lines, kept), (0, 1));
+    let map = Map::open(&out[..length as usize]).unwrap();
+    let inside = map.lookup(5.1 * LAT_STEP, 5.1 * LON_STEP).unwrap();
+    assert_eq!(inside.matches[0].fields[0].value, "Far");
 }

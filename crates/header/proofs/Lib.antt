@@ -4,4 +4,5 @@ pub mod Same
 pub mod Numbered
 pub mod Unless
 pub mod StrictHead
+pub mod ReadBack
 mod Worked

@@ -14,6 +14,7 @@ use crate::reply::Reply;
 use crate::reply::print_reply;
 use crate::reply::recorded;
 use crate::reply::same_reply;
+use crate::salvaged::run_salvage;
 use crate::write::run_write;
 use libc::STDOUT_FILENO;
 
@@ -268,12 +269,53 @@ fn judge_index(record: &[u8]) -> Verdict {
     Verdict::Wrong
 }
 
+// A record of salvage: 17 bytes of sizes, the file, the reply's 34 bytes, the list, the output.
+fn run_salvaged(record: &[u8], reply: usize, list: &mut [u32], out: &mut [u8]) -> Verdict
+    requires { ⌜ (17 ≤ reply) × (reply + 34 + 4 * length (now list) + length (now out) ≡ length (now «record»)) ⌝ }
+{
+    let got = run_salvage(&record[17..reply], list, out);
+    let words = reply + 34;
+    let bytes = words + 4 * list.len();
+    if !same_reply(got, recorded(&record[reply..words])) {
+        return print_wrong(b"reply", record, got);
+    }
+    if !same_words(list, &record[words..bytes]) {
+        return print_wrong(b"list", record, got);
+    }
+    if !check::same(out, &record[bytes..]) {
+        return print_wrong(b"output", record, got);
+    }
+    Verdict::Right
+}
+
+fn judge_salvage(record: &[u8]) -> Verdict {
+    let count = size_at(record, 5);
+    let room = size_at(record, 9);
+    let size = size_at(record, 13);
+    if 4096 < count {
+        return Verdict::Skipped;
+    }
+    if 16384 < room {
+        return Verdict::Skipped;
+    }
+    if 65536 < size {
+        return Verdict::Skipped;
+    }
+    if record.len() != 51 + size + 4 * count + room {
+        return Verdict::Skipped;
+    }
+    let mut list = filled_slots();
+    let mut out = filled_text();
+    run_salvaged(record, 17 + size, &mut list[..count], &mut out[..room])
+}
+
 pub fn judge(record: &[u8]) -> Verdict {
     match byte_at(record, 0) {
         13 | 18 => judge_index(record),
         1 | 2 | 3 | 5 | 6 | 7 | 8 | 14 | 15 | 16 | 20 | 21 => judge_file(record),
         4 => judge_write(record),
         9 | 17 => judge_many(record),
+        12 => judge_salvage(record),
         _ => Verdict::Skipped,
     }
 }

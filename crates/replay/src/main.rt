@@ -5,6 +5,7 @@ mod index;
 mod many;
 mod record;
 mod reply;
+mod salvaged;
 mod write;
 
 ghost use Prim.Native.Nat.{_≤_};
@@ -121,6 +122,7 @@ fn report(tally: &[u64]) {
     print_op(b"utf8", counted(tally, 6));
     print_op(b"many", counted(tally, 17));
     print_op(b"many in three words", counted(tally, 9));
+    print_op(b"salvage", counted(tally, 12));
     print_op(b"local", counted(tally, 20));
     print_op(b"listed", counted(tally, 21));
     io::write_all(STDOUT_FILENO, b"replay: ");

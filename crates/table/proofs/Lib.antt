@@ -9,3 +9,4 @@ pub mod InOrder
 mod WorkedTable
 pub mod Joining
 pub mod StrictRows
+pub mod SixNumbers

@@ -1,5 +1,5 @@
 -- What a returned 0 means to firmware: the call was answered, whatever it was given. Each exported function's contract fixes what it returns,
--- the number said in `openingSpoken`, `foundSpoken`, `manySpoken`, `writtenSpoken` or `localSpoken`; here, that this number is 0 exactly where the definition gives an answer. Assumes nothing.
+-- the number said in `openingSpoken`, `foundSpoken`, `manySpoken`, `writtenSpoken`, `salvageSpoken` or `localSpoken`; here, that this number is 0 exactly where the definition gives an answer. Assumes nothing.
 use Prim.Native.Nat.{ℕ}
 use mathlib.Core.{Bool.{Bool, true, false}, List.{List, [], _∷_, _++_}, Logic.{_↔_}, Path.{_≡_, refl, subst}}
 use native.Mathlib.Omega.{arith}
@@ -15,8 +15,10 @@ use Rattle.tzif.specs.declared.refusal.Refusal as T
 use Rattle.header.{proofs.Numbered.{openingNumbers, opening-refusals, strict-opening-refusals}, specs.Opening.{openedOf, openedStrictly}}
 use Rattle.zones.proofs.NumberedLookup.{lookupNumbers, lookup-refusals, strict-lookup-refusals, simple-lookup-refusals}
 use Rattle.zones.specs.{Lookup.{lookedUp, lookedStrictly}, Simple.{simplyLooked}}
+use Rattle.rescue.proofs.NumberedSalvage.{salvageNumbers, salvage-refusals}
+use Rattle.salvage.specs.Salvage.{salvaged}
 use Rattle.table.specs.declared.location.Location.{Location}
-use Rattle.uskelzar.specs.Many.{manySaid, manySpoken}
+use Rattle.uskelzar.specs.{Many.{manySaid, manySpoken}, Salvaged.{countsValues, salvageSpoken}}
 use Rattle.uskelzar.specs.Spoken.{saidOf, openingValues, zonesValues, describedValues, lengthValue, localValues, localReply, openingSpoken, foundSpoken, writtenSpoken, localSpoken}
 
 -- the reply is an answer, and no refusal
@@ -81,6 +83,11 @@ pub simple-lookup-zero : (file : List ℕ) (location : Location) (n room : ℕ)
 simple-lookup-zero file location n room =
     zero-said describedValues (simplyLooked file location n room .reply)
     (λ why is. never-zero lookupNumbers (λ z. z) (why .number) (simple-lookup-refusals file location n room why is))
+
+-- `uskelzar_salvage`
+pub salvage-zero : (file : List ℕ) (words room : ℕ) → (salvageSpoken (salvaged file words room) .said .number ≡ 0) ↔ Answered (salvaged file words room .reply)
+salvage-zero file words room =
+    zero-said countsValues (salvaged file words room .reply) (λ why is. never-zero salvageNumbers (λ z. z) (why .number) (salvage-refusals file words room why is))
 
 -- `uskelzar_write_border`
 pub write-border-zero : (room version : ℕ) (lats lons : List ℤ) (pieces : List Piece) (earlier : List ℕ)

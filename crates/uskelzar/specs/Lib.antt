@@ -1,3 +1,4 @@
 pub mod Spoken
 pub mod Civil
 pub mod Many
+pub mod Salvaged

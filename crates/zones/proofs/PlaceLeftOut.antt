@@ -24,13 +24,13 @@ use Rattle.zones.specs.declared.{lookup.Zones.{Zones}, simple.{Described
 use Rattle.table.specs.Rows as T
 
 -- a hit without its place
-abbrev bareHit : Hit → Hit
+abbrev pub bareHit : Hit → Hit
 bareHit hit = hitOf (hit .polygon) (hit .metadata) (hit .kind) 0
 
-abbrev bare : List Hit → List Hit
+abbrev pub bare : List Hit → List Hit
 bare = map bareHit
 
-bare-append : (xs ys : List Hit) → bare xs ++ bare ys ≡ bare (xs ++ ys)
+pub bare-append : (xs ys : List Hit) → bare xs ++ bare ys ≡ bare (xs ++ ys)
 bare-append [] ys = refl
 bare-append (x ∷ xs) ys = ap (λ (l : List Hit). bareHit x ∷ l) (bare-append xs ys)
 
@@ -107,7 +107,7 @@ match-bare hit kind = go (eqb kind 0)
     go true = refl
     go false = refl
 
-merged-bare : (before hits : List Hit) → mergedAfter (bare before) (bare hits) ≡ bare (mergedAfter before hits)
+pub merged-bare : (before hits : List Hit) → mergedAfter (bare before) (bare hits) ≡ bare (mergedAfter before hits)
 unfolding mergedAfter
 merged-bare before [] = refl
 merged-bare before (hit ∷ hits) =

@@ -45,6 +45,7 @@ fn advice(number: uskelzar::Number) -> &'static str {
         LengthMismatch => "\n  the file is cut, or something was added: copy it again",
         Incomplete => "\n  the file was cut inside a number: copy it again, or look it up without --strict",
         IndexTable => "\n  depot check names the entries; lookups without an index are answered still",
+        NothingLeft => "\n  no entry is whole: copy the file again",
         Precision => "\n  the file's precision must be 1 to 32 for a lookup",
         _ => "",
     }

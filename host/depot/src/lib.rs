@@ -10,6 +10,7 @@ pub mod index;
 pub mod output;
 pub mod pieces;
 pub mod plan;
+pub mod salvage;
 pub mod show;
 pub mod source;
 pub mod stamp;

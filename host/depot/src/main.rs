@@ -6,12 +6,12 @@ use depot::draw::{self, Frame};
 use depot::fault::{Fault, Said};
 use depot::plan::Form;
 use depot::zone::Way;
-use depot::{check, index, show, stamp, zone};
+use depot::{check, index, salvage, show, stamp, zone};
 use std::io::Write;
 use std::path::PathBuf;
 use std::process::ExitCode;
 
-/// Builds, shows, checks and draws files of yards, and stamps a day's slips by them.
+/// Builds, shows, checks, salvages and draws files of yards, and stamps a day's slips by them.
 ///
 /// Exit status: 0 done, or answered yes; 1 answered no; 2 not run. What is written is written whole or not at all.
 #[derive(Parser)]
@@ -107,6 +107,16 @@ enum Verb {
         #[arg(short, long)]
         output: PathBuf,
     },
+    /// Write what is left of a damaged file into a new one
+    ///
+    /// Each entry is kept whose numbers, border and strings can all be read; each other one is told, with the first reason met.
+    #[command(after_help = "Example:\n  depot salvage examples/world-9.plb -o new.plb\n\nExit status 0 only if nothing was dropped.")]
+    Salvage {
+        file: PathBuf,
+        /// The file to write
+        #[arg(short, long)]
+        output: PathBuf,
+    },
     /// Stamp the local hour on every line of a day
     ///
     /// A line has a latitude, a longitude and an instant: seconds from 1970, or like 2026-07-01T11:59:59Z. The first line may name
@@ -169,6 +179,7 @@ fn run(verb: Verb) -> Result<Said, Fault> {
         }
         Verb::Index { file, output } => index::run(&file, &output),
         Verb::Check { file } => check::run(&file),
+        Verb::Salvage { file, output } => salvage::run(&file, &output),
         Verb::Stamp { day, output, map, folder } => stamp::run(&day, &output, &map, &folder),
         Verb::Draw { file, output, columns, frame } => draw::run(&file, &output, columns, frame),
     }

@@ -20,8 +20,8 @@ fn said(ran: &Ran, status: i32, words: &[&str]) {
 
 #[test]
 fn help_has_an_example_for_each_verb() {
-    said(&depot(&["--help"]), 0, &["build", "show", "zone", "check", "index", "stamp", "draw", "Exit status"]);
-    for verb in ["build", "show", "zone", "check", "index", "stamp", "draw"] {
+    said(&depot(&["--help"]), 0, &["build", "show", "zone", "check", "salvage", "index", "stamp", "draw", "Exit status"]);
+    for verb in ["build", "show", "zone", "check", "salvage", "index", "stamp", "draw"] {
         said(&depot(&[verb, "--help"]), 0, &["Example", &format!("depot {verb} ")]);
     }
 }
@@ -292,4 +292,20 @@ fn polygons_that_are_none() {
     try_one(&feature(r#"{"type": "Polygon", "coordinates": [[[1, 1], [1.000001, 1], [1, 1.000001]]]}"#), 1, &["feature 1 (Gate): nothing of it is left"]);
     try_one(&feature("null"), 1, &["no yards"]);
     said(&depot(&["build", &folder.path("none.geojson"), "--dry-run"]), 2, &["none.geojson: No such file"]);
+}
+
+#[test]
+fn what_is_left_of_a_damaged_file() {
+    let folder = Folder::new("salvage");
+    let (whole, new) = (yards(&folder), folder.path("new.plb"));
+    said(&depot(&["salvage", &whole, "-o", &new]), 0, &["kept, 0 dropped"]);
+    said(&depot(&["check", &new]), 0, &["in order"]);
+    // the last border loses its end
+    let mut bytes = fs::read(&whole).unwrap();
+    let end = bytes.len();
+    bytes[end - 2..].fill(0x80);
+    let cut = folder.with("cut.plb", bytes);
+    said(&depot(&["salvage", &cut, "-o", &new]), 1, &["entry ", "kept, 1 dropped"]);
+    said(&depot(&["check", &new]), 0, &["in order"]);
+    said(&depot(&["salvage", &folder.path("missing.plb"), "-o", &new]), 2, &["No such file"]);
 }

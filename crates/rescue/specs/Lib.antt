@@ -1,0 +1,4 @@
+pub mod Turns
+pub mod Texts
+pub mod Whole
+pub mod Told

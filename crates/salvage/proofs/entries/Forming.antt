@@ -1,0 +1,23 @@
+-- The numbers of an entry. Assumes nothing.
+use Prim.Native.Nat.{ℕ, _+_, _-_, _*_, _^_, _<_, _≤_}
+use borrow.Author.Tests.{lt-ltb, le-ltb}
+use lib.IntN.{pos, negsuc, _-ℤ_}
+use mathlib.Core.{List.{List, _++_}, Path.{_≡_, ap}}
+use native.Mathlib.Omega.{arith}
+use Rattle.moves.{proofs.Capping.{capped-then}, specs.Laid.{Capped}}
+use Rattle.numbers.{proofs.Spelling.{form-positive, form-negative}, specs.{Point.{readI32}, Spelling.{signedForm}}}
+
+-- a residue modulo 2 ^ 32 as an i32, in its signed form
+pub form-up : (low : ℕ) → low < 2 ^ 31 → low * 2 ≡ signedForm (readI32 low)
+form-up low h = rw (lt-ltb low (2 ^ 31) h, form-positive low) (omega arith)
+
+below : (low : ℕ) → 2 ^ 31 ≤ low → low < 2 ^ 32 → pos low -ℤ pos (2 ^ 32) ≡ negsuc (2 ^ 32 - 1 - low)
+below low h k = rw (lt-ltb low (2 ^ 32) k) (ap negsuc (omega arith))
+
+pub form-down : (low : ℕ) → 2 ^ 31 ≤ low → low < 2 ^ 32 → (2 ^ 32 - low) * 2 + 1 ≡ signedForm (readI32 low)
+form-down low h k = rw (le-ltb low (2 ^ 31) h, below low h k, form-negative (2 ^ 32 - 1 - low)) (omega arith)
+
+-- four, one after another
+module _ {a b c d e w x y z : List ℕ} {p q r s t : ℕ} where
+  pub capped-four : Capped a p w b q → Capped b q x c r → Capped c r y d s → Capped d s z e t → Capped a p (w ++ (x ++ (y ++ z))) e t
+  capped-four one two three four = capped-then w (x ++ (y ++ z)) one (capped-then x (y ++ z) two (capped-then y z three four))

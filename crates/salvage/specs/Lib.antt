@@ -1,0 +1,4 @@
+pub mod Kept
+pub mod File
+pub mod Salvage
+pub mod Promises
