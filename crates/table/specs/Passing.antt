@@ -1,13 +1,14 @@
 -- Rows that a search passes over. No promise of a public function speaks of it.
 use Prim.Native.Nat.{ℕ, _+_, _<_, _≤_}
-use mathlib.Core.{Bool.{Bool, false}, List.{List}, Path.{_≡_}}
+use mathlib.Core.{Bool.{Bool, true, false}, List.{List}, Path.{_≡_}}
 use lib.ListN.{length}
 use Rattle.verdict.specs.Verdict.{Judgement}
 use Rattle.border.specs.declared.place.Point.{Point}
 use Rattle.numbers.specs.{Answer.{found}, Point.{signedOf}, Varint.{Numeral, readingOf}}
-use Rattle.table.specs.{Rows.{after, rowBy, rowsFrom}, Search.{seek}, Table.{isAbove, holds}}
-use Rattle.table.specs.declared.{hits.Hit.{Hit}, pass.{Pass.{Pass, the-variants.{On, Stop}}, Short.{Short, the-variants.{Is, Other}}}}
-use Rattle.table.specs.declared.{rows.{Cursor.{Cursor}, Row.{Row}}, table.Bounds.{Bounds}}
+use Rattle.table.specs.{Rest.{restMark}, Rows.{after, startAt, rowBy, rowsFrom}, Search.{seek}, Table.{entryBy, isAbove, holds}}
+use Rattle.table.specs.declared.{hits.Hit.{Hit}, pass.{Pass.{Pass, the-variants.{On, Stop}}, Short.{Short, the-variants.{Is, Other}}, Skip.{Skip}}}
+use Rattle.table.specs.declared.{rows.{Cursor.{Cursor}, Row.{Row}}, table.{Bounds.{Bounds}, Entry.{Entry}}}
+use Rattle.table.specs.declared.pass.Skip.the-variants as S
 
 -- a number of at most three bytes, which both readings find
 pub record Near (file : List ℕ) (place : ℕ) (number : Numeral) : Type 0 where
@@ -46,3 +47,19 @@ pub record PassedOver (file : List ℕ) (end : ℕ) (fix : Point) (at next : Cur
   pub on : at .place ≤ next .place
   pub same : (strict : Bool) (judge : ℕ → ℕ → Judgement) (room least : ℕ) (hits : List Hit) →
       seek judge fix end room (rowsFrom (readingOf strict file) end at) least hits ≡ seek judge fix end room (rowsFrom (readingOf strict file) end next) least hits
+
+-- the entry at a place is read and is above the location; the next place is where it ends
+pub record Skipped (file : List ℕ) (fix : Point) (place next : ℕ) : Type 0 where
+  pub entry : Entry
+  pub reads : (strict : Bool) → found entry ≡ entryBy (readingOf strict file) place
+  pub above : isAbove (entry .bounds) fix ≡ true
+  pub then : next ≡ entry .next
+
+abbrev pub Skipping : List ℕ → Point → ℕ → Skip → Type 0
+Skipping file fix place (S.On next) = Skipped file fix place next
+Skipping file fix place S.Stop = Unit
+
+-- behind a stop: the rest of the table gives the same mark from the later place as from the earlier one
+pub record SkippedOver (file : List ℕ) (end : ℕ) (fix : Point) (place next : ℕ) : Type 0 where
+  pub on : place ≤ next
+  pub same : (strict : Bool) → restMark end fix (rowsFrom (readingOf strict file) end (startAt place)) ≡ restMark end fix (rowsFrom (readingOf strict file) end (startAt next))

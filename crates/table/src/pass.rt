@@ -3,7 +3,7 @@
 ghost use mathlib.Core.{Path.{_≡_}, Bool.{true, false}};
 ghost use Prim.Native.Nat.{_+_, _<_, _≤_};
 ghost use lib.ListN.{length};
-ghost use Rattle.table.specs.{Passing.{Shortly, Lons, Passing, PassedOver}, Table.{holds}};
+ghost use Rattle.table.specs.{Passing.{Shortly, Lons, Passing, PassedOver, Skipping, SkippedOver}, Table.{holds}};
 use crate::rows::Cursor;
 use crate::rows::after;
 use crate::rows::row_of;
@@ -30,6 +30,12 @@ pub(crate) enum Short {
 // What a row does to a search that only passes over.
 pub(crate) enum Pass {
     On(Cursor),
+    Stop,
+}
+
+// What an entry does to the rest of a table that is only skipped.
+pub(crate) enum Skip {
+    On(usize),
     Stop,
 }
 
@@ -134,6 +140,43 @@ fn pass_row(file: &[u8], fix: Point, at: Cursor) -> Pass
     Pass::On(after(row))
 }
 
+// The same where the search has stopped: where the entry at a place ends, if it is above the location.
+fn skip_row(file: &[u8], fix: Point, place: usize) -> Skip
+    requires { ⌜ place + 17 < length (now file) ⌝ }
+    ensures { λ r. ⌜ Skipping (now (file .entry)) fix place r ⌝ }
+{
+    let first = short_at(file, place);
+    let Short::Is(south) = first else {
+        return Skip::Stop;
+    };
+    let second = short_at(file, south.place);
+    let Short::Is(west) = second else {
+        return Skip::Stop;
+    };
+    let third = short_at(file, west.place);
+    let Short::Is(north) = third else {
+        return Skip::Stop;
+    };
+    let fourth = short_at(file, north.place);
+    let Short::Is(east) = fourth else {
+        return Skip::Stop;
+    };
+    let fifth = short_at(file, east.place);
+    let Short::Is(metadata) = fifth else {
+        return Skip::Stop;
+    };
+    let sixth = short_at(file, metadata.place);
+    let Short::Is(polygon) = sixth else {
+        return Skip::Stop;
+    };
+    let bounds = bounds_of(south.value, west.value, north.value, east.value);
+    if is_above(bounds, fix) {
+        let next = polygon.place;
+        return Skip::On(next);
+    }
+    Skip::Stop
+}
+
 fn lesser(a: usize, b: usize) -> usize
     ensures { λ r. ⌜ (r ≤ a) × (r ≤ b) ⌝ }
 {
@@ -157,4 +200,26 @@ pub(crate) fn pass_over(file: &[u8], end: usize, fix: Point, start: Cursor) -> C
         at = next;
     }
     at
+}
+
+// The first entry from a place on that is not skipped, or where the table ends.
+pub(crate) fn skip_over(file: &[u8], end: usize, fix: Point, start: usize) -> usize
+    ensures { λ r. ⌜ SkippedOver (now (file .entry)) end fix start r ⌝ }
+{
+    if file.len() < LONGEST {
+        return start;
+    }
+    let stop = lesser(end, file.len() - LONGEST + 1);
+    let mut place = start;
+    while place < stop {
+        let skipped = skip_row(file, fix, place);
+        let Skip::On(next) = skipped else {
+            return place;
+        };
+        if end < next {
+            return place;
+        }
+        place = next;
+    }
+    place
 }

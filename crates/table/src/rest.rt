@@ -7,6 +7,7 @@ ghost use Rattle.table.specs.{Rows.{rowsFrom, startAt}, Rest.{restMark, 
 use crate::codes::OUT_OF_ORDER;
 use crate::codes::UNREADABLE;
 use crate::codes::WHOLE;
+use crate::pass::skip_over;
 use crate::table::bounds_of;
 use crate::table::holds;
 use crate::table::lat_below;
@@ -70,7 +71,7 @@ pub(crate) fn rest_mark(file: &[u8], strict: bool, end: usize, fix: Point, from:
     if end < from {
         return UNREADABLE;
     }
-    let mut place = from;
+    let mut place = skip_over(file, end, fix, from);
     while place < end {
         let first = read_number(file, place, strict);
         let Varint::Number(min_lat) = first else {
@@ -81,12 +82,12 @@ pub(crate) fn rest_mark(file: &[u8], strict: bool, end: usize, fix: Point, from:
             return UNREADABLE;
         }
         if lat_below(fix.lat, FixedLat(signed(min_lat.value))) {
-            place = next;
+            place = skip_over(file, end, fix, next);
         } else {
             if held_at(file, strict, place, fix) {
                 return OUT_OF_ORDER;
             }
-            place = next;
+            place = skip_over(file, end, fix, next);
         }
     }
     WHOLE

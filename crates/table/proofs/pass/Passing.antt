@@ -8,8 +8,8 @@ use Rattle.border.specs.{Box.{between}, declared.place.Point.{Point}}
 use Rattle.verdict.specs.Verdict.{Judgement}
 use Rattle.numbers.proofs.{Answers.{found-one, goes}, Readings.{read-both}, Spelling.{one-byte}, Wholes.{whole-forward}}
 use Rattle.numbers.specs.{Answer.{found, if_then_else_}, Point.{signedOf}, Spelling.{Whole}, Varint.{Numeral, numeral, valueOf, sizeOf, forwardAt, readingOf}}
-use Rattle.table.proofs.{TableRows.{reading-grows, at-row, row-less}, rest.Remaining.{above-not}, rows.Entering.{row-read}}
-use Rattle.table.specs.{Passing.{Near, Lons, PassedRow, PassedOver}, Rows.{Rows, row, rowOf, after, rowBy, rowsFrom}, Search.{rowTurn, seek}}
+use Rattle.table.proofs.{TableRows.{reading-grows, at-row, row-less}, rest.Remaining.{above-not, restFrom, skipped, skipped-later}, rows.Entering.{row-read}}
+use Rattle.table.specs.{Passing.{Near, Lons, PassedRow, PassedOver, Skipped, SkippedOver}, Rows.{Rows, row, rowOf, after, rowBy, rowsFrom}, Search.{rowTurn, seek}}
 use Rattle.table.specs.Table.{boundsOf, stepsBy, entryBy, isAbove, holds}
 use Rattle.table.specs.declared.{hits.Hit.{Hit}, rows.{Cursor.{Cursor}, Row.{Row}}, table.{Bounds.{Bounds}, Entry.{Entry}}}
 
@@ -106,6 +106,14 @@ module _ {file : List ℕ} (at : Cursor) {a b c d : Numeral} (na : Near file (at
       then = n;
     }
 
+    pub skipped-row : (fix : Point) → isAbove bounds fix ≡ true → Skipped file fix (at .place) (p .place)
+    skipped-row fix up = record {
+      entry = record { bounds = bounds; metadata = m .value; polygon = p .value; next = p .place };
+      reads = λ strict. ap (λ (x : Bounds). found (record { bounds = x; metadata = m .value; polygon = p .value; next = p .place })) is ∙ entry-read strict;
+      above = up;
+      then = refl;
+    }
+
 -- ---- the search goes on
 module _ (judge : ℕ → ℕ → Judgement) (fix : Point) (end room : ℕ) where
   row-passed : (r : Row) (rest : Rows) (least : ℕ) (hits : List Hit) → isAbove (r .bounds) fix ≡ false → holds (r .bounds) fix ≡ false
@@ -132,3 +140,24 @@ module _ {file : List ℕ} {end : ℕ} {fix : Point} where
   -- the later cursor leaves less to read
   pub over-less : {later next : Cursor} (place : ℕ) → end - later .place < end - place → PassedOver file end fix later next → end - next .place < end - place
   over-less place h p = omega (arith, p .on)
+
+-- ---- the rest of a table
+module _ {file : List ℕ} {end : ℕ} {fix : Point} where
+  pub rest-stays : (place : ℕ) → SkippedOver file end fix place place
+  rest-stays place = record { on = le-refl place; same = λ strict. refl }
+
+  module _ {place next : ℕ} (more : place < end) (s : Skipped file fix place next) where
+    skips-later : place < next
+    skips-later = rw (s .then) (skipped-later false file end fix place more (s .reads false))
+
+    pub skips-less : end - next < end - place
+    skips-less = omega (arith, skips-later)
+
+    pub skips : next ≤ end → {start : ℕ} → SkippedOver file end fix start place → SkippedOver file end fix start next
+    skips within g = record {
+      on = omega (arith, g .on, skips-later);
+      same = λ strict. g .same strict ∙ skipped strict file end fix place more (s .reads strict) (s .above) (omega (arith, s .then)) ∙ ap (λ (n : ℕ). restFrom (readingOf strict file) end fix n) (sym (s .then));
+    }
+
+  pub skip-less : {later next : ℕ} (place : ℕ) → end - later < end - place → SkippedOver file end fix later next → end - next < end - place
+  skip-less place h p = omega (arith, p .on)

@@ -172,6 +172,14 @@ module _ (strict : Bool) (file : List ℕ) (end : ℕ) (fix : Point) (place : �
   here-is : {mark : ℕ} → behind read end fix (restFrom read end fix) (entryBy read place) ≡ mark → restFrom read end fix place ≡ mark
   here-is e = rest-step read end fix (reading-grows strict file) place more ∙ e
 
+  -- an entry above the location that ends inside the table makes no difference
+  module _ {entry : Entry} (is : found entry ≡ entryBy read place) where
+    pub skipped-later : place < entry .next
+    skipped-later = rw (sym is) at (entry-past read (reading-grows strict file) place)
+
+    pub skipped : isAbove (entry .bounds) fix ≡ true → entry .next ≤ end → restFrom read end fix place ≡ restFrom read end fix (entry .next)
+    skipped up within = here-is (rw (sym is, le-ltb end (entry .next) within, not-held (entry .bounds) fix up) refl)
+
   pub unread : (a : Varint) → told a ≡ read place → (caseOf a ≡ 1) ⊎ (caseOf a ≡ 2) → restFrom read end fix place ≡ 2
   unfolding entryBy
   unread a e h = here-is (sym (ap (behind read end fix (restFrom read end fix)) (stops a e h (λ number. failed) _)) ∙ none (told a))

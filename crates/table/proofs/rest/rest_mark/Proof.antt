@@ -6,7 +6,8 @@ use lib.Signed.{ltZ}
 use mathlib.Core.Path.{_≡_, refl, sym, ap, _∙_}
 use mir.{Syntax.{w32}, ValLaws.{toZ-ofZ}}
 use Rattle.numbers.specs.Varint.{told, readingOf}
-use Rattle.table.proofs.{TableRows.{reading-grows}, rest.{Remaining.{restFrom, at-end, unread, past, less, above, missed, met}, rest_mark.Statement.{statement}}}
+use Rattle.table.proofs.{TableRows.{reading-grows}, pass.Passing.{skip-less}}
+use Rattle.table.proofs.rest.{Remaining.{restFrom, at-end, unread, past, less, above, missed, met}, rest_mark.Statement.{statement}}
 use Rattle.table.proofs.rest.rest_mark.Tie as tie
 
 abbrev Inv-loop : tie.InvT-loop
@@ -19,83 +20,35 @@ returns : tie.Need-returns Inv-loop μ-loop
 returns c = simp (lt-ltb _ _ (c .if1 .taken))
 
 loop-holds : tie.Need-loop-holds Inv-loop μ-loop
-loop-holds c = (c .if1 .left, refl)
+loop-holds c = (c .before .if1 .left, sym (c .skip-over .ensures .same _))
 
 returns-2 : tie.Need-returns-2 Inv-loop μ-loop
 returns-2 c =
-    let loop = c .before .before .before .loop in
-    let loop-test = c .before .before .loop-test in
-    let read-number = c .before .read-number in
-    simp (le-ltb _ _ (loop .inv .0)) (sym (unread _ _ _ _ _ (loop-test .taken) (read-number .result) (read-number .ensures) (c .match .keys2)) ∙ loop .inv .1)
+    simp (le-ltb _ _ (c .before .before .before .loop .inv .0)) (sym (unread _ _ _ _ _ (c .before .before .loop-test .taken) (c .before .read-number .result) (c .before .read-number .ensures) (c .match .keys2)) ∙ c .before .before .before .loop .inv .1)
 
 returns-3 : tie.Need-returns-3 Inv-loop μ-loop
 returns-3 c =
-    let loop = c .before .before .before .before .before .before .before .loop in
-    let loop-test = c .before .before .before .before .before .before .loop-test in
-    let first = c .before .before .before .first in
-    let read-number = c .before .before .before .before .before .read-number in
-    let past-five = c .before .past-five in
-    simp (le-ltb _ _ (loop .inv .0)) (sym (past _ _ _ _ _ (loop-test .taken) (sym (ap told (first .given .1)) ∙ read-number .ensures) (past-five .ensures) (c .if2 .taken)) ∙ loop .inv .1)
+    simp (le-ltb _ _ (c .before .before .before .before .before .before .before .loop .inv .0)) (sym (past _ _ _ _ _ (c .before .before .before .before .before .before .loop-test .taken) (sym (ap told (c .before .before .before .first .given .1)) ∙ c .before .before .before .before .before .read-number .ensures) (c .before .past-five .ensures) (c .if2 .taken)) ∙ c .before .before .before .before .before .before .before .loop .inv .1)
 
 loop-less : tie.Need-loop-less Inv-loop μ-loop
 loop-less c =
-    let args = c .before .before .before .before .before .before .before .before .before .before .before .before .before .args in
-    let loop-test = c .before .before .before .before .before .before .before .before .before .loop-test in
-    let first = c .before .before .before .before .before .before .first in
-    let read-number = c .before .before .before .before .before .before .before .before .read-number in
-    let past-five = c .before .before .before .before .past-five in
-    let pre = c .before .before .before .before .before .before .before .before .before .before .before .before .before .pre in
-    let if2 = c .before .before .before .if2 in
-    less _ _ _ (args .fix) _ (loop-test .taken) (sym (ap told (first .given .1)) ∙ read-number .ensures) (past-five .ensures) (pre) (if2 .left)
+    skip-less _ (less _ _ _ (c .before .before .before .before .before .before .before .before .before .before .before .before .before .before .before .args .fix) _ (c .before .before .before .before .before .before .before .before .before .before .loop-test .taken) (sym (ap told (c .before .before .before .before .before .before .before .first .given .1)) ∙ c .before .before .before .before .before .before .before .before .before .read-number .ensures) (c .before .before .before .before .before .past-five .ensures) (c .before .before .before .before .before .before .before .before .before .before .before .before .before .before .before .pre) (c .before .before .before .before .if2 .left)) (c .skip-over2 .ensures)
 
 loop-again : tie.Need-loop-again Inv-loop μ-loop
 loop-again c =
-    let loop = c .before .before .before .before .before .before .before .before .before .before .loop in
-    let args = c .before .before .before .before .before .before .before .before .before .before .before .before .before .args in
-    let loop-test = c .before .before .before .before .before .before .before .before .before .loop-test in
-    let first = c .before .before .before .before .before .before .first in
-    let read-number = c .before .before .before .before .before .before .before .before .read-number in
-    let past-five = c .before .before .before .before .past-five in
-    let pre = c .before .before .before .before .before .before .before .before .before .before .before .before .before .pre in
-    let if2 = c .before .before .before .if2 in
-    let signed = c .before .before .signed in
-    let lat-below = c .before .lat-below in
-    (loop .inv .0, sym (above _ _ _ (args .fix) _ (loop-test .taken) (sym (ap told (first .given .1)) ∙ read-number .ensures) (past-five .ensures) (pre) (if2 .left) (ap (ltZ (args .fix .lat .0)) (sym (toZ-ofZ w32 _ (sfits-of (signed .ok)) ∙ signed .ensures)) ∙ sym (lat-below .ensures) ∙ c .if3 .taken)) ∙ loop .inv .1)
+    (c .before .before .before .before .before .before .before .before .before .before .before .loop .inv .0, sym (c .skip-over2 .ensures .same _) ∙ sym (above _ _ _ (c .before .before .before .before .before .before .before .before .before .before .before .before .before .before .before .args .fix) _ (c .before .before .before .before .before .before .before .before .before .before .loop-test .taken) (sym (ap told (c .before .before .before .before .before .before .before .first .given .1)) ∙ c .before .before .before .before .before .before .before .before .before .read-number .ensures) (c .before .before .before .before .before .past-five .ensures) (c .before .before .before .before .before .before .before .before .before .before .before .before .before .before .before .pre) (c .before .before .before .before .if2 .left) (ap (ltZ (c .before .before .before .before .before .before .before .before .before .before .before .before .before .before .before .args .fix .lat .0)) (sym (toZ-ofZ w32 _ (sfits-of (c .before .before .before .signed .ok)) ∙ c .before .before .before .signed .ensures)) ∙ sym (c .before .before .lat-below .ensures) ∙ c .before .if3 .taken)) ∙ c .before .before .before .before .before .before .before .before .before .before .before .loop .inv .1)
 
 returns-4 : tie.Need-returns-4 Inv-loop μ-loop
 returns-4 c =
-    let loop = c .before .before .before .before .before .before .before .before .before .before .before .before .loop in
-    let loop-test = c .before .before .before .before .before .before .before .before .before .before .before .loop-test in
-    let first = c .before .before .before .before .before .before .before .before .first in
-    let read-number = c .before .before .before .before .before .before .before .before .before .before .read-number in
-    let past-five = c .before .before .before .before .before .before .past-five in
-    let pre = c .before .before .before .before .before .before .before .before .before .before .before .before .before .before .before .pre in
-    let if2 = c .before .before .before .before .before .if2 in
-    let held-at = c .before .held-at in
-    simp (le-ltb _ _ (loop .inv .0)) (sym (met _ _ _ _ _ (loop-test .taken) (sym (ap told (first .given .1)) ∙ read-number .ensures) (past-five .ensures) (pre) (if2 .left) (sym (held-at .ensures) ∙ c .if4 .taken)) ∙ loop .inv .1)
+    simp (le-ltb _ _ (c .before .before .before .before .before .before .before .before .before .before .before .before .loop .inv .0)) (sym (met _ _ _ _ _ (c .before .before .before .before .before .before .before .before .before .before .before .loop-test .taken) (sym (ap told (c .before .before .before .before .before .before .before .before .first .given .1)) ∙ c .before .before .before .before .before .before .before .before .before .before .read-number .ensures) (c .before .before .before .before .before .before .past-five .ensures) (c .before .before .before .before .before .before .before .before .before .before .before .before .before .before .before .before .pre) (c .before .before .before .before .before .if2 .left) (sym (c .before .held-at .ensures) ∙ c .if4 .taken)) ∙ c .before .before .before .before .before .before .before .before .before .before .before .before .loop .inv .1)
 
 loop-less-2 : tie.Need-loop-less-2 Inv-loop μ-loop
 loop-less-2 c =
-    let args = c .before .before .before .before .before .before .before .before .before .before .before .before .before .before .before .args in
-    let loop-test = c .before .before .before .before .before .before .before .before .before .before .before .loop-test in
-    let first = c .before .before .before .before .before .before .before .before .first in
-    let read-number = c .before .before .before .before .before .before .before .before .before .before .read-number in
-    let past-five = c .before .before .before .before .before .before .past-five in
-    let pre = c .before .before .before .before .before .before .before .before .before .before .before .before .before .before .before .pre in
-    let if2 = c .before .before .before .before .before .if2 in
-    less _ _ _ (args .fix) _ (loop-test .taken) (sym (ap told (first .given .1)) ∙ read-number .ensures) (past-five .ensures) (pre) (if2 .left)
+    skip-less _ (less _ _ _ (c .before .before .before .before .before .before .before .before .before .before .before .before .before .before .before .before .before .args .fix) _ (c .before .before .before .before .before .before .before .before .before .before .before .before .loop-test .taken) (sym (ap told (c .before .before .before .before .before .before .before .before .before .first .given .1)) ∙ c .before .before .before .before .before .before .before .before .before .before .before .read-number .ensures) (c .before .before .before .before .before .before .before .past-five .ensures) (c .before .before .before .before .before .before .before .before .before .before .before .before .before .before .before .before .before .pre) (c .before .before .before .before .before .before .if2 .left)) (c .skip-over3 .ensures)
 
 loop-again-2 : tie.Need-loop-again-2 Inv-loop μ-loop
 loop-again-2 c =
-    let loop = c .before .before .before .before .before .before .before .before .before .before .before .before .loop in
-    let loop-test = c .before .before .before .before .before .before .before .before .before .before .before .loop-test in
-    let first = c .before .before .before .before .before .before .before .before .first in
-    let read-number = c .before .before .before .before .before .before .before .before .before .before .read-number in
-    let past-five = c .before .before .before .before .before .before .past-five in
-    let pre = c .before .before .before .before .before .before .before .before .before .before .before .before .before .before .before .pre in
-    let if2 = c .before .before .before .before .before .if2 in
-    let held-at = c .before .held-at in
-    (loop .inv .0, sym (missed _ _ _ _ _ (loop-test .taken) (sym (ap told (first .given .1)) ∙ read-number .ensures) (past-five .ensures) (pre) (if2 .left) (sym (held-at .ensures) ∙ c .if4 .left)) ∙ loop .inv .1)
+    (c .before .before .before .before .before .before .before .before .before .before .before .before .before .loop .inv .0, sym (c .skip-over3 .ensures .same _) ∙ sym (missed _ _ _ _ _ (c .before .before .before .before .before .before .before .before .before .before .before .before .loop-test .taken) (sym (ap told (c .before .before .before .before .before .before .before .before .before .first .given .1)) ∙ c .before .before .before .before .before .before .before .before .before .before .before .read-number .ensures) (c .before .before .before .before .before .before .before .past-five .ensures) (c .before .before .before .before .before .before .before .before .before .before .before .before .before .before .before .before .before .pre) (c .before .before .before .before .before .before .if2 .left) (sym (c .before .before .held-at .ensures) ∙ c .before .if4 .left)) ∙ c .before .before .before .before .before .before .before .before .before .before .before .before .before .loop .inv .1)
 
 returns-5 : tie.Need-returns-5 Inv-loop μ-loop
 returns-5 c = simp (le-ltb _ _ (c .before .loop .inv .0)) (sym (at-end _ _ _ (reading-grows _ _) _ (c .loop-test .left)) ∙ c .before .loop .inv .1)
@@ -107,6 +60,7 @@ rest-mark-spec =
     Inv-loop
     μ-loop
     returns
+    (λ c κs. search needs)
     loop-holds
     (λ c κs. search needs)
     (λ c. search needs)
@@ -115,10 +69,12 @@ rest-mark-spec =
     returns-3
     (λ c κs. search needs)
     (λ c κs. search needs)
+    (λ c κs. search needs)
     loop-less
     loop-again
     (λ c κs. search needs)
     returns-4
+    (λ c κs. search needs)
     loop-less-2
     loop-again-2
     returns-5)
