@@ -1,7 +1,7 @@
-/* uskelzar.h: which zone holds a fix, by a PLB border file; a writer of borders; salvage of a damaged file; local time, by a TZif file; and dates.
+/* uskelzar.h: which zone holds a fix, by a PLB border file; a writer of borders and a builder of files; salvage of a damaged file; local time, by a TZif file; and dates.
  *
  * For libuskelzar.a. What its functions answer, write and touch, and that they end, is proved for every input; what it calls
- * is seen to by a test of the archive. What holds for all fourteen:
+ * is seen to by a test of the archive. What holds for all fifteen:
  *
  * You bring    pointers that are not null, aligned for their type and good for their length: to read from, or where the
  *              buffer is lent (no const), to write to. Lent buffers and `reply` do not overlap each other or an input, and
@@ -57,8 +57,10 @@ enum uskelzar_refusal {
     USKELZAR_FIRST_POINT_ZERO = 22,   /* first point (0,0) */
     USKELZAR_PIECE = 23,              /* piece list; detail: the piece's index */
     USKELZAR_OUTPUT_ROOM = 24,        /* border doesn't fit the output */
-    USKELZAR_TEXT = 26,               /* salvage: a name or notice of 256 bytes, which can't stand inline */
-    USKELZAR_FILE_ROOM = 28,          /* salvage: output or list too short, or a file over 1,073,741,824 bytes */
+    USKELZAR_YARDS = 25,              /* build: no yards, over 4,096, over 255 names, or a yard with more or fewer values than names */
+    USKELZAR_TEXT = 26,               /* build: a text over 255 bytes or not UTF-8; salvage: a name or notice of 256 bytes, which can't stand inline */
+    USKELZAR_FORM = 27,               /* build: a precision outside 1 to 31, a version above 1, or a type other than 'T' and 'C' */
+    USKELZAR_FILE_ROOM = 28,          /* build, salvage: output, list or working lists too short, or a file over 1,073,741,824 bytes */
     USKELZAR_INCOMPLETE = 31,         /* a number that the file's end cuts; of the two strict functions and of salvage */
     USKELZAR_NOTHING_LEFT = 32,       /* salvage: no entry is left */
     USKELZAR_FIXES = 33,              /* many fixes: lists of unequal length, over 4,096 fixes, or `answers` too short */
@@ -139,7 +141,7 @@ enum {
     USKELZAR_MANY_USED = 2,           /* bytes of text used */
     USKELZAR_MANY_INDEX = 2           /* of a refusal: the index of its fix, 0 for 33 and what opening refuses */
 };
-enum { USKELZAR_WRITE_LENGTH = 0 };
+enum { USKELZAR_WRITE_LENGTH = 0, USKELZAR_BUILD_LENGTH = 0 };
 enum { USKELZAR_INDEX_USED = 0 };     /* words of an index */
 enum {
     USKELZAR_SALVAGE_LENGTH = 0,      /* the new file's bytes */
@@ -184,6 +186,28 @@ enum {
     USKELZAR_PIECE_COUNT = 4,         /* how many moves */
     USKELZAR_PIECE_WORDS = 5
 };
+
+/* ---- a yard of the builder: four words, how many items of each list are its own; words left over are no yard */
+enum {
+    USKELZAR_YARD_LATS = 0,
+    USKELZAR_YARD_LONS = 1,
+    USKELZAR_YARD_PIECES = 2,
+    USKELZAR_YARD_VALUES = 3,         /* as many as there are names */
+    USKELZAR_YARD_WORDS = 4,
+    USKELZAR_MOST_YARDS = 4096,
+    USKELZAR_MOST_NAMES = 255
+};
+
+/* ---- how long the builder's working lists must be, in elements: for so many yards and names, so many bytes of values (of all yards,
+ * names and notice left out) and an output of so many bytes. Longer ones are as good. */
+#define USKELZAR_BUILD_FIELDS(yards, names) ((size_t)(yards) * (size_t)(names))
+#define USKELZAR_BUILD_STARTS(yards, names) (USKELZAR_BUILD_FIELDS(yards, names) + 1)
+#define USKELZAR_BUILD_KEYS(yards, names) ((size_t)(yards) * ((names) > 1 ? (size_t)(names) : 1)) /* and spare */
+#define USKELZAR_BUILD_KEPT(yards, names) USKELZAR_BUILD_FIELDS(yards, names)                     /* and words */
+#define USKELZAR_BUILD_HELD(value_bytes) (value_bytes)
+#define USKELZAR_BUILD_PLACES(yards) (2 * (size_t)(yards))
+#define USKELZAR_BUILD_BOXES(yards) (4 * (size_t)(yards))
+#define USKELZAR_BUILD_BYTES(out_length) (out_length)
 
 /* ---- a line of salvage's list: two words */
 enum { USKELZAR_DROPPED_ENTRY = 0, USKELZAR_DROPPED_REASON = 1, USKELZAR_DROPPED_WORDS = 2 };
@@ -289,6 +313,32 @@ uint8_t uskelzar_write_border(uint8_t version, const int32_t *lats, size_t lats_
                               size_t lons_length, const uint32_t *pieces, size_t pieces_length, const uint8_t *earlier,
                               size_t earlier_length, uint8_t *out, size_t out_length,
                               uint64_t reply[USKELZAR_REPLY_WORDS]);
+
+/* A whole file from yards: borders with pieces, and a value for each name. It holds a table of the yards in order of lower latitude, those of one
+ * latitude as they came; one record for all yards with equal values; and their borders as they came, behind one zero byte. A nonempty value that
+ * is found twice in the records is stored once. Opened, it gives type, version, precision, names and notice back; looked up, each yard's border.
+ * yards:   four words a yard: how many latitudes, longitudes, pieces (of five words) and values are its own.
+ * lats, lons: the points of all yards, one yard after the other, on the file's grid. A step of it is 90 / 2^(precision - 1) degrees of latitude and
+ *          180 / 2^(precision - 1) of longitude. Inside a border with equal values one that turns the other way is a hole.
+ * pieces:  as for write_border, yard by yard; `start` counts from the data section's first byte, which is the zero byte.
+ * lengths: how many bytes each text has: those of the names, of the notice, then of the values, yard by yard and in the order of the names.
+ * texts:   the bytes of all of them, one after the other. Items of a list behind those that are counted are not looked at.
+ * starts to bytes: lists to work in, whatever they hold; zeros afterwards. How long each must be: USKELZAR_BUILD_.. above. They must be apart
+ *          from each other and from `out`.
+ * Answers: the file's length.
+ * out:     the file.
+ * Refuses: for each yard in turn 19, 20, 21, 22, each over its whole border; then 25, 26, 27, each over everything; then for each yard in turn 23
+ *          (detail: the piece's index in its yard) and 28 for the data so far, which is the zero byte and the borders up to this one, against
+ *          `out`, `bytes` and 1 GiB; then 28 for the working lists and the whole file. A list that ends before what its yards count: 19 for
+ *          points, 23 for pieces, 25 for lengths, 26 for bytes of text. */
+uint8_t uskelzar_build(uint8_t type, uint8_t version, uint8_t precision, uint32_t names, const uint32_t *yards, size_t yards_length,
+                       const int32_t *lats, size_t lats_length, const int32_t *lons, size_t lons_length, const uint32_t *pieces,
+                       size_t pieces_length, const uint32_t *lengths, size_t lengths_length, const uint8_t *texts,
+                       size_t texts_length, uint32_t *starts, size_t starts_length, uint64_t *keys, size_t keys_length,
+                       uint64_t *spare, size_t spare_length, uint32_t *kept, size_t kept_length, uint8_t *held,
+                       size_t held_length, uint32_t *words, size_t words_length, uint32_t *places, size_t places_length,
+                       int32_t *boxes, size_t boxes_length, uint8_t *bytes, size_t bytes_length, uint8_t *out,
+                       size_t out_length, uint64_t reply[USKELZAR_REPLY_WORDS]);
 
 /* A new file with what is left of a damaged one: each entry whose six numbers, border and strings all read strictly and whose strings, lengths
  * included, lie wholly in the metadata section, in the old order.

@@ -10,11 +10,13 @@
 //! # }
 //! ```
 //!
-//! [`Printer`] has the whole question of a slip: which hour holds at a fix and an instant, or why none is printed. [`raw`] has the fourteen functions as they are, over lent buffers, and needs no `std` (`default-features = false`); [`Map`] and [`TimeZone`] lend the buffers themselves.
+//! [`Printer`] has the whole question of a slip: which hour holds at a fix and an instant, or why none is printed. [`Builder`] writes a file from yards. [`raw`] has the fifteen functions as they are, over lent buffers, and needs no `std` (`default-features = false`); [`Map`] and [`TimeZone`] lend the buffers themselves.
 
 #![cfg_attr(not(feature = "std"), no_std)]
 #![deny(unsafe_op_in_unsafe_fn, missing_docs)]
 
+#[cfg(feature = "std")]
+mod builder;
 #[cfg(feature = "std")]
 mod entries;
 #[cfg(feature = "std")]
@@ -40,6 +42,8 @@ mod salvage;
 mod survey;
 
 #[cfg(feature = "std")]
+pub use builder::{Builder, NotBuilt, Place};
+#[cfg(feature = "std")]
 pub use entry::Entry;
 #[cfg(feature = "std")]
 pub use index::Index;
@@ -50,7 +54,7 @@ pub use many::Answers;
 #[cfg(feature = "std")]
 pub use map::{End, Error, Field, Header, Kind, Map, Match, Room, Simple, Table, Unknown, Zones};
 #[cfg(feature = "std")]
-pub use printer::{Hour, NotStamped, Printer};
+pub use printer::{Hour, NotStamped, Printer, Slip};
 #[cfg(feature = "std")]
 pub use mapping::Mapping;
 pub use refusal::{Cause, Number, Refusal, Stop};

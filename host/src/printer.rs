@@ -1,11 +1,15 @@
 //! The printer's whole question: a fix and an instant, and the local hour that its slip carries, or why it carries none.
 
 use crate::local::{CivilTime, LocalTime, TimeZone};
-use crate::map::{End, Error, Map};
+use crate::map::{End, Error, Map, Zones};
+use crate::raw::MOST_FIXES;
 use crate::refusal::{Number, Refusal};
 use std::fmt;
 use std::io;
 use std::path::{Component, Path, PathBuf};
+
+/// A slip's latitude and longitude in degrees, and its instant in seconds from 1970.
+pub type Slip = (f32, f32, i64);
 
 /// A map of time zones, and the folder with their TZif files.
 pub struct Printer<B> {
@@ -97,7 +101,40 @@ impl<B: AsRef<[u8]>> Printer<B> {
     /// The hours that a slip may carry, all of one date, time and offset: that of the zone that holds the fix, and on a border of several
     /// zones one for each. The instant is in seconds from 1970.
     pub fn stamp(&self, lat: f32, lon: f32, instant: i64) -> Result<Vec<Hour>, NotStamped> {
-        let zones = self.zones(lat, lon)?;
+        let found = self.map.lookup(lat, lon).map_err(NotStamped::Map)?;
+        self.hours(&found, instant)
+    }
+
+    /// What [`Printer::stamp`] gives for each of many slips; the map is asked for up to 4,096 of them at once, and one that alone would be refused for room
+    /// may be stamped in what the others left.
+    pub fn stamp_many(&self, slips: &[Slip]) -> Vec<Result<Vec<Hour>, NotStamped>> {
+        let mut stamped = Vec::with_capacity(slips.len());
+        while stamped.len() < slips.len() {
+            let rest = &slips[stamped.len()..];
+            self.stamp_some(&rest[..rest.len().min(MOST_FIXES)], &mut stamped);
+        }
+        stamped
+    }
+
+    /// At least the first of them. A refusal stops them all, so those before it are asked again.
+    fn stamp_some(&self, slips: &[Slip], stamped: &mut Vec<Result<Vec<Hour>, NotStamped>>) {
+        let fixes: Vec<(f32, f32)> = slips.iter().map(|slip| (slip.0, slip.1)).collect();
+        match self.map.lookup_many(&fixes) {
+            Ok(answers) => stamped.extend(answers.zip(slips).map(|(found, slip)| {
+                let found = found.map_err(|unknown| NotStamped::Map(unknown.into()))?;
+                self.hours(&found, slip.2)
+            })),
+            Err(stop) => {
+                if stop.index > 0 {
+                    self.stamp_some(&slips[..stop.index], stamped);
+                }
+                stamped.push(Err(NotStamped::Map(stop.why.into())));
+            }
+        }
+    }
+
+    fn hours(&self, found: &Zones, instant: i64) -> Result<Vec<Hour>, NotStamped> {
+        let zones = names_of(found)?;
         let hours: Result<Vec<Hour>, NotStamped> = zones.into_iter().map(|zone| self.hour(zone, instant)).collect();
         let hours = hours?;
         let shown = |hour: &Hour| (hour.civil, hour.local.offset);
@@ -105,29 +142,6 @@ impl<B: AsRef<[u8]>> Printer<B> {
             return Err(NotStamped::HoursDiffer(hours));
         }
         Ok(hours)
-    }
-
-    /// The names of the zones that hold a fix, each once, by a search that was whole; at least one.
-    fn zones(&self, lat: f32, lon: f32) -> Result<Vec<String>, NotStamped> {
-        let found = self.map.lookup(lat, lon).map_err(NotStamped::Map)?;
-        if found.end != End::Whole {
-            return Err(NotStamped::NotWhole(found.end));
-        }
-        if found.matches.is_empty() {
-            return Err(NotStamped::NoZone);
-        }
-        let mut names: Vec<String> = Vec::new();
-        for zone in &found.matches {
-            let field = |name| zone.fields.iter().rev().find(|field| field.name == name);
-            let (Some(prefix), Some(id)) = (field("TimezoneIdPrefix"), field("TimezoneId")) else {
-                return Err(NotStamped::Unnamed);
-            };
-            let name = format!("{}{}", prefix.value, id.value);
-            if !names.contains(&name) {
-                names.push(name);
-            }
-        }
-        Ok(names)
     }
 
     fn hour(&self, zone: String, instant: i64) -> Result<Hour, NotStamped> {
@@ -147,6 +161,28 @@ impl<B: AsRef<[u8]>> Printer<B> {
         let civil = CivilTime::at(instant, local.offset).map_err(|_| NotStamped::OutsideYears)?;
         Ok(Hour { zone, civil, local })
     }
+}
+
+/// The names of the zones that hold a fix, each once, by a search that was whole; at least one.
+fn names_of(found: &Zones) -> Result<Vec<String>, NotStamped> {
+    if found.end != End::Whole {
+        return Err(NotStamped::NotWhole(found.end));
+    }
+    if found.matches.is_empty() {
+        return Err(NotStamped::NoZone);
+    }
+    let mut names: Vec<String> = Vec::new();
+    for zone in &found.matches {
+        let field = |name| zone.fields.iter().rev().find(|field| field.name == name);
+        let (Some(prefix), Some(id)) = (field("TimezoneIdPrefix"), field("TimezoneId")) else {
+            return Err(NotStamped::Unnamed);
+        };
+        let name = format!("{}{}", prefix.value, id.value);
+        if !names.contains(&name) {
+            names.push(name);
+        }
+    }
+    Ok(names)
 }
 
 /// A name of letters, digits, `_`, `+` and `-` in parts that `/` separates: it leads to no place outside a folder.

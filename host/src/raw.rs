@@ -1,4 +1,4 @@
-//! The library's fourteen functions over lent buffers (include/uskelzar.h has their contracts). It asks nothing of `std`, and all that is unsafe
+//! The library's fifteen functions over lent buffers (include/uskelzar.h has their contracts). It asks nothing of `std`, and all that is unsafe
 //! in this crate is here, but for the mapping of files.
 
 pub use crate::hit::HIT_WORDS;
@@ -15,6 +15,13 @@ pub const DROPPED_WORDS: usize = 2;
 
 /// Many fixes are at most so many.
 pub const MOST_FIXES: usize = 4096;
+
+/// A yard of the builder has so many words, and a file at most so many yards and names.
+pub const YARD_WORDS: usize = 4;
+#[allow(missing_docs)]
+pub const MOST_YARDS: usize = 4096;
+#[allow(missing_docs)]
+pub const MOST_NAMES: usize = 255;
 
 mod library {
     extern "C" {
@@ -144,6 +151,45 @@ mod library {
             file_length: usize,
             dropped: *mut u32,
             dropped_length: usize,
+            out: *mut u8,
+            out_length: usize,
+            reply: *mut [u64; 5],
+        ) -> u8;
+        pub fn uskelzar_build(
+            kind: u8,
+            version: u8,
+            precision: u8,
+            names: u32,
+            yards: *const u32,
+            yards_length: usize,
+            lats: *const i32,
+            lats_length: usize,
+            lons: *const i32,
+            lons_length: usize,
+            pieces: *const u32,
+            pieces_length: usize,
+            lengths: *const u32,
+            lengths_length: usize,
+            texts: *const u8,
+            texts_length: usize,
+            starts: *mut u32,
+            starts_length: usize,
+            keys: *mut u64,
+            keys_length: usize,
+            spare: *mut u64,
+            spare_length: usize,
+            kept: *mut u32,
+            kept_length: usize,
+            held: *mut u8,
+            held_length: usize,
+            words: *mut u32,
+            words_length: usize,
+            places: *mut u32,
+            places_length: usize,
+            boxes: *mut i32,
+            boxes_length: usize,
+            bytes: *mut u8,
+            bytes_length: usize,
             out: *mut u8,
             out_length: usize,
             reply: *mut [u64; 5],
@@ -427,6 +473,125 @@ pub fn salvage(file: &[u8], dropped: &mut [u32], out: &mut [u8]) -> Result<Reply
             file.len(),
             dropped.as_mut_ptr(),
             dropped.len(),
+            out.as_mut_ptr(),
+            out.len(),
+            reply,
+        )
+    })
+}
+
+/// What a file is built of, as flat lists: of each yard four words say how many latitudes, longitudes, pieces (of five words) and values are its own.
+#[derive(Clone, Copy, Debug)]
+pub struct Plan<'a> {
+    /// `T` or `C`.
+    pub kind: u8,
+    /// How its borders are written: 0 or 1.
+    pub version: u8,
+    /// The bits of its grid: 1 to 31.
+    pub precision: u8,
+    /// How many names there are.
+    pub names: u32,
+    /// Four words a yard.
+    pub yards: &'a [u32],
+    /// The latitudes of all yards.
+    pub lats: &'a [i32],
+    /// Their longitudes.
+    pub lons: &'a [i32],
+    /// The words of their pieces.
+    pub pieces: &'a [u32],
+    /// How many bytes each text has: the names, the notice, the values yard by yard.
+    pub lengths: &'a [u32],
+    /// The bytes of all texts.
+    pub texts: &'a [u8],
+}
+
+/// The lists that the builder works in. They may hold anything, and are zero afterwards; include/uskelzar.h says what each must be for.
+#[derive(Debug)]
+#[allow(missing_docs)] // `Lengths` says how long each is
+pub struct Work<'a> {
+    pub starts: &'a mut [u32],
+    pub keys: &'a mut [u64],
+    pub spare: &'a mut [u64],
+    pub kept: &'a mut [u32],
+    pub held: &'a mut [u8],
+    pub words: &'a mut [u32],
+    pub places: &'a mut [u32],
+    pub boxes: &'a mut [i32],
+    pub bytes: &'a mut [u8],
+}
+
+/// How long the builder's working lists must be; longer ones are as good.
+#[derive(Clone, Copy, Debug, Eq, PartialEq)]
+#[allow(missing_docs)] // the names are those of `Work`
+pub struct Lengths {
+    pub starts: usize,
+    pub keys: usize,
+    pub spare: usize,
+    pub kept: usize,
+    pub held: usize,
+    pub words: usize,
+    pub places: usize,
+    pub boxes: usize,
+    pub bytes: usize,
+}
+
+impl Lengths {
+    /// For so many yards and names, so many bytes of values and an output of so many bytes.
+    pub fn of(yards: usize, names: usize, value_bytes: usize, out: usize) -> Lengths {
+        let fields = yards * names;
+        Lengths {
+            starts: fields + 1,
+            keys: fields.max(yards),
+            spare: fields.max(yards),
+            kept: fields,
+            held: value_bytes,
+            words: fields,
+            places: 2 * yards,
+            boxes: 4 * yards,
+            bytes: out,
+        }
+    }
+}
+
+/// The file's length; the file in `out`. A refusal does not say which yard met it.
+pub fn build(plan: &Plan, work: Work, out: &mut [u8]) -> Result<Reply, Refusal> {
+    // SAFETY: as in `open_by`.
+    answered(|reply| unsafe {
+        library::uskelzar_build(
+            plan.kind,
+            plan.version,
+            plan.precision,
+            plan.names,
+            plan.yards.as_ptr(),
+            plan.yards.len(),
+            plan.lats.as_ptr(),
+            plan.lats.len(),
+            plan.lons.as_ptr(),
+            plan.lons.len(),
+            plan.pieces.as_ptr(),
+            plan.pieces.len(),
+            plan.lengths.as_ptr(),
+            plan.lengths.len(),
+            plan.texts.as_ptr(),
+            plan.texts.len(),
+            work.starts.as_mut_ptr(),
+            work.starts.len(),
+            work.keys.as_mut_ptr(),
+            work.keys.len(),
+            work.spare.as_mut_ptr(),
+            work.spare.len(),
+            work.kept.as_mut_ptr(),
+            work.kept.len(),
+            work.held.as_mut_ptr(),
+            work.held.len(),
+            work.words.as_mut_ptr(),
+            work.words.len(),
+            work.places.as_mut_ptr(),
+            work.places.len(),
+            work.boxes.as_mut_ptr(),
+            work.boxes.len(),
+            work.bytes.as_mut_ptr(),
+            work.bytes.len(),
             out.as_mut_ptr(),
             out.len(),
             reply,

@@ -31,7 +31,9 @@ pub enum Number {
     FirstPointZero = 22,
     Piece = 23,
     OutputRoom = 24,
+    Yards = 25,
     Text = 26,
+    Form = 27,
     FileRoom = 28,
     Incomplete = 31,
     NothingLeft = 32,
@@ -66,7 +68,7 @@ pub enum Number {
 use Number::*;
 
 /// Each number with document 01's words for it, in order.
-const TABLE: [(Number, &str); 51] = [
+const TABLE: [(Number, &str); 56] = [
     (
         TooLarge,
         "file, or the writer's earlier data, over 1,073,741,824 bytes",
@@ -103,7 +105,15 @@ const TABLE: [(Number, &str); 51] = [
     (FirstPointZero, "first point (0,0)"),
     (Piece, "piece list"),
     (OutputRoom, "border doesn't fit the output"),
-    (Text, "a text over 255 bytes"),
+    (
+        Yards,
+        "no yards, over 4,096 yards, over 255 names, or a yard with more or fewer values than names",
+    ),
+    (Text, "a text over 255 bytes or not UTF-8"),
+    (
+        Form,
+        "precision outside 1 to 31, a version above 1 or a type other than T or C",
+    ),
     (FileRoom, "output full or the file over 1 GiB"),
     (Incomplete, "a number that the file's end cuts"),
     (NothingLeft, "no entry is left"),
@@ -160,7 +170,7 @@ impl Number {
 
     fn of(number: u8) -> Number {
         Number::known(number)
-            .expect("the library's refusals are 1 to 24, 26, 28, 31 to 36 and 40 to 61")
+            .expect("the library's refusals are 1 to 28, 31 to 36 and 40 to 61")
     }
 
     /// The documents' words.
@@ -263,7 +273,7 @@ mod tests {
 
     #[test]
     fn the_table_is_in_order() {
-        let numbers: Vec<u8> = (1..=24).chain([26, 28]).chain(31..=36).chain(40..=61).collect();
+        let numbers: Vec<u8> = (1..=28).chain(31..=36).chain(40..=61).collect();
         assert_eq!(TABLE.map(|(number, _)| number as u8).to_vec(), numbers);
         for (number, words) in TABLE {
             assert_eq!(Number::of(number as u8), number);

@@ -6,7 +6,7 @@ use common::files::*;
 use common::tzif::{ended, fixed};
 use std::fs;
 use std::path::{Path, PathBuf};
-use uskelzar::{Hour, Map, NotStamped, Number, Printer};
+use uskelzar::{Hour, Map, NotStamped, Number, Printer, Room};
 
 /// A folder that goes away with the test.
 struct Folder(PathBuf);
@@ -117,4 +117,36 @@ fn files_that_do_not_answer() {
     assert!(matches!(ask(&cut, 0), NotStamped::Refused(_, why) if why.number == Number::TzifHeader));
     let long = Folder::new("years").with("Up/Two", &fixed(0, "UTC"));
     assert!(matches!(ask(&long, i64::MAX), NotStamped::OutsideYears));
+}
+
+fn told(slip: &Result<Vec<Hour>, NotStamped>) -> String {
+    slip.as_ref().map_or_else(NotStamped::to_string, |hours| words(hours).join("; "))
+}
+
+#[test]
+fn many_slips() {
+    let folder = Folder::new("many-slips").with("Up/One", &fixed(7200, "CEST")).with("Up/Two", &fixed(7200, "SAST"));
+    let printer = Printer::new(Map::open(overlap(1)).unwrap(), &folder.0);
+    let slip = |i: usize| ([FIX, ALONE, NOWHERE][i % 3], if i % 7 == 0 { i64::MAX } else { i as i64 });
+    let slips: Vec<_> = (0..5000).map(slip).map(|((lat, lon), instant)| (lat, lon, instant)).collect();
+    let all = printer.stamp_many(&slips);
+    assert_eq!(all.len(), slips.len());
+    for (&(lat, lon, instant), many) in slips.iter().zip(&all).step_by(11) {
+        assert_eq!(told(many), told(&printer.stamp(lat, lon, instant)));
+    }
+    assert!(printer.stamp_many(&[]).is_empty());
+}
+
+/// One that is refused stops no other: FIX takes three hits.
+#[test]
+fn many_slips_with_a_refusal() {
+    let folder = Folder::new("refused-slip").with("Up/One", &fixed(7200, "CEST")).with("Up/Two", &fixed(7200, "SAST"));
+    let map = Map::open(overlap(1)).unwrap().with_room(Room { hits: 1, text: 64 });
+    let printer = Printer::new(map, &folder.0);
+    for order in [[FIX, ALONE], [ALONE, FIX]] {
+        let all = printer.stamp_many(&order.map(|(lat, lon)| (lat, lon, 0)));
+        let alone = order.map(|(lat, lon)| told(&printer.stamp(lat, lon, 0)));
+        assert_eq!(all.iter().map(told).collect::<Vec<_>>(), alone);
+        assert!(alone.contains(&"refusal 17: more hits than slots".to_string()));
+    }
 }

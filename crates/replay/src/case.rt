@@ -16,6 +16,9 @@ use crate::reply::recorded;
 use crate::reply::same_reply;
 use crate::salvaged::run_salvage;
 use crate::write::run_write;
+use crate::yards::Asked;
+use crate::yards::run_build;
+use crate::yards::texts_at;
 use libc::STDOUT_FILENO;
 
 pub enum Verdict {
@@ -288,6 +291,28 @@ fn run_salvaged(record: &[u8], reply: usize, list: &mut [u32], out: &mut [u8]) -
     Verdict::Right
 }
 
+fn filled_file() -> [u8; 32768]
+    ensures { λ r. ⌜ 32768 ≡ length r ⌝ }
+{
+    [0xAA; 32768]
+}
+
+// A record of a build, whose texts end where its reply begins.
+fn run_built(record: &[u8], asked: Asked, texts: usize, reply: usize, out: &mut [u8]) -> Verdict
+    requires { ⌜ (asked .yards ≤ 160) × (asked .lats ≤ 1024) × (asked .lons ≤ 1024) × (asked .pieces ≤ 160) × (asked .texts ≤ 1024) × (texts ≤ reply)
+        × (reply + 34 + length (now out) ≡ length (now «record»)) ⌝ }
+{
+    let got = run_build(record, asked, &record[texts..reply], out);
+    let bytes = reply + 34;
+    if !same_reply(got, recorded(&record[reply..bytes])) {
+        return print_wrong(b"reply", record, got);
+    }
+    if !check::same(out, &record[bytes..]) {
+        return print_wrong(b"output", record, got);
+    }
+    Verdict::Right
+}
+
 fn judge_salvage(record: &[u8]) -> Verdict {
     let count = size_at(record, 5);
     let room = size_at(record, 9);
@@ -309,6 +334,51 @@ fn judge_salvage(record: &[u8]) -> Verdict {
     run_salvaged(record, 17 + size, &mut list[..count], &mut out[..room])
 }
 
+fn judge_build(record: &[u8]) -> Verdict {
+    let yards = size_at(record, 12);
+    let lats = size_at(record, 16);
+    let lons = size_at(record, 20);
+    let pieces = size_at(record, 24);
+    let texts = size_at(record, 28);
+    let size = size_at(record, 32);
+    let room = size_at(record, 36);
+    if 40 < yards {
+        return Verdict::Skipped;
+    }
+    if 1024 < lats {
+        return Verdict::Skipped;
+    }
+    if 1024 < lons {
+        return Verdict::Skipped;
+    }
+    if 32 < pieces {
+        return Verdict::Skipped;
+    }
+    if 1024 < texts {
+        return Verdict::Skipped;
+    }
+    if 32768 < size {
+        return Verdict::Skipped;
+    }
+    if 32768 < room {
+        return Verdict::Skipped;
+    }
+    let asked = Asked {
+        yards: 4 * yards,
+        lats,
+        lons,
+        pieces: 5 * pieces,
+        texts,
+    };
+    let bytes = texts_at(asked);
+    let reply = bytes + size;
+    if record.len() != reply + 34 + room {
+        return Verdict::Skipped;
+    }
+    let mut out = filled_file();
+    run_built(record, asked, bytes, reply, &mut out[..room])
+}
+
 pub fn judge(record: &[u8]) -> Verdict {
     match byte_at(record, 0) {
         13 | 18 => judge_index(record),
@@ -316,6 +386,7 @@ pub fn judge(record: &[u8]) -> Verdict {
         4 => judge_write(record),
         9 | 17 => judge_many(record),
         12 => judge_salvage(record),
+        10 => judge_build(record),
         _ => Verdict::Skipped,
     }
 }

@@ -7,6 +7,7 @@ mod record;
 mod reply;
 mod salvaged;
 mod write;
+mod yards;
 
 ghost use Prim.Native.Nat.{_≤_};
 ghost use Rattle.io.specs.Counts.{Counts};
@@ -122,6 +123,7 @@ fn report(tally: &[u64]) {
     print_op(b"utf8", counted(tally, 6));
     print_op(b"many", counted(tally, 17));
     print_op(b"many in three words", counted(tally, 9));
+    print_op(b"build", counted(tally, 10));
     print_op(b"salvage", counted(tally, 12));
     print_op(b"local", counted(tally, 20));
     print_op(b"listed", counted(tally, 21));

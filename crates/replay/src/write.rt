@@ -16,7 +16,7 @@ fn signed_word(word: u32) -> i32 {
 }
 
 // So many coordinates from a place of the record on.
-fn coordinates(record: &[u8], at: usize, count: usize) -> [i32; 1024]
+pub fn coordinates(record: &[u8], at: usize, count: usize) -> [i32; 1024]
     requires { ⌜ count ≤ 1024 ⌝ }
     ensures { λ r. ⌜ length r ≡ 1024 ⌝ }
 {
@@ -31,8 +31,8 @@ fn coordinates(record: &[u8], at: usize, count: usize) -> [i32; 1024]
     list
 }
 
-// So many words of pieces.
-fn piece_words(record: &[u8], at: usize, count: usize) -> [u32; 160]
+// So many words of pieces, or of yards.
+pub fn piece_words(record: &[u8], at: usize, count: usize) -> [u32; 160]
     requires { ⌜ count ≤ 160 ⌝ }
     ensures { λ r. ⌜ length r ≡ 160 ⌝ }
 {

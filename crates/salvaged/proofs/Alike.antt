@@ -11,7 +11,8 @@ use Rattle.numbers.specs.{Answer.{if_then_else_}, Reply.{Reply, given, plain, _
 use Rattle.numbers.specs.Reply as R
 use Rattle.table.specs.{Find.{Matched}, Hits.{hitOf}, Rest.{restMark}, Rows.{row}, Search.{kindOf, rowHit, judgedTurn, rowTurn, Found, ended, afterTurn, seek, judgeIn}}
 use Rattle.table.specs.{Table.{isAbove, holds}, declared.{hits.Hit.{Hit}, rows.Row.{Row}, search.Turn.the-variants.{On, Met}, table.Bounds.{Bounds}}}
-use Rattle.zones.{proofs.{MatchKinds.{Each, end, next, both}, PlaceLeftOut.{bareHit, bare, bare-append}}, specs.Fields.{fieldsPlace}}
+use Rattle.table.proofs.Merged.{Each, end, next, both}
+use Rattle.zones.{proofs.PlaceLeftOut.{bareHit, bare, bare-append}, specs.Fields.{fieldsPlace}}
 use Rattle.salvaged.proofs.Carried.{SameTexts}
 use Rattle.salvaged.specs.Seats.{rowsOf}
 

@@ -9,7 +9,8 @@ use Rattle.numbers.specs.Reply.{Reply, given, plain, demand, _>>=_, _>>_}
 use Rattle.numbers.specs.Reply as R
 use Rattle.table.specs.{Find.{fixOf, isPrecision, Matched, matchedWith}, Hits.{width}, Merge.{summary, groupKind, seen, mergedAfter, merged}, Rows.{Rows, rowsIn}}
 use Rattle.table.specs.{Search.{Found, searchedRows, farthest, searched}, declared.{hits.Hit.{Hit}, location.Location.{Location}, rows.Row.{Row}}}
-use Rattle.zones.proofs.{MatchKinds.{Each, end, next, both, either}, PlaceLeftOut.{bareHit, bare, merged-bare}}
+use Rattle.table.proofs.Merged.{Each, end, next, both, either}
+use Rattle.zones.proofs.PlaceLeftOut.{bareHit, bare, merged-bare}
 use Rattle.zones.specs.{Fields.{fieldsFrom, fieldsOf, fieldsPlace}, Lent.{Outcome}, Lookup.{safezoneBits, zonesWith}, declared.lookup.Zones.{Zones}}
 use Rattle.salvaged.proofs.Alike.{compared, bareFound, bareMatched, after, both-given, SameRecord, AllLike, Each-given, seek-like, seek-each}
 use Rattle.salvaged.proofs.FieldsAlike.{fields-from}

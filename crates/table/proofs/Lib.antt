@@ -1,10 +1,12 @@
 pub mod Agreeing
 pub mod Words
 pub mod Matches
+pub mod Merged
 pub mod TableRows
 pub mod Beside
 pub mod SearchEnds
 pub mod Unstopped
+pub mod Turns
 pub mod InOrder
 mod WorkedTable
 pub mod Joining

@@ -1,11 +1,14 @@
 -- What a returned 0 means to firmware: the call was answered, whatever it was given. Each exported function's contract fixes what it returns,
--- the number said in `openingSpoken`, `foundSpoken`, `manySpoken`, `writtenSpoken`, `salvageSpoken` or `localSpoken`; here, that this number is 0 exactly where the definition gives an answer. Assumes nothing.
+-- the number said in `openingSpoken`, `foundSpoken`, `manySpoken`, `writtenSpoken`, `builtSpoken`, `salvageSpoken` or `localSpoken`; here, that this number is 0 exactly where the definition gives an answer. Assumes nothing.
 use Prim.Native.Nat.{ℕ}
 use mathlib.Core.{Bool.{Bool, true, false}, List.{List, [], _∷_, _++_}, Logic.{_↔_}, Path.{_≡_, refl, subst}}
 use native.Mathlib.Omega.{arith}
 use lib.{IntN.{ℤ}, Ieee.{Float}}
 use Rattle.batch.{proofs.NumberedMany.{manyNumbers, many-refusals}, specs.{Many.{Batch, lookedUpMany}, declared.many.Totals.{Totals}}}
 use Rattle.batch.specs.Many as B
+use Rattle.build.{proofs.Numbered.{buildNumbers, build-refusals}, specs.{Room.{roomOf}, declared.room.Work.{Work}}}
+use Rattle.builder.specs.{File.{builtOf}, Yards.{Lent, planOf}}
+use Rattle.builder.specs.File as F
 use Rattle.numbers.{proofs.Refusals.{Listed}, specs.{Reply.{Reply, given, refused}, declared.refusal.Refusal.{Refusal}}}
 use Rattle.writer.{proofs.NumberedWriter.{writerNumbers, writer-refusals}, specs.{Writer.{borderOf, fitted}, declared.write.Piece.{Piece}}}
 use Rattle.footer.{proofs.Numbered.{footerNumbers, local-time-refusals}, specs.Local.{localTime}}
@@ -18,7 +21,7 @@ use Rattle.zones.specs.{Lookup.{lookedUp, lookedStrictly}, Simple.{simplyLooked
 use Rattle.rescue.proofs.NumberedSalvage.{salvageNumbers, salvage-refusals}
 use Rattle.salvage.specs.Salvage.{salvaged}
 use Rattle.table.specs.declared.location.Location.{Location}
-use Rattle.uskelzar.specs.{Many.{manySaid, manySpoken}, Salvaged.{countsValues, salvageSpoken}}
+use Rattle.uskelzar.specs.{Many.{manySaid, manySpoken}, Built.{builtFor, builtSpoken}, Salvaged.{countsValues, salvageSpoken}}
 use Rattle.uskelzar.specs.Spoken.{saidOf, openingValues, zonesValues, describedValues, lengthValue, localValues, localReply, openingSpoken, foundSpoken, writtenSpoken, localSpoken}
 
 -- the reply is an answer, and no refusal
@@ -95,6 +98,19 @@ pub write-border-zero : (room version : ℕ) (lats lons : List ℤ) (pieces : Li
 write-border-zero room version lats lons pieces earlier =
     zero-said lengthValue (fitted room (borderOf version lats lons pieces earlier) .reply)
     (λ why is. never-zero writerNumbers (λ z. z) (why .number) (writer-refusals room version lats lons pieces earlier why is))
+
+-- `uskelzar_build`
+fitted-refused : (file : ℕ) (built : Reply (List ℕ)) (why : Refusal) → F.fitted file built .reply ≡ refused why → built ≡ refused why
+unfolding F.fitted
+fitted-refused file (given bytes) why e = let z : _≡_ {A = ℕ} 0 1 = cc in absurd (omega arith)
+fitted-refused file (refused because) why e = cc
+
+pub build-zero : (lent : Lent) (work : Work) (file bytes : ℕ)
+    → (builtSpoken (builtFor lent work file bytes) .said .number ≡ 0) ↔ Answered (builtFor lent work file bytes .reply)
+build-zero lent work file bytes =
+    zero-said lengthValue (builtFor lent work file bytes .reply)
+    (λ why is. never-zero buildNumbers (λ z. z) (why .number)
+    (build-refusals (planOf lent) (roomOf lent work file bytes) why (fitted-refused file (builtOf (planOf lent) (roomOf lent work file bytes)) why is)))
 
 -- `uskelzar_local_time`, answered with a local time or with unknown
 of-local : (time : LocalTime) (why : Refusal) → localReply time ≡ refused why → ((told : T.Refusal) → time ≡ L.Refused told → Listed footerNumbers (told .number)) → Listed footerNumbers (why .number)

@@ -2,3 +2,4 @@ pub mod Spoken
 pub mod Civil
 pub mod Many
 pub mod Salvaged
+pub mod Built

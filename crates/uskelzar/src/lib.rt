@@ -4,6 +4,7 @@ pub mod civil;
 pub mod many;
 pub mod salvaged;
 pub mod tiles;
+pub mod yards;
 
 ghost use mathlib.Core.{Path.{_≡_}, List.{[], _∷_}};
 ghost use lib.ListN.{length};

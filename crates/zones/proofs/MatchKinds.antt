@@ -1,15 +1,15 @@
 -- Every match of a lookup has kind 1, 3 or 4: what is excluded is no match. Assumes nothing.
-use mathlib.Core.{Path.{_≡_, refl, sym, ap, subst, _∙_}, Bool.{Bool, true, false}, List.{List, [], _∷_, _++_}}
+use mathlib.Core.{Path.{_≡_, refl, sym, ap, subst, _∙_}, Bool.{Bool, true, false}, List.{List, [], _∷_}}
 use Prim.Native.Nat.{ℕ, zero, suc, _<_}
 use native.Mathlib.Omega.{arith}
 use lib.{Dec.{eqb}, ListN.{length, getD}}
-use Rattle.numbers.{proofs.Refusals.{Listed}, specs.{Answer.{if_then_else_}, Lists.{zeros, padded}, Reply.{given}}}
+use Rattle.numbers.{proofs.Refusals.{Listed}, specs.{Answer.{if_then_else_}, Reply.{given}}}
 use Rattle.verdict.specs.{Verdict.{Judgement}, declared.step.Verdict.{Verdict, the-variants.{NotInZone, InZone, InExcludedZone, OnBorderVertex, OnBorderSegment}}}
 use Rattle.border.specs.declared.place.Point.{Point}
 use Rattle.table.specs.{Ending.{hitsOf, Through, here, outside, judged, Answered}, Hits.{noHit, hitAt}}
-use Rattle.table.specs.{Merge.{Summary, summed, later, _⊕_, single, summary, differs, groupKind, seen, matchOf, mergedAfter, merged}, Rows.{Rows}}
+use Rattle.table.specs.{Merge.{Summary, summed, later, single, summary, differs, groupKind, mergedAfter, merged}, Rows.{Rows}}
 use Rattle.table.specs.declared.{hits.Hit.{Hit}, location.Location.{Location}, rows.Row.{Row}}
-use Rattle.table.proofs.Words.{word-at}
+use Rattle.table.proofs.{Merged.{Each, end, next, both, either, merged-each}, Words.{word-at}}
 use Rattle.zones.specs.{Lookup.{lookedUp}, Simple.{simplyLooked}, declared.{lookup.Zones.{Zones}, simple.Described.{Described}}}
 use Rattle.zones.proofs.HowItEnds.{lookup-ends, simple-lookup-ends}
 
@@ -27,19 +27,6 @@ data Bordering : ℕ → Type 0 where
 
 abbrev pub matchKinds : List ℕ
 matchKinds = 1 ∷ 3 ∷ 4 ∷ []
-
--- each hit of a list
-pub data Each (P : Hit → Type 0) : List Hit → Type 0 where
-  end : Each P []
-  next : {hit : Hit} {hits : List Hit} → P hit → Each P hits → Each P (hit ∷ hits)
-
-pub both : {P : Hit → Type 0} {xs ys : List Hit} → Each P xs → Each P ys → Each P (xs ++ ys)
-both end k = k
-both (next h hs) k = next h (both hs k)
-
-pub either : {A : Type 0} (Q : A → Type 0) (test : Bool) {a b : A} → (test ≡ true → Q a) → (test ≡ false → Q b) → Q (if test then a else b)
-either Q true h k = h refl
-either Q false h k = k refl
 
 -- a hit's kind
 abbrev Hits : Hit → Type 0
@@ -92,15 +79,8 @@ kind-of-group s h = by-border (s .border) h
     by-border _ on-vertex e = refl
     by-border _ on-segment e = refl
 
-merged-kinds : (before : List Hit) {hits : List Hit} → Each Hits hits → Each Matches (mergedAfter before hits)
-unfolding mergedAfter
-merged-kinds before end = end
-merged-kinds before (next {hit} {hits} h hs) =
-    let s = summary (hit .metadata) (hit ∷ hits) in
-    both
-    (either (Each Matches) (seen (hit .metadata) before) (λ e. end)
-    (λ e. either (Each Matches) (eqb (groupKind s) 0) (λ f. end) (λ f. next (kind-of-group s (summary-border (hit .metadata) (next h hs)) f) end)))
-    (merged-kinds (before ++ hit ∷ []) hs)
+merged-kinds : {hits : List Hit} → Each Hits hits → Each Matches (mergedAfter [] hits)
+merged-kinds = merged-each (λ hit hits h hs f. kind-of-group (summary (hit .metadata) (hit ∷ hits)) (summary-border (hit .metadata) (next h hs)) f) []
 
 -- ---- in the lent words
 each-at : {P : Hit → Type 0} (hits : List Hit) → Each P hits → (i : ℕ) → i < length hits → P (getD hits i noHit)
@@ -118,7 +98,7 @@ answered-each {P = P} {hits = hits} a each i h =
 answered-kinds : {file : List ℕ} {location : Location} {asked : Bool} {n matches mark : ℕ} {hits : List ℕ} → Answered file location asked n matches mark hits
     → (i : ℕ) → i < matches → Listed matchKinds (hitAt hits i .kind)
 unfolding merged
-answered-kinds a = answered-each {P = Matches} a (subst (Each Matches) (sym (a .behind .merges)) (merged-kinds [] (through-kinds (a .behind .ending .through))))
+answered-kinds a = answered-each {P = Matches} a (subst (Each Matches) (sym (a .behind .merges)) (merged-kinds (through-kinds (a .behind .ending .through))))
 
 -- Every match of an answered lookup has kind 1, 3 or 4,
 pub match-kinds : (file : List ℕ) (location : Location) (asked : Bool) (n room : ℕ) (zones : Zones) → lookedUp file location asked n room .reply ≡ given zones

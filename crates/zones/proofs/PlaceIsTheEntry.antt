@@ -1,5 +1,5 @@
 -- The fourth word of a match leads to its entry: read there, it has a box that holds the location, and with it the table's row has the match's metadata id. Assumes nothing.
-use mathlib.Core.{Path.{_≡_, refl, sym, ap, subst, _∙_}, Bool.{Bool, true, false}, List.{List, [], _∷_, _++_}}
+use mathlib.Core.{Path.{_≡_, refl, sym, ap, subst, _∙_}, Bool.{Bool, true, false}, List.{List, [], _∷_}}
 use Prim.Native.Nat.{ℕ, _%_, _^_, _≤_, _<_}
 use native.Mathlib.Omega.{arith}
 use borrow.Author.Tests.{leb-true}
@@ -9,9 +9,9 @@ use Rattle.border.specs.declared.place.Point.{Point}
 use Rattle.numbers.proofs.{Laws.{Read, forward-read}, Answers.{All}, Replies.{given-from, demanded}}
 use Rattle.numbers.specs.{Answer.{Answer, found, _>>=_}, Reply.{given, plain}, Varint.{Numeral, forwardAt, readingOf}}
 use Rattle.numbers.specs.Answer as A
-use Rattle.zones.proofs.{HowItEnds.{lookup-ends, simple-lookup-ends}, MatchKinds.{Each, end, next, both, either, answered-each}}
-use Rattle.table.proofs.{Beside.{entry-plain}, TableRows.{rows-so}}
-use Rattle.table.specs.{Ending.{Through, here, outside, judged, Answered}, Find.{fixOf}, Hits.{hitOf, hitAt}, Merge.{summary, groupKind, seen, mergedAfter, merged}}
+use Rattle.zones.proofs.{HowItEnds.{lookup-ends, simple-lookup-ends}, MatchKinds.{answered-each}}
+use Rattle.table.proofs.{Beside.{entry-plain}, Merged.{Each, end, next, both, either, merged-each}, TableRows.{rows-so}}
+use Rattle.table.specs.{Ending.{Through, here, outside, judged, Answered}, Find.{fixOf}, Hits.{hitOf, hitAt}, Merge.{summary, seen, mergedAfter, merged}}
 use Rattle.table.specs.{Rows.{Rows, row, tableEnd, unreadable, rowOf, rowBy, rowsIn}, Search.{kindOf}, Table.{entryBy, holds}}
 use Rattle.table.specs.declared.{hits.Hit.{Hit}, location.Location.{Location}, rows.{Cursor.{Cursor}, Row.{Row}}, table.{Bounds.{Bounds}, Entry.{Entry}}}
 use Rattle.header.specs.{Header.{preambleOf, contentsBy, headBy, headOf}, declared.header.Head.{Head}}
@@ -95,15 +95,9 @@ through-from {fix = fix} all (judged {r = r} {verdict = verdict} a h j t) within
     (through-from all t (λ r l. within r (later l)))
 
 -- a match has all but the kind from a hit
-merged-from : (fix : Point) (all : Rows) (before : List Hit) {hits : List Hit} → Each (From fix all) hits → Each (From fix all) (mergedAfter before hits)
-unfolding mergedAfter
-merged-from fix all before end = end
-merged-from fix all before (next {hit} {hits} h hs) =
-    both
-    (either (Each (From fix all)) (seen (hit .metadata) before) (λ e. end)
-    (λ e. either (Each (From fix all)) (eqb (groupKind (summary (hit .metadata) (hit ∷ hits))) 0) (λ f. end)
-    (λ f. next (record { table-row = h .table-row; listed = h .listed; numbered = h .numbered; same-id = h .same-id; placed = h .placed; held = h .held }) end)))
-    (merged-from fix all (before ++ hit ∷ []) hs)
+merged-from : (fix : Point) (all : Rows) {hits : List Hit} → Each (From fix all) hits → Each (From fix all) (mergedAfter [] hits)
+merged-from fix all =
+    merged-each {P = From fix all} {Q = From fix all} (λ hit hits h hs f. record { table-row = h .table-row; listed = h .listed; numbered = h .numbered; same-id = h .same-id; placed = h .placed; held = h .held }) []
 
 -- ---- in the lent words
 entry-of : (file : List ℕ) (location : Location) (head : Head) → headOf file ≡ given head → (match : Hit) → From (fixOf location (head .preamble .precision)) (rowsIn file head) match → EntryOf file location match
@@ -132,7 +126,7 @@ answered-entry {file} {location} {hits = hits} a i h =
     let b = a .behind in
     let fix = fixOf location (b .head .preamble .precision) in
     let all = rowsIn file (b .head) in
-    let each : Each (From fix all) (a .list) = subst (Each (From fix all)) (sym (b .merges)) (merged-from fix all [] (through-from all (b .ending .through) (λ r l. l))) in
+    let each : Each (From fix all) (a .list) = subst (Each (From fix all)) (sym (b .merges)) (merged-from fix all (through-from all (b .ending .through) (λ r l. l))) in
     entry-of file location (b .head) (b .opened) (hitAt hits i) (answered-each {P = From fix all} a each i h)
 
 -- At the place of each match of an answered lookup stands an entry of the table whose box holds the location and whose row has the match's metadata id,

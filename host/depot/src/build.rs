@@ -8,48 +8,42 @@ use crate::plan::{plan, Form, Plan};
 use crate::words::{count, grouped, length};
 use std::fmt::Write;
 use std::path::Path;
-use uskelzar::Refusal;
+use uskelzar::{Builder, NotBuilt, Place, Table};
 
-/// What writes a whole file from a plan.
-pub trait Builder {
-    fn build(&self, plan: &Plan) -> Result<Vec<u8>, NotBuilt>;
-}
-
-/// Why there is no file.
-#[derive(Debug)]
-pub enum NotBuilt {
-    Refused(Refusal),
-    /// The library has no builder yet.
-    Missing,
-}
-
-/// The library's builder. It comes with request Q-4; until then nothing is written.
-pub struct Library;
-
-impl Builder for Library {
-    fn build(&self, _: &Plan) -> Result<Vec<u8>, NotBuilt> {
-        Err(NotBuilt::Missing)
-    }
+/// The file of a plan, by the library's builder.
+pub fn file_of(plan: &Plan) -> Result<Vec<u8>, NotBuilt> {
+    let table = if plan.form.table == 'T' { Table::TimeZones } else { Table::Countries };
+    let builder = Builder::new(table, plan.form.precision, &texts(&plan.names)).version(plan.form.version).notice(&plan.form.notice);
+    let yards = plan.yards.iter();
+    yards.fold(builder, |builder, yard| builder.yard_with(&yard.points, &yard.pieces, &texts(&plan.records[yard.record]))).build()
 }
 
 /// Reads polygons, says what becomes of them on the grid, and writes the file if a place for it is given.
-pub fn run(input: &Path, output: Option<&Path>, form: Form, builder: &dyn Builder) -> Result<Said, Fault> {
+pub fn run(input: &Path, output: Option<&Path>, form: Form) -> Result<Said, Fault> {
     let collection = geojson::read(input)?;
     let plan = plan(collection, form).map_err(|words| Fault::No(format!("{}: {words}", input.display())))?;
     let mut said = report(&plan);
     if let Some(output) = output {
-        let file = builder.build(&plan).map_err(|why| not_built(&why, &said))?;
+        let file = file_of(&plan).map_err(|why| Fault::No(format!("{said}{}", not_built(&plan, &why))))?;
         write_whole(output, |out| out.write_all(&file))?;
         let _ = writeln!(said, "{}: {}", output.display(), count(file.len(), "byte"));
     }
     Ok(Said::yes(said))
 }
 
-fn not_built(why: &NotBuilt, said: &str) -> Fault {
-    match why {
-        NotBuilt::Refused(why) => Fault::No(format!("{said}{why}")),
-        NotBuilt::Missing => Fault::NotRun(format!("{said}not written: this library has no builder yet; --dry-run says the same without asking for it")),
-    }
+fn texts(all: &[String]) -> Vec<&str> {
+    all.iter().map(String::as_str).collect()
+}
+
+/// A refusal, by the ring or the property that met it.
+fn not_built(plan: &Plan, why: &NotBuilt) -> String {
+    let place = match why.place {
+        Place::Yard(yard) => plan.yards[yard].place.clone(),
+        Place::Value { yard, field } => format!("{}: the property {:?}", plan.yards[yard].place, plan.names[field]),
+        Place::Name(name) => format!("the property's name {:?}", plan.names[name]),
+        Place::Notice | Place::File => why.place.to_string(),
+    };
+    format!("{place}: {}", why.why)
 }
 
 /// What a plan comes to, in lines.

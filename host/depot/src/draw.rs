@@ -7,7 +7,7 @@ use crate::{output, source};
 use std::collections::{BTreeMap, BTreeSet};
 use std::fmt::Write;
 use std::path::Path;
-use uskelzar::raw::{self, HIT_WORDS};
+use uskelzar::raw::{self, ANSWER_WORDS, HIT_WORDS, MOST_FIXES};
 use uskelzar::{Map, Number};
 
 type Colour = [u8; 3];
@@ -202,39 +202,64 @@ fn picture_fix(frame: Frame, columns: u32, rows: u32, index: usize) -> (f32, f32
     (lat as f32, lon as f32)
 }
 
-/// Room for a lookup: little at first, since the library writes all of it on every call.
+/// Room for the hits and the texts of many fixes: little at first, since the library writes all of it on every call.
 struct Room {
     hits: Vec<u32>,
     text: Vec<u8>,
+    answers: [u32; ANSWER_WORDS * MOST_FIXES],
 }
 
-/// No file that people draw has so many borders about one place.
-const MOST_HITS: usize = 4096;
+/// Hits about one fix, on the whole; the room doubles where they are more. No file that people draw has so many about each of them.
+const HITS: usize = 2;
+const MOST_HITS: usize = 256;
 
 impl Room {
     fn of(hits: usize) -> Room {
-        Room { hits: vec![0; HIT_WORDS * hits], text: vec![0; 64 * hits] }
+        let hits = hits * MOST_FIXES;
+        Room { hits: vec![0; HIT_WORDS * hits], text: vec![0; 64 * hits], answers: [0; ANSWER_WORDS * MOST_FIXES] }
     }
 
-    /// Asks again with twice the room where it was too little.
-    fn ask(&mut self, file: &[u8], (lat, lon): (f32, f32)) -> Answer {
+    /// The answers of the first fixes, up to one that is refused; the fixes before it are asked again, since a refusal stops them all. At least one, of at most 4,096.
+    fn ask(&mut self, file: &[u8], fixes: &[(f32, f32)]) -> Vec<Answer> {
+        let (lats, lons): (Vec<f32>, Vec<f32>) = fixes.iter().copied().unzip();
         loop {
-            let hits = self.hits.len() / HIT_WORDS;
-            match raw::lookup(file, lat, lon, false, &mut self.hits, &mut self.text) {
-                Err(why) if matches!(why.number, Number::TooManyHits | Number::TextRoom) && hits < MOST_HITS => *self = Room::of(2 * hits),
-                Err(_) => return Answer::Refused,
-                Ok([0, end, ..]) => return Answer::Nothing { end },
-                Ok([_, end, ..]) => return Answer::Found { end, kind: self.hits[2], zone: self.hits[1] },
+            let hits = self.hits.len() / HIT_WORDS / MOST_FIXES;
+            let third = &mut self.answers[..ANSWER_WORDS * fixes.len()];
+            let Err(stop) = raw::lookup_many(file, &lats, &lons, false, &mut self.hits, &mut self.text, third) else { return self.told(fixes.len()) };
+            let for_room = matches!(stop.why.number, Number::TooManyHits | Number::TextRoom);
+            if for_room && hits < MOST_HITS {
+                *self = Room::of(2 * hits);
+                continue;
             }
+            let mut told = if stop.index > 0 { self.ask(file, &fixes[..stop.index]) } else { vec![] };
+            // one that had too little room behind others comes next, with all of it
+            if !for_room || stop.index == 0 {
+                told.push(Answer::Refused);
+            }
+            return told;
         }
+    }
+
+    /// What so many fixes were answered: the first match of each.
+    fn told(&self, fixes: usize) -> Vec<Answer> {
+        let mut hits = self.hits.chunks_exact(HIT_WORDS);
+        let answer = |said: &[u32]| {
+            let end = u64::from(said[1]);
+            let first = hits.by_ref().take(said[0] as usize).fold(None, |first, hit| first.or(Some(hit)));
+            first.map_or(Answer::Nothing { end }, |hit| Answer::Found { end, kind: hit[2], zone: hit[1] })
+        };
+        self.answers[..ANSWER_WORDS * fixes].chunks_exact(ANSWER_WORDS).map(answer).collect()
     }
 }
 
 fn ask_part(file: &[u8], answers: &mut [Answer], fix: impl Fn(usize) -> (f32, f32), bar: &indicatif::ProgressBar) {
-    let mut room = Room::of(8);
-    for (index, answer) in answers.iter_mut().enumerate() {
-        *answer = room.ask(file, fix(index));
-        bar.inc(1);
+    let (mut room, mut done) = (Room::of(HITS), 0);
+    while done < answers.len() {
+        let fixes: Vec<(f32, f32)> = (done..answers.len().min(done + MOST_FIXES)).map(&fix).collect();
+        let told = room.ask(file, &fixes);
+        answers[done..done + told.len()].copy_from_slice(&told);
+        done += told.len();
+        bar.inc(told.len() as u64);
     }
 }
 

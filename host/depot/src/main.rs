@@ -1,7 +1,7 @@
 //! depot: the tool for people who have yards.
 
 use clap::{Parser, Subcommand, ValueEnum};
-use depot::build::{self, Library};
+use depot::build;
 use depot::draw::{self, Frame};
 use depot::fault::{Fault, Said};
 use depot::plan::Form;
@@ -36,8 +36,8 @@ enum Verb {
     /// Make a file from polygons (GeoJSON)
     ///
     /// Polygons and multipolygons become yards, holes are left out of them, and properties become fields. Lines that two yards
-    /// share are written once. The library of this release has no builder yet: --dry-run says what would be built.
-    #[command(after_help = "Example:\n  depot build examples/yards.geojson --precision 25 --dry-run")]
+    /// share are written once. --dry-run says what would be built.
+    #[command(after_help = "Examples:\n  depot build examples/yards.geojson -o yards.plb --precision 25\n  depot build examples/yards.geojson --precision 25 --dry-run")]
     Build {
         /// GeoJSON: a FeatureCollection of Polygons and MultiPolygons
         input: PathBuf,
@@ -169,7 +169,7 @@ fn run(verb: Verb) -> Result<Said, Fault> {
                 Kind::TimeZones => 'T',
                 Kind::Countries => 'C',
             };
-            build::run(&input, output.as_deref(), Form { table, version, precision, notice, leave_out }, &Library)
+            build::run(&input, output.as_deref(), Form { table, version, precision, notice, leave_out })
         }
         Verb::Show { file, geojson: true, output } => show::geojson(&file, output.as_deref()),
         Verb::Show { file, .. } => show::run(&file),

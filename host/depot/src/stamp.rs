@@ -6,20 +6,13 @@ use crate::{output, source};
 use chrono::DateTime;
 use csv::{ReaderBuilder, StringRecord, Trim, Writer};
 use std::path::Path;
-use uskelzar::{Hour, NotStamped, Printer};
+use uskelzar::{raw, Hour, NotStamped, Printer, Slip};
 
 /// The columns of a stamped slip, behind those of its line.
 const HOUR: [&str; 5] = ["local", "offset", "daylight", "abbreviation", "zone"];
 /// A column for each way of not stamping.
 const WAYS: [&str; 11] =
     ["unreadable line", "map refused", "not whole", "no zone", "zone unnamed", "bad zone name", "no zone file", "zone file refused", "hour unknown", "outside the years", "hours differ"];
-
-/// A line's fix and instant.
-struct Fix {
-    lat: f32,
-    lon: f32,
-    instant: i64,
-}
 
 /// Which columns a line's numbers stand in.
 struct Columns {
@@ -42,14 +35,7 @@ pub fn run(day: &Path, output: &Path, map: &Path, folder: &Path) -> Result<Said,
     }
     let printer = Printer::new(source::open(map, false)?, folder);
     let day_read = read(day)?;
-    let bar = output::progress(day_read.lines.len(), "slips");
-    let stamp = |line: &StringRecord| {
-        bar.inc(1);
-        let fix = day_read.columns.fix(line).map_err(|words| (0, words))?;
-        printer.stamp(fix.lat, fix.lon, fix.instant).map_err(|why| (way(&why), why.to_string()))
-    };
-    let slips: Vec<Result<Vec<Hour>, (usize, String)>> = day_read.lines.iter().map(stamp).collect();
-    bar.finish_and_clear();
+    let slips = stamped(&printer, &day_read);
     output::write_whole(output, |out| {
         let mut out = Writer::from_writer(out);
         out.write_record(day_read.names.iter().chain(HOUR).chain(WAYS))?;
@@ -61,7 +47,26 @@ pub fn run(day: &Path, output: &Path, map: &Path, folder: &Path) -> Result<Said,
     Ok(summary(output, &slips))
 }
 
-fn summary(output: &Path, slips: &[Result<Vec<Hour>, (usize, String)>]) -> Said {
+/// The hours of a line's slip, or the way of not stamping it and its words.
+type Stamped = Result<Vec<Hour>, (usize, String)>;
+
+/// Every line's slip; those that can be read are asked for many at once.
+fn stamped(printer: &Printer<Vec<u8>>, day: &Day) -> Vec<Stamped> {
+    let bar = output::progress(day.lines.len(), "slips");
+    let slips: Vec<Result<Slip, String>> = day.lines.iter().map(|line| day.columns.slip(line)).collect();
+    let good: Vec<Slip> = slips.iter().flatten().copied().collect();
+    let told = good.chunks(raw::MOST_FIXES).flat_map(|some| {
+        bar.inc(some.len() as u64);
+        printer.stamp_many(some)
+    });
+    let mut told = told.map(|hours| hours.map_err(|why| (way(&why), why.to_string())));
+    let all = slips.into_iter().map(|slip| slip.map_err(|words| (0, words)).and_then(|_| told.next().expect("one for each")));
+    let all = all.collect();
+    bar.finish_and_clear();
+    all
+}
+
+fn summary(output: &Path, slips: &[Stamped]) -> Said {
     let stamped = slips.iter().filter(|slip| slip.is_ok()).count();
     let mut text = format!("{}: {}, {stamped} stamped", output.display(), count(slips.len(), "line"));
     for (number, way) in WAYS.iter().enumerate() {
@@ -75,7 +80,7 @@ fn summary(output: &Path, slips: &[Result<Vec<Hour>, (usize, String)>]) -> Said 
 }
 
 /// What a slip has behind its line's own columns.
-fn cells(slip: &Result<Vec<Hour>, (usize, String)>) -> Vec<String> {
+fn cells(slip: &Stamped) -> Vec<String> {
     let mut cells = vec![String::new(); HOUR.len() + WAYS.len()];
     match slip {
         Ok(hours) => {
@@ -144,13 +149,13 @@ impl Columns {
         Ok(Columns { lat: column(&["latitude", "lat"])?, lon: column(&["longitude", "lon", "lng"])?, instant: column(&["instant", "time", "timestamp"])? })
     }
 
-    fn fix(&self, line: &StringRecord) -> Result<Fix, String> {
+    fn slip(&self, line: &StringRecord) -> Result<Slip, String> {
         let word = |column: usize| line.get(column).unwrap_or_default();
         let degrees = |column: usize, most: f32, what: &str| {
             let value = word(column).parse::<f32>().ok().filter(|value| value.abs() <= most);
             value.ok_or_else(|| format!("{what} {:?} is no number from -{most} to {most}", word(column)))
         };
-        Ok(Fix { lat: degrees(self.lat, 90.0, "latitude")?, lon: degrees(self.lon, 180.0, "longitude")?, instant: instant_of(word(self.instant))? })
+        Ok((degrees(self.lat, 90.0, "latitude")?, degrees(self.lon, 180.0, "longitude")?, instant_of(word(self.instant))?))
     }
 }
 

@@ -2,7 +2,7 @@
 
 mod common;
 
-use common::{built, depot, form, plan_of, Folder, Ran, DAY, WORLD, YARDS, ZONEINFO};
+use common::{built, depot, form, plan_of, Folder, Ran, DAY, WORLD, YARDS, YARD_DAY, ZONEINFO};
 use serde_json::Value;
 use std::fs;
 
@@ -267,11 +267,33 @@ fn what_would_be_built() {
     said(&depot(&["build", YARDS, "--dry-run", "--precision", "12", "--leave-out"]), 1, &["no yards"]);
 }
 
+/// The example as a new user builds it, looks it up, shows it and draws it.
 #[test]
-fn nothing_is_written_without_a_builder() {
-    let folder = Folder::new("no-builder");
+fn what_is_built() {
+    let folder = Folder::new("built");
     let out = folder.path("yards.plb");
-    said(&depot(&["build", YARDS, "-o", &out]), 2, &["this library has no builder yet"]);
+    let built = depot(&["build", YARDS, "-o", &out, "--precision", "25", "--notice", "a notice"]);
+    said(&built, 0, &["10 features, 12 borders (1 of holes), 94 points", "borrowed: 4 pieces (3 backward)", "yards.plb: 892 bytes"]);
+    assert_eq!(fs::read(&out).unwrap(), fs::read(yards(&folder)).unwrap());
+    said(&depot(&["check", &out]), 0, &["in order"]);
+    said(&depot(&["zone", "0.0035", "109.338", &out, "--explain"]), 0, &["Asia/Pontianak, Tank farm: in the zone", "search: whole"]);
+    said(&depot(&["show", &out]), 0, &["10 zones with 12 borders"]);
+    said(&depot(&["draw", &out, "-o", &folder.path("yards.png"), "--columns", "80"]), 0, &["10 zones"]);
+    let slips = folder.path("slips.csv");
+    said(&depot(&["stamp", YARD_DAY, "-o", &slips, &out, ZONEINFO]), 1, &["6 lines, 4 stamped, 1 no zone, 1 hours differ"]);
+    fs::remove_file(slips).unwrap();
+    // over a file that is there already; and nothing is left beside it
+    said(&depot(&["build", YARDS, "-o", &out, "--version", "0", "--type", "C"]), 0, &["nothing to borrow"]);
+    said(&depot(&["show", &out]), 0, &["countries (type C), version 0, precision 21"]);
+    assert_eq!(folder.names(), ["yards.plb", "yards.png"]);
+}
+
+#[test]
+fn what_is_not_written() {
+    let folder = Folder::new("not-written");
+    said(&depot(&["build", YARDS, "-o", &folder.path("none/yards.plb")]), 2, &["nothing was written"]);
+    said(&depot(&["build", YARDS, "-o", &folder.path("yards.plb"), "--precision", "12"]), 1, &["nothing of it is left on the grid"]);
+    said(&depot(&["build", YARDS, "-o", &folder.path("yards.plb"), "--notice", &"n".repeat(256)]), 1, &["the notice has 256 bytes"]);
     assert!(folder.names().is_empty());
 }
 

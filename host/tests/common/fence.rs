@@ -46,6 +46,7 @@ pub const EDGES: [Edge; 2] = [Edge::Front, Edge::Back];
 pub trait Plain: Copy {}
 impl Plain for u8 {}
 impl Plain for u32 {}
+impl Plain for u64 {}
 impl Plain for i32 {}
 impl Plain for f32 {}
 

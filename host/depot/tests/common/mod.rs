@@ -1,22 +1,19 @@
-//! What the tests of depot share: running the program, folders that go away, and a plain writer of files in the builder's place.
+//! What the tests of depot share: running the program, and folders that go away.
 #![allow(dead_code)] // each test uses some of it
 
-#[path = "../../../tests/common/encode.rs"]
-mod encode;
-
-use depot::build::{Builder, NotBuilt};
+use depot::build::file_of;
 use depot::geojson;
 use depot::grid::Point;
 use depot::plan::{plan, Form, Plan};
-use encode::{signed, string, varint};
 use std::fs;
 use std::path::{Path, PathBuf};
 use std::process::Command;
-use uskelzar::{write_border, Zones};
+use uskelzar::Zones;
 
 pub const WORLD: &str = concat!(env!("CARGO_MANIFEST_DIR"), "/../../examples/world-9.plb");
 pub const YARDS: &str = concat!(env!("CARGO_MANIFEST_DIR"), "/../../examples/yards.geojson");
 pub const DAY: &str = concat!(env!("CARGO_MANIFEST_DIR"), "/../../examples/day.csv");
+pub const YARD_DAY: &str = concat!(env!("CARGO_MANIFEST_DIR"), "/../../examples/yard-day.csv");
 pub const ZONEINFO: &str = "/usr/share/zoneinfo";
 
 /// A folder that goes away with the test.
@@ -76,44 +73,6 @@ pub fn plan_of(path: &str, form: Form) -> Plan {
     plan(geojson::read(Path::new(path)).unwrap(), form).unwrap()
 }
 
-/// Puts a file together in a plain way: values stand in each record, and nothing is proved of it.
-pub struct Plain;
-
-impl Builder for Plain {
-    fn build(&self, plan: &Plan) -> Result<Vec<u8>, NotBuilt> {
-        let (mut metadata, mut places): (Vec<u8>, Vec<usize>) = (vec![], vec![]);
-        for (i, record) in plan.records.iter().enumerate() {
-            let same = plan.records[..i].iter().position(|earlier| earlier == record);
-            places.push(same.map_or(metadata.len(), |same| places[same]));
-            if same.is_none() {
-                metadata.extend(record.iter().flat_map(|value| string(value)));
-            }
-        }
-        let (mut data, mut entries) = (vec![0], vec![]);
-        for yard in &plan.yards {
-            entries.push((bounds(&yard.points), places[yard.record], data.len()));
-            data.extend(write_border(plan.form.version, &yard.points, &yard.pieces, &data).map_err(NotBuilt::Refused)?);
-        }
-        entries.sort_by_key(|(bounds, _, _)| bounds[0]);
-        let (mut table, mut last) = (vec![], (0, 0));
-        for (bounds, record, border) in entries {
-            table.extend(bounds.iter().flat_map(|bound| signed(i64::from(*bound))));
-            table.extend(signed(record as i64 - last.0));
-            table.extend(varint(u64::from((border as u32).wrapping_sub(last.1))));
-            last = (record as i64, border as u32);
-        }
-        Ok([header(plan, [table.len(), metadata.len(), data.len()]), table, metadata, data].concat())
-    }
-}
-
-fn header(plan: &Plan, sizes: [usize; 3]) -> Vec<u8> {
-    let form = &plan.form;
-    let mut file = vec![b'P', b'L', b'B', form.table as u8, form.version, form.precision, plan.names.len() as u8];
-    file.extend(plan.names.iter().chain([&form.notice]).flat_map(|text| string(text)));
-    file.extend(sizes.iter().flat_map(|size| varint(*size as u64)));
-    file
-}
-
 pub fn bounds(points: &[Point]) -> [i32; 4] {
     let lats = || points.iter().map(|point| point.0);
     let lons = || points.iter().map(|point| point.1);
@@ -121,7 +80,7 @@ pub fn bounds(points: &[Point]) -> [i32; 4] {
 }
 
 pub fn built(plan: &Plan) -> Vec<u8> {
-    Plain.build(plan).unwrap()
+    file_of(plan).unwrap()
 }
 
 /// The same plan without its pieces.

@@ -1,0 +1,4 @@
+pub mod Checked
+pub mod Room
+pub mod Puts
+pub mod Whole

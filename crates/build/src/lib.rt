@@ -1,0 +1,9 @@
+// Files built from yards: document 02, Q-4.
+pub mod asked;
+pub mod checks;
+pub mod draw;
+pub mod file;
+pub mod fill;
+pub mod room;
+pub mod write;
+pub mod zero;

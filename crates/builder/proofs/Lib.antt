@@ -1,0 +1,15 @@
+-- Laws on plain values that the functions' proofs cite.
+pub mod Puts
+pub mod Bests
+pub mod Steps
+pub mod Masks
+pub mod Inlines
+pub mod Tables
+pub mod Drawing
+pub mod Shortest
+pub mod WorkedFile
+pub mod Readables
+pub mod Checking
+pub mod Counting
+pub mod Groups
+pub mod Ordered

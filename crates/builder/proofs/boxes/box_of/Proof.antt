@@ -1,0 +1,41 @@
+-- `builder::boxes::box_of` meets its contract. Assumes nothing.
+use borrow.Author.Needs.{needs, sfits-of}
+use mathlib.Core.Path.{_≡_, _∙_}
+use mir.{Facts.{toZ-ofZ}, Syntax.{w32}, Val.{toZ, ofZ}}
+use Rattle.builder.proofs.boxes.box_of.Statement.{statement}
+use Rattle.builder.specs.Entries.{lowestOf, highestOf}
+use Rattle.builder.proofs.boxes.box_of.Tie as tie
+
+lowest-of-requires : tie.Need-lowest-of-requires
+lowest-of-requires c κs = search needs
+
+lowest-of-requires-2 : tie.Need-lowest-of-requires-2
+lowest-of-requires-2 c κs = search needs
+
+highest-of-requires : tie.Need-highest-of-requires
+highest-of-requires c κs = search needs
+
+highest-of-requires-2 : tie.Need-highest-of-requires-2
+highest-of-requires-2 c κs = search needs
+
+returns : tie.Need-returns
+returns c =
+    let lowest-of = c .before .before .before .lowest-of in
+    let args = c .before .before .before .before .args in
+    let lowest-of2 = c .before .before .lowest-of2 in
+    let highest-of = c .before .highest-of in
+    let south : toZ w32 (ofZ w32 (lowest-of .result)) ≡ lowestOf (args .lats .now) = toZ-ofZ (sfits-of (lowest-of .ok)) ∙ lowest-of .ensures in
+    let west : toZ w32 (ofZ w32 (lowest-of2 .result)) ≡ lowestOf (args .lons .now) = toZ-ofZ (sfits-of (lowest-of2 .ok)) ∙ lowest-of2 .ensures in
+    let north : toZ w32 (ofZ w32 (highest-of .result)) ≡ highestOf (args .lats .now) = toZ-ofZ (sfits-of (highest-of .ok)) ∙ highest-of .ensures in
+    let east : toZ w32 (ofZ w32 (c .highest-of2 .result)) ≡ highestOf (args .lons .now) = toZ-ofZ (sfits-of (c .highest-of2 .ok)) ∙ c .highest-of2 .ensures in
+    rw (south, west, north, east)
+
+pub box-of-spec : {M : Type 1} → statement M
+box-of-spec =
+    tie.close
+    (tie.spec
+    lowest-of-requires
+    lowest-of-requires-2
+    highest-of-requires
+    highest-of-requires-2
+    returns)

@@ -1,0 +1,67 @@
+-- `builder::boxes::highest_of` meets its contract. Assumes nothing.
+use Prim.Native.Nat.{_-_}
+use borrow.Author.Needs.{sfits-of, needs}
+use lib.ListN.{length}
+use mathlib.Core.Path.{_∙_, ap}
+use mir.{Facts.{toZ-ofZ}, Syntax.{w32}, Val.{toZ}}
+use native.Mathlib.Omega.{arith}
+use Rattle.builder.proofs.{Bests.{Choosing, highest-none, highest-starts, read-back, choose-goes, choose-ends}, boxes.highest_of.Statement.{statement}}
+use Rattle.builder.specs.Entries.{greater, highestOf}
+use Rattle.builder.proofs.boxes.highest_of.Tie as tie
+
+abbrev Inv-loop : tie.InvT-loop
+Inv-loop list greatest₀ i₀ greatest i = Choosing greater (highestOf list) list (toZ w32 greatest) i
+
+abbrev μ-loop : tie.MeasureT-loop
+μ-loop list greatest₀ i₀ greatest i = length list - i
+
+returns : tie.Need-returns Inv-loop μ-loop
+returns c = highest-none _ (c .if1 .taken)
+
+shared-slice-copy-out-greatest : tie.Need-shared-slice-copy-out-greatest Inv-loop μ-loop
+shared-slice-copy-out-greatest c = omega arith
+
+loop-holds : tie.Need-loop-holds Inv-loop μ-loop
+loop-holds c = read-back _ _ _ _ _ (record { sfits = c .greatest .given }) (highest-starts _ (c .before .if1 .left))
+
+mul-greater-of : tie.Need-mul-greater-of Inv-loop μ-loop
+mul-greater-of c = search needs
+
+shared-slice-copy-out-greater-of : tie.Need-shared-slice-copy-out-greater-of Inv-loop μ-loop
+shared-slice-copy-out-greater-of c = search needs
+
+greater-of-requires : tie.Need-greater-of-requires Inv-loop μ-loop
+greater-of-requires c κs = search needs
+
+add-i : tie.Need-add-i Inv-loop μ-loop
+add-i c = search needs
+
+loop-less : tie.Need-loop-less Inv-loop μ-loop
+loop-less c = search needs
+
+loop-again : tie.Need-loop-again Inv-loop μ-loop
+loop-again c =
+    let loop = c .before .before .before .loop in
+    let loop-test = c .before .before .loop-test in
+    let greater-of-arg = c .before .greater-of-arg in
+    read-back _ _ _ _ _ (sfits-of (c .greater-of .ok)) (choose-goes _ _ _ _ _ (loop .inv) (loop-test .taken) _ (c .greater-of .ensures ∙ ap (greater (toZ w32 (loop .greatest))) (toZ-ofZ (record { sfits = greater-of-arg .given }))))
+
+returns-2 : tie.Need-returns-2 Inv-loop μ-loop
+returns-2 c = choose-ends _ _ _ _ _ (c .before .loop .inv) (c .loop-test .left)
+
+pub highest-of-spec : {M : Type 1} → statement M
+highest-of-spec =
+    tie.close
+    (tie.spec
+    Inv-loop
+    μ-loop
+    returns
+    shared-slice-copy-out-greatest
+    loop-holds
+    mul-greater-of
+    shared-slice-copy-out-greater-of
+    greater-of-requires
+    add-i
+    loop-less
+    loop-again
+    returns-2)

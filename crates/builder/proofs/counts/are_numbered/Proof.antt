@@ -1,0 +1,70 @@
+-- `builder::counts::are_numbered` meets its contract. Assumes nothing.
+use Prim.Native.Nat.{_-_}
+use borrow.Author.Needs.{needs}
+use lib.ListN.{length}
+use Rattle.builder.proofs.{Counting.{Numbering, numbers-start, number-bad, number-good, numbers-end}, counts.are_numbered.Statement.{statement}}
+use Rattle.builder.proofs.counts.are_numbered.Tie as tie
+
+abbrev Inv-loop : tie.InvT-loop
+Inv-loop names yards i₀ i = Numbering names yards i
+
+abbrev μ-loop : tie.MeasureT-loop
+μ-loop names yards i₀ i = length yards - i
+
+loop-holds : tie.Need-loop-holds Inv-loop μ-loop
+loop-holds c = numbers-start _ _
+
+sub-loop : tie.Need-sub-loop Inv-loop μ-loop
+sub-loop c = c .loop .inv .index
+
+add-values : tie.Need-add-values Inv-loop μ-loop
+add-values c = search needs
+
+mul-values : tie.Need-mul-values Inv-loop μ-loop
+mul-values c = search needs
+
+shared-slice-read-values : tie.Need-shared-slice-read-values Inv-loop μ-loop
+shared-slice-read-values c = search needs
+
+returns : tie.Need-returns Inv-loop μ-loop
+returns c =
+    let args = c .before .before .before .before .args in
+    let loop = c .before .before .before .loop in
+    let loop-test = c .before .before .loop-test in
+    number-bad (args .names) (args .yards .now) (loop .i) (loop .inv) (loop-test .taken) (c .if1 .taken)
+
+add-i : tie.Need-add-i Inv-loop μ-loop
+add-i c = search needs
+
+loop-less : tie.Need-loop-less Inv-loop μ-loop
+loop-less c = search needs
+
+loop-again : tie.Need-loop-again Inv-loop μ-loop
+loop-again c =
+    let args = c .before .before .before .before .args in
+    let loop = c .before .before .before .loop in
+    let loop-test = c .before .before .loop-test in
+    number-good (args .names) (args .yards .now) (loop .i) (loop .inv) (loop-test .taken) (c .if1 .left)
+
+returns-2 : tie.Need-returns-2 Inv-loop μ-loop
+returns-2 c =
+    let args = c .before .before .args in
+    let loop = c .before .loop in
+    numbers-end (args .names) (args .yards .now) (loop .i) (loop .inv) (c .loop-test .left)
+
+pub are-numbered-spec : {M : Type 1} → statement M
+are-numbered-spec =
+    tie.close
+    (tie.spec
+    Inv-loop
+    μ-loop
+    loop-holds
+    sub-loop
+    add-values
+    mul-values
+    shared-slice-read-values
+    returns
+    add-i
+    loop-less
+    loop-again
+    returns-2)

@@ -1,0 +1,60 @@
+-- `builder::put::put_masked` meets its contract. Assumes nothing.
+use Prim.Native.Nat.{_-_}
+use borrow.Author.Needs.{needs}
+use lib.ListN.{length}
+use native.Mathlib.Omega.{arith}
+use Rattle.builder.proofs.{Puts.{Putting, put-starts, put-goes, put-ends}, put.put_masked.Statement.{statement}}
+use Rattle.header.specs.Utf8.{unmasked}
+use Rattle.builder.proofs.put.put_masked.Tie as tie
+
+abbrev Inv-loop : tie.InvT-loop
+Inv-loop out₀ place bytes next₀ i₀ out next i = Putting unmasked out₀ place bytes out next i
+
+abbrev μ-loop : tie.MeasureT-loop
+μ-loop out₀ place bytes next₀ i₀ out next i = length bytes - i
+
+loop-holds : tie.Need-loop-holds Inv-loop μ-loop
+loop-holds c = put-starts _ _ _ _
+
+shared-slice-read-put-byte : tie.Need-shared-slice-read-put-byte Inv-loop μ-loop
+shared-slice-read-put-byte c = search needs
+
+put-byte-requires : tie.Need-put-byte-requires Inv-loop μ-loop
+put-byte-requires c κs =
+    let loop = c .before .before .before .loop in
+    let pre = c .before .before .before .before .before .before .pre in
+    omega (arith, loop .inv .next-is, loop .inv .index, pre)
+
+add-i : tie.Need-add-i Inv-loop μ-loop
+add-i c = search needs
+
+loop-less : tie.Need-loop-less Inv-loop μ-loop
+loop-less c = search needs
+
+loop-again : tie.Need-loop-again Inv-loop μ-loop
+loop-again c =
+    let loop = c .before .before .before .before .before .before .loop in
+    let loop-test = c .before .before .before .before .before .loop-test in
+    let put-byte = c .before .before .put-byte in
+    put-goes _ _ _ _ _ _ _ _ _ (loop .inv) (loop-test .taken) (put-byte .ensures)
+
+same-length : tie.Need-same-length Inv-loop μ-loop
+same-length c = c .before .loop .inv .left .size
+
+returns : tie.Need-returns Inv-loop μ-loop
+returns c = put-ends _ _ _ _ _ _ _ (c .before .loop .inv) (c .loop-test .left)
+
+pub put-masked-spec : {M : Type 1} → statement M
+put-masked-spec =
+    tie.close
+    (tie.spec
+    Inv-loop
+    μ-loop
+    loop-holds
+    shared-slice-read-put-byte
+    put-byte-requires
+    add-i
+    loop-less
+    loop-again
+    same-length
+    returns)

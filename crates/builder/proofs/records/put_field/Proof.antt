@@ -1,0 +1,49 @@
+-- `builder::records::put_field` meets its contract. Assumes nothing.
+use borrow.Author.Needs.{needs}
+use Rattle.builder.proofs.{Inlines.{field-inline, field-word}, records.put_field.Statement.{statement}}
+use Rattle.builder.proofs.records.put_field.Tie as tie
+
+put-text-requires : tie.Need-put-text-requires
+put-text-requires c κs = search needs
+
+same-length : tie.Need-same-length
+same-length c = search needs
+
+returns : tie.Need-returns
+returns c =
+    let args = c .before .before .before .before .before .before .before .args in
+    let if1 = c .before .before .before .before .if1 in
+    let put-text = c .before .before .put-text in
+    field-inline (args .records) (args .word) (args .text .now) (if1 .taken) (put-text .ensures)
+
+add-put-varint : tie.Need-add-put-varint
+add-put-varint c = search needs
+
+add-put-varint-2 : tie.Need-add-put-varint-2
+add-put-varint-2 c = search needs
+
+put-varint-requires : tie.Need-put-varint-requires
+put-varint-requires c κs = search needs
+
+same-length-2 : tie.Need-same-length-2
+same-length-2 c = search needs
+
+returns-2 : tie.Need-returns-2
+returns-2 c =
+    let args = c .before .before .before .before .before .before .before .args in
+    let if1 = c .before .before .before .before .if1 in
+    let put-varint = c .before .before .put-varint in
+    field-word (args .records) (args .word) (args .text .now) (if1 .left) (put-varint .ensures)
+
+pub put-field-spec : {M : Type 1} → statement M
+put-field-spec =
+    tie.close
+    (tie.spec
+    put-text-requires
+    same-length
+    returns
+    add-put-varint
+    add-put-varint-2
+    put-varint-requires
+    same-length-2
+    returns-2)

@@ -1,0 +1,93 @@
+-- `builder::texts::put_texts` meets its contract. Assumes nothing.
+use Prim.Native.Nat.{_-_}
+use borrow.Author.Needs.{needs}
+use lib.ListN.{length}
+use native.Mathlib.Omega.{arith}
+use Rattle.builder.proofs.{Inlines.{Inlining, inlines-start, text-in, text-room, inlined-few, inlines-go, inline-ends}, texts.put_texts.Statement.{statement}}
+use Rattle.builder.specs.Metadata.{inlined}
+use Rattle.builder.proofs.texts.put_texts.Tie as tie
+
+abbrev Inv-loop : tie.InvT-loop
+Inv-loop out₀ place lengths texts next₀ at₀ i₀ out next at i = Inlining (λ k. inlined) out₀ place lengths texts out next at i
+
+abbrev μ-loop : tie.MeasureT-loop
+μ-loop out₀ place lengths texts next₀ at₀ i₀ out next at i = length lengths - i
+
+loop-holds : tie.Need-loop-holds Inv-loop μ-loop
+loop-holds c = inlines-start (λ k. inlined) _ _ _ _ (c .before .before .before .pre .0) (c .before .before .before .pre .1)
+
+mul-size : tie.Need-mul-size Inv-loop μ-loop
+mul-size c = search needs
+
+shared-slice-read-size : tie.Need-shared-slice-read-size Inv-loop μ-loop
+shared-slice-read-size c = search needs
+
+cast-size : tie.Need-cast-size Inv-loop μ-loop
+cast-size c = omega (arith, c .shared-slice-known3 .given (c .before .before .loop .i))
+
+add-end : tie.Need-add-end Inv-loop μ-loop
+add-end c =
+    let args = c .before .before .before .before .before .before .args in
+    let loop = c .before .before .loop in
+    let loop-test = c .before .loop-test in
+    omega (arith, text-in (λ k. inlined) (args .out .now) (args .place) (args .lengths .now) (args .texts .now) (loop .out) (loop .next) (loop .at) (loop .i) (loop .inv) (loop-test .taken))
+
+sub-put-text : tie.Need-sub-put-text Inv-loop μ-loop
+sub-put-text c = omega arith
+
+part-put-text-start : tie.Need-part-put-text-start Inv-loop μ-loop
+part-put-text-start c = omega arith
+
+part-put-text-end : tie.Need-part-put-text-end Inv-loop μ-loop
+part-put-text-end c =
+    let args = c .before .before .before .before .before .before .before .args in
+    let loop = c .before .before .before .loop in
+    let loop-test = c .before .before .loop-test in
+    omega (arith, text-in (λ k. inlined) (args .out .now) (args .place) (args .lengths .now) (args .texts .now) (loop .out) (loop .next) (loop .at) (loop .i) (loop .inv) (loop-test .taken))
+
+put-text-requires : tie.Need-put-text-requires Inv-loop μ-loop
+put-text-requires c κs =
+    let args = c .before .before .before .before .before .before .before .before .args in
+    let loop = c .before .before .before .before .loop in
+    let loop-test = c .before .before .before .loop-test in
+    text-room (λ k. inlined) (args .out .now) (args .place) (args .lengths .now) (args .texts .now) (loop .out) (loop .next) (loop .at) (loop .i) (loop .inv) (loop-test .taken)
+
+add-i : tie.Need-add-i Inv-loop μ-loop
+add-i c = search needs
+
+loop-less : tie.Need-loop-less Inv-loop μ-loop
+loop-less c = search needs
+
+loop-again : tie.Need-loop-again Inv-loop μ-loop
+loop-again c =
+    let loop = c .before .before .before .before .before .before .before .loop in
+    let loop-test = c .before .before .before .before .before .before .loop-test in
+    let put-text = c .before .before .put-text in
+    inlines-go (λ k. inlined) _ _ _ _ _ _ _ _ (loop .inv) (loop-test .taken) (λ k. inlined-few) _ _ (put-text .ensures)
+
+same-length : tie.Need-same-length Inv-loop μ-loop
+same-length c = c .before .loop .inv .left .size
+
+returns : tie.Need-returns Inv-loop μ-loop
+returns c = inline-ends _ _ _ _ _ _ _ _ (c .before .loop .inv) (c .loop-test .left)
+
+pub put-texts-spec : {M : Type 1} → statement M
+put-texts-spec =
+    tie.close
+    (tie.spec
+    Inv-loop
+    μ-loop
+    loop-holds
+    mul-size
+    shared-slice-read-size
+    cast-size
+    add-end
+    sub-put-text
+    part-put-text-start
+    part-put-text-end
+    put-text-requires
+    add-i
+    loop-less
+    loop-again
+    same-length
+    returns)

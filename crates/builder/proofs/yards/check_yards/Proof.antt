@@ -1,0 +1,115 @@
+-- `builder::yards::check_yards` meets its contract. Assumes nothing.
+use Prim.Native.Nat.{_+_, _-_}
+use borrow.Author.Needs.{needs}
+use lib.ListN.{length}
+use native.Mathlib.Omega.{arith}
+use Rattle.builder.proofs.{Checking.{Checking, check-starts, check-refused, check-goes, check-ends, drawn-tag}, yards.check_yards.Statement.{statement}}
+use Rattle.builder.proofs.yards.check_yards.Tie as tie
+
+abbrev Inv-loop : tie.InvT-loop
+Inv-loop yards lats lons lat₀ lon₀ i₀ lat lon i = Checking yards lats lons lat lon i
+
+abbrev μ-loop : tie.MeasureT-loop
+μ-loop yards lats lons lat₀ lon₀ i₀ lat lon i = length yards - i
+
+loop-holds : tie.Need-loop-holds Inv-loop μ-loop
+loop-holds c = check-starts _ _ _
+
+sub-loop : tie.Need-sub-loop Inv-loop μ-loop
+sub-loop c = c .loop .inv .index
+
+mul-tall : tie.Need-mul-tall Inv-loop μ-loop
+mul-tall c = search needs
+
+shared-slice-read-tall : tie.Need-shared-slice-read-tall Inv-loop μ-loop
+shared-slice-read-tall c = search needs
+
+cast-tall : tie.Need-cast-tall Inv-loop μ-loop
+cast-tall c = omega (arith, c .shared-slice-known2 .given (c .before .before .loop .i))
+
+add-wide : tie.Need-add-wide Inv-loop μ-loop
+add-wide c = search needs
+
+mul-wide : tie.Need-mul-wide Inv-loop μ-loop
+mul-wide c = search needs
+
+shared-slice-read-wide : tie.Need-shared-slice-read-wide Inv-loop μ-loop
+shared-slice-read-wide c = search needs
+
+cast-wide : tie.Need-cast-wide Inv-loop μ-loop
+cast-wide c = omega (arith, c .shared-slice-known3 .given (c .before .before .before .loop .i + 1))
+
+check-part-requires : tie.Need-check-part-requires Inv-loop μ-loop
+check-part-requires c κs = (c .before .before .before .loop .inv .tall, c .before .before .before .loop .inv .wide)
+
+enum-told : tie.Need-enum-told Inv-loop μ-loop
+enum-told c = search needs
+
+enum-known-checked : tie.Need-enum-known-checked Inv-loop μ-loop
+enum-known-checked c = search needs
+
+returns : tie.Need-returns Inv-loop μ-loop
+returns c =
+    let args = c .before .before .before .before .before .before .before .before .before .args in
+    let loop = c .before .before .before .before .before .before .before .loop in
+    let loop-test = c .before .before .before .before .before .before .loop-test in
+    let check-part = c .before .before .before .check-part in
+    let checked = c .before .checked in
+    check-refused (args .yards .now) (args .lats .now) (args .lons .now) (loop .lat) (loop .lon) (loop .i) (loop .inv) (loop-test .taken) _ (check-part .ensures) _ (checked .given .1)
+
+next-part-requires : tie.Need-next-part-requires Inv-loop μ-loop
+next-part-requires c κs =
+    let loop = c .before .before .before .before .before .before .loop in
+    loop .inv .tall
+
+next-part-requires-2 : tie.Need-next-part-requires-2 Inv-loop μ-loop
+next-part-requires-2 c κs =
+    let loop = c .before .before .before .before .before .before .before .loop in
+    loop .inv .wide
+
+add-i : tie.Need-add-i Inv-loop μ-loop
+add-i c = search needs
+
+loop-less : tie.Need-loop-less Inv-loop μ-loop
+loop-less c = search needs
+
+loop-again : tie.Need-loop-again Inv-loop μ-loop
+loop-again c =
+    let args = c .before .before .before .before .before .before .before .before .before .before .args in
+    let loop = c .before .before .before .before .before .before .before .before .loop in
+    let loop-test = c .before .before .before .before .before .before .before .loop-test in
+    let check-part = c .before .before .before .before .check-part in
+    let next-part = c .before .next-part in
+    check-goes (args .yards .now) (args .lats .now) (args .lons .now) (loop .lat) (loop .lon) (loop .i) (loop .inv) (loop-test .taken) (check-part .result) (check-part .ensures) (drawn-tag (check-part .result) (enum-told (c .before .before .before))) _ _ (next-part .ensures) (c .next-part2 .ensures)
+
+returns-2 : tie.Need-returns-2 Inv-loop μ-loop
+returns-2 c =
+    let args = c .before .before .before .args in
+    let loop = c .before .loop in
+    check-ends (args .yards .now) (args .lats .now) (args .lons .now) (loop .lat) (loop .lon) (loop .i) (loop .inv) (c .loop-test .left)
+
+pub check-yards-spec : {M : Type 1} → statement M
+check-yards-spec =
+    tie.close
+    (tie.spec
+    Inv-loop
+    μ-loop
+    loop-holds
+    sub-loop
+    mul-tall
+    shared-slice-read-tall
+    cast-tall
+    add-wide
+    mul-wide
+    shared-slice-read-wide
+    cast-wide
+    check-part-requires
+    enum-told
+    enum-known-checked
+    returns
+    next-part-requires
+    next-part-requires-2
+    add-i
+    loop-less
+    loop-again
+    returns-2)

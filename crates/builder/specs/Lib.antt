@@ -1,0 +1,6 @@
+pub mod Yards
+pub mod Sharing
+pub mod Metadata
+pub mod Entries
+pub mod Borders
+pub mod File

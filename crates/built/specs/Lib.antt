@@ -1,0 +1,4 @@
+pub mod Opens
+pub mod Seats
+pub mod Finds
+pub mod Laid

@@ -1,0 +1,25 @@
+-- 27, test by test. Assumes nothing.
+use Prim.Native.Nat.{ℕ, _≤_, _<_}
+use borrow.Author.Tests.{le-leb, lt-leb, le-ltb, lt-ltb}
+use lib.Dec.{ltb, leb}
+use mathlib.Core.{Bool.{Bool, true, false, _&&_}, Path.{_≡_, refl}}
+use native.Mathlib.Omega.{arith}
+use Rattle.header.specs.Header.{isKind}
+
+module _ (precision version : ℕ) (kind : Bool) where
+  abbrev good : Bool
+  good = (leb 1 precision && leb precision 31) && (ltb version 2 && kind)
+
+  pub known-low : precision < 1 → false ≡ good
+  known-low h = rw (lt-leb 1 precision h) refl
+
+  module _ (low : 1 ≤ precision) where
+    pub known-high : 31 < precision → false ≡ good
+    known-high h = rw (le-leb 1 precision low, lt-leb precision 31 h) refl
+
+    module _ (high : precision ≤ 31) where
+      pub known-version : 2 ≤ version → false ≡ good
+      known-version h = rw (le-leb 1 precision low, le-leb precision 31 high, le-ltb version 2 h) refl
+
+      pub known-kind : version < 2 → (r : Bool) → r ≡ kind → r ≡ good
+      known-kind h r e = rw (le-leb 1 precision low, le-leb precision 31 high, lt-ltb version 2 h) e

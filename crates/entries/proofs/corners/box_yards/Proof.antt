@@ -1,0 +1,92 @@
+-- `entries::corners::box_yards` meets its contract. Assumes nothing.
+use Prim.Native.Nat.{_+_, _-_}
+use lib.ListN.{length}
+use borrow.Author.Needs.{needs}
+use native.Mathlib.Omega.{arith}
+use Rattle.entries.proofs.{Cornered.{Boxing, box-starts, box-room, box-goes, box-ends}, corners.box_yards.Statement.{statement}}
+use Rattle.entries.proofs.corners.box_yards.Tie as tie
+
+abbrev Inv-loop : tie.InvT-loop
+Inv-loop yards lats lons boxes₀ lat₀ lon₀ i₀ boxes lat lon i = Boxing yards lats lons boxes₀ boxes lat lon i
+
+abbrev μ-loop : tie.MeasureT-loop
+μ-loop yards lats lons boxes₀ lat₀ lon₀ i₀ boxes lat lon i = length yards - i
+
+loop-holds : tie.Need-loop-holds Inv-loop μ-loop
+loop-holds c = box-starts _ _ _ _
+
+sub-loop : tie.Need-sub-loop Inv-loop μ-loop
+sub-loop c = c .loop .inv .index
+
+add-next : tie.Need-add-next Inv-loop μ-loop
+add-next c = search needs
+
+mul-tall : tie.Need-mul-tall Inv-loop μ-loop
+mul-tall c = search needs
+
+shared-slice-read-tall : tie.Need-shared-slice-read-tall Inv-loop μ-loop
+shared-slice-read-tall c = search needs
+
+cast-tall : tie.Need-cast-tall Inv-loop μ-loop
+cast-tall c = omega (arith, c .shared-slice-known2 .given (c .before .before .loop .i))
+
+add-wide : tie.Need-add-wide Inv-loop μ-loop
+add-wide c = search needs
+
+mul-wide : tie.Need-mul-wide Inv-loop μ-loop
+mul-wide c = search needs
+
+shared-slice-read-wide : tie.Need-shared-slice-read-wide Inv-loop μ-loop
+shared-slice-read-wide c = search needs
+
+cast-wide : tie.Need-cast-wide Inv-loop μ-loop
+cast-wide c = omega (arith, c .shared-slice-known3 .given (c .before .before .before .loop .i + 1))
+
+box-part-requires : tie.Need-box-part-requires Inv-loop μ-loop
+box-part-requires c κs = (c .before .before .before .loop .inv .tall, c .before .before .before .loop .inv .wide)
+
+put-corners-requires : tie.Need-put-corners-requires Inv-loop μ-loop
+put-corners-requires c κs = box-room _ _ _ _ _ _ _ _ (c .before .before .before .before .before .loop .inv) (c .before .before .before .before .loop-test .taken) (c .before .before .before .before .before .before .before .pre)
+
+next-part-requires : tie.Need-next-part-requires Inv-loop μ-loop
+next-part-requires c κs = c .before .before .before .before .before .before .before .loop .inv .tall
+
+next-part-requires-2 : tie.Need-next-part-requires-2 Inv-loop μ-loop
+next-part-requires-2 c κs = c .before .before .before .before .before .before .before .before .loop .inv .wide
+
+loop-less : tie.Need-loop-less Inv-loop μ-loop
+loop-less c = search needs
+
+loop-again : tie.Need-loop-again Inv-loop μ-loop
+loop-again c = box-goes _ _ _ _ _ _ _ _ (c .before .before .before .before .before .before .before .before .before .loop .inv) (c .before .before .before .before .before .before .before .before .loop-test .taken) _ (c .before .before .before .before .before .box-part .ensures) _ (c .before .before .before .put-corners .ensures) _ _ (c .before .next-part .ensures) (c .next-part2 .ensures)
+
+same-length : tie.Need-same-length Inv-loop μ-loop
+same-length c = c .before .loop .inv .size-is
+
+returns : tie.Need-returns Inv-loop μ-loop
+returns c = box-ends _ _ _ _ _ _ _ _ (c .before .loop .inv) (c .loop-test .left)
+
+pub box-yards-spec : {M : Type 1} → statement M
+box-yards-spec =
+    tie.close
+    (tie.spec
+    Inv-loop
+    μ-loop
+    loop-holds
+    sub-loop
+    add-next
+    mul-tall
+    shared-slice-read-tall
+    cast-tall
+    add-wide
+    mul-wide
+    shared-slice-read-wide
+    cast-wide
+    box-part-requires
+    put-corners-requires
+    next-part-requires
+    next-part-requires-2
+    loop-less
+    loop-again
+    same-length
+    returns)

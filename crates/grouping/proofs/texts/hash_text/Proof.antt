@@ -1,0 +1,48 @@
+-- `grouping::texts::hash_text` meets its contract. Assumes nothing.
+use Rattle.grouping.proofs.{Walks.{Hashing, hash-starts, hash-goes, hash-ends}, texts.hash_text.Statement.{statement}}
+use lib.ListN.{length}
+use Prim.Native.Nat.{_-_}
+use native.Mathlib.Omega.{arith}
+use borrow.Author.Needs.{needs}
+use Rattle.grouping.proofs.texts.hash_text.Tie as tie
+
+abbrev Inv-loop : tie.InvT-loop
+Inv-loop seed text hash₀ i₀ hash i = Hashing seed text hash i
+
+abbrev μ-loop : tie.MeasureT-loop
+μ-loop seed text hash₀ i₀ hash i = length text - i
+
+loop-holds : tie.Need-loop-holds Inv-loop μ-loop
+loop-holds c = hash-starts _ _
+
+shared-slice-read-hash-byte : tie.Need-shared-slice-read-hash-byte Inv-loop μ-loop
+shared-slice-read-hash-byte c = search needs
+
+hash-byte-requires : tie.Need-hash-byte-requires Inv-loop μ-loop
+hash-byte-requires c κs = search needs
+
+add-i : tie.Need-add-i Inv-loop μ-loop
+add-i c = search needs
+
+loop-less : tie.Need-loop-less Inv-loop μ-loop
+loop-less c = search needs
+
+loop-again : tie.Need-loop-again Inv-loop μ-loop
+loop-again c = hash-goes _ _ _ _ (c .before .before .before .loop .inv) (c .before .before .loop-test .taken) _ (c .hash-byte .ensures)
+
+returns : tie.Need-returns Inv-loop μ-loop
+returns c = hash-ends _ _ _ _ (c .before .loop .inv) (c .loop-test .left)
+
+pub hash-text-spec : {M : Type 1} → statement M
+hash-text-spec =
+    tie.close
+    (tie.spec
+    Inv-loop
+    μ-loop
+    loop-holds
+    shared-slice-read-hash-byte
+    hash-byte-requires
+    add-i
+    loop-less
+    loop-again
+    returns)

@@ -1,0 +1,63 @@
+-- `layout::records::least_layout` meets its contract, by the steps that rise and stay under.
+-- Assumes nothing.
+use Prim.Native.Nat.{_-_, _^_}
+use native.Mathlib.Omega.{arith}
+use Rattle.layout.proofs.records.{Stepping.{Rising, starts, goes-on, grows, fits, too-long}, least_layout.Statement.{statement}}
+use Rattle.layout.proofs.records.least_layout.Tie as tie
+
+abbrev Inv-loop : tie.InvT-loop
+Inv-loop inline words records₀ records = Rising inline words records
+
+abbrev μ-loop : tie.MeasureT-loop
+μ-loop inline words records₀ records = 2 ^ 32 - records
+
+loop-holds : tie.Need-loop-holds Inv-loop μ-loop
+loop-holds c = starts _ _
+
+next-length-requires : tie.Need-next-length-requires Inv-loop μ-loop
+next-length-requires c κs = omega arith
+
+returns : tie.Need-returns Inv-loop μ-loop
+returns c =
+    let loop = c .before .before .before .loop in
+    let next-length = c .before .next-length in
+    let loop-test = c .before .before .loop-test in
+    let loop = loop in
+    let next-length = next-length in
+    let loop-test = loop-test in
+    fits _ _ _ (loop .inv) _ (next-length .ensures) (c .if1 .taken) (loop-test .taken)
+
+loop-less : tie.Need-loop-less Inv-loop μ-loop
+loop-less c =
+    let loop = c .before .before .before .loop in
+    let next-length = c .before .next-length in
+    let loop-test = c .before .before .loop-test in
+    let loop = loop in
+    let next-length = next-length in
+    let loop-test = loop-test in
+    let more = grows _ _ _ (loop .inv) _ (next-length .ensures) (c .if1 .left) in
+    omega (arith, more, loop-test .taken)
+
+loop-again : tie.Need-loop-again Inv-loop μ-loop
+loop-again c =
+    let loop = c .before .before .before .loop in
+    let next-length = c .before .next-length in
+    let loop = loop in
+    let next-length = next-length in
+    goes-on _ _ _ (loop .inv) _ (next-length .ensures)
+
+returns-2 : tie.Need-returns-2 Inv-loop μ-loop
+returns-2 c = too-long _ _ _ (c .before .loop .inv) (c .loop-test .left)
+
+pub least-layout-spec : {M : Type 1} → statement M
+least-layout-spec =
+    tie.close
+    (tie.spec
+    Inv-loop
+    μ-loop
+    loop-holds
+    next-length-requires
+    returns
+    loop-less
+    loop-again
+    returns-2)

@@ -1,0 +1,2 @@
+// The metadata section of a plan's values, laid out.
+pub mod section;
