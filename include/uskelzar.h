@@ -23,8 +23,8 @@
 #include <stdint.h>
 
 /* ---- the release of this header, and of the archive that goes with it */
-#define USKELZAR_RELEASE "0.2.0"
-#define USKELZAR_RELEASE_NUMBER 200 /* major * 10,000 + minor * 100 + patch */
+#define USKELZAR_RELEASE "0.3.0"
+#define USKELZAR_RELEASE_NUMBER 300 /* major * 10,000 + minor * 100 + patch */
 
 #ifdef __cplusplus
 extern "C" {
