@@ -41,7 +41,7 @@ fn draw_nothing(
     )
 }
 
-pub fn draw(
+pub(crate) fn draw(
     version: u8,
     yards: &[u32],
     lats: &[i32],

@@ -64,7 +64,7 @@ fn put_file(
 }
 
 // The metadata laid out, and the file.
-pub fn fill(
+pub(crate) fn fill(
     asked: Asked,
     need: Need,
     yards: &[u32],

@@ -46,7 +46,7 @@ pub fn data_room(out: usize, bytes: usize) -> usize
     up_to(bytes)
 }
 
-pub fn sum_of(lengths: &[u32]) -> usize
+pub(crate) fn sum_of(lengths: &[u32]) -> usize
     requires { ⌜ sumOf (now lengths) < 2 ^ 60 ⌝ }
     ensures { λ r. ⌜ r ≡ sumOf (now (lengths .entry)) ⌝ }
 {
@@ -59,7 +59,7 @@ pub fn sum_of(lengths: &[u32]) -> usize
     sum
 }
 
-pub fn need_of(names: usize, words: usize, lengths: &[u32]) -> Need
+pub(crate) fn need_of(names: usize, words: usize, lengths: &[u32]) -> Need
     requires { ⌜ (names ≤ 255) × (words / 4 ≤ 4096) × (names + 1 + names * (words / 4) ≤ length (now lengths)) × (sumOf (take (names + 1 + names * (words / 4)) (now lengths)) < 2 ^ 60) ⌝ }
     ensures { λ r. ⌜ r ≡ needOf names words (now (lengths .entry)) ⌝ }
 {
@@ -112,7 +112,7 @@ fn has_lists(work: Work, count: usize, fields: usize, bytes: usize) -> bool
     4 * count <= work.boxes
 }
 
-pub fn has_room(work: Work, need: Need) -> bool
+pub(crate) fn has_room(work: Work, need: Need) -> bool
     requires { ⌜ (need .count ≤ 4096) × (need .front ≤ need .all) × (need .behind ≤ need .sum) ⌝ }
     ensures { λ r. ⌜ r ≡ enoughFor work need ⌝ }
 {

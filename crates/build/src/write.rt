@@ -74,7 +74,7 @@ fn put_sections(
 }
 
 // The whole file, over zeros. The first lengths and texts are those of the names and the notice.
-pub fn write_file(
+pub(crate) fn write_file(
     form: Form,
     front: &[u32],
     strings: &[u8],
