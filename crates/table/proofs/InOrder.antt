@@ -25,7 +25,7 @@ turn-alike room go go′ same (Stopped mark least) hits = refl
 turn-alike room go go′ same (Refused n) hits = refl
 
 -- ---- an early stop
-rises : (x a b : ℤ) → ltZ x a ≡ true → leZ a b ≡ true → ltZ x b ≡ true
+pub rises : (x a b : ℤ) → ltZ x a ≡ true → leZ a b ≡ true → ltZ x b ≡ true
 rises (pos x) (pos a) (pos b) h k = lt-ltb x b (omega (arith, ltb-true x a h, leb-true a b k))
 rises (pos x) (pos a) (negsuc b) h k = differ k
 rises (pos x) (negsuc a) b h k = differ h

@@ -12,3 +12,4 @@ pub mod Unstopped
 pub mod Ordered
 pub mod GivenRows
 pub mod Passing
+pub mod Usual

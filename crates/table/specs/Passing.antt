@@ -5,10 +5,12 @@ use lib.ListN.{length}
 use Rattle.verdict.specs.Verdict.{Judgement}
 use Rattle.border.specs.declared.place.Point.{Point}
 use Rattle.numbers.specs.{Answer.{found}, Point.{signedOf}, Varint.{Numeral, readingOf}}
-use Rattle.table.specs.{Rest.{restMark}, Rows.{after, startAt, rowBy, rowsFrom}, Search.{seek}, Table.{entryBy, isAbove, holds}}
-use Rattle.table.specs.declared.{hits.Hit.{Hit}, pass.{Pass.{Pass, the-variants.{On, Stop}}, Short.{Short, the-variants.{Is, Other}}, Skip.{Skip}}}
+use Rattle.table.specs.{Rest.{restMark}, Rows.{after, startAt, rowBy, rowsFrom}, Search.{seek}, Table.{boundsOf, entryBy, isAbove, holds}}
+use Rattle.table.specs.declared.{hits.Hit.{Hit}, pass.{Bounded.{Bounded, the-variants.{By}}, Pair.{Pair, the-variants.{Are}}, Pass.{Pass, the-variants.{On, Stop}}, Short.{Short, the-variants.{Is, Other}}, Skip.{Skip}}}
 use Rattle.table.specs.declared.{rows.{Cursor.{Cursor}, Row.{Row}}, table.{Bounds.{Bounds}, Entry.{Entry}}}
 use Rattle.table.specs.declared.pass.Skip.the-variants as S
+use Rattle.table.specs.declared.pass.Pair.the-variants as P
+use Rattle.table.specs.declared.pass.Bounded.the-variants as B
 
 -- a number of at most three bytes, which both readings find
 pub record Near (file : List ℕ) (place : ℕ) (number : Numeral) : Type 0 where
@@ -18,6 +20,34 @@ pub record Near (file : List ℕ) (place : ℕ) (number : Numeral) : Type 0 wher
 abbrev pub Shortly : List ℕ → ℕ → Short → Type 0
 Shortly file place (Is number) = Near file place number
 Shortly file place Other = Unit
+
+-- two such numbers, one behind the other
+abbrev pub Paired : List ℕ → ℕ → Pair → Type 0
+Paired file place (Are first second) = Near file place first × Near file (first .place) second
+Paired file place P.Other = Unit
+
+-- four numbers are the bounds of a box, and end at a place
+pub record Bounding (file : List ℕ) (place : ℕ) (bounds : Bounds) (next : ℕ) : Type 0 where
+  pub south : Numeral
+  pub west : Numeral
+  pub north : Numeral
+  pub east : Numeral
+  pub south-there : Near file place south
+  pub west-there : Near file (south .place) west
+  pub north-there : Near file (west .place) north
+  pub east-there : Near file (north .place) east
+  pub are : bounds ≡ boundsOf (south .value) (west .value) (north .value) (east .value)
+  pub then : next ≡ east .place
+
+-- a box that is neither above the location nor holds it
+abbrev pub MissedAt : List ℕ → Point → ℕ → Bounded → Type 0
+MissedAt file fix place (By bounds next) = Bounding file place bounds next × (isAbove bounds fix ≡ false) × (holds bounds fix ≡ false)
+MissedAt file fix place B.Other = Unit
+
+-- a box above the location
+abbrev pub AboveAt : List ℕ → Point → ℕ → Bounded → Type 0
+AboveAt file fix place (By bounds next) = Bounding file place bounds next × (isAbove bounds fix ≡ true)
+AboveAt file fix place B.Other = Unit
 
 -- the longitudes of a box stand at two places
 pub record Lons (file : List ℕ) (bounds : Bounds) (west east : ℕ) : Type 0 where

@@ -10,3 +10,4 @@ mod rest;
 pub mod rows;
 pub mod search;
 pub mod table;
+mod usual;

@@ -3,7 +3,7 @@
 ghost use mathlib.Core.{Path.{_≡_}, Bool.{true, false}};
 ghost use Prim.Native.Nat.{_+_, _<_, _≤_};
 ghost use lib.ListN.{length};
-ghost use Rattle.table.specs.{Passing.{Shortly, Lons, Passing, PassedOver, Skipping, SkippedOver}, Table.{holds}};
+ghost use Rattle.table.specs.{Passing.{Shortly, Paired, Lons, MissedAt, AboveAt, Passing, PassedOver, Skipping, SkippedOver}, Table.{holds}};
 use crate::rows::Cursor;
 use crate::rows::after;
 use crate::rows::row_of;
@@ -13,6 +13,9 @@ use crate::table::bounds_of;
 use crate::table::is_above;
 use crate::table::lat_below;
 use crate::table::lon_between;
+use crate::usual::bounds_at;
+use crate::usual::is_over;
+use crate::usual::is_under;
 use border::place::FixedLon;
 use border::place::Point;
 use numbers::point::signed;
@@ -21,9 +24,24 @@ use numbers::varint::Number;
 // Six numbers of at most three bytes each.
 const LONGEST: usize = 18;
 
+// Where the steps of an entry stand, behind four bounds of three bytes each.
+const STEPS: usize = 12;
+
 // A number of at most three bytes.
 pub(crate) enum Short {
     Is(Number),
+    Other,
+}
+
+// Two such numbers, one behind the other.
+pub(crate) enum Pair {
+    Are(Number, Number),
+    Other,
+}
+
+// A box by its bounds, and where they end.
+pub(crate) enum Bounded {
+    By { bounds: Bounds, next: usize },
     Other,
 }
 
@@ -71,6 +89,21 @@ fn short_at(file: &[u8], place: usize) -> Short
     Short::Other
 }
 
+fn pair_at(file: &[u8], place: usize) -> Pair
+    requires { ⌜ place + 5 < length (now file) ⌝ }
+    ensures { λ r. ⌜ Paired (now (file .entry)) place r ⌝ }
+{
+    let one = short_at(file, place);
+    let Short::Is(first) = one else {
+        return Pair::Other;
+    };
+    let other = short_at(file, first.place);
+    let Short::Is(second) = other else {
+        return Pair::Other;
+    };
+    Pair::Are(first, second)
+}
+
 // Whether a box that is not above the location may hold it. Its longitudes stand at two places and are worked out only where its upper latitude does not decide.
 fn may_hold(file: &[u8], bounds: Bounds, fix: Point, west: usize, east: usize) -> bool
     requires { ⌜ Lons (now file) bounds west east ⌝ }
@@ -94,42 +127,82 @@ fn may_hold(file: &[u8], bounds: Bounds, fix: Point, west: usize, east: usize) -
     )
 }
 
+// The box at a place, if it is neither above the location nor holds it.
+fn missed_at(file: &[u8], fix: Point, place: usize) -> Bounded
+    requires { ⌜ place + 17 < length (now file) ⌝ }
+    ensures { λ r. ⌜ MissedAt (now (file .entry)) fix place r ⌝ }
+{
+    if is_under(file, place, fix) {
+        let bounds = bounds_at(file, place);
+        return Bounded::By {
+            bounds,
+            next: place + STEPS,
+        };
+    }
+    let lower = pair_at(file, place);
+    let Pair::Are(south, west) = lower else {
+        return Bounded::Other;
+    };
+    let upper = pair_at(file, west.place);
+    let Pair::Are(north, east) = upper else {
+        return Bounded::Other;
+    };
+    let bounds = bounds_of(south.value, west.value, north.value, east.value);
+    if is_above(bounds, fix) {
+        return Bounded::Other;
+    }
+    if may_hold(file, bounds, fix, south.place, north.place) {
+        return Bounded::Other;
+    }
+    Bounded::By {
+        bounds,
+        next: east.place,
+    }
+}
+
+// The box at a place, if it is above the location.
+fn above_at(file: &[u8], fix: Point, place: usize) -> Bounded
+    requires { ⌜ place + 17 < length (now file) ⌝ }
+    ensures { λ r. ⌜ AboveAt (now (file .entry)) fix place r ⌝ }
+{
+    if is_over(file, place, fix) {
+        let bounds = bounds_at(file, place);
+        return Bounded::By {
+            bounds,
+            next: place + STEPS,
+        };
+    }
+    let lower = pair_at(file, place);
+    let Pair::Are(south, west) = lower else {
+        return Bounded::Other;
+    };
+    let upper = pair_at(file, west.place);
+    let Pair::Are(north, east) = upper else {
+        return Bounded::Other;
+    };
+    let bounds = bounds_of(south.value, west.value, north.value, east.value);
+    if is_above(bounds, fix) {
+        return Bounded::By {
+            bounds,
+            next: east.place,
+        };
+    }
+    Bounded::Other
+}
+
 // The turn of the row at a cursor.
 fn pass_row(file: &[u8], fix: Point, at: Cursor) -> Pass
     requires { ⌜ at .place + 17 < length (now file) ⌝ }
     ensures { λ r. ⌜ Passing (now (file .entry)) fix at r ⌝ }
 {
-    let first = short_at(file, at.place);
-    let Short::Is(south) = first else {
+    let missed = missed_at(file, fix, at.place);
+    let Bounded::By { bounds, next } = missed else {
         return Pass::Stop;
     };
-    let second = short_at(file, south.place);
-    let Short::Is(west) = second else {
+    let steps = pair_at(file, next);
+    let Pair::Are(metadata, polygon) = steps else {
         return Pass::Stop;
     };
-    let third = short_at(file, west.place);
-    let Short::Is(north) = third else {
-        return Pass::Stop;
-    };
-    let fourth = short_at(file, north.place);
-    let Short::Is(east) = fourth else {
-        return Pass::Stop;
-    };
-    let fifth = short_at(file, east.place);
-    let Short::Is(metadata) = fifth else {
-        return Pass::Stop;
-    };
-    let sixth = short_at(file, metadata.place);
-    let Short::Is(polygon) = sixth else {
-        return Pass::Stop;
-    };
-    let bounds = bounds_of(south.value, west.value, north.value, east.value);
-    if is_above(bounds, fix) {
-        return Pass::Stop;
-    }
-    if may_hold(file, bounds, fix, south.place, north.place) {
-        return Pass::Stop;
-    }
     let entry = Entry {
         bounds,
         metadata: metadata.value,
@@ -145,36 +218,16 @@ fn skip_row(file: &[u8], fix: Point, place: usize) -> Skip
     requires { ⌜ place + 17 < length (now file) ⌝ }
     ensures { λ r. ⌜ Skipping (now (file .entry)) fix place r ⌝ }
 {
-    let first = short_at(file, place);
-    let Short::Is(south) = first else {
+    let above = above_at(file, fix, place);
+    let Bounded::By { bounds: _, next } = above else {
         return Skip::Stop;
     };
-    let second = short_at(file, south.place);
-    let Short::Is(west) = second else {
+    let steps = pair_at(file, next);
+    let Pair::Are(_, polygon) = steps else {
         return Skip::Stop;
     };
-    let third = short_at(file, west.place);
-    let Short::Is(north) = third else {
-        return Skip::Stop;
-    };
-    let fourth = short_at(file, north.place);
-    let Short::Is(east) = fourth else {
-        return Skip::Stop;
-    };
-    let fifth = short_at(file, east.place);
-    let Short::Is(metadata) = fifth else {
-        return Skip::Stop;
-    };
-    let sixth = short_at(file, metadata.place);
-    let Short::Is(polygon) = sixth else {
-        return Skip::Stop;
-    };
-    let bounds = bounds_of(south.value, west.value, north.value, east.value);
-    if is_above(bounds, fix) {
-        let next = polygon.place;
-        return Skip::On(next);
-    }
-    Skip::Stop
+    let end = polygon.place;
+    Skip::On(end)
 }
 
 fn lesser(a: usize, b: usize) -> usize

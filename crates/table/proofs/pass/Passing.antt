@@ -9,7 +9,7 @@ use Rattle.verdict.specs.Verdict.{Judgement}
 use Rattle.numbers.proofs.{Answers.{found-one, goes}, Readings.{read-both}, Spelling.{one-byte}, Wholes.{whole-forward}}
 use Rattle.numbers.specs.{Answer.{found, if_then_else_}, Point.{signedOf}, Spelling.{Whole}, Varint.{Numeral, numeral, valueOf, sizeOf, forwardAt, readingOf}}
 use Rattle.table.proofs.{TableRows.{reading-grows, at-row, row-less}, rest.Remaining.{above-not, restFrom, skipped, skipped-later}, rows.Entering.{row-read}}
-use Rattle.table.specs.{Passing.{Near, Lons, PassedRow, PassedOver, Skipped, SkippedOver}, Rows.{Rows, row, rowOf, after, rowBy, rowsFrom}, Search.{rowTurn, seek}}
+use Rattle.table.specs.{Passing.{Near, Bounding, Lons, PassedRow, PassedOver, Skipped, SkippedOver}, Rows.{Rows, row, rowOf, after, rowBy, rowsFrom}, Search.{rowTurn, seek}}
 use Rattle.table.specs.Table.{boundsOf, stepsBy, entryBy, isAbove, holds}
 use Rattle.table.specs.declared.{hits.Hit.{Hit}, rows.{Cursor.{Cursor}, Row.{Row}}, table.{Bounds.{Bounds}, Entry.{Entry}}}
 
@@ -77,9 +77,12 @@ lons-missed {bounds = bounds} fix l {a} {b} na nb e f =
     rw (low, high, sym e ∙ f) (no-second (between (bounds .«min_lat» .0) (fix .lat .0) (bounds .«max_lat» .0)))
 
 -- ---- a row by its six numbers
-module _ {file : List ℕ} (at : Cursor) {a b c d : Numeral} (na : Near file (at .place) a) (nb : Near file (a .place) b) (nc : Near file (b .place) c) (nd : Near file (c .place) d) {bounds : Bounds}
+module _ {file : List ℕ} {place : ℕ} {a b c d : Numeral} (na : Near file place a) (nb : Near file (a .place) b) (nc : Near file (b .place) c) (nd : Near file (c .place) d) {bounds : Bounds}
     (is : bounds ≡ boundsOf (a .value) (b .value) (c .value) (d .value)) where
-  pub lons : at .place + 17 < length file → Lons file bounds (a .place) (c .place)
+  pub bounding : Bounding file place bounds (d .place)
+  bounding = record { south = a; west = b; north = c; east = d; south-there = na; west-there = nb; north-there = nc; east-there = nd; are = is; then = refl }
+
+  pub lons : place + 17 < length file → Lons file bounds (a .place) (c .place)
   lons room = record {
     low = b;
     high = d;
@@ -91,28 +94,32 @@ module _ {file : List ℕ} (at : Cursor) {a b c d : Numeral} (na : Near file (at
     east-inside = omega (arith, na .close, nb .close, nc .close);
   }
 
-  module _ {m p : Numeral} (nm : Near file (d .place) m) (np : Near file (m .place) p) where
-    entry-read : (strict : Bool) → found (record { bounds = boundsOf (a .value) (b .value) (c .value) (d .value); metadata = m .value; polygon = p .value; next = p .place }) ≡ entryBy (readingOf strict file) (at .place)
+module _ {file : List ℕ} {place : ℕ} {bounds : Bounds} {next : ℕ} (four : Bounding file place bounds next) where
+  pub four-close : next ≤ place + 12
+  four-close = omega (arith, four .then, four .south-there .close, four .west-there .close, four .north-there .close, four .east-there .close)
+
+  module _ {m p : Numeral} (nm : Near file next m) (np : Near file (m .place) p) where
+    entry-read : (strict : Bool) → found (record { bounds = bounds; metadata = m .value; polygon = p .value; next = p .place }) ≡ entryBy (readingOf strict file) place
     unfolding entryBy stepsBy
-    entry-read strict = goes (np .reads strict) _ ∙ goes (nm .reads strict) _ ∙ goes (nd .reads strict) _ ∙ goes (nc .reads strict) _ ∙ goes (nb .reads strict) _ ∙ goes (na .reads strict) _
+    entry-read strict =
+        let behind = rw (four .then) at (nm .reads strict) in
+        ap (λ (x : Bounds). found (record { bounds = x; metadata = m .value; polygon = p .value; next = p .place })) (four .are)
+        ∙ goes (np .reads strict) _ ∙ goes behind _ ∙ goes (four .east-there .reads strict) _ ∙ goes (four .north-there .reads strict) _ ∙ goes (four .west-there .reads strict) _
+        ∙ goes (four .south-there .reads strict) _
 
-    pub passed : (fix : Point) {r : Row} {next : Cursor} → isAbove bounds fix ≡ false → holds bounds fix ≡ false
-        → r ≡ rowOf at (record { bounds = bounds; metadata = m .value; polygon = p .value; next = p .place }) → next ≡ after r → PassedRow file fix at next
-    passed fix {r} low missed e n = record {
-      row = r;
-      reads = λ strict. row-read (readingOf strict file) at (ap (λ (x : Bounds). found (record { bounds = x; metadata = m .value; polygon = p .value; next = p .place })) is ∙ entry-read strict) e;
-      low = ap (λ (x : Row). isAbove (x .bounds) fix) e ∙ low;
-      missed = ap (λ (x : Row). holds (x .bounds) fix) e ∙ missed;
-      then = n;
-    }
+    pub skipped-row : (fix : Point) → isAbove bounds fix ≡ true → Skipped file fix place (p .place)
+    skipped-row fix up = record { entry = record { bounds = bounds; metadata = m .value; polygon = p .value; next = p .place }; reads = entry-read; above = up; then = refl }
 
-    pub skipped-row : (fix : Point) → isAbove bounds fix ≡ true → Skipped file fix (at .place) (p .place)
-    skipped-row fix up = record {
-      entry = record { bounds = bounds; metadata = m .value; polygon = p .value; next = p .place };
-      reads = λ strict. ap (λ (x : Bounds). found (record { bounds = x; metadata = m .value; polygon = p .value; next = p .place })) is ∙ entry-read strict;
-      above = up;
-      then = refl;
-    }
+pub passed : {file : List ℕ} (at : Cursor) {bounds : Bounds} {place : ℕ} → Bounding file (at .place) bounds place → {m p : Numeral} → Near file place m → Near file (m .place) p → (fix : Point)
+    → {r : Row} {next : Cursor} → isAbove bounds fix ≡ false → holds bounds fix ≡ false
+    → r ≡ rowOf at (record { bounds = bounds; metadata = m .value; polygon = p .value; next = p .place }) → next ≡ after r → PassedRow file fix at next
+passed {file} at four nm np fix {r} low missed e n = record {
+  row = r;
+  reads = λ strict. row-read (readingOf strict file) at (entry-read four nm np strict) e;
+  low = ap (λ (x : Row). isAbove (x .bounds) fix) e ∙ low;
+  missed = ap (λ (x : Row). holds (x .bounds) fix) e ∙ missed;
+  then = n;
+}
 
 -- ---- the search goes on
 module _ (judge : ℕ → ℕ → Judgement) (fix : Point) (end room : ℕ) where
