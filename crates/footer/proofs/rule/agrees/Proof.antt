@@ -7,9 +7,6 @@ use Rattle.footer.proofs.rule.agrees.Statement.{statement}
 use Rattle.tzif.proofs.Widths.{transitions-inside}
 use Rattle.footer.proofs.rule.agrees.Tie as tie
 
-returns : tie.Need-returns
-returns c = no-transitions _ _ _ (c .if1 .taken)
-
 time-in-requires : tie.Need-time-in-requires
 time-in-requires c κs = rw (c .transitions-of .ensures) (transitions-inside (c .before .before .before .pre .0 .good .within), omega (arith, c .before .if1 .left))
 
@@ -35,7 +32,7 @@ pub agrees-spec : {M : Type 1} → statement M
 agrees-spec =
     tie.close
     (tie.spec
-    returns
+    (λ c. no-transitions _ _ _ (c .if1 .taken))
     (λ c κs. search needs)
     (λ c. search needs)
     time-in-requires

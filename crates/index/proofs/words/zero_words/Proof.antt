@@ -13,9 +13,6 @@ Inv-loop index₀ i₀ index i = (i ≤ length index₀) × (index ≡ zeroed i 
 abbrev μ-loop : tie.MeasureT-loop
 μ-loop index₀ i₀ index i = length index₀ - i
 
-loop-holds : tie.Need-loop-holds Inv-loop μ-loop
-loop-holds c = (omega arith, refl)
-
 slice-write-index : tie.Need-slice-write-index Inv-loop μ-loop
 slice-write-index c =
     let loop = c .before .loop in
@@ -55,4 +52,4 @@ returns c =
     loop .inv .1 ∙ zeroed-all (args .index .now) (loop .i) (omega arith) (omega arith)
 
 pub zero-words-spec : {M : Type 1} → statement M
-zero-words-spec = tie.close (tie.spec Inv-loop μ-loop loop-holds (λ c. omega arith) slice-write-index add-i loop-less loop-again same-length returns)
+zero-words-spec = tie.close (tie.spec Inv-loop μ-loop (λ c. (omega arith, refl)) (λ c. omega arith) slice-write-index add-i loop-less loop-again same-length returns)

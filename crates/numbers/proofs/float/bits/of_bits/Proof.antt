@@ -26,8 +26,5 @@ float-from-bits-result c =
 returns : tie.Need-returns
 returns c = zero-over-zero ∙ sym (nan-of (c .before .args .b) (c .if1 .taken))
 
-returns-2 : tie.Need-returns-2
-returns-2 c = search needs
-
 pub of-bits-spec : {M : Type 1} → statement M
-of-bits-spec = tie.close (tie.spec float-from-bits-result returns returns-2)
+of-bits-spec = tie.close (tie.spec float-from-bits-result returns (λ c. search needs))

@@ -61,21 +61,12 @@ from-zero c =
 read : (z : ℤ) → SFits w64 z → toZ w64 (ofZ w64 z) ≡ z
 read z f = toZ-ofZ w64 z f
 
-sub-result : tie.Need-sub-result
-sub-result c = below c .holds
-
 cast-result : tie.Need-cast-result
 cast-result c = subst (λ (z : ℤ). T (nonNeg z) × Fits w64 (natAbs z)) (sym (read _ (below c .holds))) (below c .plain)
-
-cast-result-2 : tie.Need-cast-result-2
-cast-result-2 c = from-zero c .plain
 
 returns : tie.Need-returns
 returns c = ap natAbs (read _ (below c .holds)) ∙ below c .same
 
-returns-2 : tie.Need-returns-2
-returns-2 c = from-zero c .same
-
 pub magnitude-spec : {M : Type 1} → statement M
 magnitude-spec =
-    tie.close (tie.spec cast-wide sub-result cast-result cast-result-2 returns returns-2)
+    tie.close (tie.spec cast-wide (λ c. below c .holds) cast-result (λ c. from-zero c .plain) returns (λ c. from-zero c .same))

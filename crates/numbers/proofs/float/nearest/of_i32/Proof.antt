@@ -22,15 +22,6 @@ int-to-float-result c =
     let if2 = c .before .if2 in
     signed-held _ (if1 .taken) (if2 .taken)
 
-returns : tie.Need-returns
-returns c = search needs
-
-magnitude-requires : tie.Need-magnitude-requires
-magnitude-requires c κs = search needs
-
-of-u64-requires : tie.Need-of-u64-requires
-of-u64-requires c κs = search needs
-
 returns-2 : tie.Need-returns-2
 returns-2 c =
     let of-u64 = c .before .of-u64 in
@@ -55,4 +46,4 @@ returns-3 c =
 pub of-i32-spec : {M : Type 1} → statement M
 of-i32-spec =
     tie.close
-    (tie.spec int-to-float-result returns magnitude-requires of-u64-requires returns-2 returns-3)
+    (tie.spec int-to-float-result (λ c. search needs) (λ c κs. search needs) (λ c κs. search needs) returns-2 returns-3)

@@ -9,12 +9,6 @@ use Rattle.numbers.proofs.float.root.positive_root.Statement.{statement
 use Rattle.numbers.specs.Float.Root.{nearestRoot}
 use Rattle.numbers.proofs.float.root.positive_root.Tie as tie
 
-taken-apart-requires : tie.Need-taken-apart-requires
-taken-apart-requires c κs = search needs
-
-digits-requires : tie.Need-digits-requires
-digits-requires c κs = search needs
-
 -- x's digits and place, and their scaling
 scaled : (c : tie.After-taken-apart) → Even (c .taken-apart .result .digits) (c .taken-apart .result .place)
 scaled c = even (c .taken-apart .result .digits) (c .taken-apart .result .place) (c .taken-apart .ensures .1 .0) (c .taken-apart .ensures .1 .1)
@@ -28,17 +22,8 @@ add-half c = omega (arith, short c, c .before .taken-apart .ensures .1 .2)
 add-half-2 : tie.Need-add-half-2
 add-half-2 c = omega (arith, short c, c .before .taken-apart .ensures .1 .2)
 
-add-power-of-two : tie.Need-add-power-of-two
-add-power-of-two c = search needs
-
 mul-power-of-two : tie.Need-mul-power-of-two
 mul-power-of-two c = omega (arith, short c, c .before .taken-apart .ensures .1 .2)
-
-sub-power-of-two : tie.Need-sub-power-of-two
-sub-power-of-two c = omega (arith, short c)
-
-power-of-two-requires : tie.Need-power-of-two-requires
-power-of-two-requires c κs = omega (arith, short c)
 
 -- what is rooted, with the digits counted as the definition does
 square-is : (c : tie.After-power-of-two) → c .before .before .taken-apart .result .digits * c .power-of-two .result
@@ -58,9 +43,6 @@ least c = subst (λ (x : ℕ). 70368744177664 ≤ x) (sym (square-is c)) (scaled
 
 mul-square : tie.Need-mul-square
 mul-square c = record { fits = lt-of-lt-of-le (under c) (lit≤ tt) }
-
-nearest-root-requires : tie.Need-nearest-root-requires
-nearest-root-requires c κs = under c
 
 -- a root of 24 digits, or 2 ^ 24
 in-range : (n r : ℕ) → 70368744177664 ≤ n → n < 281474976710656 → r ≡ nearestRoot n → (8388608 ≤ r) × (r ≤ 16777216)
@@ -91,15 +73,15 @@ pub positive-root-spec : {M : Type 1} → statement M
 positive-root-spec =
     tie.close
     (tie.spec
-    taken-apart-requires
-    digits-requires
+    (λ c κs. search needs)
+    (λ c κs. search needs)
     add-half
     add-half-2
-    add-power-of-two
+    (λ c. search needs)
     mul-power-of-two
-    sub-power-of-two
-    power-of-two-requires
+    (λ c. omega (arith, short c))
+    (λ c κs. omega (arith, short c))
     mul-square
-    nearest-root-requires
+    (λ c κs. under c)
     assembled-requires
     returns)
