@@ -50,9 +50,6 @@ module _ {before all : List ℕ} {from : ℕ} where
         size = stored-length s ∙ l .size;
       }
 
-  pub left-none : {now : List ℕ} {at : ℕ} → Left before from all now at [] → Stored before from all now at
-  left-none {now} {at} l = record { place-after = omega (arith, l .places); stored = l .same }
-
   pub left-last : {now after : List ℕ} {at next : ℕ} (words : List ℕ) → Left before from all now at words → Stored now at words after next → Stored before from all after next
   left-last {now} {after} {at} {next} words l s = record { place-after = omega (arith, s .place-after, l .places); stored = s .stored ∙ l .same }
 

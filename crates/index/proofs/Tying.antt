@@ -124,10 +124,6 @@ module _ (file words : List ℕ) where
   tied-unopened e = carried e _
 
   module _ {head : Head} (e : given head ≡ headOf file) where
-    pub tied-imprecise : isPrecision (head .preamble .precision) ≡ false → refused (plain 16) ≡ tiedOf file words
-    unfolding tiedOf
-    tied-imprecise p = unmet p (plain 16) _ ∙ onward e _
-
     module _ (p : isPrecision (head .preamble .precision) ≡ true) where
       after : demand (isTied file head words) (plain 36) ≡ tiedOf file words
       unfolding tiedOf

@@ -8,10 +8,6 @@ use Rattle.tzif.specs.{Local.{byTable, lent, localTimeBy, localTime}, Nu
 use Rattle.tzif.specs.{Zone.{readFooter, readShort, readLong, readZoneBy, readZone}, declared.block.Block.{Block}}
 
 module _ (file : List ℕ) (older : octet file 4 ≡ 0x34 → ⊥) where
-  not-fourth : isFourth rfc9636 (octet file 4) ≡ false
-  unfolding isFourth
-  not-fourth = ne-eqb (octet file 4) 0x34 older
-
   first-block : readBlock rfc9636 file false 0 ≡ readBlock rfc8536 file false 0
   unfolding readBlock checkHeader versionFits isVersion isFourth
   first-block = rw (ne-eqb (octet file 4) 0x34 older) refl

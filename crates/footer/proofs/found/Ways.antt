@@ -39,9 +39,6 @@ module _ (west : ℕ) (short : west ≤ 1209600) where
   pub east-is : toZ w32 (ofZ w32 (toZ w64 (ofZ w64 (pos 604800 -ℤ toZ w64 west)))) ≡ eastOf west
   east-is = toZ-ofZ w32 _ east-fits ∙ east-wide
 
-  pub east-itself : toZ w32 (ofZ w32 (eastOf west)) ≡ eastOf west
-  east-itself = toZ-ofZ w32 _ (record { sfits = east-small west short })
-
 -- a local time by its four numbers
 pub found-is : (time : Time) {offset : ℤ} → offset ≡ eastOf (time .clock .west) → record { offset = offset; daylight = time .daylight; place = time .clock .name .start; length = time .clock .name .end - time .clock .name .start } ≡ foundOf time
 unfolding foundOf
