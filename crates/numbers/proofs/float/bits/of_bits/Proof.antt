@@ -23,8 +23,5 @@ float-from-bits-result : tie.Need-float-from-bits-result
 float-from-bits-result c =
     subst (λ (t : Bool). T (not t)) (sym (nanBits-above binary32 (c .before .args .b))) (le→nltb 0x7f80_0000 (c .before .args .b % 0x8000_0000) (c .if1 .left))
 
-returns : tie.Need-returns
-returns c = zero-over-zero ∙ sym (nan-of (c .before .args .b) (c .if1 .taken))
-
 pub of-bits-spec : {M : Type 1} → statement M
-of-bits-spec = tie.close (tie.spec float-from-bits-result returns (λ c. search needs))
+of-bits-spec = tie.close (tie.spec float-from-bits-result (λ c. zero-over-zero ∙ sym (nan-of (c .before .args .b) (c .if1 .taken))) (λ c. search needs))

@@ -23,9 +23,6 @@ module _ (n k : ℕ) (h : n < 2 ^ 64) where
   at-order o {unit} e found =
       ap (nearest (n / 2 ^ k)) (sym (order-is (n % 2 ^ k * 2) (2 ^ k) o (subst (λ (u : ℕ). Cmp o (n % 2 ^ k * 2) u) e (subst (λ (r : ℕ). Cmp o (r * 2) unit) rest found))))
 
-sub-twice : tie.Need-sub-twice
-sub-twice c = back-le (c .before .args .n) (c .before .args .k) (omega arith)
-
 mul-twice : tie.Need-mul-twice
 mul-twice c =
     let args = c .before .args in
@@ -54,7 +51,7 @@ nearest-shifted-spec =
     (λ c κs. search needs)
     (λ c. search needs)
     (λ c. search needs)
-    sub-twice
+    (λ c. back-le (c .before .args .n) (c .before .args .k) (omega arith))
     mul-twice
     returns
     (λ c. search needs)

@@ -16,15 +16,6 @@ scaled c = even (c .taken-apart .result .digits) (c .taken-apart .result .place)
 short : (c : tie.After-digits) → c .digits .result ≤ 24
 short c = subst (λ (z : ℕ). z ≤ 24) (sym (c .digits .ensures)) (scaled (c .before) .short)
 
-add-half : tie.Need-add-half
-add-half c = omega (arith, short c, c .before .taken-apart .ensures .1 .2)
-
-add-half-2 : tie.Need-add-half-2
-add-half-2 c = omega (arith, short c, c .before .taken-apart .ensures .1 .2)
-
-mul-power-of-two : tie.Need-mul-power-of-two
-mul-power-of-two c = omega (arith, short c, c .before .taken-apart .ensures .1 .2)
-
 -- what is rooted, with the digits counted as the definition does
 square-is : (c : tie.After-power-of-two) → c .before .before .taken-apart .result .digits * c .power-of-two .result
     ≡ c .before .before .taken-apart .result .digits * 2 ^ (c .before .before .taken-apart .result .place + 149 - 2 * ((size (c .before .before .taken-apart .result .digits) + c .before .before .taken-apart .result .place + 102) / 2))
@@ -40,9 +31,6 @@ under c = subst (λ (x : ℕ). x < 281474976710656) (sym (square-is c)) (scaled 
 
 least : (c : tie.After-power-of-two) → 70368744177664 ≤ c .before .before .taken-apart .result .digits * c .power-of-two .result
 least c = subst (λ (x : ℕ). 70368744177664 ≤ x) (sym (square-is c)) (scaled (c .before .before) .least)
-
-mul-square : tie.Need-mul-square
-mul-square c = record { fits = lt-of-lt-of-le (under c) (lit≤ tt) }
 
 -- a root of 24 digits, or 2 ^ 24
 in-range : (n r : ℕ) → 70368744177664 ≤ n → n < 281474976710656 → r ≡ nearestRoot n → (8388608 ≤ r) × (r ≤ 16777216)
@@ -75,13 +63,13 @@ positive-root-spec =
     (tie.spec
     (λ c κs. search needs)
     (λ c κs. search needs)
-    add-half
-    add-half-2
+    (λ c. omega (arith, short c, c .before .taken-apart .ensures .1 .2))
+    (λ c. omega (arith, short c, c .before .taken-apart .ensures .1 .2))
     (λ c. search needs)
-    mul-power-of-two
+    (λ c. omega (arith, short c, c .before .taken-apart .ensures .1 .2))
     (λ c. omega (arith, short c))
     (λ c κs. omega (arith, short c))
-    mul-square
+    (λ c. record { fits = lt-of-lt-of-le (under c) (lit≤ tt) })
     (λ c κs. under c)
     assembled-requires
     returns)
