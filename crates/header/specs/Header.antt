@@ -4,8 +4,7 @@ use Prim.Native.Nat.{ℕ, zero, suc, _+_, _*_, _%_, _^_}
 use lib.{Dec.{ltb, leb, eqb}, ListN.{length, getD}}
 use Rattle.numbers.specs.{Limits.{largestFile}, Answer.{if_then_else_}, Varint.{Numeral, readingOf}, declared.varint.Varint.{Varint}}
 use Rattle.numbers.specs.Reply.{Reply, given, refused, refusal, plain, demand, _orElse_, _>>=_, _>>_}
-use Rattle.header.specs.{Text.{stoppedOf, textAt, bytesOf}, Field.{entry}}
-use Rattle.header.specs.declared.text.Blame.{Blame}
+use Rattle.header.specs.{Text.{stoppedOf, textAt, bytesOf}, Field.{entry}, declared.text.Blame.{Blame}}
 use Rattle.header.specs.declared.header.{Preamble.{Preamble}, Sections.{Sections}, Head.{Head}, PreambleAnswer.{PreambleAnswer}, SectionsAnswer.{SectionsAnswer}, Headed.{Headed}, PlaceAnswer.{PlaceAnswer}}
 use Rattle.header.specs.declared.header.SizeAnswer.{SizeAnswer}
 use Rattle.header.specs.declared.header.PreambleAnswer.the-variants as B

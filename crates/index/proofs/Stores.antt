@@ -1,5 +1,5 @@
 -- Words that go into a lent buffer one after another, and stores that do not meet. Assumes nothing.
-use Prim.Native.Nat.{ℕ, zero, suc, _+_, _-_, _<_, _≤_}
+use Prim.Native.Nat.{ℕ, suc, _+_, _-_, _<_, _≤_}
 use lib.{ListN.{length, set, drop, getD, length-append, length-replicate}, Seq.{sets, length-sets, sets-eq, set-comm, getD-set-other}}
 use mathlib.Core.{List.{List, [], _∷_, _++_}, Path.{_≡_, refl, sym, ap, subst, _∙_}}
 use native.Mathlib.{Nat.{add-zero}, Omega.{arith}}

@@ -2,7 +2,7 @@
 use Prim.Native.Nat.{ℕ, _+_, _≤_, min}
 use mathlib.Core.{Path.{_≡_}, List.{List, [], _∷_}}
 use lib.{IntN.{ℤ, pos, _-ℤ_}, ListN.{length, take, getD}, Seq.{sets}}
-use Rattle.numbers.specs.{Answer.{if_then_else_}, declared.point.RawPoint.{RawPoint}}
+use Rattle.numbers.specs.declared.point.RawPoint.{RawPoint}
 use Rattle.border.specs.Place.{moveBy}
 use Rattle.writer.specs.{Limits.{mostPieces}, Pieces.{goodPieces}, declared.{write.Piece.{Piece}, pieces.Check.{Check}}}
 

@@ -1,6 +1,6 @@
 // The checks of a border: 1, 5 and 19 to 22, each over the whole border.
 ghost use mathlib.Core.Path.{_≡_};
-ghost use Prim.Native.Nat.{_≤_, _<_};
+ghost use Prim.Native.Nat.{_<_};
 ghost use lib.ListN.{length, drop};
 ghost use Rattle.writer.specs.{Moves.{movesOf, isMove}, Writer.{every, near, sized, checks, passed}};
 use crate::limits::MOST_POINTS;

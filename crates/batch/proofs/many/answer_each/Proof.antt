@@ -1,8 +1,8 @@
 -- `batch::many::answer_each` meets its contract. The loop's invariant is `Stamping`: the lists hold what the fixes so far came to. Assumes nothing.
 use borrow.Author.Needs.{needs}
-use Prim.Native.Nat.{_-_, _*_, _≤_, _<_}
+use Prim.Native.Nat.{_-_}
 use lib.{Ieee.{nan}, ListN.{length}}
-use mathlib.Core.Path.{_≡_, refl, sym, ap, _∙_}
+use mathlib.Core.Path.{ap, _∙_}
 use native.Mathlib.Omega.{arith}
 use Rattle.batch.proofs.{Stamping.{taken, came-back, each, Stamping, begins, ends, stops, counted-few, words-on, goes, used-is}, Window.{left-zero}}
 use Rattle.batch.proofs.many.answer_each.Statement.{statement}

@@ -6,10 +6,6 @@ use mathlib.Core.Path.{_∙_}
 use Rattle.batch.proofs.{Window.{front-length, windowed}, many.answer_one.Statement.{statement}}
 use Rattle.zones.specs.Lookup.{lookedWith}
 use Rattle.batch.proofs.many.answer_one.Tie as tie
-use Rattle.batch.proofs.many.answer_one.Reads as reads
-use Rattle.batch.proofs.many.answer_one.Lts as lts
-use Rattle.batch.proofs.many.least.Reads as least-reads
-use Rattle.zones.proofs.lookup.lookup_in.Reads as lookup-in-reads
 
 returns : tie.Need-returns
 returns c =

@@ -1,6 +1,6 @@
 -- `footer::found::same_found` meets its contract. Assumes nothing.
 use native.Mathlib.Omega.{arith}
-use mathlib.Core.Path.{sym, ap, _∙_}
+use mathlib.Core.Path.{_∙_}
 use Rattle.footer.proofs.found.{Ways.{other-offset, other-daylight, other-length, same-so-far}, same_found.Statement.{statement}}
 use Rattle.footer.proofs.found.same_found.Tie as tie
 

@@ -1,6 +1,6 @@
 -- `footer::local::is_ruled` meets its contract. Assumes nothing.
 use borrow.Author.Needs.{needs}
-use mathlib.Core.Path.{sym, ap, _∙_}
+use mathlib.Core.Path.{_∙_}
 use Rattle.footer.proofs.local.{Ways.{no-transitions, after-last}, is_ruled.Statement.{statement}}
 use Rattle.footer.proofs.local.is_ruled.Tie as tie
 

@@ -1,7 +1,6 @@
 -- `footer::rule::agrees` meets its contract. Assumes nothing.
 use borrow.Author.Needs.{needs}
 use native.Mathlib.Omega.{arith}
-use mathlib.Core.Path.{sym, ap, _∙_}
 use Rattle.footer.proofs.rule.Ways.{last-is, type-is, type-few, type-within, holds-clock, clock-short, clock-found, no-transitions, not-asked, compared}
 use Rattle.footer.proofs.rule.agrees.Statement.{statement}
 use Rattle.tzif.proofs.Widths.{transitions-inside}

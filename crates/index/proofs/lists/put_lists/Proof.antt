@@ -1,7 +1,6 @@
 -- `index::lists::put_lists` meets its contract. The loop's invariant is `Tiling`. Assumes nothing.
 use Prim.Native.Nat.{_-_}
-use borrow.Author.Needs.{needs}
-use mathlib.Core.Path.{sym, _∙_}
+use mathlib.Core.Path.{_∙_}
 use native.Mathlib.Omega.{arith}
 use Rattle.index.specs.Index.{tiles}
 use Rattle.index.proofs.{Listing.{Tiling, tiling-starts, tiling-step, tiling-ends, same-tile}, Stores.{stored-length}, lists.put_lists.Statement.{statement}}

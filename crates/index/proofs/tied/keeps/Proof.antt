@@ -4,8 +4,7 @@ use borrow.Author.{Needs.{needs}, Tests.{eq-eqb, ne-eqb}}
 use lib.ListN.{length, take}
 use mathlib.Core.Path.{sym, _∙_}
 use native.Mathlib.Omega.{arith}
-use Rattle.index.proofs.Tying.{Comparing, comparing-starts, comparing-inside, comparing-next, comparing-differs, comparing-ends}
-use Rattle.index.proofs.tied.keeps.Statement.{statement}
+use Rattle.index.proofs.{Tying.{Comparing, comparing-starts, comparing-inside, comparing-next, comparing-differs, comparing-ends}, tied.keeps.Statement.{statement}}
 use Rattle.index.proofs.tied.keeps.Tie as tie
 
 abbrev Inv-loop : tie.InvT-loop

@@ -1,6 +1,5 @@
 -- `index::tiles::side_of` meets its contract. Assumes nothing.
 use borrow.Author.Needs.{needs}
-use native.Mathlib.Omega.{arith}
 use Rattle.index.proofs.tiles.side_of.Statement.{statement}
 use Rattle.index.proofs.tiles.side_of.Tie as tie
 

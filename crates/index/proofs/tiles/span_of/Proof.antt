@@ -1,6 +1,5 @@
 -- `index::tiles::span_of` meets its contract. Assumes nothing.
 use borrow.Author.Needs.{needs}
-use Rattle.index.specs.declared.tiles.Span.{Span}
 use Rattle.index.proofs.tiles.span_of.Statement.{statement}
 use Rattle.index.proofs.tiles.span_of.Tie as tie
 

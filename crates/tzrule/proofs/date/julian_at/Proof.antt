@@ -1,7 +1,6 @@
 -- `tzrule::date::julian_at` meets its contract. Assumes nothing.
 use borrow.Author.Needs.{needs}
-use Rattle.tzrule.proofs.{Signs.{number-range, julian-read, julian-fault}, Times.{read-is, read-within, fault-is, fault-within}}
-use Rattle.tzrule.proofs.date.julian_at.Statement.{statement}
+use Rattle.tzrule.proofs.{Signs.{number-range, julian-read, julian-fault}, Times.{read-is, read-within, fault-is, fault-within}, date.julian_at.Statement.{statement}}
 use Rattle.tzrule.specs.Answer.{GoodDate}
 use Rattle.calendar.specs.Rules.{IsWhen}
 use Rattle.tzrule.proofs.date.julian_at.Tie as tie

@@ -3,8 +3,7 @@ use Prim.Native.Nat.{_+_, _-_}
 use borrow.Author.Needs.{needs}
 use mathlib.Core.Path.{sym, _∙_}
 use native.Mathlib.Omega.{arith}
-use Rattle.tzrule.proofs.Numbers.{was-false, was-true, Taken, digit-range, few, taken-first, taken-end, taken-stop, taken-more}
-use Rattle.tzrule.proofs.number.digits_at.Statement.{statement}
+use Rattle.tzrule.proofs.{Numbers.{was-false, was-true, Taken, digit-range, few, taken-first, taken-end, taken-stop, taken-more}, number.digits_at.Statement.{statement}}
 use Rattle.tzrule.proofs.number.digits_at.Tie as tie
 
 abbrev Inv-loop : tie.InvT-loop

@@ -1,6 +1,5 @@
 -- `tzrule::string::change_at` meets its contract. Assumes nothing.
 use borrow.Author.Needs.{needs}
-use native.Mathlib.Omega.{arith}
 use Rattle.tzrule.proofs.Times.{byte-inside, read-is, read-within, fault-is, fault-within}
 use Rattle.tzrule.proofs.string.{Ways.{day-is, day-good, day-fault, day-place, no-comma, no-date, no-time, change-read}, change_at.Statement.{statement}}
 use Rattle.tzrule.specs.String.{GoodChange}

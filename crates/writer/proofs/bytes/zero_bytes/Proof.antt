@@ -4,8 +4,7 @@ use native.Mathlib.Omega.{arith}
 use Prim.Native.Nat.{_-_, _≤_}
 use lib.ListN.{length}
 use Rattle.numbers.specs.Lists.{zeros}
-use Rattle.writer.proofs.Stores.{Left, left-all, left-step, left-none, stored-one, stored-zeros, zeros-all, zeros-next, zeros-done}
-use Rattle.writer.proofs.bytes.zero_bytes.Statement.{statement}
+use Rattle.writer.proofs.{Stores.{Left, left-all, left-step, left-none, stored-one, stored-zeros, zeros-all, zeros-next, zeros-done}, bytes.zero_bytes.Statement.{statement}}
 use Rattle.writer.proofs.bytes.zero_bytes.Tie as tie
 
 abbrev Inv-loop : tie.InvT-loop

@@ -3,8 +3,7 @@ use Prim.Native.Nat.{_-_, _≤_}
 use lib.ListN.{length, take}
 use mathlib.Core.List.{[]}
 use native.Mathlib.Omega.{arith}
-use Rattle.zones.proofs.fields.Filling.{Writing, begins, writing-length, from-here, all-written, match-refused, match-written}
-use Rattle.zones.proofs.fields.write_fields.Statement.{statement}
+use Rattle.zones.proofs.fields.{Filling.{Writing, begins, writing-length, from-here, all-written, match-refused, match-written}, write_fields.Statement.{statement}}
 use Rattle.table.{proofs.Words.{count-slots, slot-is}, specs.Hits.{slots}}
 use Rattle.zones.specs.Fields.{fieldsOf}
 use Rattle.zones.proofs.fields.write_fields.Tie as tie

@@ -4,8 +4,7 @@ use borrow.Author.Needs.{needs}
 use lib.{Dec.{lit<, lit≤}, Ieee.{binary32, size, units}}
 use mathlib.Core.{Bool.{false}, Path.{_≡_, sym, ap, _∙_, subst}}
 use native.Mathlib.{Nat.{lt-of-lt-of-le}, Omega.{arith}}
-use Rattle.numbers.proofs.float.{Smallest.{Even, even, root-by-digits}, Squares.{IsNearest, nearestRoot-is, nearest-range}}
-use Rattle.numbers.proofs.float.root.positive_root.Statement.{statement}
+use Rattle.numbers.proofs.float.{Smallest.{Even, even, root-by-digits}, Squares.{IsNearest, nearestRoot-is, nearest-range}, root.positive_root.Statement.{statement}}
 use Rattle.numbers.specs.Float.Root.{nearestRoot}
 use Rattle.numbers.proofs.float.root.positive_root.Tie as tie
 
