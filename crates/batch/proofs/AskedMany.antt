@@ -5,10 +5,10 @@ use native.Mathlib.Omega.{arith}
 use lib.{Ieee.{Float}, ListN.{length, take, length-map}, Seq.{take-at}}
 use Rattle.numbers.specs.{Lists.{zeros, padded}, Reply.{Reply, plain, demand}}
 use Rattle.numbers.specs.Reply as R
-use Rattle.zones.proofs.Asked.{unmeasured, unmeasuredReply, AskedOrNot, asked-or-not-with}
+use Rattle.zones.proofs.Asked.{unmeasured, AskedOrNot, asked-or-not-with}
 use Rattle.zones.specs.{Lent.{Outcome, Replied, repliedOf}, Lookup.{zonesWith, lookedWith}, declared.lookup.Zones.{Zones}}
 use Rattle.header.{proofs.Unless.{shown}, specs.{Header.{headOf}, declared.header.Head.{Head}}}
-use Rattle.table.{proofs.Words.{words-length, slots-words}, specs.{Hits.{words, slots}, declared.{hits.Hit.{Hit}, location.Location.{Location}}}}
+use Rattle.table.{proofs.Words.{words-length, slots-words}, specs.{Hits.{words, slots}, declared.location.Location.{Location}}}
 use Rattle.batch.specs.Many.{Batch, given, refused, _>>=_, _>>_, metAt, isTaken, fixesOf, Stamped, nothing, withOne, eachOf, stampedMany, answerWords, Left, left, leftOf, lookedUpMany}
 use Rattle.batch.proofs.{Counts.{counts}, Stamping.{three-words}}
 

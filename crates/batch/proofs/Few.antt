@@ -1,6 +1,6 @@
 -- A file has fewer rows than bytes before its metadata, so what a lookup counts fits a word. Assumes nothing.
-use mathlib.Core.{Path.{_≡_, refl, sym, ap, subst, _∙_}, Bool.{Bool, true, false}, List.{List, [], _∷_, _++_}}
-use Prim.Native.Nat.{ℕ, zero, suc, _+_, _-_, _/_, _≤_, _<_}
+use mathlib.Core.{Path.{_≡_, refl}, Bool.{Bool, true, false}, List.{List, [], _∷_, _++_}}
+use Prim.Native.Nat.{ℕ, zero, suc, _+_, _-_, _≤_, _<_}
 use borrow.Author.Tests.{ltb-true}
 use native.Mathlib.Omega.{arith}
 use lib.{Dec.{ltb, eqb}, ListN.{length, length-append}}
@@ -13,8 +13,7 @@ use Rattle.table.proofs.TableRows.{Grows, reading-grows, rows-step, at-end, row
 use Rattle.table.specs.{Find.{Matched, isPrecision, fixOf, matchedWith}, Merge.{seen, summary, groupKind, matchOf, mergedAfter, merged}, Rest.{restMark}}
 use Rattle.table.specs.Rows.{Rows, row, tableEnd, unreadable, after, startAt, rowsThen, rowBy, rowsFrom, rowsIn}
 use Rattle.table.specs.{Search.{Found, ended, farthest, afterTurn, rowTurn, seek, judgeIn, searched}, Table.{isAbove}}
-use Rattle.table.specs.declared.{hits.Hit.{Hit}, location.Location.{Location}, rows.{Cursor.{Cursor}, Row.{Row}}}
-use Rattle.table.specs.declared.search.Turn.{the-variants.{On, Met, Stopped, Refused}, Turn}
+use Rattle.table.specs.declared.{hits.Hit.{Hit}, location.Location.{Location}, rows.{Cursor.{Cursor}, Row.{Row}}, search.Turn.{the-variants.{On, Met, Stopped, Refused}, Turn}}
 use Rattle.table.specs.Rows as T
 use Rattle.header.specs.declared.header.Head.{Head}
 

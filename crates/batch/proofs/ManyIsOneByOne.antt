@@ -2,14 +2,13 @@
 use mathlib.Core.{Path.{_≡_, refl, sym, ap, _∙_}, Bool.{Bool, true}, List.{List, [], _∷_, _++_}, Logic.{_⊎_, inl, inr}}
 use Prim.Native.Nat.{ℕ, _+_, _-_, _*_, _<_}
 use native.Mathlib.{Nat.{sub-zero}, Omega.{arith}}
-use lib.{Ieee.{Float}, ListN.{length, take, drop, length-append}, Seq.{take-at, drop-at}}
+use lib.{Ieee.{Float}, ListN.{length, drop, length-append}, Seq.{take-at, drop-at}}
 use Rattle.numbers.{proofs.Lists.{zeros-drop}, specs.{Lists.{zeros, padded, over}, Reply.{Reply}, declared.refusal.Refusal.{Refusal}}}
 use Rattle.numbers.specs.Reply as R
-use Rattle.zones.proofs.GivenHead.{looked-with, not-looked}
-use Rattle.zones.specs.{Lent.{Outcome, Replied, repliedOf}, Lookup.{zonesWith, lookedWith, lookedUp}, declared.lookup.Zones.{Zones}}
+use Rattle.zones.{proofs.GivenHead.{looked-with, not-looked}, specs.{Lent.{Outcome, Replied, repliedOf}, Lookup.{zonesWith, lookedWith, lookedUp}, declared.lookup.Zones.{Zones}}}
 use Rattle.table.{proofs.Words.{words-length, words-append}, specs.{Hits.{width, words}, declared.location.Location.{Location}}}
 use Rattle.header.specs.{Header.{headOf}, declared.header.Head.{Head}}
-use Rattle.batch.specs.Many.{given, refused, _>>=_, metAt, isTaken, fixesOf, Stamped, nothing, withOne, eachOf, answerWords, Left, left, leftOf, lookedUpMany}
+use Rattle.batch.specs.Many.{given, refused, _>>=_, metAt, isTaken, fixesOf, Stamped, nothing, withOne, eachOf, answerWords, Left, leftOf, lookedUpMany}
 use Rattle.batch.specs.OneByOne.{fromOn, unlessRefused, oneByOne}
 use Rattle.batch.proofs.{Counts.{counts}, Opening.{all-opened, not-opened}, Stamping.{on-padded, answer-words, three-words, taken}}
 

@@ -1,5 +1,5 @@
 -- More room changes no answer: a lookup that is answered in some words and bytes is answered alike in more of them. Assumes nothing.
-use Prim.Native.Nat.{ℕ, zero, suc, _+_, _-_, _/_, _≤_, _<_}
+use Prim.Native.Nat.{ℕ, zero, suc, _+_, _-_, _/_, _≤_}
 use borrow.Author.Tests.{ltb-true, leb-true, lt-ltb, le-leb}
 use lib.{Dec.{ltb, leb}, ListN.{length}}
 use mathlib.Core.{Bool.{Bool, true, false}, List.{List, [], _∷_, _++_}, Path.{_≡_, refl, sym, ap, _∙_}}
@@ -8,11 +8,11 @@ use Rattle.verdict.specs.Verdict.{Judgement}
 use Rattle.border.specs.declared.place.Point.{Point}
 use Rattle.numbers.{proofs.Replies.{given-from, onward, demanded}, specs.{Answer.{if_then_else_}, Reply.{Reply, given, plain, demand, _>>_, _>>=_}}}
 use Rattle.numbers.specs.Reply as R
-use Rattle.header.specs.{Field.{Field, field, fieldAt}, Text.{textAt, bytesOf}, declared.header.Head.{Head}}
-use Rattle.zones.specs.{Fields.{fieldsPlace, fieldsFrom, fieldsOf}, Lent.{Outcome}, Lookup.{safezoneBits, zonesWith}, declared.lookup.Zones.{Zones}}
-use Rattle.table.specs.{Find.{Matched, isPrecision, fixOf, matchedWith}, Hits.{width}, Merge.{merged}, Rest.{restMark}, Rows.{Rows, row, tableEnd, unreadable, rowsIn}}
+use Rattle.header.specs.{Field.{field, fieldAt}, Text.{textAt, bytesOf}, declared.header.Head.{Head}}
+use Rattle.zones.specs.{Fields.{fieldsPlace, fieldsFrom, fieldsOf}, Lookup.{zonesWith}}
+use Rattle.table.specs.{Find.{isPrecision, fixOf, matchedWith}, Hits.{width}, Merge.{merged}, Rest.{restMark}, Rows.{Rows, row, tableEnd, unreadable, rowsIn}}
 use Rattle.table.specs.{Search.{Found, ended, farthest, afterTurn, rowTurn, seek, judgeIn, searched}, Table.{isAbove}}
-use Rattle.table.specs.declared.{hits.Hit.{Hit}, location.Location.{Location}, rows.Row.{Row}, search.Turn.{the-variants.{On, Met, Stopped, Refused}, Turn}}
+use Rattle.table.specs.declared.{hits.Hit.{Hit}, location.Location.{Location}, search.Turn.{the-variants.{On, Met, Stopped, Refused}, Turn}}
 use Rattle.table.specs.Rows as T
 
 -- what one gives, the other gives

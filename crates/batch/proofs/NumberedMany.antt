@@ -7,7 +7,7 @@ use Rattle.border.proofs.Signs.{differ}
 use Rattle.numbers.{proofs.{Refusals.{Listed, still-listed}, Replies.{number-of}}, specs.{Reply.{Reply, plain, demand}, declared.refusal.Refusal.{Refusal}}}
 use Rattle.numbers.specs.Reply as R
 use Rattle.zones.proofs.{GivenHead.{looked-with}, NumberedLookup.{lookupNumbers, lookup-refusals}}
-use Rattle.zones.specs.{Lent.{Outcome, Replied, repliedOf}, Lookup.{zonesWith, lookedWith, lookedUp}, declared.lookup.Zones.{Zones}}
+use Rattle.zones.specs.{Lent.{Outcome, Replied, repliedOf}, Lookup.{zonesWith, lookedWith}, declared.lookup.Zones.{Zones}}
 use Rattle.header.{proofs.Numbered.{headerNumbers, head-numbered}, specs.{Header.{headOf}, declared.header.Head.{Head}}}
 use Rattle.table.specs.{Hits.{words}, declared.location.Location.{Location}}
 use Rattle.batch.specs.Many.{Batch, given, refused, _>>=_, _>>_, metAt, isTaken, fixesOf, Stamped, nothing, withOne, eachOf, leftOf, stampedMany, lookedUpMany}

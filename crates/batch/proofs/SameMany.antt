@@ -4,8 +4,7 @@ use Prim.Native.Nat.{ℕ}
 use native.Mathlib.Omega.{arith}
 use lib.Ieee.{Float}
 use Rattle.numbers.specs.{Lists.{zeros}, declared.refusal.Refusal.{Refusal}}
-use Rattle.batch.specs.Many.{Batch, given, refused, Stamped, Left, left, leftOf, stampedMany, lookedUpMany, toldMany}
-use Rattle.batch.specs.declared.many.{Many.{Many}, Totals.{Totals}}
+use Rattle.batch.specs.{Many.{Batch, given, refused, Stamped, Left, left, leftOf, stampedMany, lookedUpMany, toldMany}, declared.many.{Many.{Many}, Totals.{Totals}}}
 use Rattle.batch.specs.declared.many.Many.the-variants as M
 
 manyBack : Batch Totals → Many

@@ -1,18 +1,17 @@
 -- What holds before each fix, and what a fix makes of it: the lists hold what the earlier ones came to, and are zero beyond it. Assumes nothing.
 use mathlib.Core.{Path.{_≡_, refl, sym, ap, subst, _∙_}, Bool.{Bool, true, false, _&&_}, List.{List, [], _∷_, _++_, append-assoc}}
-use Prim.Native.Nat.{ℕ, suc, _+_, _-_, _*_, _≤_, _<_}
+use Prim.Native.Nat.{ℕ, _+_, _-_, _*_, _≤_, _<_}
 use native.Mathlib.{Nat.{sub-zero}, Numerals.{add-one}, Omega.{arith}}
 use borrow.Author.Tests.{eqb-true, leb-true}
 use lib.{Dec.{leb, eqb}, Ieee.{Float}, ListN.{length, getD, set, take, drop, length-append, length-replicate, drop-of-length-le}, Seq.{drop-cons}}
 use Rattle.numbers.specs.{Lists.{zeros, padded, over}, Reply.{Reply}, declared.refusal.Refusal.{Refusal}}
 use Rattle.numbers.specs.Reply as R
-use Rattle.table.proofs.{Agreeing.{Gave, gave, refused-so}, Words.{words-length, words-append}}
-use Rattle.table.specs.{Hits.{width, words}, Agreeing.{Agrees}, declared.location.Location.{Location}}
+use Rattle.table.{proofs.{Agreeing.{gave, refused-so}, Words.{words-length, words-append}}, specs.{Hits.{width, words}, Agreeing.{Agrees}, declared.location.Location.{Location}}}
 use Rattle.header.{proofs.Buffers.{tail-back}, specs.declared.header.Head.{Head}}
 use Rattle.zones.proofs.{Holding.{Held, held-length, held-front, lent, remains-length, written}, Replying.{agrees-of}}
 use Rattle.zones.specs.{Lent.{Filled, Outcome, Replied, replied, repliedOf}, Lookup.{zonesWith, lookedWith, toldLooked}, declared.lookup.{Looked.{Looked}, Zones.{Zones}}}
 use Rattle.zones.specs.declared.lookup.Looked.the-variants as L
-use Rattle.batch.specs.Many.{Batch, given, refused, _>>=_, metAt, isTaken, fixesOf, Stamped, nothing, withOne, eachOf, answerWords, Left, left, totalsOf, leftOf}
+use Rattle.batch.specs.Many.{Batch, given, refused, _>>=_, metAt, isTaken, fixesOf, Stamped, nothing, withOne, eachOf, answerWords, left, leftOf}
 use Rattle.batch.proofs.Counts.{counts, few}
 
 -- ---- lists

@@ -3,11 +3,10 @@ use Prim.Native.Nat.{ℕ, _+_, _-_, _≤_}
 use lib.{ListN.{length, take, drop, length-append, length-replicate, replicate-append-replicate}, Seq.{length-take-le, drop-at}}
 use mathlib.Core.{Bool.{Bool}, List.{List, _++_, append-assoc}, Path.{_≡_, sym, ap, _∙_}}
 use native.Mathlib.Omega.{arith}
-use Rattle.batch.proofs.{MoreRoom.{more-room}, Stamping.{One, one-given}}
+use Rattle.batch.proofs.{MoreRoom.{more-room}, Stamping.{one-given}}
 use Rattle.numbers.{proofs.Lists.{zeros-drop}, specs.{Lists.{zeros, padded}, Reply.{Reply}}}
 use Rattle.header.{proofs.Buffers.{all-zero, tail-lent}, specs.declared.header.Head.{Head}}
-use Rattle.zones.proofs.Holding.{Held, lent}
-use Rattle.zones.specs.{Lent.{Outcome, replied, repliedOf}, Lookup.{zonesWith, lookedWith, toldLooked}, declared.lookup.{Looked.{Looked}, Zones.{Zones}}}
+use Rattle.zones.{proofs.Holding.{Held, lent}, specs.{Lent.{Outcome, replied, repliedOf}, Lookup.{lookedWith, toldLooked}, declared.lookup.{Looked.{Looked}, Zones.{Zones}}}}
 use Rattle.table.specs.{Hits.{words}, declared.location.Location.{Location}}
 use Rattle.numbers.specs.Reply as R
 use Rattle.zones.specs.declared.lookup.Looked.the-variants as L

@@ -1,5 +1,5 @@
 -- A call with two fixes in document 01's printed file, by computation: both are answered, one behind the other. Assumes nothing.
-use mathlib.Core.{Bool.{false}, List.{List, [], _∷_}, Path.{_≡_, refl, ap}}
+use mathlib.Core.{Bool.{false}, List.{List, [], _∷_}, Path.{_≡_, refl}}
 use Prim.Native.Nat.{ℕ, _*_}
 use lib.{IntN.{negsuc}, Ieee.{fin, ofInt, add, sub, mul, div, toSigned, Float}}
 use Rattle.numbers.specs.{Varint.{readingOf, forwardAt, valueOf, sizeOf, tooLong}, Point.{signedOf, evenBits, pointOf}, Float.{fixedPoint, oneShifted}, Answer.{checked}}

@@ -7,8 +7,7 @@ use Rattle.numbers.specs.{Answer.{Answer, found}, Varint.{readingOf}, declared.
 use Rattle.numbers.specs.Answer as A
 use Rattle.border.specs.Place.{movedBy, negated}
 use Rattle.border.specs.Reader.{Turn, gives, again, ends, advanced, plainMove, plainPair, plainTurn, opened, reference, marker, lent, packedTurn, turnOf}
-use Rattle.border.specs.Trace.{Given, reaches, ended, roundAgain, turns, nextWithin, nextPoint, Trace, traceThen, traceWithin, traceOf}
-use Rattle.border.specs.declared.place.Point.{Point}
+use Rattle.border.specs.{Trace.{Given, reaches, ended, roundAgain, turns, nextWithin, nextPoint, Trace, traceThen, traceWithin, traceOf}, declared.place.Point.{Point}}
 use Rattle.border.specs.declared.reader.{Encoding.{Encoding}, Reader.{Reader}, Run.{Run, the-variants.{Idle, Forward, Backward}}}
 use Rattle.border.specs.declared.reader.Version.{Version, the-variants.{Plain, Packed}}
 use Rattle.border.specs.Trace as T

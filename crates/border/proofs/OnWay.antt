@@ -1,8 +1,8 @@
 -- Bytes that stand at a place of a file, and a reader on its way through a border: what one turn delivers, and what the turns after it. Assumes nothing.
-use Prim.Native.Nat.{ℕ, suc, _+_, _-_, _<_, _≤_}
+use Prim.Native.Nat.{ℕ, suc, _+_, _-_, _<_}
 use lib.{ListN.{length, getD, drop}, Seq.{drop-drop, drop-append-seam, getD-drop}}
 use mathlib.Core.{Bool.{Bool, true, false}, List.{List, [], _∷_, _++_, append-assoc}, Path.{_≡_, refl, sym, ap, _∙_}}
-use native.Mathlib.{Nat.{add-zero}, Omega.{arith}}
+use native.Mathlib.Nat.{add-zero}
 use Rattle.numbers.specs.{declared.point.RawPoint.{RawPoint}, Answer.{found, if_then_else_}, Spelling.{Whole}, Varint.{numeral, readingOf, backwardAt}}
 use Rattle.numbers.proofs.{Wholes.{whole-forward, whole-clear, whole-backward, whole-some}, Readings.{plain-reading}}
 use Rattle.border.specs.{declared.{place.Point.{Point}, reader.{Reader.{Reader}, Run.{Run, the-variants.{Idle}}, Version.{Version}}}, Encoding.{encodedIn}}

@@ -3,9 +3,8 @@ use Prim.Native.Nat.{ℕ, suc, _+_, _-_, _*_, _<_, _≤_, min}
 use native.Mathlib.{Nat.{mul-le-mul-right, min-le-right, le-refl, suc-mul}, Omega.{arith}}
 use mathlib.Core.{Path.{_≡_, refl}, Bool.{Bool, true, false}, List.{List}}
 use lib.{Dec.{leb, eqb}, ListN.{length}}
-use Rattle.numbers.specs.{Answer.{Answer, found, failed, refused, if_then_else_, _>>=_}, Varint.{Numeral, readingOf, backwardAt}, Point.{pointOf, signedOf}}
-use Rattle.numbers.specs.declared.point.RawPoint.{RawPoint}
-use Rattle.numbers.proofs.{Answers.{All, then-all, any}, Laws.{Read, Before, backward-read}, Readings.{reading-read}}
+use Rattle.numbers.specs.{Answer.{Answer, found, failed, if_then_else_, _>>=_}, Varint.{Numeral, readingOf, backwardAt}, Point.{pointOf, signedOf}}
+use Rattle.numbers.{specs.declared.point.RawPoint.{RawPoint}, proofs.{Answers.{All, then-all, any}, Laws.{Read, Before, backward-read}, Readings.{reading-read}}}
 use Rattle.border.specs.Place.{moveBy, isStill, movedBy, negated}
 use Rattle.border.specs.Reader.{Turn, Reading, gives, again, ends, onward, arrived, closing, advanced, shownBy, plainMove, plainPair, plainTurn, asI64, opened, reference, marker, lent, forwardFrom, backwardFrom, packedTurn, turnOf}
 use Rattle.border.specs.declared.reader.{Reader.{Reader}, Run.{Run, the-variants.{Idle, Forward, Backward}}, Version.{Version, the-variants.{Plain, Packed}}}

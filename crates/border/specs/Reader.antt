@@ -4,8 +4,7 @@ use mathlib.Core.{Bool.{Bool, true}, List.{List}}
 use lib.{Dec.{ltb, leb, eqb}, IntN.{ℤ, pos, negsuc, _+ℤ_, _-ℤ_}}
 use Rattle.numbers.specs.{Answer.{Answer, found, failed, checked, if_then_else_, _>>=_}, Varint.{Numeral, readingOf, backwardAt}, Point.{low32, signedOf, pointOf}}
 use Rattle.numbers.specs.declared.point.RawPoint.{RawPoint}
-use Rattle.border.specs.Place.{moveBy, isStill, movedBy, negated}
-use Rattle.border.specs.declared.place.Point.{Point}
+use Rattle.border.specs.{Place.{moveBy, isStill, movedBy, negated}, declared.place.Point.{Point}}
 use Rattle.border.specs.declared.reader.{Reader.{Reader}, Version.{Version, the-variants.{Plain, Packed}}, Run.{Run, the-variants.{Idle, Forward, Backward}}}
 
 -- what a turn comes to: a point, which is the state's own; another turn; the border's end

@@ -1,6 +1,5 @@
 -- What the cases of the reader's answers say, and what the thin form answers and leaves.
-use Prim.Native.Nat.{ℕ}
-use lib.{Dec.{eqb}, IntN.{ℤ}}
+use lib.Dec.{eqb}
 use Rattle.numbers.specs.{Answer.{Answer, found, failed, refused, if_then_else_, _>>=_}, Varint.{Numeral}, declared.{point.RawPoint.{RawPoint}, varint.Varint.{Varint}}}
 use Rattle.numbers.specs.Varint as varint
 use Rattle.border.specs.{Reader.{Turn, gives, again, ends, Reading}, Trace.{Given, reaches, ended, roundAgain}}

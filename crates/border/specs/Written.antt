@@ -1,8 +1,8 @@
 -- What stands in a file as a written border: document 01, "The writer". It says what the bytes are, not how they are read.
-use Prim.Native.Nat.{ℕ, _+_, _%_, _^_, _<_, _≤_}
+use Prim.Native.Nat.{ℕ, _+_, _<_, _≤_}
 use mathlib.Core.{Path.{_≡_}, Bool.{false}, List.{List, [], _∷_, _++_}}
 use lib.{IntN.{pos, negℤ}, ListN.{length}}
-use Rattle.numbers.specs.{Answer.{found}, Spelling.{Whole}, Point.{signedOf, pointOf}, declared.point.RawPoint.{RawPoint}}
+use Rattle.numbers.specs.{Limits.{largestFile}, Answer.{found}, Spelling.{Whole}, Point.{signedOf, pointOf}, declared.point.RawPoint.{RawPoint}}
 use Rattle.border.specs.{Place.{pointAt, moveBy, isStill, movedBy, negated}, Trace.{Trace, point, closed}}
 use Rattle.border.specs.declared.{place.Point.{Point}, reader.Version.{Version, the-variants.{Plain, Packed}}}
 
@@ -66,7 +66,7 @@ pub record Placed (earlier bytes file : List ℕ) (base place : ℕ) : Type 0 wh
   pub layout : file ≡ header ++ (earlier ++ (bytes ++ rest))
   pub data-section : base ≡ length header
   pub border-place : place ≡ length header + length earlier
-  pub size : length file ≤ 2 ^ 30
+  pub size : length file ≤ largestFile
 
 -- a border of these points stands at a place of a file of a version, in whatever way it was written
 pub record Stands (version : Version) (file : List ℕ) (base place : ℕ) (points : List Point) : Type 0 where

@@ -8,8 +8,7 @@ use Rattle.built.specs.Finds.{Valued, FindsInto}
 use Rattle.numbers.specs.{Reply.{Reply, given, plain}, declared.refusal.Refusal.{Refusal}}
 use Rattle.numbers.specs.Reply as R
 use Rattle.table.specs.declared.location.Location.{Location}
-use Rattle.zones.proofs.StrictLookup.{strict-or-plain}
-use Rattle.zones.specs.{Lent.{Outcome, Replied, repliedOf}, Lookup.{zonesIn, lookedUp, lookedStrictly}, declared.lookup.Zones.{Zones}}
+use Rattle.zones.{proofs.StrictLookup.{strict-or-plain}, specs.{Lent.{Outcome, Replied, repliedOf}, Lookup.{zonesIn, lookedUp, lookedStrictly}, declared.lookup.Zones.{Zones}}}
 
 no-answer : {A : Type 0} {why : Refusal} {a : A} → _≡_ {A = Reply A} (R.refused why) (given a) → ⊥
 no-answer e = let z : _≡_ {A = ℕ} 0 1 = cc in omega arith

@@ -7,8 +7,7 @@ use Rattle.border.proofs.Signs.{both}
 use Rattle.writer.specs.Writer.{every}
 use Rattle.builder.specs.{Borders.{Drawn}, File.{Room, headFrom, headOf, isText, readable, known, builtOf}, Metadata.{inlined}, Yards.{Text, Plan}}
 use Rattle.built.proofs.{Header.{texts-read, sections-read}, AtPlace.{at-behind}, Parts.{Built, built-from, sizes, sections, in-parts, at-sizes, file-length}}
-use Rattle.header.proofs.ReadBack.{preamble-is}
-use Rattle.header.specs.{Field.{entry}, Header.{isKind, preambleOf, textsOf, sectionsAt, Contents, contentsBy, headBy}, Opening.{openedBy}}
+use Rattle.header.{proofs.ReadBack.{preamble-is}, specs.{Field.{entry}, Header.{isKind, preambleOf, textsOf, sectionsAt, Contents, contentsBy, headBy}, Opening.{openedBy}}}
 use Rattle.header.proofs.ReadBack as R
 use Rattle.built.specs.{Opens.{textsOut, openedAs}, Seats.{tableIn, metadataIn, tablePlace, headIn}}
 use Rattle.numbers.specs.{Lists.{zeros}, Reply.{given, refused, plain}}

@@ -3,9 +3,8 @@ use Prim.Native.Nat.{ℕ, _+_, _-_, _*_, _%_, _^_, _≤_, _<_, min}
 use borrow.Author.Tests.{leb-true, le-leb, ltb-true}
 use lib.{Dec.{ltb, eqb, lit≤}, IntN.{ℤ, pos, negsuc, negℤ, natAbs, _+ℤ_, _-ℤ_, _*ℤ_}, ListN.{length}, Signed.{mag, leZ, ltZ}}
 use mathlib.Core.{Bool.{Bool, true, false, _&&_, _||_}, List.{List, [], _∷_, zipWith}, Path.{_≡_, refl, sym, _∙_}}
-use native.Mathlib.{Nat.{le-trans}, Omega.{arith}}
-use Rattle.verdict.proofs.{Checks.{checked-fits}, Squares.{square-test}}
-use Rattle.verdict.specs.Distance.{squared, toSegment, toVertex, distanceOf, measured}
+use native.Mathlib.Omega.{arith}
+use Rattle.verdict.{proofs.{Checks.{checked-fits}, Squares.{square-test}}, specs.Distance.{squared, toSegment, toVertex, distanceOf, measured}}
 use Rattle.verdict.specs.{Edge.{sameZ, samePoint, between, inBox, quadrantOf, spotOf, edgeOf, straight, closestOn, cutOf}, Step.{Step, found, meets, _>>=_}}
 use Rattle.verdict.specs.Verdict.{Judgement, reached, Last, none, after, along, passing, closedAt, thenOn, judge}
 use Rattle.verdict.specs.Winding.{turned, quarterBy, halfTurn, turnAt, crossingOf, acrossBy, clearOf, woundBy}
@@ -105,10 +104,6 @@ pub data Goes (most : ℕ) : Step Tally → Type 0 where
 goes-either : {most : ℕ} (t : Bool) {a b : Step Tally} → Goes most a → Goes most b → Goes most (if t then a else b)
 goes-either true h k = h
 goes-either false h k = k
-
-goes-more : {few most : ℕ} {a : Step Tally} → few ≤ most → Goes few a → Goes most a
-goes-more h (on k) = on (le-trans k h)
-goes-more h met = met
 
 module _ (fix : Point) (fix-near : Near fix) (most : ℕ) (room : most + 2 < 2 ^ 31) where
   turned-goes : (by : ℤ) (t : Tally) → natAbs by ≤ 2 → natAbs (t .winding) ≤ most → Goes (most + 2) (turned by t)

@@ -2,8 +2,7 @@
 use Prim.Native.Nat.{ℕ, zero, suc, _+_, _-_, _*_, _/_, _^_, _≤_, _<_, min}
 use lib.Dec.{T, ltb, eqb, ltb→lt, eqb→eq, lit<}
 use lib.Ieee.{Float, nan, inf, fin, binary32, prec, emax, low, up, down, odd, units, round, neg, sum, add, sub, lt, eq, le, ofInt, toSigned, Fits.{down-pos, round-is}}
-use lib.Ieee.{Nearest.{div-mono}, Order.{round-mono}}
-use lib.IntN.{ℤ, pos, negsuc, negℤ, natAbs}
+use lib.{Ieee.{Nearest.{div-mono}, Order.{round-mono}}, IntN.{ℤ, pos, negsuc, negℤ, natAbs}}
 use mathlib.Core.{Bool.{Bool, true, false, cond, _&&_, _||_, Bool·beq}, Path.{_≡_, refl, sym, subst}}
 use native.Mathlib.{Nat.{div-one, mul-one, one-mul, mul-pos, mul-assoc, mul-comm, mul-le-mul-right, div-lt-iff-lt-mul, le-of-lt}, Omega.{arith}}
 use Rattle.writer.proofs.Signs.{size-neg}

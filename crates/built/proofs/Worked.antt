@@ -4,8 +4,7 @@ use lib.{Dec.{lit≤, lit<}, IntN.{negsuc}, Ieee.{fin, ofInt, add, sub, mul, div
 use mathlib.Core.{Bool.{Bool, true, false}, List.{List, [], _∷_, flatMap}, Path.{_≡_, refl, sym, ap, subst}}
 use native.Mathlib.Omega.{arith}
 use Rattle.verdict.specs.{Distance.{measured}, Edge.{samePoint, between, inBox, quadrantOf, slopeOf, edgeOf, straight, closestOn}}
-use Rattle.verdict.specs.Verdict.{along, passing, closedAt, thenOn, judge, judgedAt}
-use Rattle.verdict.specs.Winding.{turned, quarterBy, halfTurn, turnAt, crossingOf, acrossBy, clearOf, woundBy}
+use Rattle.verdict.specs.{Verdict.{along, passing, closedAt, thenOn, judge, judgedAt}, Winding.{turned, quarterBy, halfTurn, turnAt, crossingOf, acrossBy, clearOf, woundBy}}
 use Rattle.border.specs.{Place.{movedBy}, Reader.{advanced, marker, packedTurn, turnOf}, Trace.{roundAgain, nextWithin, nextPoint, traceThen, traceWithin, traceOf}}
 use Rattle.verdict.specs.Step as S
 use Rattle.builder.proofs.{Shortest.{shortest-section}, WorkedFile.{room, two, two-yards, equal, equal-values}}
@@ -20,8 +19,7 @@ use Rattle.numbers.specs.{Answer.{checked}, Float.{fixedPoint, oneShifted}, Poi
 use Rattle.numbers.specs.{Spelling.{digitsOf, varintOf}, Varint.{readingOf, wholeOf, forwardAt, valueOf, sizeOf, tooLong}}
 use Rattle.table.specs.{Find.{fixOf, matchedWith}, Hits.{words}, Merge.{summary, seen, mergedAfter, merged}, Rows.{rowsThen, rowBy, rowsWithin, rowsFrom, rowsIn}}
 use Rattle.table.specs.{Search.{judgedTurn, rowTurn, seek, searched}, Table.{stepsBy, entryBy}, declared.location.Location.{Location}}
-use Rattle.zones.specs.{Fields.{fieldsFrom}, Lent.{Replied, replied, repliedOf}, Lookup.{safezoneBits, zonesWith, zonesIn, lookedUp, lookedStrictly}}
-use Rattle.zones.specs.declared.lookup.Zones.{Zones}
+use Rattle.zones.specs.{Fields.{fieldsFrom}, Lent.{Replied, replied, repliedOf}, Lookup.{safezoneBits, zonesWith, zonesIn, lookedUp, lookedStrictly}, declared.lookup.Zones.{Zones}}
 use Rattle.zones.specs.Fields as Z
 
 -- ---- opening

@@ -1,9 +1,9 @@
 -- A date lies in its year, and no other date has its day number. Assumes nothing.
 use Prim.Native.Nat.{ℕ, suc, _+_, _-_, _≤_, _<_}
-use mathlib.Core.{Bool.{Bool, false}, Path.{_≡_, ap, sym, _∙_}}
+use mathlib.Core.{Bool.{Bool}, Path.{_≡_, ap, sym, _∙_}}
 use native.Mathlib.Omega.{arith}
 use Rattle.calendar.proofs.{Laws.{days-in-all}, Months.{month-more, months-up, year-more}, Rising.{rises, between}}
-use Rattle.calendar.specs.{Dates.{PlaceOf, DateOf}, Calendar.{isLeap, daysOfYears, daysOfMonths, monthLength, dayNumber, InRange, InMonths, InYear, IsDate}}
+use Rattle.calendar.specs.{Dates.{PlaceOf, DateOf}, Calendar.{isLeap, daysOfYears, daysOfMonths, dayNumber, InMonths, InYear, IsDate}}
 
 pub years-up : (n : ℕ) → daysOfYears n ≤ daysOfYears (suc n)
 unfolding daysOfYears

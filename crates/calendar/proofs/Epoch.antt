@@ -2,11 +2,10 @@
 use Prim.Native.Nat.{ℕ, zero, suc, _+_, _-_, _*_, _/_, _%_, _≤_, _<_}
 use borrow.Author.Tests.{eq-eqb, ne-eqb}
 use lib.Dec.{eqb}
-use mathlib.Core.{Bool.{Bool, true, false}, Path.{_≡_, refl, ap, sym, _∙_}}
+use mathlib.Core.Path.{_≡_, refl, ap, sym, _∙_}
 use native.Mathlib.Omega.{arith}
 use Rattle.calendar.proofs.Laws.{closed, days-closed, fewer, epoch, weekday-closed}
 use Rattle.calendar.specs.{Calendar.{isLeap, yearLength, daysOfYears, weekdayOf}, Epoch.{forwards, unsigned, backwards}}
-use Rattle.numbers.specs.Answer.{if_then_else_}
 
 -- 400 years are 146097 days
 round-sum : (n a b c : ℕ) → b ≤ a → 365 * (n + 400) + (a + 100) - (b + 4) + (c + 1) ≡ 365 * n + a - b + c + 146097

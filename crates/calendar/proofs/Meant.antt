@@ -1,14 +1,13 @@
 -- The days by number are those that the rules of the calendar mean. Assumes nothing.
-use Prim.Native.Nat.{ℕ, zero, suc, _+_, _-_, _*_, _/_, _%_, _≤_, _<_}
-use borrow.Author.Tests.{ltb-true, ltb-false, lt-ltb, le-ltb}
+use Prim.Native.Nat.{ℕ, suc, _+_, _-_, _*_, _/_, _%_, _≤_, _<_}
+use borrow.Author.Tests.{ltb-true, ltb-false}
 use lib.Dec.{ltb}
 use mathlib.Core.{Bool.{Bool, true, false}, Path.{_≡_, refl, ap, sym, _∙_}}
-use native.Mathlib.{Numerals.{sub-one}, Omega.{arith}}
+use native.Mathlib.Omega.{arith}
 use Rattle.calendar.proofs.{Laws.{weekday-closed}, Months.{month-more, months-up, month-long, month-short, months-closed, in-january, in-leap, in-common}}
 use Rattle.calendar.proofs.{Rising.{rises, Between, passes}, Weeks.{week-apart, count-closed}, Within.{weeks-long, week-back}}
-use Rattle.calendar.specs.Calendar.{isLeap, monthLength, daysOfYears, daysOfMonths, dayNumber, weekdayOf, InMonths}
-use Rattle.calendar.specs.Rules.{countOn, Within, WeekdayOf, JulianDay, leapDay, lastOn, firstOf, weeksOf, dayOf, IsMonth}
-use Rattle.calendar.specs.declared.rule.When.the-variants.{Julian, Zero, Month}
+use Rattle.calendar.specs.Calendar.{isLeap, monthLength, daysOfYears, daysOfMonths, dayNumber, weekdayOf}
+use Rattle.calendar.specs.{Rules.{countOn, WeekdayOf, JulianDay, leapDay, lastOn, firstOf, weeksOf, dayOf, IsMonth}, declared.rule.When.the-variants.{Julian, Month}}
 use Rattle.numbers.specs.Answer.{if_then_else_}
 
 -- so many days back, the weekday is met

@@ -3,7 +3,7 @@ use Prim.Native.Nat.{ℕ, zero, suc, _+_, _-_, _*_, _/_, _≤_, _<_}
 use borrow.Author.Tests.{lt-ltb, le-ltb}
 use lib.{Dec.{eqb, ltb, leb, eqb→eq, leb→le}, ListN.{getD}}
 use mathlib.Core.{Bool.{Bool, true, false}, Path.{_≡_, refl, ap, sym, _∙_}}
-use native.Mathlib.{Nat.{le-refl}, Numerals.{sub-one}, Omega.{arith}}
+use native.Mathlib.{Numerals.{sub-one}, Omega.{arith}}
 use Rattle.calendar.proofs.Below.{below}
 use Rattle.calendar.specs.{Dates.{PlaceOf}, Calendar.{isLeap, yearLength, daysOfYears, monthLengths, monthLength, daysOfMonths}}
 use Rattle.numbers.specs.Answer.{if_then_else_}

@@ -1,6 +1,6 @@
 -- The clock's answer is one. Assumes nothing.
-use Prim.Native.Nat.{ℕ, _+_, _*_, _<_}
-use lib.IntN.{ℤ, _+ℤ_}
+use Prim.Native.Nat.{ℕ, _+_, _*_}
+use lib.IntN.{ℤ}
 use mathlib.Core.Path.{_≡_, refl, ap, sym, _∙_}
 use native.Mathlib.Omega.{arith}
 use Rattle.calendar.proofs.{Dates.{unique, number-short}, Laws.{days-in-all}, Unique.{one-moment}}

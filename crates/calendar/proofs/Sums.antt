@@ -1,8 +1,8 @@
 -- The sums that the code works out. Assumes nothing.
-use Prim.Native.Nat.{ℕ, zero, suc, _+_, _-_, _*_, _≤_, _<_}
+use Prim.Native.Nat.{ℕ, suc, _+_, _-_, _*_, _≤_, _<_}
 use borrow.Author.Tests.{lt-ltb, le-ltb}
 use lib.Dec.{ltb}
-use mathlib.Core.{Bool.{Bool, true, false}, Path.{_≡_, refl, ap, sym, subst, _∙_}}
+use mathlib.Core.{Bool.{Bool, true, false}, Path.{_≡_, ap, sym, _∙_}}
 use native.Mathlib.Omega.{arith}
 use Rattle.calendar.proofs.{Months.{month-short, months-up, year-length}, Rising.{rises}, Laws.{mean-high}, Within.{weeks-long}}
 use Rattle.calendar.specs.{Calendar.{isLeap, monthLength, daysOfYears, daysOfMonths}, Rules.{leapDay, lastOn, firstOf, weeksOf, dayOf, IsMonth, IsWhen}}

@@ -5,7 +5,7 @@ use native.Mathlib.{Numerals.{sub-one}, Omega.{arith}}
 use Rattle.calendar.proofs.{Dates.{place-short, placed-date, unique, years-up}, Laws.{weekday-closed, epoch}, Meant.{month-meant, julian-meant}}
 use Rattle.calendar.proofs.{Months.{months-up, placed}, Rising.{Between, passes, rises}, Unique.{one-weekday, one-julian}}
 use Rattle.calendar.specs.{Calendar.{isLeap, daysOfYears, daysOfMonths, dayNumber, monthLength, weekdayOf, InYear}, Dates.{PlaceOf, DateOf}}
-use Rattle.calendar.specs.{Rules.{firstOf, dayOf, IsMonth, WeekdayOf, JulianDay, Meant, Only}, declared.rule.When.the-variants.{Julian, Zero, Month}}
+use Rattle.calendar.specs.{Rules.{firstOf, dayOf, IsMonth, WeekdayOf, Meant, Only}, declared.rule.When.the-variants.{Julian, Zero, Month}}
 
 -- a date, and no other
 pub record OneDate (number : ℕ) : Type 0 where

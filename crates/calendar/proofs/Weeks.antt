@@ -1,8 +1,8 @@
 -- Days of one weekday: each a week after the one before. Assumes nothing.
-use Prim.Native.Nat.{ℕ, zero, suc, _+_, _-_, _*_, _/_, _%_, _≤_, _<_}
+use Prim.Native.Nat.{ℕ, zero, suc, _+_, _-_, _/_, _%_, _≤_, _<_}
 use borrow.Author.Tests.{eqb-true, eqb-false}
 use lib.Dec.{eqb}
-use mathlib.Core.{Bool.{Bool, true, false}, Path.{_≡_, refl, ap, sym, _∙_}}
+use mathlib.Core.{Bool.{Bool, true, false}, Path.{_≡_, refl, sym, _∙_}}
 use native.Mathlib.Omega.{arith}
 use Rattle.calendar.proofs.Laws.{weekday-closed}
 use Rattle.calendar.specs.{Calendar.{weekdayOf}, Rules.{countOn}}

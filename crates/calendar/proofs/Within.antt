@@ -1,11 +1,11 @@
 -- A day comes later in each year than in the one before, and lies in the year or on the day after it. Assumes nothing.
-use Prim.Native.Nat.{ℕ, zero, suc, _+_, _-_, _*_, _/_, _%_, _≤_, _<_}
-use borrow.Author.Tests.{ltb-true, ltb-false}
+use Prim.Native.Nat.{ℕ, suc, _+_, _-_, _*_, _≤_, _<_}
+use borrow.Author.Tests.{ltb-true}
 use lib.Dec.{ltb}
-use mathlib.Core.{Bool.{Bool, true, false}, Path.{_≡_, refl, ap, sym, _∙_}}
-use native.Mathlib.{Numerals.{sub-one}, Omega.{arith}}
+use mathlib.Core.{Bool.{Bool, true, false}, Path.{_≡_, refl}}
+use native.Mathlib.Omega.{arith}
 use Rattle.calendar.proofs.{Months.{month-long, month-more, months-up, year-length}, Rising.{rises}}
-use Rattle.calendar.specs.Calendar.{isLeap, yearLength, monthLength, daysOfYears, daysOfMonths, weekdayOf}
+use Rattle.calendar.specs.Calendar.{isLeap, yearLength, monthLength, daysOfYears, daysOfMonths}
 use Rattle.calendar.specs.{Rules.{leapDay, lastOn, firstOf, weeksOf, dayOf, IsMonth, IsWhen}, declared.rule.When.{When, the-variants.{Julian, Zero, Month}}}
 use Rattle.numbers.specs.Answer.{if_then_else_}
 

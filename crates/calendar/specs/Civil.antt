@@ -1,5 +1,5 @@
 -- The date and the time of day that a clock shows, so many seconds east of UT.
-use Prim.Native.Nat.{ℕ, _+_, _*_, _≤_}
+use Prim.Native.Nat.{_+_, _*_, _≤_}
 use lib.IntN.{ℤ, _+ℤ_}
 use mathlib.Core.Path.{_≡_}
 use Rattle.calendar.specs.{Calendar.{dayNumber, weekdayOf, IsDate}, Moments.{instantOf, MomentOf}, declared.civil.{Civil.{Civil}, Reading.{Reading}}}

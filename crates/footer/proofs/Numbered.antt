@@ -1,16 +1,12 @@
 -- Which numbers a call can be refused with. Assumes nothing.
 use Prim.Native.Nat.{ℕ}
-use lib.{Dec.{ltb, leb, eqb}, IntN.{ℤ}}
-use mathlib.Core.{Bool.{Bool, true, false}, List.{List, [], _∷_, _++_}, Path.{_≡_, refl, subst}}
-use native.Mathlib.Omega.{arith}
-use Rattle.footer.specs.Local.{askIn, agrees, orSixty, stringIn, rulesIn, isRuled, byRule, answerBy, answerAt, localTimeBy, localTime}
-use Rattle.footer.specs.declared.rule.Rules.{Rules}
+use lib.{Dec.{ltb, eqb}, IntN.{ℤ}}
+use mathlib.Core.{List.{List, [], _∷_, _++_}, Path.{_≡_, refl}}
+use Rattle.footer.specs.{Local.{askIn, orSixty, stringIn, rulesIn, isRuled, byRule, answerBy, answerAt, localTimeBy, localTime}, declared.rule.Rules.{Rules}}
 use Rattle.footer.specs.declared.rule.Rules.the-variants as R
 use Rattle.numbers.proofs.Refusals.{Listed, still-listed}
 use Rattle.tzif.proofs.Numbered.{NumberedReply, answers, refuses, then-reply, and-then, demands, either, zone-numbered, of-lent, localNumbers}
-use Rattle.tzif.specs.{Header.{rfc9636}, Local.{byTable, Replied, replied, lent}, Number.{lift}, Reply.{Reply, given, refused, refusal, if_then_else_}}
-use Rattle.tzif.specs.Text.{slice, zeros, padded}
-use Rattle.tzif.specs.declared.{block.Block.{Block}, local.{Answer.{Answer}, LocalTime.{LocalTime}}, refusal.Refusal.{Refusal}, zone.Zone.{Zone}}
+use Rattle.tzif.specs.{Header.{rfc9636}, Number.{lift}, Reply.{Reply}, declared.{block.Block.{Block}, local.Answer.{Answer}, refusal.Refusal.{Refusal}, zone.Zone.{Zone}}}
 use Rattle.tzif.specs.declared.local.Answer.the-variants as A
 use Rattle.tzif.specs.declared.local.LocalTime.the-variants as L
 use Rattle.tzrule.specs.Answer as T

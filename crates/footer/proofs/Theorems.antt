@@ -1,20 +1,15 @@
 -- What Q-10 keeps of Q-9, and what it adds, by name. Assumes nothing.
 use Prim.Native.Nat.{ℕ}
 use borrow.Author.Tests.{eq-eqb, ne-eqb}
-use lib.{Dec.{eqb, ltb}, IntN.{ℤ}}
+use lib.IntN.{ℤ}
 use mathlib.Core.{Bool.{Bool, true, false}, List.{List}, Path.{_≡_, refl, ap, sym, _∙_}}
 use native.Mathlib.Omega.{arith}
-use Rattle.footer.specs.Local.{askIn, agrees, orSixty, stringIn, rulesIn, isRuled, byRule, answerBy, answerAt, localTimeBy, localTime}
-use Rattle.footer.specs.declared.rule.Rules.{Rules}
+use Rattle.footer.specs.{Local.{rulesIn, isRuled, answerBy, answerAt, localTimeBy, localTime}, declared.rule.Rules.{Rules}}
 use Rattle.footer.specs.declared.rule.Rules.the-variants as R
-use Rattle.tzif.specs.{Reply.{if_then_else_, Reply, given, refused, refusal, demand, _>>=_, _>>_}, Block.{endOf}, Local.{isAfterLast, byTable, lent, replied, Replied}}
-use Rattle.tzif.specs.{Number.{lift}, Zone.{readZone}}
-use Rattle.tzif.specs.declared.{block.Block.{Block}, local.{Answer.{Answer}, Found.{Found}, LocalTime.{LocalTime}}, refusal.Refusal.{Refusal}, zone.Zone.{Zone}}
+use Rattle.tzif.specs.{Reply.{given, refused, _>>=_, _>>_}, Local.{isAfterLast, byTable, replied, Replied}, Number.{lift}, Zone.{readZone}}
+use Rattle.tzif.specs.declared.{block.Block.{Block}, local.{Found.{Found}, LocalTime.{LocalTime}}, refusal.Refusal.{Refusal}, zone.Zone.{Zone}}
 use Rattle.tzif.specs.Local as plain
 use Rattle.tzif.specs.declared.local.Answer.the-variants as A
-use Rattle.tzrule.specs.Answer as T
-use Rattle.tzrule.specs.{String.{stringOf}, declared.{ask.Asked.{Asked}, rule.Tz.{Tz}}}
-use Rattle.tzrule.specs.declared.ask.Asked.the-variants as K
 
 -- two replies that the promise of `local_time` permits are equal
 pub same-local-time : (file : List ℕ) (instant : ℤ) (room : ℕ) (r q : LocalTime) (s t : List ℕ) → replied r s ≡ localTime file instant room → replied q t ≡ localTime file instant room → (r ≡ q) × (s ≡ t)

@@ -1,18 +1,17 @@
 -- What version 4 leaves as it was: files of versions 1 to 3 answer as by RFC 8536, a version 4 file without its features as the same bytes marked 3. Assumes nothing.
 use Prim.Native.Nat.{ℕ, zero, suc, _+_, _-_, _≤_}
-use lib.{Dec.{ltb, eqb}, IntN.{ℤ}}
+use lib.{Dec.{eqb}, IntN.{ℤ}}
 use mathlib.Core.{Bool.{Bool, true, false}, List.{List}, Path.{_≡_, refl, ap, ap₂, _∙_}}
 use native.Mathlib.Omega.{arith}
 use Rattle.footer.specs.Found.{foundOf, sameOctets, sameFound}
-use Rattle.footer.specs.Local.{askIn, sameAs, agrees, orSixty, stringIn, rulesIn, isRuled, byRule, answerBy, answerAt, localTimeBy, localTime}
-use Rattle.footer.specs.declared.rule.Rules.{Rules}
+use Rattle.footer.specs.{Local.{askIn, sameAs, agrees, orSixty, stringIn, rulesIn, isRuled, byRule, answerBy, answerAt, localTimeBy, localTime}, declared.rule.Rules.{Rules}}
 use Rattle.footer.specs.declared.rule.Rules.the-variants as R
 use Rattle.tzif.proofs.Beyond.{Beyond, Behind, found-behind, refused-one, transition-same, correction-same, type-same, type-behind, behind-same, after-same, table-same, table-behind, lent-same}
 use Rattle.tzif.proofs.{Marked.{PlainFour, markedThree, secondVersion, beyond, renamed, Second, ReadAlike, refuses, gives, zone-read}, Versions.{zone-v3-unchanged}}
 use Rattle.tzif.specs.{Block.{endOf}, Header.{rfc8536}, Local.{typeIn, typeBehind, byTable, lent}, Number.{octet, lift}}
-use Rattle.tzif.specs.{Reply.{Reply, given, refused, refusal, demand, if_then_else_, _>>=_, _>>_}, Times.{timeIn, transitionsOf}, Zone.{readZone}}
+use Rattle.tzif.specs.{Reply.{Reply, given, refused, refusal, demand, if_then_else_, _>>=_, _>>_}, Times.{timeIn, transitionsOf}}
 use Rattle.tzif.specs.declared.{block.Block.{Block}, local.{Answer.{Answer}, Found.{Found}}, refusal.Refusal.{Refusal}, zone.Zone.{Zone}}
-use Rattle.tzrule.proofs.Tail.{Alike, faults, reads, ClockFrom, TzFrom, string-alike}
+use Rattle.tzrule.proofs.Tail.{Alike, faults, reads, TzFrom, string-alike}
 use Rattle.tzrule.specs.{Ask.{corrected, inYears, since, clockAt, ask}, String.{stringOf}, Summer.{isSummer}, declared.{ask.{Asked.{Asked}, Time.{Time}}, rule.Tz.{Tz}}}
 use Rattle.tzrule.specs.Answer as T
 use Rattle.tzrule.specs.declared.ask.Asked.the-variants as K

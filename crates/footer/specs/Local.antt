@@ -1,6 +1,6 @@
 -- Local time with the footer's TZ string.
-use Prim.Native.Nat.{ℕ, _+_, _-_, _^_}
-use lib.{Dec.{ltb, eqb}, IntN.{ℤ}, ListN.{length}}
+use Prim.Native.Nat.{ℕ, _-_}
+use lib.{Dec.{ltb, eqb}, IntN.{ℤ}}
 use mathlib.Core.{Bool.{Bool, true}, List.{List}}
 use Rattle.footer.specs.{Found.{foundOf, sameFound}, declared.{local.Said.{Said}, rule.{Rules.{Rules}, Stated.{Stated}}}}
 use Rattle.footer.specs.declared.local.Said.the-variants as S

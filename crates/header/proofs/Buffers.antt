@@ -1,7 +1,7 @@
 -- Laws on what a loop or a call has written into a lent buffer. Assumes nothing.
 use mathlib.Core.{Path.{_≡_, refl, sym, ap, _∙_}, List.{List, [], _∷_, _++_, map, append-nil}}
 use Prim.Native.Nat.{ℕ, zero, suc, _+_, _-_, _≤_, _<_}
-use native.Mathlib.{Nat.{le-of-lt, le-refl, sub-zero}, Numerals.{add-one}, Omega.{arith}}
+use native.Mathlib.{Nat.{le-of-lt, le-refl}, Numerals.{add-one}, Omega.{arith}}
 use lib.ListN.{length, getD, set, take, drop, length-append, length-drop, drop-of-length-le, length-replicate, getD-replicate}
 use lib.Seq.{take-all, length-take-le, drop-cons, take-suc, set-at, append-snoc, take-length, drop-length}
 use Rattle.numbers.specs.Lists.{zeros, over}

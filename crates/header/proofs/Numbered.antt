@@ -1,12 +1,11 @@
 -- Which numbers an opening can be refused with. Assumes nothing.
-use mathlib.Core.{Path.{_≡_, refl, subst}, Bool.{Bool, true, false}, List.{List, [], _∷_, _++_}}
+use mathlib.Core.{Path.{_≡_, refl}, Bool.{Bool, true, false}, List.{List, [], _∷_, _++_}}
 use Prim.Native.Nat.{ℕ, zero, suc, _+_, _%_, _^_}
 use native.Mathlib.Omega.{arith}
 use lib.{Dec.{ltb, leb, eqb}, ListN.{length, getD}}
 use Rattle.numbers.proofs.{Refusals.{Listed, still-listed, Numbered, as-found, as-failed, as-refused, either, then-numbered}, Readings.{reading-numbered}}
 use Rattle.numbers.proofs.Replies.{NumberedReply, answers, refuses, then-reply, and-then, demands, or-else, number-of}
-use Rattle.numbers.specs.{Answer.{Answer, if_then_else_}, Reply.{Reply, given, refused, refusal, plain, demand, _orElse_, _>>=_, _>>_}}
-use Rattle.numbers.specs.declared.refusal.Refusal.{Refusal}
+use Rattle.numbers.specs.{Answer.{Answer, if_then_else_}, Reply.{Reply, refused, refusal, plain}, declared.refusal.Refusal.{Refusal}}
 use Rattle.header.specs.Header.{magicOf, isKind, preambleOf, blameOf, textsFrom, sizeAt, fits, sectionsFrom, sectionsAt, Contents, contentsBy, headBy}
 use Rattle.header.specs.{Opening.{fittingOf, repliedOf, openedBy, openedOf, openedStrictly}, Text.{within, remoteAt, stringAt, bytesOf, orBlamed, textAt}}
 use Rattle.header.specs.{Utf8.{isUtf8}, declared.text.{Blame.{Blame}, Text.{Text}}}

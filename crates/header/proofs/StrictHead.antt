@@ -5,11 +5,10 @@ use lib.{Dec.{ltb, leb, eqb}, ListN.{length}}
 use mathlib.Core.{Bool.{Bool, true, false}, List.{List}, Logic.{_⊎_, inl, inr}, Path.{_≡_, refl, sym, ap, subst, _∙_}}
 use native.Mathlib.Omega.{arith}
 use Rattle.numbers.proofs.{Readings.{Strictly, cut, same, then-strictly, strictly-either, reading-strictly}, Replies.{given-from, demanded}}
-use Rattle.numbers.specs.{Answer.{Answer}, Reply.{Reply, given, refused, refusal, plain, demand, _orElse_, _>>=_, _>>_}, Varint.{Numeral, readingOf}}
-use Rattle.numbers.specs.declared.refusal.Refusal.{Refusal}
+use Rattle.numbers.specs.{Answer.{Answer}, Reply.{Reply, given, refused, refusal, plain, demand, _orElse_, _>>=_, _>>_}, Varint.{Numeral}, declared.refusal.Refusal.{Refusal}}
 use Rattle.header.proofs.Unless.{shown, Unless, refuses, alike, unless-after, unless-demand, unless-then}
-use Rattle.header.specs.Header.{preambleOf, blameOf, Texts, textsFrom, textsOf, sizeAt, sectionsFrom, sectionsAt, Contents, contentsBy, headBy, headOf, headStrictly}
-use Rattle.header.specs.{Opening.{fittingOf, Replied, repliedOf, openedBy, openedOf, openedStrictly}, Text.{remoteAt, stringAt, bytesOf, orBlamed, textAt}}
+use Rattle.header.specs.Header.{preambleOf, blameOf, textsFrom, textsOf, sizeAt, sectionsFrom, sectionsAt, Contents, contentsBy, headBy, headOf, headStrictly}
+use Rattle.header.specs.{Opening.{fittingOf, repliedOf, openedBy, openedOf, openedStrictly}, Text.{remoteAt, stringAt, orBlamed, textAt}}
 use Rattle.header.specs.declared.{header.{Head.{Head}, Sections.{Sections}}, text.{Blame.{Blame}, Text.{Text}}}
 
 -- refused 31, or the same

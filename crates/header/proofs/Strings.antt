@@ -8,8 +8,7 @@ use lib.{Dec.{ltb, leb, eqb}, ListN.{length, take, drop, length-drop}, Seq.{leng
 use Rattle.numbers.specs.{Answer.{Answer, found, failed, refused, if_then_else_, _>>=_}, Varint.{Numeral, readingOf}, Reply.{given, refusal}}
 use Rattle.numbers.proofs.{Answers.{not-failed, All}, Laws.{Read}, Readings.{reading-read}}
 use Rattle.numbers.specs.Reply as R
-use Rattle.header.specs.{Text.{within, remoteAt, stringAt, bytesOf, orBlamed, textAt}, Utf8.{unmasked, isUtf8}}
-use Rattle.header.specs.declared.text.{Blame.{Blame}, Text.{Text}, String.{String}}
+use Rattle.header.specs.{Text.{within, remoteAt, stringAt, bytesOf, orBlamed, textAt}, Utf8.{unmasked, isUtf8}, declared.text.{Blame.{Blame}, Text.{Text}, String.{String}}}
 use Rattle.header.specs.declared.text.String.the-variants as S
 use Rattle.header.proofs.text.String as N
 

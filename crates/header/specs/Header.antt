@@ -2,17 +2,16 @@
 use mathlib.Core.{Bool.{Bool, true, false, _||_}, List.{List, [], _++_}}
 use Prim.Native.Nat.{ℕ, zero, suc, _+_, _*_, _%_, _^_}
 use lib.{Dec.{ltb, leb, eqb}, ListN.{length, getD}}
-use Rattle.numbers.specs.{Answer.{if_then_else_}, Varint.{Numeral, readingOf}, declared.varint.Varint.{Varint}}
+use Rattle.numbers.specs.{Limits.{largestFile}, Answer.{if_then_else_}, Varint.{Numeral, readingOf}, declared.varint.Varint.{Varint}}
 use Rattle.numbers.specs.Reply.{Reply, given, refused, refusal, plain, demand, _orElse_, _>>=_, _>>_}
-use Rattle.header.specs.{Text.{stoppedOf, textAt, bytesOf}, Field.{entry}}
-use Rattle.header.specs.declared.text.Blame.{Blame}
-use Rattle.header.specs.declared.header.{Preamble.{Preamble}, Sections.{Sections}, Head.{Head}, Begun.{Begun}, Placed.{Placed}, Headed.{Headed}, Reached.{Reached}}
-use Rattle.header.specs.declared.header.Size.{Size}
-use Rattle.header.specs.declared.header.Begun.the-variants as B
-use Rattle.header.specs.declared.header.Placed.the-variants as P
+use Rattle.header.specs.{Text.{stoppedOf, textAt, bytesOf}, Field.{entry}, declared.text.Blame.{Blame}}
+use Rattle.header.specs.declared.header.{Preamble.{Preamble}, Sections.{Sections}, Head.{Head}, PreambleAnswer.{PreambleAnswer}, SectionsAnswer.{SectionsAnswer}, Headed.{Headed}, PlaceAnswer.{PlaceAnswer}}
+use Rattle.header.specs.declared.header.SizeAnswer.{SizeAnswer}
+use Rattle.header.specs.declared.header.PreambleAnswer.the-variants as B
+use Rattle.header.specs.declared.header.SectionsAnswer.the-variants as P
 use Rattle.header.specs.declared.header.Headed.the-variants as H
-use Rattle.header.specs.declared.header.Reached.the-variants as A
-use Rattle.header.specs.declared.header.Size.the-variants as Z
+use Rattle.header.specs.declared.header.PlaceAnswer.the-variants as A
+use Rattle.header.specs.declared.header.SizeAnswer.the-variants as Z
 
 -- ---- refusals 1 to 5
 -- the three bytes as one number, the first highest
@@ -26,7 +25,7 @@ isKind byte = eqb byte 0x54 || eqb byte 0x43
 -- `PLB`, `T` or `C`, version, precision, field count
 unfoldable pub preambleOf : List ℕ → Reply Preamble
 preambleOf file = do
-  demand (leb (length file) (2 ^ 30)) (plain 1)
+  demand (leb (length file) largestFile) (plain 1)
   demand (leb 7 (length file)) (refusal 2 0 (length file))
   demand (eqb (magicOf file) 0x504C42) (refusal 3 0 (magicOf file))
   demand (isKind (getD file 3 0)) (refusal 4 0 (getD file 3 0))
@@ -108,7 +107,7 @@ abbrev pub headStrictly : List ℕ → Reply Head
 headStrictly = headBy true
 
 -- ---- the code's answers
-abbrev pub toldPreamble : Begun → Reply Preamble
+abbrev pub toldPreamble : PreambleAnswer → Reply Preamble
 toldPreamble (B.Preamble preamble) = given preamble
 toldPreamble (B.Refused why) = refused why
 
@@ -116,7 +115,7 @@ toldPreamble (B.Refused why) = refused why
 abbrev pub placeAfter : Bool → List ℕ → ℕ → Reply ℕ
 placeAfter strict file names = textsOf strict file names >>= λ texts. given (texts .place)
 
-abbrev pub toldPlace : Reached → Reply ℕ
+abbrev pub toldPlace : PlaceAnswer → Reply ℕ
 toldPlace (A.Place place) = given place
 toldPlace (A.Refused why) = refused why
 
@@ -124,11 +123,11 @@ toldPlace (A.Refused why) = refused why
 abbrev pub unreadOf : Varint → ℕ → Reply Numeral
 unreadOf answer number = stoppedOf answer orElse plain number
 
-abbrev pub toldSize : Size → Reply Numeral
+abbrev pub toldSize : SizeAnswer → Reply Numeral
 toldSize (Z.Number number) = given number
 toldSize (Z.Refused why) = refused why
 
-abbrev pub toldSections : Placed → Reply Sections
+abbrev pub toldSections : SectionsAnswer → Reply Sections
 toldSections (P.Sections sections) = given sections
 toldSections (P.Refused why) = refused why
 

@@ -21,6 +21,7 @@ use crate::codes::WRONG_LENGTH;
 use crate::text::Blame;
 use crate::text::Read;
 use crate::text::read_text;
+use numbers::limits::LARGEST_FILE;
 use numbers::refusal::Refusal;
 use numbers::refusal::plain;
 use numbers::refusal::refuse;
@@ -36,7 +37,7 @@ pub struct Preamble {
     pub count: u8,
 }
 
-enum Begun {
+enum PreambleAnswer {
     Preamble(Preamble),
     Refused(Refusal),
 }
@@ -48,7 +49,7 @@ pub struct Sections {
     pub data: u32,
 }
 
-enum Placed {
+enum SectionsAnswer {
     Sections(Sections),
     Refused(Refusal),
 }
@@ -65,12 +66,12 @@ pub enum Headed {
     Refused(Refusal),
 }
 
-enum Reached {
+enum PlaceAnswer {
     Place(usize),
     Refused(Refusal),
 }
 
-enum Size {
+enum SizeAnswer {
     Number(Number),
     Refused(Refusal),
 }
@@ -90,30 +91,30 @@ fn is_kind(kind: u8) -> bool
 }
 
 // Refusals 1 to 5.
-fn read_preamble(file: &[u8]) -> Begun
+fn read_preamble(file: &[u8]) -> PreambleAnswer
     ensures { λ r. ⌜ toldPreamble r ≡ preambleOf (now (file .entry)) ⌝ }
 {
-    if 0x4000_0000 < file.len() {
-        return Begun::Refused(plain(FILE_TOO_LARGE));
+    if LARGEST_FILE < file.len() {
+        return PreambleAnswer::Refused(plain(FILE_TOO_LARGE));
     }
     if file.len() < 7 {
-        return Begun::Refused(refuse(FILE_TOO_SHORT, NO_CAUSE, file.len() as u64));
+        return PreambleAnswer::Refused(refuse(FILE_TOO_SHORT, NO_CAUSE, file.len() as u64));
     }
     let magic = magic_of(file);
     if magic != 0x50_4C_42 {
-        return Begun::Refused(refuse(NO_MAGIC, NO_CAUSE, magic));
+        return PreambleAnswer::Refused(refuse(NO_MAGIC, NO_CAUSE, magic));
     }
     let kind = file[3];
     if !is_kind(kind) {
-        return Begun::Refused(refuse(UNKNOWN_TYPE, NO_CAUSE, kind as u64));
+        return PreambleAnswer::Refused(refuse(UNKNOWN_TYPE, NO_CAUSE, kind as u64));
     }
     let version = file[4];
     if 2 <= version {
-        return Begun::Refused(refuse(UNKNOWN_VERSION, NO_CAUSE, version as u64));
+        return PreambleAnswer::Refused(refuse(UNKNOWN_VERSION, NO_CAUSE, version as u64));
     }
     let precision = file[5];
     let count = file[6];
-    Begun::Preamble(Preamble {
+    PreambleAnswer::Preamble(Preamble {
         kind,
         version,
         precision,
@@ -146,7 +147,7 @@ pub fn read_header_text(file: &[u8], strict: bool, names: usize, index: usize, p
 }
 
 // The place after the names and the notice.
-fn skip_texts(file: &[u8], strict: bool, names: usize) -> Reached
+fn skip_texts(file: &[u8], strict: bool, names: usize) -> PlaceAnswer
     requires { ⌜ names < 256 ⌝ }
     ensures { λ r. ⌜ toldPlace r ≡ placeAfter strict (now (file .entry)) names ⌝ }
 {
@@ -155,12 +156,12 @@ fn skip_texts(file: &[u8], strict: bool, names: usize) -> Reached
     while index <= names {
         let text = match read_header_text(file, strict, names, index, place) {
             Read::Text(text) => text,
-            Read::Refused(why) => return Reached::Refused(why),
+            Read::Refused(why) => return PlaceAnswer::Refused(why),
         };
         place = text.next;
         index += 1;
     }
-    Reached::Place(place)
+    PlaceAnswer::Place(place)
 }
 
 // The refusal number for a size that can't be read: its own, 12 or 31.
@@ -175,33 +176,33 @@ fn unread(answer: Varint, number: u8) -> u8
 }
 
 // One of the three sizes.
-fn read_size(file: &[u8], strict: bool, place: usize, number: u8) -> Size
+fn read_size(file: &[u8], strict: bool, place: usize, number: u8) -> SizeAnswer
     ensures { λ r. ⌜ toldSize r ≡ sizeAt strict (now (file .entry)) place number ⌝ }
 {
     let answer = read_number(file, place, strict);
     let Varint::Number(size) = answer else {
-        return Size::Refused(plain(unread(answer, number)));
+        return SizeAnswer::Refused(plain(unread(answer, number)));
     };
-    Size::Number(size)
+    SizeAnswer::Number(size)
 }
 
 // The sections, counted from the header's end; the last must end with the file.
-fn sections_from(length: usize, end: usize, metadata: u32, data: u32, rest: u64) -> Placed
+fn sections_from(length: usize, end: usize, metadata: u32, data: u32, rest: u64) -> SectionsAnswer
     requires { ⌜ (end ≤ 2 ^ 30 + 1) × (metadata ≤ «data») ⌝ }
     ensures { λ r. ⌜ toldSections r ≡ sectionsFrom length end metadata «data» rest ⌝ }
 {
     let base = end as u64;
     if 0xFFFF_FFFF < base + data as u64 {
-        return Placed::Refused(plain(SUM_TOO_LARGE));
+        return SectionsAnswer::Refused(plain(SUM_TOO_LARGE));
     }
     if 0xFFFF_FFFF_FFFF_FFFF - (base + data as u64) < rest {
-        return Placed::Refused(plain(SUM_TOO_LARGE));
+        return SectionsAnswer::Refused(plain(SUM_TOO_LARGE));
     }
     let total = rest + (base + data as u64);
     if total != length as u64 {
-        return Placed::Refused(refuse(WRONG_LENGTH, NO_CAUSE, total));
+        return SectionsAnswer::Refused(refuse(WRONG_LENGTH, NO_CAUSE, total));
     }
-    Placed::Sections(Sections {
+    SectionsAnswer::Sections(Sections {
         table: base as u32,
         metadata: (base + metadata as u64) as u32,
         data: (base + data as u64) as u32,
@@ -209,26 +210,26 @@ fn sections_from(length: usize, end: usize, metadata: u32, data: u32, rest: u64)
 }
 
 // Refusals 8 to 11, and 13 for the sums, each where the Rust meets it.
-fn read_sections(file: &[u8], strict: bool, place: usize) -> Placed
+fn read_sections(file: &[u8], strict: bool, place: usize) -> SectionsAnswer
     requires { ⌜ length (now file) ≤ 2 ^ 30 ⌝ }
     ensures { λ r. ⌜ toldSections r ≡ sectionsAt strict (now (file .entry)) place ⌝ }
 {
     let first = match read_size(file, strict, place, NO_FIRST_SIZE) {
-        Size::Number(number) => number,
-        Size::Refused(why) => return Placed::Refused(why),
+        SizeAnswer::Number(number) => number,
+        SizeAnswer::Refused(why) => return SectionsAnswer::Refused(why),
     };
     let second = match read_size(file, strict, first.place, NO_SECOND_SIZE) {
-        Size::Number(number) => number,
-        Size::Refused(why) => return Placed::Refused(why),
+        SizeAnswer::Number(number) => number,
+        SizeAnswer::Refused(why) => return SectionsAnswer::Refused(why),
     };
     let metadata = first.value % 0x1_0000_0000;
     let data = metadata + second.value % 0x1_0000_0000;
     if 0xFFFF_FFFF < data {
-        return Placed::Refused(plain(SUM_TOO_LARGE));
+        return SectionsAnswer::Refused(plain(SUM_TOO_LARGE));
     }
     let third = match read_size(file, strict, second.place, NO_THIRD_SIZE) {
-        Size::Number(number) => number,
-        Size::Refused(why) => return Placed::Refused(why),
+        SizeAnswer::Number(number) => number,
+        SizeAnswer::Refused(why) => return SectionsAnswer::Refused(why),
     };
     sections_from(
         file.len(),
@@ -244,16 +245,16 @@ pub fn head_by(file: &[u8], strict: bool) -> Headed
     ensures { λ r. ⌜ toldHead r ≡ headBy strict (now (file .entry)) ⌝ }
 {
     let preamble = match read_preamble(file) {
-        Begun::Preamble(preamble) => preamble,
-        Begun::Refused(why) => return Headed::Refused(why),
+        PreambleAnswer::Preamble(preamble) => preamble,
+        PreambleAnswer::Refused(why) => return Headed::Refused(why),
     };
     let place = match skip_texts(file, strict, preamble.count as usize) {
-        Reached::Place(place) => place,
-        Reached::Refused(why) => return Headed::Refused(why),
+        PlaceAnswer::Place(place) => place,
+        PlaceAnswer::Refused(why) => return Headed::Refused(why),
     };
     let sections = match read_sections(file, strict, place) {
-        Placed::Sections(sections) => sections,
-        Placed::Refused(why) => return Headed::Refused(why),
+        SectionsAnswer::Sections(sections) => sections,
+        SectionsAnswer::Refused(why) => return Headed::Refused(why),
     };
     Headed::Head(Head {
         preamble,

@@ -4,7 +4,7 @@ use borrow.Author.Tests.{leb-true, le-leb, eq-eqb, ne-eqb}
 use lib.{Dec.{leb, eqb}, ListN.{length, take, getD, length-append, List·getD-append}, Seq.{getD-append-add}}
 use mathlib.Core.{Bool.{Bool, true, false, _&&_}, List.{List, [], _∷_, _++_, append-assoc}, Path.{_≡_, refl, sym, ap, subst, _∙_}}
 use native.Mathlib.{Nat.{add-zero}, Omega.{arith}}
-use Rattle.numbers.{proofs.Replies.{given-from, demanded}, specs.{Answer.{if_then_else_}, Lists.{zeros, padded}, Reply.{Reply, given, refused, refusal, plain}}}
+use Rattle.numbers.{proofs.Replies.{given-from, demanded}, specs.{Lists.{zeros, padded}, Reply.{Reply, given, refused, refusal, plain}}}
 use Rattle.table.specs.{Find.{isPrecision}, declared.rows.Row.{Row}}
 use Rattle.header.specs.{Header.{preambleOf, contentsBy, headBy, headOf}, declared.header.Head.{Head}}
 use Rattle.index.proofs.{Keeping.{packed-length}, Sides.{and-rest}, TableInOrder.{given-one}, Tabling.{records-length}, Tying.{end-decides, tied-so, tied-not}}

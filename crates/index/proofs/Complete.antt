@@ -1,8 +1,8 @@
 -- `index-complete`: every row whose box holds a fix is in the list of the fix's tile. Assumes nothing.
-use Prim.Native.Nat.{ℕ, zero, suc, _+_, _*_, _-_, _/_, _%_, _^_, _<_, _≤_, min}
+use Prim.Native.Nat.{ℕ, _+_, _*_, _-_, _/_, _%_, _^_, _<_}
 use borrow.Author.Tests.{le-leb, lt-ltb}
-use lib.{Dec.{leb, ltb}, IntN.{ℤ}, Signed.{leZ}}
-use mathlib.Core.{Bool.{Bool, true, false, _&&_}, List.{List, [], _∷_}, Path.{_≡_, refl, sym, ap, subst, _∙_}}
+use lib.IntN.{ℤ}
+use mathlib.Core.{Bool.{Bool, true, false}, List.{List, _∷_}, Path.{_≡_, subst}}
 use mir.{Syntax.{w32}, Val.{SFits}}
 use native.Mathlib.Omega.{arith}
 use Rattle.border.specs.{declared.place.Point.{Point}, Box.{between}}
@@ -10,7 +10,7 @@ use Rattle.numbers.specs.Answer.{if_then_else_}
 use Rattle.table.specs.{Table.{holds}, declared.{rows.Row.{Row}, table.Bounds.{Bounds}}}
 use Rattle.index.proofs.{Filling.{both}, Meeting.{lifted-order, in-its-tile}, Sides.{column-few}}
 use Rattle.index.specs.{Complete.{RowAt, first, next, Has, here, later, Narrow}, Index.{listFrom, listOf}}
-use Rattle.index.specs.{Tiles.{wordOf, lift, spanOf, tileAlong, tileOf, tileAt, isMet, meets}, declared.tiles.{Span.{Span}, Tile.{Tile}}}
+use Rattle.index.specs.{Tiles.{wordOf, lift, spanOf, tileAlong, tileOf, tileAt, isMet, meets}, declared.tiles.Tile.{Tile}}
 
 -- ---- along an axis
 module _ (power precision : ℕ) (low z high : ℤ) (a : SFits w32 low) (b : SFits w32 z) (c : SFits w32 high) where

@@ -5,13 +5,13 @@ use lib.{ListN.{length, getD}, Seq.{sets, length-sets}}
 use mathlib.Core.{Bool.{Bool, true, false, _&&_}, List.{List, [], _∷_, _++_, map}, Path.{_≡_, refl, sym, ap, subst, _∙_}}
 use native.Mathlib.Omega.{arith}
 use Rattle.writer.specs.Stored.{Stored}
-use Rattle.numbers.{proofs.Replies.{carried, onward}, specs.{Lists.{zeros, padded}, Reply.{Reply, given, refused}, declared.refusal.Refusal.{Refusal}}}
+use Rattle.numbers.{proofs.Replies.{carried, onward}, specs.{Lists.{zeros}, Reply.{Reply, given, refused}, declared.refusal.Refusal.{Refusal}}}
 use Rattle.table.{proofs.Agreeing.{Gave, gave, refused-so}, specs.{Find.{isPrecision}, Agreeing.{Agrees}, declared.rows.Row.{Row}}}
 use Rattle.header.specs.{Header.{headOf}, declared.header.Head.{Head}}
 use Rattle.index.proofs.{Keeping.{packed-length}, Stores.{read-below, read-above, stored-length, over-zeros}, Tabling.{records-length}}
 use Rattle.index.proofs.Whole.{read-stored, Holds, lists-of-rows, starts-length, lists-length, starts-fit, laid, index-length}
 use Rattle.index.specs.Building.{listsIn, low, Listed, Recorded, Made}
-use Rattle.index.specs.Index.{recordsOf, wordsFor, keptOf, listsFrom, joined, startsFrom, tiles, recordsAt, listsAt, indexOf, indexWith, indexIn, Indexed, indexed, indexedBy, indexedOf}
+use Rattle.index.specs.Index.{recordsOf, wordsFor, keptOf, listsFrom, joined, startsFrom, tiles, recordsAt, listsAt, indexOf, indexWith, indexIn, indexed, indexedBy, indexedOf}
 use Rattle.index.specs.Table.{tableOf}
 
 pub both : (a b : Bool) → (a && b) ≡ true → (a ≡ true) × (b ≡ true)

@@ -1,11 +1,11 @@
 -- The bytes kept in the index. Assumes nothing.
 use Prim.Native.Nat.{ℕ, zero, suc, _+_, _-_, _/_, _<_, _≤_, min}
 use lib.ListN.{length, take, getD, length-take, List·getD-eq-default}
-use mathlib.Core.{List.{List, [], _∷_, _++_}, Path.{_≡_, refl, sym, ap, _∙_}}
+use mathlib.Core.{List.{List, [], _∷_, _++_}, Path.{_≡_, refl, sym, ap}}
 use native.Mathlib.Omega.{arith}
 use Rattle.writer.specs.Stored.{Stored}
 use Rattle.index.proofs.Stores.{Left, left-all, left-step}
-use Rattle.index.specs.Index.{fourAt, packedFrom, wordsFor, keptOf}
+use Rattle.index.specs.Index.{fourAt, packedFrom, keptOf}
 
 -- past the end there is none
 pub none-past : (l : List ℕ) (size place : ℕ) → min size (length l) ≤ place → 0 ≡ getD (take size l) place 0

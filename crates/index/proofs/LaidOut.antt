@@ -1,17 +1,17 @@
 -- What stands where in the index of a file: its records, and the list of each tile. Assumes nothing.
 use Prim.Native.Nat.{ℕ, zero, suc, _+_, _*_, _-_, _<_, _≤_}
 use borrow.Author.Tests.{le-leb}
-use lib.{Dec.{leb}, ListN.{length, take, drop, getD, length-append}, Seq.{getD-append-add, drop-at, take-at, drop-append-add, drop-append-seam, take-length, split-at}}
-use mathlib.Core.{Bool.{true, _&&_}, List.{List, [], _∷_, _++_, append-assoc}, Path.{_≡_, refl, sym, ap, _∙_}}
+use lib.{ListN.{length, take, drop, getD, length-append}, Seq.{getD-append-add, drop-at, take-at, drop-append-add, drop-append-seam, take-length, split-at}}
+use mathlib.Core.{Bool.{true}, List.{List, [], _∷_, _++_, append-assoc}, Path.{_≡_, refl, sym, ap, _∙_}}
 use native.Mathlib.Omega.{arith}
-use Rattle.numbers.{proofs.Replies.{met}, specs.Reply.{given}}
+use Rattle.numbers.specs.Reply.{given}
 use Rattle.border.specs.declared.place.Point.{Point}
 use Rattle.table.specs.{Find.{fixOf, isPrecision}, declared.{location.Location.{Location}, rows.Row.{Row}}}
 use Rattle.header.specs.declared.header.Head.{Head}
 use Rattle.index.proofs.{Keeping.{packed-length}, Placing.{placed}, Sides.{row-few, column-few}, Tabling.{records-length}, Whole.{lists-length, starts-length}}
 use Rattle.index.proofs.BuiltIsTied as B
-use Rattle.index.specs.Index.{recordsOf, wordsFor, keptOf, listOf, listsFrom, joined, startsFrom, tiles, recordsAt, listsAt, indexOf}
-use Rattle.index.specs.{Through.{startOf, isInside, placeOf, recordsIn, numbersIn}, Tied.{wordAt}, Tiles.{wordOf, lift, tileOf}, declared.place.Place.{Place}}
+use Rattle.index.specs.Index.{recordsOf, wordsFor, keptOf, listOf, listsFrom, joined, startsFrom, tiles, recordsAt}
+use Rattle.index.specs.{Through.{startOf, isInside, placeOf, recordsIn, numbersIn}, Tiles.{wordOf, lift, tileOf}, declared.place.Place.{Place}}
 
 -- ---- lists one after the other
 joined-append : (a b : List (List ℕ)) → joined (a ++ b) ≡ joined a ++ joined b

@@ -1,8 +1,8 @@
 -- A coordinate stands in its tile, and order is kept. Assumes nothing.
 use Prim.Native.Nat.{ℕ, zero, suc, _+_, _*_, _-_, _/_, _%_, _^_, _<_, _≤_, min}
 use borrow.Author.Tests.{leb-true, leb-false, eqb-false}
-use lib.{Dec.{leb, ltb, eqb}, IntN.{ℤ, pos, negsuc}, Signed.{leZ}, Pow.{pow-pos, split}}
-use mathlib.Core.{Bool.{Bool, true, false, _&&_}, Path.{_≡_, refl, sym, ap, _∙_}}
+use lib.{Dec.{leb, eqb}, IntN.{ℤ, pos, negsuc}, Signed.{leZ}, Pow.{pow-pos, split}}
+use mathlib.Core.{Bool.{Bool, true, false}, Path.{_≡_, refl}}
 use mir.{Syntax.{w32}, Val.{SFits}}
 use native.Mathlib.{Omega.{arith}, Nat.{one-mul, add-mul, mul-le-mul-right, mod-lt}}
 use Rattle.numbers.specs.Answer.{if_then_else_}

@@ -1,14 +1,14 @@
 -- The rows of a table that can be indexed are numbered from 0 up, and their boxes have the coordinates of an i32. Assumes nothing.
-use Prim.Native.Nat.{ℕ, zero, suc, _+_, _-_, _%_, _^_, _<_, _≤_}
+use Prim.Native.Nat.{ℕ, zero, suc, _+_, _-_, _%_, _^_, _<_}
 use borrow.Author.Tests.{ltb-true, ltb-false, lt-ltb, le-ltb}
 use lib.{Dec.{ltb}, IntN.{ℤ, pos, negsuc, _-ℤ_}}
-use mathlib.Core.{Bool.{Bool, true, false}, List.{List, [], _∷_}, Path.{_≡_, refl, sym, ap, subst, _∙_}}
+use mathlib.Core.{Bool.{Bool, true, false}, List.{List, [], _∷_}, Path.{_≡_, refl, sym, ap, subst}}
 use mir.{Syntax.{w32}, Val.{SFits, ofZ}}
 use native.Mathlib.Omega.{arith}
 use Rattle.numbers.proofs.{Answers.{found-one}, Replies.{given-from, demanded}}
 use Rattle.numbers.specs.{Answer.{Answer, found, if_then_else_}, Point.{low32, readI32, halfOf, signedOf}, Reply.{given, plain}, Varint.{Numeral, readingOf}}
 use Rattle.table.proofs.TableRows.{Grows, reading-grows, row-less}
-use Rattle.table.specs.{Ordered.{lowest}, Rows.{Rows, tableEnd, after, startAt, rowsThen, rowBy, rowsWithin, rowsFrom, rowsIn}, Table.{stepsBy, entryBy}}
+use Rattle.table.specs.{Ordered.{lowest}, Rows.{tableEnd, after, startAt, rowsThen, rowBy, rowsWithin, rowsFrom, rowsIn}, Table.{stepsBy, entryBy}}
 use Rattle.table.specs.declared.{rows.{Cursor.{Cursor}, Row.{Row}}, table.{Bounds.{Bounds}, Entry.{Entry}}}
 use Rattle.header.specs.declared.header.Head.{Head}
 use Rattle.index.proofs.SameReading.{found-from}

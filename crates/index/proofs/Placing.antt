@@ -1,11 +1,11 @@
 -- Where a tile's list stands, by how far the tests came. Assumes nothing.
 use Prim.Native.Nat.{ℕ, _+_}
-use mathlib.Core.{Bool.{true, false}, List.{List}, Path.{_≡_, refl, sym, ap, _∙_}}
+use mathlib.Core.{Bool.{true, false}, List.{List}, Path.{_≡_, sym, ap, _∙_}}
 use Rattle.border.specs.declared.place.Point.{Point}
 use Rattle.numbers.{proofs.Replies.{met, unmet}, specs.Reply.{given, refused, plain}}
 use Rattle.table.specs.{Find.{fixOf, isPrecision}, declared.location.Location.{Location}}
 use Rattle.header.specs.declared.header.Head.{Head}
-use Rattle.index.specs.{Tied.{wordAt, isHeaded}, Through.{startOf, isInside, placeOf}, Tiles.{tileOf}, declared.place.Place.{Place}}
+use Rattle.index.specs.{Tied.{wordAt, isHeaded}, Through.{startOf, isInside, placeOf}, Tiles.{tileOf}}
 
 -- the tile that was worked out is the location's
 pub tile-same : (head : Head) (location : Location) {fix : Point} {t : ℕ} → fix ≡ fixOf location (head .preamble .precision) → t ≡ tileOf (head .preamble .precision) fix

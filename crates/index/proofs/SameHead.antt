@@ -4,8 +4,8 @@ use borrow.Author.Tests.{ltb-true}
 use lib.{Dec.{ltb, leb, eqb}, ListN.{length, take, getD}}
 use mathlib.Core.{Bool.{Bool, true, false}, List.{List, [], _∷_}, Path.{_≡_, refl, sym, ap, subst, _∙_}}
 use native.Mathlib.Omega.{arith}
-use Rattle.numbers.proofs.{Answers.{found-one, not-failed, not-refused, All}, Replies.{given-from, demanded}}
-use Rattle.numbers.specs.{Answer.{Answer, found, if_then_else_}, Reply.{Reply, given, refused, notUtf8, refusal, plain, _orElse_}, Varint.{Numeral, readingOf}}
+use Rattle.numbers.proofs.{Answers.{found-one, not-failed, All}, Replies.{given-from, demanded}}
+use Rattle.numbers.specs.{Answer.{Answer, found, if_then_else_}, Reply.{given, refused, notUtf8, refusal, plain, _orElse_}, Varint.{Numeral, readingOf}}
 use Rattle.table.proofs.TableRows.{reading-grows}
 use Rattle.header.specs.Header.{magicOf, isKind, preambleOf, blameOf, Texts, textsFrom, Contents, sizeAt, sectionsFrom, sectionsAt, contentsBy, headBy}
 use Rattle.header.specs.{Text.{within, remoteAt, stringAt, bytesOf, orBlamed, textAt}, Utf8.{isUtf8}}

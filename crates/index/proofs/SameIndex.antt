@@ -1,7 +1,7 @@
 -- `same-index`: files with the same header, the same length and the same bytes up to the metadata have the same index. Assumes nothing.
 use Prim.Native.Nat.{ℕ, suc, _-_}
 use lib.{IntN.{ℤ}, ListN.{length, take}}
-use mathlib.Core.{Bool.{Bool, true, false}, List.{List, [], _∷_}, Path.{_≡_, refl, sym, ap, _∙_}}
+use mathlib.Core.{Bool.{Bool, true, false}, List.{List, _∷_}, Path.{_≡_, refl, sym, ap, _∙_}}
 use Rattle.numbers.{proofs.Replies.{onward}, specs.{Reply.{Reply, given, refused, plain, demand, _>>=_, _>>_}, Varint.{readingOf}}}
 use Rattle.table.proofs.TableRows.{reading-grows}
 use Rattle.table.specs.{Find.{isPrecision}, Ordered.{lowest}, Rows.{Rows, row, tableEnd, unreadable, startAt, rowsFrom, rowsIn}, declared.rows.Row.{Row}}

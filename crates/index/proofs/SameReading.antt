@@ -1,14 +1,13 @@
 -- Numbers, rows and tables that end inside bytes that two files share are the same in both. Assumes nothing.
-use Prim.Native.Nat.{ℕ, zero, suc, _+_, _-_, _*_, _%_, _^_, _<_, _≤_, min}
+use Prim.Native.Nat.{ℕ, zero, suc, _+_, _-_, _*_, _%_, _<_, _≤_, min}
 use borrow.Author.Tests.{leb-true}
 use lib.{Dec.{leb, ltb}, IntN.{ℤ}, ListN.{length, take, drop, length-drop}, Signed.{leZ}}
-use mathlib.Core.{Bool.{Bool, true, false}, List.{List, [], _∷_}, Path.{_≡_, refl, sym, ap, _∙_}}
+use mathlib.Core.{Bool.{Bool, true, false}, List.{List, [], _∷_}, Path.{_≡_, refl, ap, _∙_}}
 use native.Mathlib.Omega.{arith}
 use Rattle.numbers.proofs.{Answers.{found-one, not-failed, not-refused, All, goes}, Replies.{given-from, demanded, met, onward}}
 use Rattle.numbers.specs.{Answer.{Answer, found, if_then_else_, _>>=_}, Reply.{given, plain}}
-use Rattle.numbers.specs.Varint.{Numeral, numeral, isLast, valueOf, sizeOf, tooLong, forwardAt, isComplete, wholeOf, readingOf}
-use Rattle.table.proofs.TableRows.{Grows}
-use Rattle.table.specs.{Ordered.{lowest}, Rows.{Rows, tableEnd, after, rowsThen, rowBy, rowsWithin}, Table.{stepsBy, entryBy}}
+use Rattle.numbers.specs.Varint.{Numeral, isLast, valueOf, sizeOf, tooLong, forwardAt, isComplete, wholeOf, readingOf}
+use Rattle.table.{proofs.TableRows.{Grows}, specs.{Ordered.{lowest}, Rows.{tableEnd, after, rowsThen, rowBy, rowsWithin}, Table.{stepsBy, entryBy}}}
 use Rattle.table.specs.declared.{rows.{Cursor.{Cursor}, Row.{Row}}, table.Entry.{Entry}}
 use Rattle.index.proofs.Filling.{both}
 use Rattle.index.specs.Table.{isNext, tableFrom}

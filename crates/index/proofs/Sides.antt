@@ -1,7 +1,7 @@
 -- Sizes of tiles. Assumes nothing.
 use Prim.Native.Nat.{ℕ, _+_, _*_, _-_, _/_, _^_, _≤_, _<_, min}
 use lib.Pow.{pow-pos, pow-mono, shl-lt}
-use mathlib.Core.{Bool.{Bool, true, false, _&&_}, Path.{_≡_, refl, sym, ap, _∙_}}
+use mathlib.Core.{Bool.{Bool, true, false, _&&_}, Path.{_≡_, sym, ap, _∙_}}
 use native.Mathlib.{Nat.{lt-of-lt-of-le, zero-div}, Omega.{arith}}
 use Rattle.index.specs.Tiles.{tileAlong}
 

@@ -1,5 +1,5 @@
 -- Words that go into a lent buffer one after another, and stores that do not meet. Assumes nothing.
-use Prim.Native.Nat.{ℕ, zero, suc, _+_, _-_, _<_, _≤_}
+use Prim.Native.Nat.{ℕ, suc, _+_, _-_, _<_, _≤_}
 use lib.{ListN.{length, set, drop, getD, length-append, length-replicate}, Seq.{sets, length-sets, sets-eq, set-comm, getD-set-other}}
 use mathlib.Core.{List.{List, [], _∷_, _++_}, Path.{_≡_, refl, sym, ap, subst, _∙_}}
 use native.Mathlib.{Nat.{add-zero}, Omega.{arith}}
@@ -49,9 +49,6 @@ module _ {before all : List ℕ} {from : ℕ} where
         same = ap (λ (xs : List ℕ). sets xs next rest) (s .stored) ∙ ap (λ (n : ℕ). sets (sets now at words) n rest) (s .place-after) ∙ sym (sets-append words rest now at) ∙ l .same;
         size = stored-length s ∙ l .size;
       }
-
-  pub left-none : {now : List ℕ} {at : ℕ} → Left before from all now at [] → Stored before from all now at
-  left-none {now} {at} l = record { place-after = omega (arith, l .places); stored = l .same }
 
   pub left-last : {now after : List ℕ} {at next : ℕ} (words : List ℕ) → Left before from all now at words → Stored now at words after next → Stored before from all after next
   left-last {now} {after} {at} {next} words l s = record { place-after = omega (arith, s .place-after, l .places); stored = s .stored ∙ l .same }

@@ -2,9 +2,9 @@
 use Prim.Native.Nat.{ℕ}
 use borrow.Author.Tests.{leb-true, ltb-false, le-leb, le-ltb}
 use lib.{Dec.{leb, ltb}, IntN.{ℤ}, Signed.{leZ}}
-use mathlib.Core.{Bool.{true, false, _&&_}, List.{List, [], _∷_}, Path.{_≡_, refl, sym, ap, subst, _∙_}}
+use mathlib.Core.{Bool.{true, false}, List.{List, [], _∷_}, Path.{_≡_, refl, sym, ap, subst, _∙_}}
 use native.Mathlib.Omega.{arith}
-use Rattle.numbers.{proofs.Replies.{given-from, demanded, met, onward}, specs.Reply.{Reply, given, refused, plain, demand, _>>=_, _>>_}}
+use Rattle.numbers.{proofs.Replies.{given-from, demanded, met, onward}, specs.Reply.{given, refused, plain}}
 use Rattle.table.specs.{Ordered.{lowest, Ordered, ends, next}, Rows.{Rows, row, tableEnd, unreadable, rowsIn}, declared.rows.Row.{Row}}
 use Rattle.header.specs.declared.header.Head.{Head}
 use Rattle.table.specs.Rows as T

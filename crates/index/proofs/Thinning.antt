@@ -1,17 +1,15 @@
 -- The rows that a tile's list leaves out do not hold a fix of that tile. Assumes nothing.
-use Prim.Native.Nat.{ℕ, zero, suc, _+_, _*_, _/_, _^_, _<_, _≤_}
+use Prim.Native.Nat.{ℕ, _+_, _*_, _/_, _<_, _≤_}
 use borrow.Author.Tests.{lt-ltb}
 use lib.{Dec.{ltb}, ListN.{length, getD}, Seq.{getD-append-add}}
-use mathlib.Core.{Bool.{Bool, true, false}, List.{List, [], _∷_, _++_}, Path.{_≡_, refl, sym, ap, subst, _∙_}}
-use mir.{Syntax.{w32}, Val.{SFits, ofZ}}
+use mathlib.Core.{Bool.{Bool, true, false}, List.{List, _∷_, _++_}, Path.{_≡_, refl, sym, ap, _∙_}}
+use mir.{Syntax.{w32}, Val.{SFits}}
 use native.Mathlib.Omega.{arith}
 use Rattle.border.specs.declared.place.Point.{Point}
 use Rattle.numbers.specs.{Answer.{if_then_else_}, Point.{readI32}}
-use Rattle.table.specs.{GivenRows.{recordWord, boxAt, rowAt, rowsListed}, Ordered.{followedAt, Thinned, done, kept, left}, Rows.{row}, Table.{holds}}
-use Rattle.table.specs.declared.rows.Row.{Row}
+use Rattle.table.specs.{GivenRows.{rowAt, rowsListed}, Ordered.{followedAt, Thinned, done, kept, left}, Rows.{row}, Table.{holds}, declared.rows.Row.{Row}}
 use Rattle.index.proofs.{Complete.{holding-meets}, Numbering.{read-back, Fitting, Sound, none, one}, Tabling.{records-length}}
-use Rattle.index.specs.{AsRows.{asRows}, Complete.{Narrow}, Index.{recordOf, recordsOf, listFrom, listOf}, Tiles.{wordOf, tileOf, tileAt, meets}}
-use Rattle.index.specs.declared.tiles.Tile.{Tile}
+use Rattle.index.specs.{AsRows.{asRows}, Index.{recordOf, recordsOf, listFrom, listOf}, Tiles.{wordOf, tileOf, tileAt, meets}, declared.tiles.Tile.{Tile}}
 
 module _ (precision : ℕ) (fix : Point) (flat : SFits w32 (fix .lat .0)) (flon : SFits w32 (fix .lon .0)) (records : List ℕ) where
   abbrev tile : Tile

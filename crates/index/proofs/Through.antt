@@ -2,11 +2,10 @@
 use Prim.Native.Nat.{ℕ, _+_, _*_, _≤_}
 use borrow.Author.Tests.{leb-true}
 use lib.{Dec.{leb}, ListN.{length}}
-use mathlib.Core.{Bool.{Bool, true, _&&_}, List.{List}, Path.{_≡_, sym, ap, _∙_}}
+use mathlib.Core.{Bool.{Bool, _&&_}, List.{List}, Path.{_≡_, ap, _∙_}}
 use native.Mathlib.Omega.{arith}
 use Rattle.header.specs.{Header.{headOf}, declared.header.Head.{Head}}
-use Rattle.numbers.proofs.Replies.{carried, onward, demanded}
-use Rattle.numbers.specs.{Lists.{zeros}, Reply.{Reply, given, refused, plain, _>>=_, _>>_}, declared.refusal.Refusal.{Refusal}}
+use Rattle.numbers.{proofs.Replies.{carried, onward, demanded}, specs.{Lists.{zeros}, Reply.{Reply, given, refused, plain, _>>_}, declared.refusal.Refusal.{Refusal}}}
 use Rattle.table.specs.{Find.{fixOf, isPrecision}, declared.location.Location.{Location}}
 use Rattle.zones.specs.{Lent.{Outcome, replied, repliedOf}, Lookup.{zonesListed, lookedListed}, declared.lookup.Zones.{Zones}}
 use Rattle.index.proofs.{Filling.{both}, TableInOrder.{given-one}, Tying.{begin-inside, end-inside}}

@@ -1,23 +1,21 @@
 -- `through-is-plain`, `indexed-is-plain`: a lookup through an index that building gave is the plain lookup. Assumes nothing.
 use Prim.Native.Nat.{ℕ, _-_, _/_}
 use lib.ListN.{length}
-use mathlib.Core.{Bool.{Bool, true}, List.{List, [], _++_}, Path.{_≡_, refl, sym, ap, subst, _∙_}}
+use mathlib.Core.{Bool.{Bool, true}, List.{List, [], _++_}, Path.{_≡_, refl, sym, ap, _∙_}}
 use mir.{Syntax.{w32}, Val.{SFits}}
 use Rattle.border.specs.declared.place.Point.{Point}
 use Rattle.header.specs.{Header.{headOf}, declared.header.Head.{Head}}
-use Rattle.numbers.proofs.{Laws.{cut32-fits}, Replies.{given-from, demanded, onward, met}}
-use Rattle.numbers.specs.{Float.{fixedPoint}, Lists.{zeros, padded}, Reply.{Reply, given, refused, plain, demand, _>>=_, _>>_}, declared.refusal.Refusal.{Refusal}}
+use Rattle.numbers.proofs.{Laws.{cut32-fits}, Replies.{given-from, onward}}
+use Rattle.numbers.specs.{Float.{fixedPoint}, Lists.{zeros}, Reply.{Reply, given, refused, plain, demand, _>>=_, _>>_}, declared.refusal.Refusal.{Refusal}}
 use Rattle.table.proofs.InOrder.{early-stop-loses-nothing, rows-left-out}
-use Rattle.table.specs.{Find.{fixOf, isPrecision, Matched, matchedWith}, GivenRows.{rowsListed, searchedListed, matchedListed}, Hits.{width}, Merge.{merged}}
-use Rattle.table.specs.{Rows.{Rows, rowsIn}, Search.{Found, judgeIn, farthest, searched}, Unstopped.{seekAll}, declared.{location.Location.{Location}, rows.Row.{Row}}}
-use Rattle.zones.proofs.RefusalZeroes.{both-zero}
-use Rattle.zones.specs.{Lent.{Outcome, repliedOf}, Lookup.{zonesFrom, zonesWith, zonesIn, zonesListed, lookedUp}, declared.lookup.Zones.{Zones}}
-use Rattle.index.proofs.{BuiltIsTied.{index-is-tied}, LaidOut.{placeAt, records-there, list-stands, list-of-tile}, Numbering.{Sound, table-sound}}
-use Rattle.index.proofs.{SameHead.{same-head, metadata-small}, SameIndex.{same-index}, TableInOrder.{given-one, table-in-order}, Thinning.{thinned}}
+use Rattle.table.specs.{Find.{fixOf, isPrecision, Matched, matchedWith}, GivenRows.{searchedListed, matchedListed}, Hits.{width}, Merge.{merged}}
+use Rattle.table.specs.{Rows.{Rows}, Search.{Found, judgeIn, farthest, searched}, Unstopped.{seekAll}, declared.{location.Location.{Location}, rows.Row.{Row}}}
+use Rattle.zones.{proofs.RefusalZeroes.{both-zero}, specs.{Lent.{repliedOf}, Lookup.{zonesFrom, zonesWith, zonesIn, zonesListed, lookedUp}}}
+use Rattle.index.proofs.{BuiltIsTied.{index-is-tied}, LaidOut.{records-there, list-stands, list-of-tile}, Numbering.{table-sound}}
+use Rattle.index.proofs.{SameHead.{same-head, metadata-small}, SameIndex.{same-index}, TableInOrder.{table-in-order}, Thinning.{thinned}}
 use Rattle.index.proofs.{Through.{through-opened, indexed-tied}, TiedSame.{built-from, tied-same}, Tying.{with-so}}
-use Rattle.index.specs.{AsRows.{asRows}, Complete.{Bytes, SameFront, BuiltFrom}, Index.{recordsOf, listOf, indexOf, Indexed, indexedOf}, Table.{tableOf}}
-use Rattle.index.specs.{Through.{placeOf, recordsIn, numbersIn, zonesThrough, lookedThrough, lookedIndexed}, Tied.{isTied, tiedWith, tiedOf}, Tiles.{tileOf}}
-use Rattle.index.specs.declared.place.Place.{Place}
+use Rattle.index.specs.{Complete.{Bytes, SameFront}, Index.{recordsOf, listOf, indexOf, Indexed, indexedOf}, Table.{tableOf}}
+use Rattle.index.specs.{Through.{recordsIn, numbersIn, zonesThrough, lookedThrough, lookedIndexed}, Tied.{tiedWith, tiedOf}, Tiles.{tileOf}, declared.place.Place.{Place}}
 
 -- ---- fixed coordinates fit
 lat-fits : (location : Location) (precision : ℕ) → SFits w32 (fixOf location precision .lat .0)

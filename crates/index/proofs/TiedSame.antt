@@ -1,16 +1,16 @@
 -- Words that building gave for one file are tied to another exactly where length, header and table are the same. Assumes nothing.
-use Prim.Native.Nat.{ℕ, zero, suc, _+_, _*_, _-_, _/_, _^_, _<_, _≤_, min}
+use Prim.Native.Nat.{ℕ, zero, suc, _+_, _*_, _-_, _^_, _<_, _≤_}
 use borrow.Author.Tests.{eqb-true, leb-true, leb-false}
 use lib.{Dec.{leb, eqb}, ListN.{length, take, getD, length-take}}
 use mathlib.Core.{Bool.{Bool, true, false, _&&_}, List.{List, [], _∷_}, Path.{_≡_, refl, sym, ap, subst, _∙_}}
 use native.Mathlib.Omega.{arith}
-use Rattle.numbers.{proofs.Replies.{given-from, demanded}, specs.{Answer.{if_then_else_}, Lists.{zeros, padded}, Reply.{Reply, given, refused, plain, demand}}}
-use Rattle.table.specs.{Find.{isPrecision}, declared.rows.Row.{Row}}
+use Rattle.numbers.{proofs.Replies.{given-from, demanded}, specs.{Answer.{if_then_else_}, Lists.{padded}, Reply.{Reply, given, refused, plain, demand}}}
+use Rattle.table.specs.Find.{isPrecision}
 use Rattle.header.specs.{Header.{headOf}, declared.header.Head.{Head}}
-use Rattle.index.proofs.{BuiltIsTied.{index-is-tied, built-is-tied}, Filling.{both}, SameHead.{same-head}, SameIndex.{same-index}, Tying.{tied-so, tied-not}}
+use Rattle.index.proofs.{BuiltIsTied.{built-is-tied}, Filling.{both}, SameHead.{same-head}, SameIndex.{same-index}, Tying.{tied-so, tied-not}}
 use Rattle.index.specs.Complete.{Bytes, BuiltFrom, SameFront}
-use Rattle.index.specs.{Index.{fourAt, packedFrom, wordsFor, recordsAt, indexOf, hasRoom, indexWith, indexIn, Indexed, indexedBy, indexedOf}, Table.{tableOf}}
-use Rattle.index.specs.Tied.{wordAt, isHeaded, keepsFrom, isTied, tiedOf}
+use Rattle.index.specs.{Index.{fourAt, wordsFor, recordsAt, indexOf, hasRoom, indexWith, indexIn, Indexed, indexedBy, indexedOf}, Table.{tableOf}}
+use Rattle.index.specs.Tied.{wordAt, keepsFrom, isTied, tiedOf}
 
 given-one : {A : Type 0} {a b : A} → given a ≡ given b → a ≡ b
 given-one e = cc

@@ -1,15 +1,14 @@
 -- Words held against a file. Assumes nothing.
-use Prim.Native.Nat.{ℕ, zero, suc, _+_, _*_, _-_, _/_, _<_, _≤_}
+use Prim.Native.Nat.{ℕ, suc, _+_, _-_, _/_, _<_, _≤_}
 use borrow.Author.Tests.{leb-true, lt-leb, le-leb, eq-eqb, ne-eqb}
-use lib.{Dec.{leb, eqb}, ListN.{length, take}}
-use mathlib.Core.{Bool.{Bool, true, false, _&&_}, List.{List}, Path.{_≡_, refl, sym, ap, _∙_}}
+use lib.{Dec.{leb, eqb}, ListN.{length}}
+use mathlib.Core.{Bool.{Bool, true, false, _&&_}, List.{List}, Path.{_≡_, sym, ap, _∙_}}
 use native.Mathlib.Omega.{arith}
-use Rattle.numbers.proofs.Replies.{carried, onward, met, unmet}
-use Rattle.numbers.specs.{Answer.{if_then_else_}, Reply.{Reply, given, refused, plain, demand, _>>=_, _>>_}, declared.refusal.Refusal.{Refusal}}
+use Rattle.numbers.{proofs.Replies.{carried, onward, met, unmet}, specs.{Answer.{if_then_else_}, Reply.{given, refused, plain, demand}, declared.refusal.Refusal.{Refusal}}}
 use Rattle.table.specs.Find.{isPrecision}
 use Rattle.header.specs.{Header.{headOf}, declared.header.Head.{Head}}
 use Rattle.index.proofs.Filling.{both}
-use Rattle.index.specs.{Index.{fourAt, wordsFor, recordsAt, listsAt}, Tied.{wordAt, beginOf, isHeaded, keepsFrom, isTied, tiedWith, tiedOf}}
+use Rattle.index.specs.{Index.{fourAt, wordsFor, recordsAt}, Tied.{wordAt, beginOf, isHeaded, keepsFrom, isTied, tiedWith, tiedOf}}
 
 -- ---- the head
 module _ (words : List ℕ) (size n : ℕ) where
@@ -124,10 +123,6 @@ module _ (file words : List ℕ) where
   tied-unopened e = carried e _
 
   module _ {head : Head} (e : given head ≡ headOf file) where
-    pub tied-imprecise : isPrecision (head .preamble .precision) ≡ false → refused (plain 16) ≡ tiedOf file words
-    unfolding tiedOf
-    tied-imprecise p = unmet p (plain 16) _ ∙ onward e _
-
     module _ (p : isPrecision (head .preamble .precision) ≡ true) where
       after : demand (isTied file head words) (plain 36) ≡ tiedOf file words
       unfolding tiedOf

@@ -1,16 +1,15 @@
 -- The index as a whole: its lists are those of the rows, and its parts stand one after the other. Assumes nothing.
 use Prim.Native.Nat.{ℕ, zero, suc, _+_, _*_, _-_, _%_, _^_, _<_, _≤_}
 use borrow.Author.Tests.{le-leb, lt-leb, lt-ltb, le-ltb}
-use lib.{Dec.{leb, ltb}, ListN.{length, set, take, getD, length-append}, Seq.{sets, length-sets, getD-set-same, getD-append-add}}
+use lib.{Dec.{leb}, ListN.{length, set, take, getD, length-append}, Seq.{sets, length-sets, getD-set-same, getD-append-add}}
 use mathlib.Core.{Bool.{Bool, true, false, _&&_}, List.{List, [], _∷_, _++_, map, append-assoc}, Path.{_≡_, refl, sym, ap, _∙_}}
 use native.Mathlib.Omega.{arith}
-use Rattle.numbers.proofs.Replies.{carried, onward, met, unmet}
-use Rattle.numbers.specs.{Answer.{if_then_else_}, Lists.{zeros, padded}, Reply.{Reply, given, refused, plain, demand, _>>=_, _>>_}, declared.refusal.Refusal.{Refusal}}
+use Rattle.numbers.{proofs.Replies.{carried, onward, met, unmet}, specs.{Answer.{if_then_else_}, Reply.{given, refused, plain}, declared.refusal.Refusal.{Refusal}}}
 use Rattle.table.specs.{Find.{isPrecision}, declared.rows.Row.{Row}}
 use Rattle.header.specs.declared.header.Head.{Head}
-use Rattle.index.proofs.{Keeping.{packed-length}, Stores.{sets-append, sets-before, read-below, read-above, over-zeros}, Tabling.{records-length}}
-use Rattle.index.specs.Building.{isMetIn, listIn, listsIn, low, Listed, Recorded, Made}
-use Rattle.index.specs.Index.{recordOf, recordsOf, packedFrom, wordsFor, keptOf, listFrom, listOf, listsFrom, joined, startsFrom, tiles, recordsAt, listsAt, indexOf, hasRoom, indexWith}
+use Rattle.index.proofs.{Keeping.{packed-length}, Stores.{sets-append, sets-before, read-below}, Tabling.{records-length}}
+use Rattle.index.specs.Building.{isMetIn, listIn, listsIn, low}
+use Rattle.index.specs.Index.{recordOf, recordsOf, wordsFor, keptOf, listFrom, listsFrom, joined, startsFrom, tiles, recordsAt, listsAt, indexOf, hasRoom, indexWith}
 use Rattle.index.specs.{Table.{tableOf}, Tiles.{wordOf, tileAt, meets}, declared.tiles.Tile.{Tile}}
 
 -- ---- what was stored can be read

@@ -1,8 +1,8 @@
 // Where the list of a fix's tile stands in the words.
-ghost use mathlib.Core.{Bool.{true}, Path.{_≡_}};
+ghost use mathlib.Core.Path.{_≡_};
 ghost use Prim.Native.Nat.{_≤_, _<_};
 ghost use lib.ListN.{length};
-ghost use Rattle.index.specs.{Index.{recordsAt}, Tied.{isHeaded}, Through.{isInside, placeOf, toldListing}};
+ghost use Rattle.index.specs.{Index.{recordsAt}, Through.{isInside, placeOf, toldListing}};
 use crate::tied::OTHER_INDEX;
 use crate::tied::is_headed;
 use crate::tied::wide;

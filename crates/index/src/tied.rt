@@ -2,7 +2,7 @@
 ghost use mathlib.Core.Path.{_≡_};
 ghost use Prim.Native.Nat.{_+_, _*_, _/_, _^_, _≤_, _<_};
 ghost use lib.ListN.{length, take};
-ghost use Rattle.index.specs.{Index.{recordsAt, wordsFor}, Tied.{isHeaded, keepsFrom, isTied, tiedWith, tiedOf, toldTied}};
+ghost use Rattle.index.specs.{Index.{wordsFor}, Tied.{isHeaded, keepsFrom, isTied, tiedWith, tiedOf, toldTied}};
 use crate::build::RECORDS_AT;
 use crate::kept::four_at;
 use header::header::Head;

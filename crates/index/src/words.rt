@@ -1,10 +1,8 @@
 // Words into the lent index. A word that does not fit is counted and left out: the place is held against the room once, at the end.
 ghost use mathlib.Core.{Path.{_≡_}, List.{[], _∷_}};
 ghost use Prim.Native.Nat.{_^_, _<_};
-ghost use lib.ListN.{length};
 ghost use Rattle.writer.specs.Stored.{Stored};
 ghost use Rattle.index.specs.Tiles.{wordOf};
-ghost use Rattle.numbers.specs.Lists.{zeros};
 
 pub(crate) fn put(index: &mut [u32], at: usize, word: u32) -> usize
     requires { ⌜ at < 2 ^ 60 ⌝ }
@@ -25,14 +23,4 @@ pub(crate) fn word_of(coordinate: i32) -> u32
         return 0xffff_ffff - (-1 - coordinate) as u32;
     }
     coordinate as u32
-}
-
-pub(crate) fn zero_words(index: &mut [u32])
-    ensures { λ _. ⌜ now (index .exit) ≡ zeros (length (now (index .entry))) ⌝ }
-{
-    let mut i = 0;
-    while i < index.len() {
-        index[i] = 0;
-        i += 1;
-    }
 }

@@ -27,15 +27,8 @@ module _ {before bytes after : List ℕ} {at next : ℕ} (p : Put before at byte
   pub put-length : length after ≡ length before
   put-length = ap length (p .stored) ∙ length-sets before at bytes
 
-  -- with room for all of them
-  pub put-room : at + length bytes ≤ length before → next ≡ at + length bytes
-  put-room h = omega (arith, p .place-after)
-
 pub put-none : (before : List ℕ) (at : ℕ) → Put before at [] before at
 put-none before at = record { place-after = omega arith; stored = refl }
-
-pub put-one : (before : List ℕ) (at byte : ℕ) → at < length before → Put before at (byte ∷ []) (set before at byte) (at + 1)
-put-one before at byte h = record { place-after = omega arith; stored = refl }
 
 pub put-past : (before : List ℕ) (at byte : ℕ) → length before ≤ at → Put before at (byte ∷ []) before at
 put-past before at byte h = record { place-after = omega arith; stored = sym (set-out before at byte h) }

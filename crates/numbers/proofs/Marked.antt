@@ -2,8 +2,7 @@
 use mathlib.Core.{Path.{_≡_, refl}, List.{List, [], _∷_, map}}
 use Prim.Native.Nat.{ℕ, _-_, _^_}
 use lib.IntN.{ℤ, pos, negsuc}
-use Rattle.numbers.specs.{Answer.{Answer, failed}, Varint.{Numeral, numeral, valueOf, sizeOf, tooLong, startOf, forwardAt, backwardAt}}
-use Rattle.numbers.specs.Point.{signedOf, evenBits, pointOf}
+use Rattle.numbers.specs.{Answer.{Answer, failed}, Varint.{Numeral, numeral, valueOf, sizeOf, tooLong, startOf, forwardAt, backwardAt}, Point.{signedOf, evenBits, pointOf}}
 
 -- a row: what is read and where, and what the document says of it
 pub data Row : Type 0 where

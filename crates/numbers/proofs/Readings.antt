@@ -1,8 +1,7 @@
 -- The two readings of a file's numbers (request Q-6): what holds of both, and how the strict one differs from the plain one. Assumes nothing.
-use Prim.Native.Nat.{ℕ, _<_, _≤_}
-use borrow.Author.Tests.{le-leb, lt-leb, leb-false}
-use lib.{Dec.{leb}, ListN.{length}}
-use mathlib.Core.{Bool.{Bool, true, false}, List.{List}, Path.{_≡_, refl, sym, ap, _∙_}}
+use Prim.Native.Nat.{ℕ, _≤_}
+use lib.ListN.{length}
+use mathlib.Core.{Bool.{Bool, true, false}, List.{List}, Path.{_≡_, refl, sym}}
 use native.Mathlib.Omega.{arith}
 use Rattle.numbers.proofs.{Answers.{All}, Laws.{Read, forward-read}, Refusals.{Numbered, as-found, as-failed, as-refused, forward-numbered}}
 use Rattle.numbers.proofs.varint.Strict as S

@@ -1,3 +1,4 @@
+pub mod Limits
 pub mod Answer
 pub mod Reply
 pub mod Lists

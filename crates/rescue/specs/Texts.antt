@@ -4,7 +4,7 @@ use mathlib.Core.{Bool.{Bool}, List.{List, _++_}, Path.{_≡_}}
 use lib.{Dec.{leb}, ListN.{take, drop}}
 use Rattle.header.specs.{Text.{stringAt}, declared.text.Text.{Text}}
 use Rattle.moves.specs.Laid.{Capped}
-use Rattle.numbers.specs.{Reply.{Reply, given, refused, plain, demand, _orElse_, _>>=_, _>>_}, Spelling.{varintOf}}
+use Rattle.numbers.specs.{Limits.{longestText}, Reply.{Reply, given, refused, plain, demand, _orElse_, _>>=_, _>>_}, Spelling.{varintOf}}
 use Rattle.rescue.specs.declared.texts.Put.{Put}
 use Rattle.rescue.specs.declared.texts.Put.the-variants as P
 
@@ -12,7 +12,7 @@ use Rattle.rescue.specs.declared.texts.Put.the-variants as P
 unfoldable pub shortText : Bool → List ℕ → ℕ → Reply Text
 shortText strict file place = do
   text ← stringAt strict file 0 place orElse plain 26
-  demand (leb (text .size) 255) (plain 26)
+  demand (leb (text .size) longestText) (plain 26)
   given text
 
 -- its length and its bytes, as they are stored

@@ -15,6 +15,7 @@ use header::header::Head;
 use header::header::Headed;
 use header::header::head_by;
 use header::zero::zero_both;
+use numbers::limits::LARGEST_FILE;
 use numbers::refusal::Refusal;
 use numbers::refusal::plain;
 
@@ -37,7 +38,7 @@ fn has_room(size: usize, room: usize, words: usize, list: usize) -> bool
     if room < size {
         return false;
     }
-    if 0x4000_0000 < size {
+    if LARGEST_FILE < size {
         return false;
     }
     words <= list

@@ -1,5 +1,5 @@
 // Names and notice, inline.
-ghost use mathlib.Core.{Path.{_≡_}, List.{_++_}};
+ghost use mathlib.Core.Path.{_≡_};
 ghost use lib.ListN.{take};
 ghost use Rattle.header.specs.Text.{toldRead};
 ghost use Rattle.moves.specs.Laid.{Capped};
@@ -13,6 +13,7 @@ use header::text::String;
 use header::text::Text;
 use header::text::read_string;
 use moves::put::put_number;
+use numbers::limits::LONGEST_TEXT;
 use numbers::refusal::Refusal;
 use numbers::refusal::plain;
 
@@ -28,7 +29,7 @@ fn short_text(file: &[u8], strict: bool, place: usize) -> Read
 {
     match read_string(file, strict, 0, place) {
         String::Text(text) => {
-            if 255 < text.size {
+            if LONGEST_TEXT < text.size {
                 return Read::Refused(plain(LONG_TEXT));
             }
             Read::Text(text)

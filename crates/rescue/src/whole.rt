@@ -1,10 +1,8 @@
 // The new file: its header, the sizes of its three sections, and the sections.
-ghost use mathlib.Core.List.{flatMap, _++_};
-ghost use lib.ListN.{length};
+ghost use mathlib.Core.List.{_++_};
 ghost use Rattle.moves.specs.Laid.{Capped};
-ghost use Rattle.numbers.specs.Spelling.{varintOf};
-ghost use Rattle.salvage.specs.File.{headTexts, metadataOf, Sized};
-ghost use Rattle.rescue.specs.{Texts.{Inlined}, Whole.{newTable, newData, sizesOf, SizedIf, Sizes, wholeOf}};
+ghost use Rattle.salvage.specs.File.{metadataOf, Sized};
+ghost use Rattle.rescue.specs.{Texts.{Inlined}, Whole.{newTable, newData, SizedIf, Sizes, wholeOf}};
 use crate::copy::put_span;
 use crate::texts::Put;
 use crate::texts::put_head;

@@ -4,7 +4,7 @@ use lib.{ListN.{length, take, drop, length-append, length-drop}, Seq.{take-appen
 use mathlib.Core.{Bool.{Bool}, List.{List, _++_}, Path.{_≡_, sym, ap, subst, _∙_}}
 use native.Mathlib.Omega.{arith}
 use Rattle.numbers.{proofs.{Readings.{plain-reading, read-both}, Spelling.{varint-whole}}, specs.{Spelling.{varintOf}, Varint.{numeral, readingOf}}}
-use Rattle.border.proofs.OnWay.{At, at-first, at-next, reads, some-bytes}
+use Rattle.border.proofs.OnWay.{At, reads, some-bytes}
 
 pub at-inside : {file bytes : List ℕ} {place : ℕ} → At file place bytes → 0 < length bytes → place + length bytes ≤ length file
 at-inside {file} {bytes} {place} here some = omega (arith, sym (length-drop place file) ∙ ap length (here .here) ∙ length-append bytes (here .rest))
@@ -20,10 +20,6 @@ at-as {file} {place = place} e here = subst (λ (b : List ℕ). At file place b)
 
 pub at-place : {file bytes : List ℕ} {place place′ : ℕ} → place ≡ place′ → At file place bytes → At file place′ bytes
 at-place {file} {bytes} e here = subst (λ (p : ℕ). At file p bytes) e here
-
--- a part that stands behind others
-pub at-part : {file whole : List ℕ} {place : ℕ} (before bytes behind : List ℕ) → whole ≡ before ++ (bytes ++ behind) → At file place whole → At file (place + length before) bytes
-at-part {file} {place = place} before bytes behind e here = at-first file (place + length before) bytes behind (at-next file place before (bytes ++ behind) (at-as e here))
 
 -- a number that was written is read back
 pub number-at : (strict : Bool) (file : List ℕ) (place n : ℕ) → n < 2 ^ 64 → At file place (varintOf n) → readingOf strict file place ≡ numeral n (place + length (varintOf n))

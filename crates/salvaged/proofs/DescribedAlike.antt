@@ -8,8 +8,7 @@ use Rattle.numbers.specs.{Answer.{if_then_else_}, Reply.{Reply, given, _>>=_, _
 use Rattle.numbers.specs.Reply as R
 use Rattle.table.specs.{Find.{Matched, matchedWith}, Hits.{width}, Rows.{rowsIn}, declared.{hits.Hit.{Hit}, location.Location.{Location}, rows.Row.{Row}}}
 use Rattle.table.proofs.Merged.{Each, next}
-use Rattle.zones.proofs.PlaceLeftOut.{bareHit, bare}
-use Rattle.zones.specs.{Fields.{fieldsPlace}, Lent.{Outcome}, declared.simple.{Described.{Described}, Picked.{Picked}, Value.{Value}}}
+use Rattle.zones.{proofs.PlaceLeftOut.{bareHit, bare}, specs.{Fields.{fieldsPlace}, Lent.{Outcome}, declared.simple.{Described.{Described}, Picked.{Picked}, Value.{Value}}}}
 use Rattle.zones.specs.Simple.{partOf, begun, newer, joined, pickedFrom, pickedOf, checked, descriptionOf, bytesIn, lengthIn, fitting, wordedOf, describedWith}
 use Rattle.zones.specs.declared.simple.Value.the-variants as X
 use Rattle.salvaged.proofs.{Alike.{compared, bareMatched, both-given, SameRecord, AllLike}, Carried.{SameTexts, no-more, one-more}}

@@ -12,8 +12,7 @@ use Rattle.table.specs.{Search.{Found, searchedRows, farthest, searched}, decla
 use Rattle.table.proofs.Merged.{Each, end, next, both, either}
 use Rattle.zones.proofs.PlaceLeftOut.{bareHit, bare, merged-bare}
 use Rattle.zones.specs.{Fields.{fieldsFrom, fieldsOf, fieldsPlace}, Lent.{Outcome}, Lookup.{safezoneBits, zonesWith}, declared.lookup.Zones.{Zones}}
-use Rattle.salvaged.proofs.Alike.{compared, bareFound, bareMatched, after, both-given, SameRecord, AllLike, Each-given, seek-like, seek-each}
-use Rattle.salvaged.proofs.FieldsAlike.{fields-from}
+use Rattle.salvaged.proofs.{Alike.{compared, bareFound, bareMatched, after, both-given, SameRecord, AllLike, Each-given, seek-like, seek-each}, FieldsAlike.{fields-from}}
 use Rattle.salvaged.specs.{Same.{unmarked}, Seats.{rowsOf}}
 
 -- what a search's answer is merged to

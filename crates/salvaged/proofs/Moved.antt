@@ -99,9 +99,6 @@ module _ (file : List ℕ) (head : Head) (is-strict : head .strict ≡ true) (in
   abbrev m′ : ℕ
   m′ = head′ .sections .metadata
 
-  abbrev d′ : ℕ
-  d′ = head′ .sections .«data»
-
   pub record StringMoved (place : ℕ) : Type 0 where
     pub raw : List ℕ
     pub next : ℕ

@@ -72,9 +72,6 @@ module _ (file : List ℕ) (head : Head) (texts : List ℕ) (kept : List Row) (n
   unfolding newFile assembled
   in-parts = is ∙ simp append-assoc
 
-  pub at-header : At new 0 header
-  at-header = at-behind [] header (sizes ++ sections) in-parts
-
   pub at-sizes : At new (length header) sizes
   at-sizes = at-behind header sizes sections in-parts
 

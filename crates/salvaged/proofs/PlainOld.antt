@@ -18,8 +18,7 @@ use Rattle.table.proofs.StrictRows.{StrictRows, row, at-end, unread, stopped, r
 use Rattle.table.specs.{Rows.{Rows, startAt, rowsFrom, rowsIn}, Search.{judgeIn}, declared.rows.Row.{Row}}
 use Rattle.table.proofs.StrictRows as Q
 use Rattle.table.specs.Rows as T
-use Rattle.salvaged.proofs.{Carried.{SameTexts, Shifted, fields-same, kept-fields}, Opened.{Opened, opened-from, opened-small}}
-use Rattle.salvaged.proofs.TextsAgain.{SameNames, no-names, one-name}
+use Rattle.salvaged.proofs.{Carried.{SameTexts, Shifted, fields-same, kept-fields}, Opened.{Opened, opened-from, opened-small}, TextsAgain.{SameNames, no-names, one-name}}
 use Rattle.salvaged.specs.Seats.{rowsOf}
 
 -- ---- rows, traces and header

@@ -9,14 +9,11 @@ use Rattle.moves.proofs.Again.{same-judgement}
 use Rattle.numbers.{proofs.Answers.{All, then-all, any}, specs.{Answer.{Answer, found, failed, if_then_else_}, Reply.{Reply, given, _>>=_}, Varint.{Numeral, readingOf}}}
 use Rattle.numbers.specs.Answer as A
 use Rattle.numbers.specs.Reply as R
-use Rattle.salvage.proofs.data.Drawing.{kept-closes}
-use Rattle.salvage.specs.{Kept.{encodingIn, borderPlace, entryGood, keptIf, lineIf, keptOf, linesFrom}, Salvage.{Salvaged, salvagedOf}}
-use Rattle.table.proofs.TableRows.{Grows, reading-grows, rows-step}
-use Rattle.table.specs.{Rows.{Rows, tableEnd, unreadable, after, startAt, rowsThen, rowBy, rowsFrom, rowsIn}, Table.{entryBy}}
+use Rattle.salvage.{proofs.data.Drawing.{kept-closes}, specs.{Kept.{encodingIn, borderPlace, entryGood, keptIf, lineIf, keptOf, linesFrom}, Salvage.{Salvaged, salvagedOf}}}
+use Rattle.table.{proofs.TableRows.{Grows, reading-grows, rows-step}, specs.{Rows.{Rows, tableEnd, unreadable, after, startAt, rowsThen, rowBy, rowsFrom, rowsIn}, Table.{entryBy}}}
 use Rattle.table.specs.declared.{location.Location.{Location}, rows.{Cursor.{Cursor}, Row.{Row}}, table.Entry.{Entry}}
 use Rattle.table.specs.Rows as T
-use Rattle.zones.specs.{Fields.{fieldsPlace}, Lent.{Outcome}, Lookup.{zonesBy}, Simple.{describedWith, describedIn}}
-use Rattle.zones.specs.declared.{lookup.Zones.{Zones}, simple.Described.{Described}}
+use Rattle.zones.specs.{Fields.{fieldsPlace}, Lent.{Outcome}, Lookup.{zonesBy}, Simple.{describedWith, describedIn}, declared.{lookup.Zones.{Zones}, simple.Described.{Described}}}
 use Rattle.salvaged.proofs.{Alike.{AllLike, none-like, next-like}, KeptAgain.{rows-are, rows-carried}, LookedAlike.{zones-like}}
 use Rattle.salvaged.proofs.Carried.{SameTexts, AllCarried, no-rows, next-row}
 use Rattle.salvaged.proofs.{PlainOld.{opened, plainly, plain-head, plain-judged, plain-texts, plain-rows-are, plain-names}, Opens.{new-opens, names-alike}}

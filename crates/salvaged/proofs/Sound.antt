@@ -8,8 +8,7 @@ use Rattle.moves.proofs.Forms.{signed-mag}
 use Rattle.numbers.{proofs.Answers.{All, then-all, any}, specs.{Answer.{Answer, found, failed, _>>=_}, Reply.{Reply, given, refused}, Varint.{Numeral, readingOf}}}
 use Rattle.numbers.specs.Answer as A
 use Rattle.salvage.specs.Kept.{entryGood, keptIf, keptOf}
-use Rattle.table.proofs.TableRows.{rows-so}
-use Rattle.table.specs.{Rows.{Rows, row, rowBy, startAt, rowsIn}, Table.{stepsBy, entryBy}}
+use Rattle.table.{proofs.TableRows.{rows-so}, specs.{Rows.{Rows, row, rowBy, startAt, rowsIn}, Table.{stepsBy, entryBy}}}
 use Rattle.table.specs.declared.{rows.{Cursor.{Cursor}, Row.{Row}}, table.{Bounds.{Bounds}, Entry.{Entry}}}
 
 pub data Every {A : Type 0} (P : A → Type 0) : List A → Type 0 where

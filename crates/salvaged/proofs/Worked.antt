@@ -3,8 +3,7 @@ use lib.{Dec.{lit≤}, IntN.{pos}}
 use mathlib.Core.{Bool.{Bool, true}, List.{List, [], _∷_, flatMap}, Path.{_≡_, refl, ap}}
 use Prim.Native.Nat.{ℕ}
 use Rattle.writer.specs.Moves.{moveTo, packedNumber}
-use Rattle.border.specs.{Place.{isStill, movedBy}, Reader.{advanced, marker, packedTurn, turnOf}}
-use Rattle.border.specs.Trace.{roundAgain, nextWithin, nextPoint, traceThen, traceWithin, traceOf}
+use Rattle.border.specs.{Place.{isStill, movedBy}, Reader.{advanced, marker, packedTurn, turnOf}, Trace.{roundAgain, nextWithin, nextPoint, traceThen, traceWithin, traceOf}}
 use Rattle.header.specs.{Header.{preambleOf, textsFrom, sectionsFrom, sectionsAt, contentsBy, headBy}, Text.{within, remoteAt, stringAt, bytesOf, textAt}}
 use Rattle.header.specs.{Utf8.{characters, startedBy, begunBy, followed, goesOn, isUtf8}, declared.header.Head.{Head}}
 use Rattle.moves.specs.Moves.{endOf, stepsFrom, movesBy, movesAt, stepNumber, stepBytes, movesBytes}

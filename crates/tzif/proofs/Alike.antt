@@ -1,15 +1,15 @@
 -- Two files that have the same octets where a reading looks are read alike. Assumes nothing.
 use Prim.Native.Nat.{ℕ, zero, suc, _+_, _-_, _*_, _^_, _<_, _≤_}
-use lib.{Dec.{ltb, leb, eqb}, ListN.{length}}
+use lib.Dec.{ltb, eqb}
 use borrow.Author.Tests.{eqb-true, ltb-true}
-use mathlib.Core.{Bool.{Bool, true, false, not, _&&_, _||_}, List.{List}, Path.{_≡_, refl, ap, ap₂, sym, subst}}
+use mathlib.Core.{Bool.{Bool, true, false, _&&_}, List.{List}, Path.{_≡_, refl, ap}}
 use native.Mathlib.Omega.{arith}
 use Rattle.tzif.proofs.{Lasts.{last-same}, Widths.{row}}
-use Rattle.tzif.specs.Block.{timePlace, indicesOf, typesOf, designationsOf, leapsOf, standardsOf, utsOf, endOf}
-use Rattle.tzif.specs.Check.{nulEnd, isNul, typePlace, leapPlace, correctionOf, correctionBefore, oneApart, occursLater, isExpiry, isStandard, checkTime, checkIndex, checkType, checkLeap, checkLeaps, checkStandard, checkUt}
+use Rattle.tzif.specs.Block.{timePlace, indicesOf, designationsOf, standardsOf, utsOf, endOf}
+use Rattle.tzif.specs.Check.{nulEnd, isNul, typePlace, leapPlace, correctionOf, correctionBefore, occursLater, isExpiry, isStandard, checkTime, checkIndex, checkType, checkLeap, checkLeaps, checkStandard, checkUt}
 use Rattle.tzif.specs.{Header.{checkBlock}, Number.{octet, be32, raised, timeAt}, Part.{countOf, checkOf, checkPart}}
-use Rattle.tzif.specs.{Reply.{Reply, given, refusal, demand, each, if_then_else_, _>>_}, Text.{firstWith, isStop, runTo}}
-use Rattle.tzif.specs.{Times.{timeIn, transitionsOf, occurrencesOf, lastWith}, declared.{block.Block.{Block}, part.Part.{Part}}}
+use Rattle.tzif.specs.{Reply.{Reply, each, if_then_else_, _>>_}, Text.{firstWith}}
+use Rattle.tzif.specs.{Times.{timeIn, transitionsOf, occurrencesOf}, declared.{block.Block.{Block}, part.Part.{Part}}}
 use Rattle.tzif.specs.declared.part.Part.the-variants as P
 
 pub each-same : (check check′ : ℕ → Reply (Unit {0})) (n : ℕ) → ((i : ℕ) → i < n → check i ≡ check′ i) → each n check ≡ each n check′

@@ -1,12 +1,12 @@
 -- Two files of one length that are the same from a place on: what is read and answered behind it is the same. Assumes nothing.
-use Prim.Native.Nat.{ℕ, zero, suc, _+_, _-_, _*_, _<_, _≤_}
-use lib.{Dec.{ltb, leb, eqb}, ListN.{length, drop, take}}
-use mathlib.Core.{Bool.{Bool, true, false, _&&_}, List.{List}, Path.{_≡_, refl, ap, ap₂, _∙_}}
+use Prim.Native.Nat.{ℕ, _+_, _-_, _≤_}
+use lib.{Dec.{ltb, leb, eqb}, ListN.{length, drop}}
+use mathlib.Core.{Bool.{Bool, true, false, _&&_}, List.{List}, Path.{_≡_, refl, ap, _∙_}}
 use mir.{Syntax.{w32}, Val.{toZ}}
 use native.Mathlib.Omega.{arith}
-use Rattle.tzif.proofs.{Alike.{Same, be32-same, time-same, first-same}, Lasts.{last-same}}
-use Rattle.tzif.specs.{Block.{timePlace, indicesOf, typesOf, designationsOf}, Check.{typePlace, leapPlace, correctionOf, correctionBefore, correctionAt}}
-use Rattle.tzif.specs.{Local.{typeIn, typeBehind, isAfterLast, byTable, named, lent}, Number.{octet, be32, raised}}
+use Rattle.tzif.proofs.{Alike.{be32-same, time-same, first-same}, Lasts.{last-same}}
+use Rattle.tzif.specs.{Block.{timePlace, indicesOf, designationsOf}, Check.{typePlace, leapPlace, correctionOf, correctionBefore, correctionAt}}
+use Rattle.tzif.specs.{Local.{typeIn, typeBehind, isAfterLast, byTable, lent}, Number.{octet, be32}}
 use Rattle.tzif.specs.{Reply.{Reply, given, refused, refusal, demand, if_then_else_, _>>_}, Text.{isStop, runTo}}
 use Rattle.tzif.specs.{Times.{timeIn, transitionsOf, occurrencesOf, lastNotAfter}, Zone.{stringSize, newlineAt, readFooter}}
 use Rattle.tzif.specs.declared.{block.Block.{Block}, local.{Answer.{Answer}, Found.{Found}}, refusal.Refusal.{Refusal}}

@@ -1,16 +1,15 @@
 -- A version 4 file without version 4's features is read as the same bytes marked 3. Assumes nothing.
 use Prim.Native.Nat.{ℕ, zero, suc, _+_, _-_, _^_, _<_, _≤_}
-use borrow.Author.Tests.{leb-true, leb-false, ltb-true, ltb-false, eqb-true, eqb-false, eq-eqb, ne-eqb}
-use lib.{Dec.{ltb, leb, eqb}, IntN.{ℤ}, ListN.{length, getD, set, drop, length-set, List·getD-eq-default}, Seq.{getD-set-same, getD-set-other}}
-use mathlib.Core.{Bool.{Bool, true, false, not, _&&_, _||_}, List.{List, [], _∷_}, Path.{_≡_, refl, ap, ap₂, sym, _∙_}}
+use borrow.Author.Tests.{leb-true, ltb-true, ltb-false, eqb-true, eqb-false, eq-eqb, ne-eqb}
+use lib.{Dec.{ltb, leb, eqb}, IntN.{ℤ}, ListN.{length, set, drop, length-set, List·getD-eq-default}, Seq.{getD-set-same, getD-set-other}}
+use mathlib.Core.{Bool.{Bool, true, false, not, _&&_, _||_}, List.{List, [], _∷_}, Path.{_≡_, refl, ap, sym, _∙_}}
 use native.Mathlib.Omega.{arith}
-use Rattle.tzif.proofs.Alike.{be32-same, each-same, block-checked}
-use Rattle.tzif.proofs.{Beyond.{Beyond, footer-same, table-same, table-behind, lent-same, Behind, unknown-one, refused-one}, Rises.{both-given}}
+use Rattle.tzif.proofs.{Alike.{be32-same, each-same, block-checked}, Beyond.{Beyond, footer-same, table-same, table-behind, lent-same, refused-one}, Rises.{both-given}}
 use Rattle.tzif.proofs.Widths.{four-at-least}
 use Rattle.tzif.specs.{Block.{endOf}, Check.{nulEnd, correctionOf, correctionBefore, oneApart, isExpiry, checkLeap, checkLeaps}}
 use Rattle.tzif.specs.Header.{rfc9636, begins, isFourth, isVersion, versionFits, checkHeader, blockAt, checkCounts, checkBlock, readBlock}
 use Rattle.tzif.specs.{Local.{byTable, lent, localTimeBy, localTime}, Number.{octet, be32, octets, lift}, Part.{checkPart}}
-use Rattle.tzif.specs.{Reply.{Reply, given, refused, refusal, demand, if_then_else_, _>>=_, _>>_}, Zone.{readFooter, readShort, readLong, readZoneBy, readZone}}
+use Rattle.tzif.specs.{Reply.{Reply, given, refused, refusal, demand, _>>=_, _>>_}, Zone.{readFooter, readLong, readZoneBy, readZone}}
 use Rattle.tzif.specs.declared.{block.Block.{Block}, local.Answer.{Answer}, refusal.Refusal.{Refusal}, zone.Zone.{Zone}}
 use Rattle.tzif.specs.declared.part.Part.the-variants as P
 

@@ -2,16 +2,12 @@
 use Prim.Native.Nat.{ℕ, _^_}
 use borrow.Author.Tests.{ne-eqb}
 use lib.{Dec.{leb, eqb}, IntN.{ℤ}, ListN.{length}}
-use mathlib.Core.{Bool.{Bool, true, false}, List.{List}, Path.{_≡_, refl, ap}}
+use mathlib.Core.{Bool.{true, false}, List.{List}, Path.{_≡_, refl, ap}}
 use Rattle.tzif.specs.{Block.{endOf}, Header.{rfc8536, rfc9636, isFourth, isVersion, versionFits, checkHeader, readBlock}}
 use Rattle.tzif.specs.{Local.{byTable, lent, localTimeBy, localTime}, Number.{octet, lift}, Reply.{given, refusal, demand, if_then_else_, _>>=_, _>>_}}
-use Rattle.tzif.specs.{Zone.{readFooter, readShort, readLong, readZoneBy, readZone}, declared.block.Block.{Block}}
+use Rattle.tzif.specs.{Zone.{readShort, readLong, readZoneBy, readZone}, declared.block.Block.{Block}}
 
 module _ (file : List ℕ) (older : octet file 4 ≡ 0x34 → ⊥) where
-  not-fourth : isFourth rfc9636 (octet file 4) ≡ false
-  unfolding isFourth
-  not-fourth = ne-eqb (octet file 4) 0x34 older
-
   first-block : readBlock rfc9636 file false 0 ≡ readBlock rfc8536 file false 0
   unfolding readBlock checkHeader versionFits isVersion isFourth
   first-block = rw (ne-eqb (octet file 4) 0x34 older) refl

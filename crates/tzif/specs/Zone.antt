@@ -1,7 +1,8 @@
 -- A whole file, as RFC 8536 and RFC 9636 section 3 have it: refusals 1 and 40 to 59 in file order.
-use Prim.Native.Nat.{ℕ, _+_, _-_, _^_}
+use Prim.Native.Nat.{ℕ, _+_, _-_}
 use lib.{Dec.{ltb, leb, eqb}, ListN.{length}}
 use mathlib.Core.{Bool.{Bool, true, false, _&&_}, List.{List}}
+use Rattle.numbers.specs.Limits.{largestFile}
 use Rattle.tzif.specs.{Block.{endOf}, Header.{Rfc, rfc9636, readBlock}, Number.{octet}, Reply.{Reply, given, refusal, demand, if_then_else_, _>>=_, _>>_}}
 use Rattle.tzif.specs.{Text.{runTo}, declared.{block.Block.{Block}, zone.Zone.{Zone}}}
 
@@ -37,7 +38,7 @@ readLong rfc file first = do
 -- what the checks of a file leave: its version, the block that answers, the place and length of its TZ string
 unfoldable pub readZoneBy : Rfc → List ℕ → Reply Zone
 readZoneBy rfc file = do
-  demand (leb (length file) (2 ^ 30)) (refusal 1 0)
+  demand (leb (length file) largestFile) (refusal 1 0)
   first ← readBlock rfc file false 0
   if eqb (octet file 4) 0 then readShort file first else readLong rfc file first
 

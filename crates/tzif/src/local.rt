@@ -1,9 +1,9 @@
 // Local time from a file: offset, daylight flag and abbreviation by its transitions.
 ghost use mathlib.Core.Path.{_≡_};
-ghost use Prim.Native.Nat.{_+_, _^_, _≤_, _<_};
+ghost use Prim.Native.Nat.{_+_, _≤_, _<_};
 ghost use lib.ListN.{length};
 ghost use mir.{Syntax.{w32}, Val.{ofZ}};
-ghost use Rattle.tzif.specs.{Text.{zeros}, Local.{typeIn, typeBehind, isAfterLast, byTable, replied, named, lent, localTime, Good, Held}};
+ghost use Rattle.tzif.specs.{Text.{zeros}, Local.{typeIn, typeBehind, isAfterLast, byTable, replied, named, localTime, Good, Held}};
 use crate::block::Block;
 use crate::number::be32;
 use crate::number::lifted;

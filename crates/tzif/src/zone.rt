@@ -10,6 +10,7 @@ use crate::number::octet;
 use crate::place::end_of;
 use crate::refusal::Refusal;
 use crate::text::run_to;
+use numbers::limits::LARGEST_FILE;
 
 // What the checks of a file leave: its version's octet, the block that answers, the place and length of its TZ string.
 pub struct Zone {
@@ -115,7 +116,7 @@ fn read_long(file: &[u8], first: Block) -> Read
 pub fn read_zone(file: &[u8]) -> Read
     ensures { λ r. ⌜ toldZone r ≡ readZone (now (file .entry)) ⌝ }
 {
-    if 0x4000_0000 < file.len() {
+    if LARGEST_FILE < file.len() {
         return Read::Refused(Refusal {
             number: 1,
             detail: 0,

@@ -1,11 +1,10 @@
 -- Summer time all the year: where each summer lasts until the next begins. Assumes nothing.
-use Prim.Native.Nat.{ℕ, zero, suc, _+_, _-_, _*_, _/_, _≤_, _<_}
-use borrow.Author.Tests.{le-ltb, ltb-true, ltb-false}
+use Prim.Native.Nat.{ℕ, suc, _+_, _-_, _*_, _/_, _≤_, _<_}
+use borrow.Author.Tests.{le-ltb}
 use lib.Dec.{ltb}
-use mathlib.Core.{Bool.{Bool, true, false}, Path.{_≡_, refl, ap, sym, _∙_}}
+use mathlib.Core.{Bool.{Bool, true, false}, Path.{_≡_, refl, ap}}
 use native.Mathlib.Omega.{arith}
-use Rattle.calendar.proofs.Rising.{Between, passes}
-use Rattle.calendar.specs.{Calendar.{isLeap, yearLength, daysOfYears}, Rules.{leapDay, dayOf}, declared.rule.When.the-variants.{Julian, Zero}}
+use Rattle.calendar.{proofs.Rising.{Between, passes}, specs.{Calendar.{isLeap, yearLength, daysOfYears}, Rules.{leapDay, dayOf}, declared.rule.When.the-variants.{Julian, Zero}}}
 use Rattle.numbers.specs.Answer.{if_then_else_}
 use Rattle.tzrule.proofs.{Guess.{start-low}, Latest.{summer-then, summer-if}}
 use Rattle.tzrule.specs.{Summer.{changeOf, startOf, endOf, closeOf, IsSummer, IsRule}, declared.rule.Rule.{Rule}}

@@ -1,13 +1,12 @@
 -- The guess of the year, and the answer. Assumes nothing.
-use Prim.Native.Nat.{ℕ, zero, suc, _+_, _-_, _*_, _/_, _≤_, _<_}
+use Prim.Native.Nat.{ℕ, suc, _+_, _-_, _*_, _/_, _≤_, _<_}
 use borrow.Author.Tests.{lt-ltb, le-ltb, ltb-true, ltb-false}
 use lib.Dec.{ltb}
-use mathlib.Core.{Bool.{Bool, true, false}, Path.{_≡_, refl, ap, sym, _∙_}}
+use mathlib.Core.{Bool.{Bool, true, false}, Path.{_≡_, refl, ap, _∙_}}
 use native.Mathlib.Omega.{arith}
-use Rattle.calendar.{specs.{Calendar.{daysOfYears}, Rules.{dayOf, IsWhen}, declared.rule.When.{When}}, proofs.{Laws.{mean-low, mean-high}, Within.{day-from, day-to}}}
-use Rattle.numbers.specs.Answer.{if_then_else_}
+use Rattle.calendar.{specs.{Rules.{dayOf, IsWhen}, declared.rule.When.{When}}, proofs.{Laws.{mean-low, mean-high}, Within.{day-from, day-to}}}
 use Rattle.tzrule.proofs.Latest.{summer-then, summer-if}
-use Rattle.tzrule.specs.{Summer.{changeOf, startOf, endOf, closeOf, IsSummer, IsChange, IsRule, InYears, Says}, declared.rule.{Change.{Change}, Rule.{Rule}}}
+use Rattle.tzrule.specs.{Summer.{changeOf, startOf, endOf, closeOf, IsSummer, IsChange, IsRule, Says}, declared.rule.{Change.{Change}, Rule.{Rule}}}
 
 next : (year : ℕ) → year + 1 ≡ suc year
 next year = omega arith

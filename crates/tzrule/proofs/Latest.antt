@@ -1,11 +1,11 @@
 -- The summer of the year that began last decides. Assumes nothing.
-use Prim.Native.Nat.{ℕ, zero, suc, _+_, _-_, _*_, _≤_, _<_}
+use Prim.Native.Nat.{ℕ, suc, _-_, _≤_, _<_}
 use lib.Dec.{ltb}
-use mathlib.Core.{Bool.{Bool, true, false}, Path.{_≡_, refl}}
+use mathlib.Core.Bool.{Bool, true, false}
 use native.Mathlib.Omega.{arith}
 use Rattle.calendar.proofs.{Rising.{rises}, Within.{day-up}}
 use Rattle.numbers.specs.Answer.{if_then_else_}
-use Rattle.tzrule.specs.{Summer.{changeOf, startOf, endOf, closeOf, InSummer, IsSummer, IsChange, IsRule}, declared.rule.{Change.{Change}, Rule.{Rule}}}
+use Rattle.tzrule.specs.{Summer.{changeOf, startOf, endOf, closeOf, IsSummer, IsChange, IsRule}, declared.rule.{Change.{Change}, Rule.{Rule}}}
 
 change-up : (change : Change) (west year : ℕ) → IsChange change → changeOf change west year ≤ changeOf change west (suc year)
 unfolding changeOf

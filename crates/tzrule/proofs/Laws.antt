@@ -1,11 +1,10 @@
 -- What callers of this crate go by. Assumes nothing.
-use Prim.Native.Nat.{ℕ, _≤_}
-use lib.Dec.{T}
+use Prim.Native.Nat.{ℕ}
 use mathlib.Core.{Bool.{Bool, true, false}, Path.{_≡_, ap, sym, _∙_}}
 use Rattle.numbers.specs.Answer.{if_then_else_}
 use native.Mathlib.Omega.{arith}
 use Rattle.tzrule.specs.{Answer.{Answer, read, fault}, Ask.{Ruled, inYears, since, clockAt, ask}, String.{toldString, IsClock, IsTz, GoodString}, Summer.{isSummer}}
-use Rattle.tzrule.specs.declared.{ask.{Asked.{Asked, the-variants.{Holds, Outside}}, Time.{Time}}, rule.{Rule.{Rule}, Tz.{Tz, the-variants.{Fixed, Changing}}}}
+use Rattle.tzrule.specs.declared.{ask.{Asked.the-variants.{Holds, Outside}, Time.{Time}}, rule.Tz.{Tz, the-variants.{Fixed, Changing}}}
 use Rattle.tzrule.specs.declared.string.{Parsed.{Parsed}, StringAt.{StringAt}}
 use Rattle.tzrule.specs.declared.string.Parsed.the-variants as parsed
 

@@ -1,11 +1,10 @@
 -- Reading names. Assumes nothing.
-use Prim.Native.Nat.{ℕ, zero, suc, _+_, _-_, _≤_, _<_}
+use Prim.Native.Nat.{ℕ, suc, _+_, _-_, _≤_, _<_}
 use borrow.Author.Tests.{lt-ltb, le-ltb, eq-eqb, ne-eqb}
 use lib.{Dec.{ltb, eqb}, ListN.{length}}
-use mathlib.Core.{Bool.{Bool, true, false}, List.{List}, Path.{_≡_, refl, ap, sym, subst, _∙_}}
+use mathlib.Core.{Bool.{Bool, true, false}, List.{List}, Path.{_≡_, refl, ap, sym, _∙_}}
 use native.Mathlib.Omega.{arith}
-use Rattle.numbers.specs.Answer.{if_then_else_}
-use Rattle.tzrule.specs.{Answer.{Answer, read, fault}, Names.{isLetter, inName, nameEnd, endOf, bareOf, quotedOf, nameOf, toldName}, Text.{byteAt, isDigit}}
+use Rattle.tzrule.specs.{Answer.{read, fault}, Names.{isLetter, inName, nameEnd, endOf, bareOf, quotedOf, nameOf, toldName}, Text.{byteAt, isDigit}}
 use Rattle.tzrule.specs.declared.name.Named.the-variants.{Name, Fault}
 
 module _ (byte : ℕ) where

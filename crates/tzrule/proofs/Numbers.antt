@@ -1,11 +1,11 @@
 -- Reading digits, one after the other. Assumes nothing.
 use Prim.Native.Nat.{ℕ, zero, suc, _+_, _-_, _*_, _≤_, _<_}
 use borrow.Author.Tests.{lt-ltb, le-ltb, ltb-true, ltb-false}
-use lib.{Dec.{T, ltb}, ListN.{length, getD, List·getD-eq-default}}
+use lib.{Dec.{T, ltb}, ListN.{length, List·getD-eq-default}}
 use mathlib.Core.{Bool.{Bool, true, false, not}, List.{List}, Path.{_≡_, refl, ap, sym, subst, _∙_}}
 use native.Mathlib.Omega.{arith}
 use Rattle.numbers.specs.Answer.{if_then_else_}
-use Rattle.tzrule.specs.{Text.{byteAt, isDigit, digitsOf, tens}, declared.number.Digits.{Digits}}
+use Rattle.tzrule.specs.Text.{byteAt, isDigit, digitsOf, tens}
 
 -- the other answer
 pub was-false : (b : Bool) → not b ≡ true → b ≡ false

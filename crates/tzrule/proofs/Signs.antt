@@ -1,14 +1,14 @@
 -- Reading signs and dates, piece by piece. Assumes nothing.
-use Prim.Native.Nat.{ℕ, zero, suc, _+_, _-_, _*_, _≤_, _<_}
+use Prim.Native.Nat.{ℕ, _+_, _-_, _≤_}
 use borrow.Author.Tests.{eq-eqb, ne-eqb, ltb-false}
-use lib.{Dec.{T, ltb, eqb}, ListN.{length}}
+use lib.Dec.{ltb, eqb}
 use mathlib.Core.{Bool.{Bool, true, false}, List.{List}, Path.{_≡_, refl, ap, sym, subst, _∙_}}
 use native.Mathlib.Omega.{arith}
 use Rattle.numbers.specs.Answer.{if_then_else_}
-use Rattle.tzrule.specs.Answer.{Answer, read, fault, onward, told, toldDate, GoodDate}
-use Rattle.tzrule.specs.Grammar.{ranged, numberOf, IsShape, clockOf, laterOf, earlierOf, signedOf, dottedOf, days, months, weeks, weekdays, julianOf, zeroOf, weekdayFrom, weekFrom, monthFrom, dateOf}
-use Rattle.tzrule.specs.{Text.{byteAt, digitsOf}, declared.{date.Found.{Found}, number.{Number.{Number, the-variants.{Read, Fault}}, Shape.{Shape}}}}
-use Rattle.calendar.specs.{Rules.{IsWhen, IsMonth}, declared.rule.When.{When, the-variants.{Julian, Zero, Month}}}
+use Rattle.tzrule.specs.Answer.{Answer, read, fault, onward, told, toldDate}
+use Rattle.tzrule.specs.Grammar.{ranged, numberOf, clockOf, laterOf, earlierOf, signedOf, dottedOf, days, months, weeks, weekdays, julianOf, zeroOf, weekdayFrom, weekFrom, monthFrom, dateOf}
+use Rattle.tzrule.specs.{Text.{byteAt, digitsOf}, declared.{date.Found.{Found}, number.{Number.the-variants.{Read, Fault}, Shape.{Shape}}}}
+use Rattle.calendar.specs.declared.rule.When.the-variants.{Julian, Zero, Month}
 use Rattle.tzrule.specs.declared.date.Found.the-variants as F
 
 -- times before and after midnight

@@ -1,5 +1,5 @@
 -- It is summer exactly if the instant lies in the summer of some year. Assumes nothing.
-use Prim.Native.Nat.{ℕ, zero, suc, _+_, _*_, _≤_, _<_}
+use Prim.Native.Nat.{ℕ, zero, suc, _<_}
 use borrow.Author.Tests.{lt-ltb, ltb-true, le-leb, leb-true}
 use lib.Dec.{ltb, leb, T}
 use mathlib.Core.{Bool.{Bool, true, false}, Path.{_≡_, refl, ap, sym, subst, _∙_}}

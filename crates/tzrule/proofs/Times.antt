@@ -1,10 +1,9 @@
 -- Reading numbers and times, piece by piece. Assumes nothing.
-use Prim.Native.Nat.{ℕ, zero, suc, _+_, _-_, _*_, _≤_, _<_}
+use Prim.Native.Nat.{ℕ, suc, _+_, _-_, _*_, _≤_, _<_}
 use borrow.Author.Tests.{lt-ltb, le-ltb, eq-eqb, ne-eqb}
-use lib.{Dec.{ltb, eqb}, ListN.{length}}
-use mathlib.Core.{Bool.{Bool, true, false}, List.{List}, Path.{_≡_, refl, ap, sym, subst, _∙_}}
+use lib.{Dec.{eqb}, ListN.{length}}
+use mathlib.Core.{Bool.{true}, List.{List}, Path.{_≡_, ap, sym, _∙_}}
 use native.Mathlib.Omega.{arith}
-use Rattle.numbers.specs.Answer.{if_then_else_}
 use Rattle.tzrule.proofs.Numbers.{past-end}
 use Rattle.tzrule.specs.{Answer.{Answer, read, fault, onward, told, Within}, Grammar.{ranged, numberOf, sixty, IsShape, secondsOf, minutesOf, clockOf}}
 use Rattle.tzrule.specs.{Text.{byteAt, digitsOf}, declared.number.{Digits.{Digits}, Number.{Number, the-variants.{Read, Fault}}, Shape.{Shape}}}

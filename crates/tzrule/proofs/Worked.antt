@@ -1,11 +1,11 @@
 -- A summer, computed: what the theorems speak of is met. Assumes nothing.
-use Prim.Native.Nat.{ℕ, _+_, _*_, _≤_, _<_}
+use Prim.Native.Nat.{_+_, _*_}
 use borrow.Author.Tests.{le-ltb}
-use mathlib.Core.{Bool.{true, false}, Path.{_≡_, refl}}
+use mathlib.Core.{Bool.{true}, Path.{_≡_}}
 use native.Mathlib.Omega.{arith}
 use Rattle.calendar.{proofs.Laws.{days-closed}, specs.{Calendar.{isLeap}, Rules.{leapDay, dayOf, IsWhen}, declared.rule.When.the-variants.{Julian, Zero}}}
 use Rattle.tzrule.proofs.SummerAt.{summer-some}
-use Rattle.tzrule.specs.{Summer.{startOf, closeOf, isSummer, IsSummer, IsRule}, declared.rule.Rule.{Rule}}
+use Rattle.tzrule.specs.{Summer.{startOf, closeOf, isSummer, IsRule}, declared.rule.Rule.{Rule}}
 use Rattle.tzrule.specs.Summer as summer
 
 -- `AAA-14BBB,0/0,J60/0`: the summer of 2001 begins on 31 December 2000 at 10:00 UT

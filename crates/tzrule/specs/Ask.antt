@@ -1,10 +1,9 @@
 -- What a TZ string says of an instant.
-use Prim.Native.Nat.{ℕ, _+_, _-_, _^_, _≤_, _<_}
-use lib.Dec.{ltb, leb}
-use mathlib.Core.{Bool.{Bool, true, _&&_}, Path.{_≡_}}
+use Prim.Native.Nat.{ℕ, _+_, _-_, _^_}
+use lib.Dec.{leb}
+use mathlib.Core.Bool.{Bool, _&&_}
 use Rattle.numbers.specs.Answer.{if_then_else_}
-use Rattle.tzrule.specs.Summer.{isSummer, IsRule}
-use Rattle.tzrule.specs.declared.{ask.{Asked.{Asked, the-variants.{Holds, Outside}}, Time.{Time}}, rule.Tz.{Tz, the-variants.{Fixed, Changing}}}
+use Rattle.tzrule.specs.{Summer.{isSummer, IsRule}, declared.{ask.{Asked.{Asked, the-variants.{Holds, Outside}}, Time.{Time}}, rule.Tz.{Tz, the-variants.{Fixed, Changing}}}}
 
 -- an instant, which is given more 2 ^ 63, less a correction, which is given more 2 ^ 31
 unfoldable pub corrected : ℕ → ℕ → ℕ

@@ -3,7 +3,7 @@ use Prim.Native.Nat.{ℕ, _+_, _-_, _*_, _≤_}
 use lib.Dec.{ltb}
 use mathlib.Core.List.{List}
 use Rattle.numbers.specs.Answer.{if_then_else_}
-use Rattle.tzrule.specs.{Answer.{Answer, read, fault, onward, _>>=_, give, ifByte}, Text.{digitsOf}, declared.number.{Digits.{Digits}, Shape.{Shape}}}
+use Rattle.tzrule.specs.{Answer.{Answer, read, fault, _>>=_, give, ifByte}, Text.{digitsOf}, declared.number.{Digits.{Digits}, Shape.{Shape}}}
 use Rattle.calendar.specs.declared.rule.When.{When, the-variants.{Julian, Zero, Month}}
 
 -- so many digits, and a number in a range

@@ -1,9 +1,8 @@
 -- The whole TZ string: std offset [dst [offset] , date [/time] , date [/time]], and the newline that closes it.
-use Prim.Native.Nat.{ℕ, _+_, _-_, _*_, _≤_}
+use Prim.Native.Nat.{ℕ, _-_, _≤_}
 use lib.Dec.{eqb}
 use mathlib.Core.{Bool.{Bool}, List.{List}}
-use Rattle.tzrule.specs.{Answer.{Answer, read, fault, onward, _>>=_, give, ifByte}, Grammar.{laterOf, signedOf, dateOf}, Names.{nameOf}, Summer.{IsChange, IsRule}}
-use Rattle.tzrule.specs.Text.{byteAt}
+use Rattle.tzrule.specs.{Answer.{Answer, read, fault, _>>=_, give, ifByte}, Grammar.{laterOf, signedOf, dateOf}, Names.{nameOf}, Summer.{IsChange, IsRule}, Text.{byteAt}}
 use Rattle.tzrule.specs.declared.{number.Shape.{Shape}, rule.{Change.{Change}, Clock.{Clock}, Rule.{Rule}, Tz.{Tz, the-variants.{Fixed, Changing}}}}
 use Rattle.tzrule.specs.declared.string.{Changed.{Changed}, Clocked.{Clocked}, Parsed.{Parsed}}
 use Rattle.tzrule.specs.declared.string.Changed.the-variants as changed

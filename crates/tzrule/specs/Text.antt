@@ -1,7 +1,7 @@
 -- The numbers of a TZ string, read from a place on.
-use Prim.Native.Nat.{ℕ, zero, suc, _+_, _-_, _*_, _≤_}
+use Prim.Native.Nat.{ℕ, zero, suc, _+_, _-_, _*_}
 use lib.{Dec.{ltb}, ListN.{getD}}
-use mathlib.Core.{Bool.{Bool, true, false}, List.{List}}
+use mathlib.Core.{Bool.{Bool, false}, List.{List}}
 use Rattle.numbers.specs.Answer.{if_then_else_}
 use Rattle.tzrule.specs.declared.number.Digits.{Digits}
 

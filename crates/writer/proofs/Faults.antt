@@ -1,7 +1,7 @@
 -- The checks of a border in turn, each with those before it. Assumes nothing.
 use Prim.Native.Nat.{ℕ, _^_, _<_, _≤_}
 use native.Mathlib.Omega.{arith}
-use mathlib.Core.{Path.{_≡_, sym, ap, _∙_}, Bool.{Bool, true, false, _&&_}, List.{List}}
+use mathlib.Core.{Path.{_≡_, sym, ap, _∙_}, Bool.{true, false, _&&_}, List.{List}}
 use lib.{Dec.{ltb, leb, eqb}, IntN.{ℤ}, ListN.{length, take, drop}}
 use borrow.Author.Tests.{lt-ltb, le-ltb, le-leb, lt-leb, ltb-true, leb-true, eqb-true}
 use Rattle.numbers.specs.{Reply.{given, refused, refusal, plain, demand, _>>_}, declared.point.RawPoint.{RawPoint}}

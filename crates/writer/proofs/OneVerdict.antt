@@ -4,8 +4,7 @@ use Prim.Native.Nat.{ℕ}
 use mathlib.Core.{Path.{_≡_}, Bool.{Bool}, List.{List}}
 use lib.IntN.{ℤ, pos}
 use Rattle.verdict.specs.Verdict.{none, judge, judgedAt}
-use Rattle.border.specs.{Written.{Stands}, Encoding.{encodedIn, encodingOf}}
-use Rattle.border.specs.declared.{place.{Point.{Point}, FixedLat.{FixedLat}, FixedLon.{FixedLon}}, reader.Version.{Version}}
+use Rattle.border.specs.{Written.{Stands}, Encoding.{encodedIn, encodingOf}, declared.{place.{Point.{Point}, FixedLat.{FixedLat}, FixedLon.{FixedLon}}, reader.Version.{Version}}}
 use Rattle.border.proofs.Delivered.{one-border-one-judgement}
 use Rattle.writer.specs.WrittenAt.{WrittenAt}
 use Rattle.writer.proofs.WrittenTrace.{written-stands}

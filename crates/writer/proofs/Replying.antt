@@ -1,11 +1,10 @@
 -- The reply and the buffer, for each way out of the writer. Assumes nothing.
-use Prim.Native.Nat.{ℕ, zero, suc, _-_, _^_, _<_, _≤_}
+use Prim.Native.Nat.{ℕ, _-_, _^_, _<_, _≤_}
 use native.Mathlib.Omega.{arith}
 use mathlib.Core.{Path.{_≡_, refl, sym, ap, _∙_}, Bool.{Bool, true, false}, List.{List, [], _∷_, _++_, flatMap}}
 use lib.{Dec.{leb, eqb, ltb}, IntN.{ℤ}, ListN.{length, drop, take, length-replicate}}
 use borrow.Author.Tests.{leb-true, le-leb, lt-leb, eq-eqb, ne-eqb}
-use Rattle.numbers.proofs.{Lists.{zeros-drop}, Replies.{demanded}}
-use Rattle.numbers.specs.{Answer.{if_then_else_}, Lists.{zeros}, Reply.{Reply, given, refused, refusal, plain, _>>_}}
+use Rattle.numbers.{proofs.{Lists.{zeros-drop}, Replies.{demanded}}, specs.{Answer.{if_then_else_}, Lists.{zeros}, Reply.{Reply, given, refused, refusal, plain, _>>_}}}
 use Rattle.numbers.specs.{declared.{refusal.Refusal.{Refusal}, point.RawPoint.{RawPoint}}, Spelling.{varintOf}}
 use Rattle.writer.specs.{Moves.{plainMoveBytes, movesOf}, Pieces.{packedFrom}}
 use Rattle.writer.specs.{Writer.{sized, checks, plainBorder, packedBorder, borderOf, Replied, replied, fitted}, Stored.{Stored, Checked}}

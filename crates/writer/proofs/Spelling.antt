@@ -6,8 +6,7 @@ use lib.{Dec.{ltb, leb, eqb}, IntN.{ℤ}, ListN.{length, getD, drop, take, lengt
 use lib.Seq.{drop-cons, length-take-le, getD-drop, getD-take, drop-length, getD-at}
 use borrow.Author.Tests.{ltb-false, ltb-true, le-leb, lt-leb, ne-eqb, eq-eqb}
 use Rattle.numbers.specs.{Answer.{Answer, if_then_else_}, Point.{pointOf}, Varint.{Numeral, told, forwardAt}}
-use Rattle.numbers.specs.declared.{point.RawPoint.{RawPoint}, varint.Varint.{Varint, the-variants.{Number, Failed, Refused}}}
-use Rattle.numbers.proofs.Laws.{caseOf}
+use Rattle.numbers.{specs.declared.{point.RawPoint.{RawPoint}, varint.Varint.{Varint, the-variants.{Number, Failed, Refused}}}, proofs.Laws.{caseOf}}
 use Rattle.writer.specs.{Moves.{movesOf, turnedBack, sameMove}, Pieces.{lentMoves, readAnd, spells}, Stored.{moveAt}, declared.write.Piece.{Piece}}
 use Rattle.writer.proofs.Indexed.{still, border-length, move-at}
 

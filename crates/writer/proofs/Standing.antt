@@ -6,13 +6,11 @@ use mathlib.Core.List.{List, [], _∷_, _++_, append-assoc, append-nil, map, rev
 use lib.{Dec.{ltb, leb, eqb, lit<}, IntN.{ℤ, pos, negℤ, natAbs, _+ℤ_, _-ℤ_, +ℤ-comm, -ℤ-+ℤ-cancel, negℤ-negℤ}}
 use lib.{ListN.{length, take, drop, getD, length-drop, take-append-drop}, Seq.{slice, drop-drop, drop-length, drop-append-le, length-take-le, split-at}, Signed.{mag}}
 use borrow.Author.Tests.{lt-ltb, ltb-true, leb-true, eqb-true, eqb-false}
-use Rattle.numbers.specs.{Answer.{Answer, found, failed, refused, if_then_else_, _>>=_, checked}, Point.{signedOf, pointOf}, Varint.{Numeral, forwardAt, isLast}}
+use Rattle.numbers.specs.{Answer.{Answer, found, failed, refused, if_then_else_, checked}, Point.{signedOf, pointOf}, Varint.{Numeral, forwardAt, isLast}}
 use Rattle.numbers.specs.{declared.point.RawPoint.{RawPoint}, Spelling.{varintOf, signedForm}, Reply.{Reply, given, refusal, plain, demand, _>>_}}
 use Rattle.numbers.proofs.{Wholes.{read-whole}, Spelling.{one-byte, varint-whole, signed-small, even-back, odd-back, form-one}, Replies.{demanded}}
-use Rattle.border.specs.{Place.{pointAt, moveBy, isStill, movedBy, negated}, Encoding.{versionOf}}
-use Rattle.border.specs.Written.{Splits, Turned, Borrowed, Version1, Pairs, Version0, Leads, Border}
-use Rattle.border.specs.declared.{place.Point.{Point}, reader.Version.the-variants.{Plain, Packed}}
-use Rattle.border.proofs.Signs.{differ, both}
+use Rattle.border.specs.{Place.{pointAt, moveBy, isStill, movedBy, negated}, Encoding.{versionOf}, Written.{Splits, Turned, Borrowed, Version1, Pairs, Version0, Leads, Border}}
+use Rattle.border.{specs.declared.{place.Point.{Point}, reader.Version.the-variants.{Plain, Packed}}, proofs.Signs.{differ, both}}
 use Rattle.writer.specs.Moves.{plainMoveBytes, packedMoveBytes, packedNumber, moveTo, movesFrom, pointsOf, movesOf, isMove, turnedBack, sameMove}
 use Rattle.writer.specs.Pieces.{lentBy, lentMoves, readAnd, spells, clearBefore, accepted, goodPieces, pieceBytes, packedFrom}
 use Rattle.writer.specs.{Writer.{every, near, sized, checks, plainBorder, packedBorder, borderOf}, declared.write.Piece.{Piece}}

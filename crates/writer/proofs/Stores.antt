@@ -1,10 +1,9 @@
 -- Bytes that go into a lent buffer one after another. Assumes nothing.
-use Prim.Native.Nat.{ℕ, zero, suc, _+_, _-_, _/_, _%_, _<_, _≤_}
+use Prim.Native.Nat.{ℕ, suc, _+_, _-_, _<_, _≤_}
 use native.Mathlib.{Nat.{add-zero}, Omega.{arith}}
-use mathlib.Core.{Path.{_≡_, refl, sym, ap, _∙_, subst}, Bool.{Bool, true, false}, List.{List, [], _∷_, _++_, append-nil}}
-use lib.{Dec.{ltb}, ListN.{length, set, drop, length-append, length-replicate}, Seq.{sets, length-sets, set-out, sets-eq, drop-length}}
-use Rattle.numbers.{specs.{Answer.{if_then_else_}, Spelling.{varintOf, Put}, Lists.{zeros}}, proofs.Spelling.{varint-byte}}
-use borrow.Author.Tests.{lt-ltb, le-ltb}
+use mathlib.Core.{Path.{_≡_, refl, sym, ap, _∙_, subst}, List.{List, [], _∷_, _++_, append-nil}}
+use lib.{ListN.{length, set, drop, length-append, length-replicate}, Seq.{sets, length-sets, sets-eq, drop-length}}
+use Rattle.numbers.{specs.{Spelling.{varintOf, Put}, Lists.{zeros}}, proofs.Spelling.{varint-byte}}
 use Rattle.writer.specs.Stored.{Stored}
 
 sets-append : (xs ys before : List ℕ) (at : ℕ) → sets before at (xs ++ ys) ≡ sets (sets before at xs) (at + length xs) ys

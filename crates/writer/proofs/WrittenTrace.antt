@@ -1,7 +1,7 @@
 -- A border that the writer wrote stands in a file, and is read as its points, whatever way it was written. Assumes nothing.
 use Prim.Native.Nat.{ℕ, _-_}
 use native.Mathlib.Omega.{arith}
-use mathlib.Core.{Path.{_≡_, sym, ap, _∙_}, Bool.{Bool, true, false}, List.{List, _++_}}
+use mathlib.Core.{Path.{_≡_, sym, ap, _∙_}, Bool.{Bool, true, false}, List.{List}}
 use lib.{Dec.{leb}, IntN.{ℤ}, ListN.{length, take}, Seq.{take-at}}
 use Rattle.numbers.specs.{Answer.{if_then_else_}, Lists.{zeros, padded}, Reply.{Reply, given, refused, plain}}
 use Rattle.writer.specs.{Moves.{pointsOf}, Writer.{Replied, replied, fitted}, WrittenAt.{WrittenAt}, declared.write.Written.the-variants.{Wrote}}

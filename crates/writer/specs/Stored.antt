@@ -2,9 +2,9 @@
 use Prim.Native.Nat.{ℕ, _+_, _≤_, min}
 use mathlib.Core.{Path.{_≡_}, List.{List, [], _∷_}}
 use lib.{IntN.{ℤ, pos, _-ℤ_}, ListN.{length, take, getD}, Seq.{sets}}
-use Rattle.numbers.specs.{Answer.{if_then_else_}, declared.point.RawPoint.{RawPoint}}
+use Rattle.numbers.specs.declared.point.RawPoint.{RawPoint}
 use Rattle.border.specs.Place.{moveBy}
-use Rattle.writer.specs.{Pieces.{goodPieces}, declared.{write.Piece.{Piece}, pieces.Check.{Check}}}
+use Rattle.writer.specs.{Limits.{mostPieces}, Pieces.{goodPieces}, declared.{write.Piece.{Piece}, pieces.Check.{Check}}}
 
 -- the bytes were stored from a place on, as many as fit, and the next place is behind all of them
 pub record Stored (before : List ℕ) (place : ℕ) (bytes after : List ℕ) (next : ℕ) : Type 0 where
@@ -24,10 +24,10 @@ unfoldable pub endOf : ℕ → List Piece → ℕ
 endOf free [] = free
 endOf free (p ∷ ps) = endOf (p .first + p .count) ps
 
--- what the check of a list of pieces knows of it; of more than 16 only that they are too many
+-- what the check of a list of pieces knows of it; of more than the most only that they are too many
 pub record Checked (earlier : List ℕ) (moves : List RawPoint) (pieces : List Piece) (c : Check) : Type 0 where
   pub seen : c .seen ≡ min (length pieces) 17
-  pub size : length (c .kept) ≡ 16
-  pub kept : length pieces ≤ 16 → take (c .seen) (c .kept) ≡ pieces
-  pub good : length pieces ≤ 16 → c .good ≡ goodPieces earlier moves 0 pieces
-  pub free : length pieces ≤ 16 → c .free ≡ endOf 0 pieces
+  pub size : length (c .kept) ≡ mostPieces
+  pub kept : length pieces ≤ mostPieces → take (c .seen) (c .kept) ≡ pieces
+  pub good : length pieces ≤ mostPieces → c .good ≡ goodPieces earlier moves 0 pieces
+  pub free : length pieces ≤ mostPieces → c .free ≡ endOf 0 pieces

@@ -1,10 +1,10 @@
 -- What the writer writes, and when it refuses: document 01, "The writer".
-use Prim.Native.Nat.{ℕ, _^_}
-use mathlib.Core.{Bool.{Bool, true, false, _&&_}, List.{List, [], _∷_, _++_, flatMap}}
+use Prim.Native.Nat.{ℕ}
+use mathlib.Core.{Bool.{Bool, true, _&&_}, List.{List, [], _∷_, _++_, flatMap}}
 use lib.{Dec.{ltb, leb, eqb}, IntN.{ℤ, natAbs}, ListN.{length, take, drop}}
-use Rattle.numbers.specs.{Answer.{if_then_else_}, Lists.{zeros, padded}, Reply.{Reply, given, refused, refusal, plain, demand, _>>_}, declared.point.RawPoint.{RawPoint}}
+use Rattle.numbers.specs.{Limits.{largestFile}, Answer.{if_then_else_}, Lists.{zeros, padded}, Reply.{Reply, given, refused, refusal, plain, demand, _>>_}, declared.point.RawPoint.{RawPoint}}
 use Rattle.numbers.specs.Spelling.{varintOf}
-use Rattle.writer.specs.{Moves.{plainMoveBytes, movesOf, isMove}, Pieces.{goodPieces, packedFrom}, declared.write.{Piece.{Piece}, Written.{Written}}}
+use Rattle.writer.specs.{Limits.{mostPoints, mostPieces}, Moves.{plainMoveBytes, movesOf, isMove}, Pieces.{goodPieces, packedFrom}, declared.write.{Piece.{Piece}, Written.{Written}}}
 use Rattle.writer.specs.declared.write.Written.the-variants as W
 
 -- each element of the list is good
@@ -14,7 +14,7 @@ every good (x ∷ xs) = good x && every good xs
 
 -- one to 65,535 points, the two lists of one length
 unfoldable pub sized : List ℤ → List ℤ → Bool
-sized lats lons = eqb (length lats) (length lons) && (ltb 0 (length lats) && leb (length lats) 65535)
+sized lats lons = eqb (length lats) (length lons) && (ltb 0 (length lats) && leb (length lats) mostPoints)
 
 unfoldable pub near : ℤ → Bool
 near z = leb (natAbs z) 1073741823
@@ -22,7 +22,7 @@ near z = leb (natAbs z) 1073741823
 -- the checks of the border, in order
 unfoldable pub checks : ℕ → List ℤ → List ℤ → List ℕ → Reply (Unit {0})
 checks version lats lons earlier = do
-  demand (leb (length earlier) (2 ^ 30)) (plain 1)
+  demand (leb (length earlier) largestFile) (plain 1)
   demand (ltb version 2) (refusal 5 0 version)
   demand (sized lats lons) (plain 19)
   demand (every near lats && every near lons) (plain 20)
@@ -38,7 +38,7 @@ plainBorder moves pieces = do
 -- "Version 1: moves, 00 00", with at most 16 pieces; else the lowest bad index
 unfoldable pub packedBorder : List RawPoint → List Piece → List ℕ → Reply (List ℕ)
 packedBorder moves pieces earlier = do
-  demand (leb (length pieces) 16) (refusal 23 0 16)
+  demand (leb (length pieces) mostPieces) (refusal 23 0 mostPieces)
   demand (eqb (goodPieces earlier moves 0 pieces) (length pieces)) (refusal 23 0 (goodPieces earlier moves 0 pieces))
   given (packedFrom moves 0 pieces)
 

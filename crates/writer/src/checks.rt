@@ -1,10 +1,12 @@
 // The checks of a border: 1, 5 and 19 to 22, each over the whole border.
 ghost use mathlib.Core.Path.{_≡_};
-ghost use Prim.Native.Nat.{_≤_, _<_};
+ghost use Prim.Native.Nat.{_<_};
 ghost use lib.ListN.{length, drop};
 ghost use Rattle.writer.specs.{Moves.{movesOf, isMove}, Writer.{every, near, sized, checks, passed}};
+use crate::limits::MOST_POINTS;
 use crate::moves::moves_at;
 use crate::write::Written;
+use numbers::limits::LARGEST_FILE;
 use numbers::refusal::AT_ORIGIN;
 use numbers::refusal::BAD_LISTS;
 use numbers::refusal::BAD_VERSION;
@@ -58,7 +60,7 @@ fn is_sized(lats: &[i32], lons: &[i32]) -> bool
     if lats.len() == 0 {
         return false;
     }
-    lats.len() <= 65535
+    lats.len() <= MOST_POINTS
 }
 
 pub(crate) fn refused(number: u8, detail: u64) -> Written
@@ -71,7 +73,7 @@ pub(crate) fn refused(number: u8, detail: u64) -> Written
 pub(crate) fn border_fault(version: u8, lats: &[i32], lons: &[i32], earlier: &[u8]) -> Written
     ensures { λ r. ⌜ passed r ≡ checks version (now (lats .entry)) (now (lons .entry)) (now (earlier .entry)) ⌝ }
 {
-    if 1073741824 < earlier.len() {
+    if LARGEST_FILE < earlier.len() {
         return refused(TOO_LARGE, 0);
     }
     if 2 <= version {

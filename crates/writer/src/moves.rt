@@ -1,5 +1,5 @@
 // The moves of a border, by the indexes of its points, and their bytes.
-ghost use mathlib.Core.{Path.{_≡_}, Bool.{not}, List.{_∷_, flatMap}};
+ghost use mathlib.Core.{Path.{_≡_}, List.{_∷_, flatMap}};
 ghost use Prim.Native.Nat.{_+_, _^_, _≤_, _<_};
 ghost use lib.{IntN.{pos, negℤ, _-ℤ_}, ListN.{length, getD}, Dec.{eqb}, Seq.{slice}};
 ghost use Rattle.numbers.specs.{Answer.{if_then_else_}, Point.{pointOf}, Spelling.{signedForm}};

@@ -5,18 +5,22 @@ ghost use lib.{IntN.{ℤ}, ListN.{length}, Dec.{eqb}};
 ghost use Rattle.numbers.specs.Answer.{if_then_else_};
 ghost use Rattle.writer.specs.{Moves.{movesOf}, Pieces.{lentMoves, spells, clearBefore, accepted, pieceBytes, pieceAt, piecesOf}, Stored.{Stored, Checked}};
 use crate::bytes::put_two;
+use crate::limits::MOST_PIECES;
 use crate::moves::is_lent;
 use crate::write::Piece;
 use numbers::varint::Varint;
 use numbers::varint::read_forward;
 
-// What the check knows of a list: how many pieces there are (17 for more than 16), how many are good before the first bad one,
+// Stands for any number of pieces over the most.
+const TOO_MANY: usize = MOST_PIECES + 1;
+
+// What the check knows of a list: how many pieces there are (`TOO_MANY` for more than the most), how many are good before the first bad one,
 // the first move behind them, and the pieces themselves.
 pub struct Check {
     pub seen: usize,
     pub good: usize,
     pub free: usize,
-    pub kept: [Piece; 16],
+    pub kept: [Piece; MOST_PIECES],
 }
 
 // The index of the border's move that the run's jth number stands for.
@@ -106,8 +110,8 @@ fn check_next(earlier: &[u8], lats: &[i32], lons: &[i32], check: Check, piece: P
 {
     let seen = check.seen;
     let mut next = check;
-    if 16 <= seen {
-        next.seen = 17;
+    if MOST_PIECES <= seen {
+        next.seen = TOO_MANY;
         return next;
     }
     next.seen = seen + 1;
@@ -137,7 +141,7 @@ pub(crate) fn no_pieces() -> Check
             direction: 0,
             first: 0,
             count: 0,
-        }; 16],
+        }; MOST_PIECES],
     }
 }
 

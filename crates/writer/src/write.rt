@@ -9,6 +9,7 @@ use crate::bytes::put_varint;
 use crate::bytes::zero_bytes;
 use crate::checks::border_fault;
 use crate::checks::refused;
+use crate::limits::MOST_PIECES;
 use crate::moves::put_packed;
 use crate::moves::put_plain;
 use crate::pieces::Check;
@@ -55,7 +56,7 @@ fn write_packed(
     out: &mut [u8],
     lats: &[i32],
     lons: &[i32],
-    kept: [Piece; 16],
+    kept: [Piece; MOST_PIECES],
     count: usize,
 ) -> usize
     requires { ⌜ (length (now lons) ≡ length (now lats)) × (length (now lats) ≤ 65535) × (count ≤ 16) ⌝ }
@@ -112,8 +113,8 @@ fn write_checked(
         let end = write_plain(out, lats, lons);
         return finish(out, end);
     }
-    if 16 < seen {
-        return refused(BAD_PIECES, 16);
+    if MOST_PIECES < seen {
+        return refused(BAD_PIECES, MOST_PIECES as u64);
     }
     if check.good != seen {
         return refused(BAD_PIECES, check.good as u64);

@@ -5,7 +5,7 @@ use lib.ListN.{length, take, drop}
 use mathlib.Core.{Bool.{true}, List.{List}, Path.{_≡_, ap, _∙_}}
 use Rattle.header.proofs.Buffers.{tail-lent}
 use Rattle.numbers.{proofs.Replies.{met, unmet}, specs.{Lists.{zeros}, Reply.{Reply, refused, plain}, declared.refusal.Refusal.{Refusal}}}
-use Rattle.zones.specs.{Lent.{Outcome, replied, repliedOf}, Lookup.{zonesIn, lookedUp}, declared.lookup.Zones.{Zones}}
+use Rattle.zones.specs.{Lent.{replied, repliedOf}, Lookup.{zonesIn, lookedUp}, declared.lookup.Zones.{Zones}}
 use Rattle.table.specs.declared.location.Location.{Location}
 use Rattle.zone.specs.Answer.{locationOf, outcomeOf, answerOf}
 

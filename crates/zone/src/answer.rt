@@ -3,7 +3,7 @@ ghost use mathlib.Core.Path.{_≡_};
 ghost use lib.ListN.{length};
 ghost use Rattle.zones.specs.{Lent.{replied}, Lookup.{toldLooked}};
 ghost use Rattle.zone.specs.Answer.{answerOf};
-use crate::zero::zero_both;
+use header::zero::zero_both;
 use line::bytes::word_at;
 use numbers::float::bits::of_bits;
 use numbers::refusal::plain;

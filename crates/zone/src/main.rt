@@ -1,7 +1,6 @@
 // Document 01's program: a location and a file on standard input, the matches and their fields on standard output.
 mod answer;
 mod lines;
-mod zero;
 
 ghost use mathlib.Core.Path.{_≡_};
 ghost use Prim.Native.Nat.{_*_, _≤_};

@@ -1,18 +1,17 @@
 -- The distance asked for or not (request Q-2): the search, and lookup over it. Assumes nothing.
 use Prim.Native.Nat.{ℕ, _/_}
-use lib.{Dec.{ltb, eqb}, IntN.{pos}, ListN.{length}}
+use lib.{Dec.{ltb, eqb}, ListN.{length}}
 use mathlib.Core.{Bool.{Bool, true, false}, List.{List, [], _∷_, _++_}, Logic.{_⊎_, inl, inr}, Path.{_≡_, refl, sym, ap, _∙_, subst}}
 use native.Mathlib.Omega.{arith}
 use Rattle.verdict.{proofs.Unasked.{Agrees, judged-asked-or-not}, specs.Verdict.{Judgement, reached}}
 use Rattle.border.specs.declared.place.Point.{Point}
 use Rattle.numbers.specs.{Answer.{if_then_else_}, Reply.{Reply, given, refused, plain, _>>=_}}
-use Rattle.header.proofs.Unless.{shown, Unless, refuses, alike, unless-after, unless-demand, unless-then}
-use Rattle.header.specs.{Header.{headOf, headStrictly}, declared.header.Head.{Head}}
+use Rattle.header.{proofs.Unless.{shown, Unless, refuses, alike, unless-after, unless-demand, unless-then}, specs.{Header.{headOf, headStrictly}, declared.header.Head.{Head}}}
 use Rattle.zones.specs.{Fields.{fieldsOf}, Lent.{Outcome, Replied, replied, repliedOf}}
 use Rattle.zones.specs.{Lookup.{safezoneBits, zonesWith, zonesIn, lookedWith, lookedUp, lookedStrictly}, declared.lookup.Zones.{Zones}}
 use Rattle.table.specs.{Find.{Matched, isPrecision, fixOf, matchedWith}, Hits.{width}, Merge.{merged}, Rest.{restMark}, Rows.{Rows, row, tableEnd, unreadable, rowsIn}}
 use Rattle.table.specs.{Search.{Found, ended, kindOf, rowHit, farthest, afterTurn, judgedTurn, rowTurn, seek, judgeIn, searched}, Table.{isAbove, holds}}
-use Rattle.table.specs.declared.{hits.Hit.{Hit}, location.Location.{Location}, rows.Row.{Row}, search.Turn.the-variants.{On, Met, Stopped}}
+use Rattle.table.specs.declared.{hits.Hit.{Hit}, location.Location.{Location}, rows.Row.{Row}, search.Turn.the-variants.{On, Met}}
 use Rattle.verdict.specs.Verdict as J
 use Rattle.table.specs.Rows as T
 

@@ -9,8 +9,7 @@ use Rattle.numbers.specs.Reply as R
 use Rattle.table.proofs.SearchEnds.{endMarks, met-check, behind-marks, matched-ends}
 use Rattle.table.specs.{Ending.{Behind, Answered}, Find.{Matched, matchedWith}, Hits.{width, words}, declared.{hits.Hit.{Hit}, location.Location.{Location}}}
 use Rattle.zones.specs.{Fields.{fieldsOf}, Lent.{Outcome, repliedOf}, Lookup.{zonesFrom, zonesWith, zonesIn, lookedUp}}
-use Rattle.zones.specs.Simple.{checked, wordedOf, describedFrom, describedWith, describedIn, simplyLooked}
-use Rattle.zones.specs.declared.{lookup.Zones.{Zones}, simple.Described.{Described}}
+use Rattle.zones.specs.{Simple.{checked, wordedOf, describedFrom, describedWith, describedIn, simplyLooked}, declared.{lookup.Zones.{Zones}, simple.Described.{Described}}}
 
 -- what a reply with its lent words was made of
 pub record Outcame {A : Type 0} (n room : ℕ) (reply : Reply (Outcome A)) (answer : A) : Type 0 where

@@ -8,8 +8,7 @@ use Rattle.verdict.specs.{Verdict.{Judgement}, declared.step.Verdict.{Verdict, 
 use Rattle.border.specs.declared.place.Point.{Point}
 use Rattle.table.specs.{Ending.{hitsOf, Through, here, outside, judged, Answered}, Hits.{noHit, hitAt}}
 use Rattle.table.specs.{Merge.{Summary, summed, later, single, summary, differs, groupKind, mergedAfter, merged}, Rows.{Rows}}
-use Rattle.table.specs.declared.{hits.Hit.{Hit}, location.Location.{Location}, rows.Row.{Row}}
-use Rattle.table.proofs.{Merged.{Each, end, next, both, either, merged-each}, Words.{word-at}}
+use Rattle.table.{specs.declared.{hits.Hit.{Hit}, location.Location.{Location}, rows.Row.{Row}}, proofs.{Merged.{Each, end, next, both, either, merged-each}, Words.{word-at}}}
 use Rattle.zones.specs.{Lookup.{lookedUp}, Simple.{simplyLooked}, declared.{lookup.Zones.{Zones}, simple.Described.{Described}}}
 use Rattle.zones.proofs.HowItEnds.{lookup-ends, simple-lookup-ends}
 

@@ -10,14 +10,11 @@ use Rattle.numbers.proofs.Replies.{NumberedReply, answers, refuses, then-reply,
 use Rattle.numbers.specs.{Answer.{Answer, if_then_else_}, Varint.{readingOf}, Reply.{Reply, given, refused, plain, _>>=_}, declared.refusal.Refusal.{Refusal}}
 use Rattle.header.proofs.{Numbered.{headerNumbers, text-numbered, blame-numbered, head-numbered}, StrictHead.{head-strict}}
 use Rattle.header.specs.{Field.{field, fieldAt}, Header.{blameOf, headBy}, Text.{bytesOf, textAt}, declared.{header.Head.{Head}, text.Blame.{Blame}}}
-use Rattle.table.proofs.TableRows.{rows-so}
-use Rattle.table.specs.{Find.{fixOf, isPrecision, matchedWith}, Hits.{width}, Rows.{Rows, row, tableEnd, unreadable, rowBy, rowsFrom, rowsIn}}
+use Rattle.table.{proofs.TableRows.{rows-so}, specs.{Find.{fixOf, isPrecision, matchedWith}, Hits.{width}, Rows.{Rows, row, tableEnd, unreadable, rowBy, rowsFrom, rowsIn}}}
 use Rattle.table.specs.{Search.{kindOf, judgedTurn, rowTurn, Found, afterTurn, seek, judgeIn, farthest, searched}, Table.{stepsBy, entryBy, isAbove, holds}}
-use Rattle.table.specs.declared.{hits.Hit.{Hit}, location.Location.{Location}, rows.{Cursor.{Cursor}, Row.{Row}}}
-use Rattle.table.specs.declared.search.Turn.{the-variants.{On, Met, Stopped, Refused}, Turn}
+use Rattle.table.specs.declared.{hits.Hit.{Hit}, location.Location.{Location}, rows.{Cursor.{Cursor}, Row.{Row}}, search.Turn.{the-variants.{On, Met, Stopped, Refused}, Turn}}
 use Rattle.zones.specs.{Fields.{fieldsPlace, fieldsFrom, fieldsOf}, Lent.{Outcome, repliedOf}, Lookup.{zonesWith, zonesBy, zonesIn, lookedUp, lookedStrictly}}
-use Rattle.zones.specs.Simple.{pickedFrom, pickedOf, checked, descriptionOf, bytesIn, wordedOf, describedWith, describedIn, simplyLooked}
-use Rattle.zones.specs.declared.simple.Picked.{Picked}
+use Rattle.zones.specs.{Simple.{pickedFrom, pickedOf, checked, descriptionOf, bytesIn, wordedOf, describedWith, describedIn, simplyLooked}, declared.simple.Picked.{Picked}}
 use Rattle.numbers.specs.Answer as A
 use Rattle.table.specs.Rows as T
 

@@ -10,14 +10,11 @@ use Rattle.verdict.specs.Verdict as J
 use Rattle.numbers.specs.{Answer.{if_then_else_}, Lists.{zeros, padded}, Reply.{Reply, given, plain, demand, _>>=_, _>>_}}
 use Rattle.numbers.specs.Reply as R
 use Rattle.header.{proofs.Unless.{shown}, specs.{Header.{headOf}, declared.header.Head.{Head}}}
-use Rattle.table.proofs.Words.{words-length}
-use Rattle.table.specs.{Find.{fixOf, isPrecision, Matched, matchedWith}, Hits.{width, hitOf, words}}
-use Rattle.table.specs.{Merge.{Summary, _⊕_, single, summary, groupKind, seen, matchOf, mergedAfter, merged}, Rest.{restMark}}
-use Rattle.table.specs.Rows.{Rows, row, tableEnd, unreadable, rowsIn}
+use Rattle.table.{proofs.Words.{words-length}, specs.{Find.{fixOf, isPrecision, Matched, matchedWith}, Hits.{width, hitOf, words}}}
+use Rattle.table.specs.{Merge.{Summary, _⊕_, single, summary, groupKind, seen, matchOf, mergedAfter, merged}, Rest.{restMark}, Rows.{Rows, row, tableEnd, unreadable, rowsIn}}
 use Rattle.table.specs.{Search.{kindOf, rowHit, judgedTurn, rowTurn, Found, ended, afterTurn, seek, judgeIn, farthest, searched}, Table.{isAbove, holds}}
 use Rattle.table.specs.declared.{hits.Hit.{Hit}, location.Location.{Location}, rows.Row.{Row}, search.Turn.the-variants.{On, Met}}
-use Rattle.zones.specs.{Fields.{fieldsFrom, fieldsOf, fieldsPlace}, Lent.{Outcome, replied, repliedOf}}
-use Rattle.zones.specs.Lookup.{safezoneBits, zonesFrom, zonesWith, zonesIn, lookedUp}
+use Rattle.zones.specs.{Fields.{fieldsFrom, fieldsOf, fieldsPlace}, Lent.{Outcome, replied, repliedOf}, Lookup.{safezoneBits, zonesFrom, zonesWith, zonesIn, lookedUp}}
 use Rattle.zones.specs.Places.{placelessRow, placeless, threeWords, matchedPlaceless, repliedInThree, lookedUpInThree, simplyLookedInThree, leaveOut, withoutPlaces}
 use Rattle.zones.specs.Simple.{pickedOf, checked, descriptionOf, bytesIn, lengthIn, wordedOf, describedFrom, describedWith, describedIn, simplyLooked}
 use Rattle.zones.specs.declared.{lookup.Zones.{Zones}, simple.{Described.{Described}, Picked.{Picked}}}

@@ -1,10 +1,10 @@
 -- An entry point's reply with the buffers: zero first, filled, and zero again where it is a refusal; and what it says of the reply alone. Assumes nothing.
-use mathlib.Core.{Path.{_≡_, subst, ap, _∙_}, Bool.{Bool}, List.{List}}
+use mathlib.Core.{Path.{_≡_, subst, ap, _∙_}, List.{List}}
 use Prim.Native.Nat.{ℕ}
 use native.Mathlib.Omega.{arith}
 use Rattle.numbers.specs.{Lists.{zeros}, Reply.{Reply, given, refused}, declared.refusal.Refusal.{Refusal}}
-use Rattle.table.{specs.{Agreeing.{Agrees}, declared.location.Location.{Location}}, proofs.Agreeing.{gave, refused-so}}
-use Rattle.zones.specs.{Lent.{Outcome, Replied, replied, repliedOf, Filled}, Lookup.{zonesIn, lookedUp}, declared.lookup.Zones.{Zones}}
+use Rattle.table.{specs.Agreeing.{Agrees}, proofs.Agreeing.{gave, refused-so}}
+use Rattle.zones.specs.Lent.{Outcome, Replied, replied, repliedOf, Filled}
 
 -- filled in buffers that were zeroed, in the lengths that were lent
 module _ {A : Type 0} (whole : ℕ → ℕ → Reply (Outcome A)) (reply : Reply A) (hs ts : List ℕ) {n n′ room room′ : ℕ} (h : n′ ≡ n) (t : room′ ≡ room)
@@ -29,8 +29,3 @@ module _ {A : Type 0} (n room : ℕ) where
   agrees-of (given o) (refused why) hs ts e = let said = ap (λ (x : Replied A). x .reply) e in let z : _≡_ {A = ℕ} 0 1 = cc in absurd (omega arith)
   agrees-of (refused why) (given a) hs ts e = let said = ap (λ (x : Replied A). x .reply) e in let z : _≡_ {A = ℕ} 0 1 = cc in absurd (omega arith)
   agrees-of (refused why) (refused why′) hs ts e = let said = ap (λ (x : Replied A). x .reply) e in cc
-
-pub looked-agrees : (file : List ℕ) (location : Location) (asked : Bool) (n room : ℕ) (reply : Reply Zones) (hs ts : List ℕ) → replied reply hs ts ≡ lookedUp file location asked n room
-    → Agrees (Filled n room hs ts) (zonesIn file location asked n room) reply
-unfolding lookedUp
-looked-agrees file location asked n room = agrees-of n room (zonesIn file location asked n room)

@@ -8,14 +8,13 @@ use Rattle.border.specs.{Encoding.{versionOf}, declared.place.Point.{Point}}
 use Rattle.verdict.proofs.Strict as B
 use Rattle.numbers.specs.{Answer.{if_then_else_}, Reply.{Reply, given, refused, plain, _>>=_}}
 use Rattle.header.proofs.StrictHead.{Or31, then-same, shown-same, text-strictly, unstrict, head-strictly, table-within, head-strict}
-use Rattle.header.proofs.Unless.{shown, Unless, refuses, alike, unless-demand}
-use Rattle.header.specs.{Field.{field, fieldAt}, Header.{headBy, headOf, headStrictly}, Text.{textAt}}
+use Rattle.header.{proofs.Unless.{shown, Unless, refuses, alike, unless-demand}, specs.{Field.{field, fieldAt}, Header.{headOf, headStrictly}, Text.{textAt}}}
 use Rattle.header.specs.declared.{header.{Head.{Head}, Preamble.{Preamble}, Sections.{Sections}}, text.Blame.{Blame}}
 use Rattle.table.proofs.StrictRows.{StrictRows, row, cut-off, at-end, unread, stopped, rows-strictly}
-use Rattle.table.specs.{Find.{Matched, isPrecision, fixOf, matchedWith}, Hits.{width}, Rest.{restMark}, Rows.{Rows, startAt, rowsIn}}
+use Rattle.table.specs.{Find.{isPrecision, fixOf, matchedWith}, Hits.{width}, Rest.{restMark}, Rows.{Rows, startAt, rowsIn}}
 use Rattle.table.specs.{Search.{Found, ended, farthest, afterTurn, judgedTurn, rowTurn, seek, judgeIn, searched}, Table.{isAbove, holds}}
 use Rattle.table.specs.declared.{hits.Hit.{Hit}, location.Location.{Location}, rows.Row.{Row}, search.Turn.{the-variants.{On, Met, Stopped, Refused}, Turn}}
-use Rattle.zones.specs.{Fields.{fieldsPlace, fieldsFrom, fieldsOf}, Lent.{Outcome, Replied, repliedOf}}
+use Rattle.zones.specs.{Fields.{fieldsPlace, fieldsFrom, fieldsOf}, Lent.{Outcome, repliedOf}}
 use Rattle.zones.specs.{Lookup.{zonesWith, zonesBy, zonesIn, lookedUp, lookedStrictly}, declared.lookup.Zones.{Zones}}
 use Rattle.table.specs.Rows as T
 

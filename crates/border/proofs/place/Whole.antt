@@ -1,10 +1,10 @@
 -- Whole numbers of an i32 and an i64: ranges, tests and the way from one to the other. Assumes nothing.
 use Prim.Native.Nat.{ℕ, zero, suc, _+_, _-_, _<_, _≤_, _^_}
 use native.Mathlib.{Nat.{lt-of-le-of-lt}, Omega.{arith}}
-use mathlib.Core.{Path.{_≡_, refl, sym, ap, _∙_, subst}, Bool.{Bool, true, false, cond}}
-use lib.{Dec.{T, ltb, eqb}, IntN.{ℤ, pos, negsuc, negℤ, _+ℤ_, _-ℤ_}, Signed.{mag, ltZ}}
+use mathlib.Core.{Path.{_≡_, refl, ap, _∙_}, Bool.{Bool, true, false, cond}}
+use lib.{Dec.{ltb, eqb}, IntN.{ℤ, pos, negsuc, negℤ, _+ℤ_, _-ℤ_}, Signed.{mag}}
 use mir.{Syntax.{w32, w64}, Val.{SFits, toZ, ofZ}, Facts.{toZ-ofZ, sfits-widen}}
-use borrow.Author.Tests.{ltb-true, ltb-false, le-ltb, ne-eqb}
+use borrow.Author.Tests.{ne-eqb}
 use Rattle.border.specs.Place.{isZero}
 
 -- an i32 that is read as an i64

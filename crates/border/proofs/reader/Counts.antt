@@ -1,5 +1,4 @@
 -- Version 0: a turn goes on from the moves that are left, which the count gives first. Assumes nothing.
-use Prim.Native.Nat.{ℕ}
 use mathlib.Core.{Path.{_≡_, refl}, Bool.{Bool, true, false}}
 use lib.Dec.{eqb}
 use Rattle.numbers.specs.{Answer.{Answer, found, failed, refused, if_then_else_, _>>=_}, Varint.{Numeral}}

@@ -1,13 +1,13 @@
 -- A clock that is ahead by an i32: where its instant lies, and what it shows. Assumes nothing.
-use Prim.Native.Nat.{ℕ, _^_, suc, _+_, _-_, _*_, _/_, _%_, _≤_, _<_}
+use Prim.Native.Nat.{ℕ, _^_, suc, _+_, _-_, _*_, _/_, _%_, _<_}
 use borrow.Author.Tests.{ltb-true, ltb-false, lt-ltb, le-ltb}
 use lib.{Dec.{ltb}, IntN.{ℤ, pos, negsuc, _+ℤ_}, Signed.{ltZ, mag}}
 use mathlib.Core.{Bool.{Bool, true, false, cond}, Path.{_≡_, refl, ap, sym, subst, _∙_}}
 use mir.{Syntax.{w32, w64}, Val.{SFits, toZ, ofZ}, ValLaws.{toZ-ofZ}}
 use native.Mathlib.Omega.{arith}
 use Rattle.calendar.proofs.{Laws.{days-in-all}, moment.Shift.{before, after}}
-use Rattle.calendar.specs.{Calendar.{dayNumber, weekdayOf}, Civil.{Shows, CivilOf}, Dates.{DateOf}, Moments.{instantOf, InDays, MomentOf}}
-use Rattle.calendar.specs.declared.{civil.{Civil.{Civil}, Reading.{Reading}}, moment.Moment.{Moment, the-variants.{At, Outside}}}
+use Rattle.calendar.specs.{Calendar.{weekdayOf}, Civil.{Shows, CivilOf}, Dates.{DateOf}, Moments.{instantOf, InDays, MomentOf}}
+use Rattle.calendar.specs.declared.{civil.Reading.{Reading}, moment.Moment.{Moment, the-variants.{At, Outside}}}
 use Rattle.calendar.specs.declared.civil.Civil.the-variants as civil
 
 -- from far before the year 1 no i32 leads into it

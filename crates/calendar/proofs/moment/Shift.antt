@@ -1,12 +1,12 @@
 -- Instants counted from the year 1 instead of from 1970, so that none is below zero. Assumes nothing.
-use Prim.Native.Nat.{ℕ, _^_, suc, _+_, _-_, _*_, _/_, _%_, _<_}
+use Prim.Native.Nat.{ℕ, suc, _+_, _-_, _*_, _/_, _%_, _<_}
 use borrow.Author.Tests.{ltb-true, ltb-false, lt-ltb, le-ltb}
-use lib.{Dec.{T, ltb}, IntN.{ℤ, pos, negsuc, natAbs, _+ℤ_, _-ℤ_, +ℤ-negℤ-cancel, -ℤ-+ℤ-cancel}, Signed.{ltZ, mag, nonNeg}}
-use mathlib.Core.{Bool.{Bool, true, false, cond}, Path.{_≡_, refl, ap, sym, subst, _∙_}}
-use mir.{Syntax.{w64}, Val.{Fits, SFits, toZ, ofZ}, ValLaws.{toZ-ofZ, toZ-pos}}
+use lib.{Dec.{T}, IntN.{ℤ, pos, negsuc, natAbs, _+ℤ_, _-ℤ_, +ℤ-negℤ-cancel, -ℤ-+ℤ-cancel}, Signed.{ltZ, nonNeg}}
+use mathlib.Core.{Bool.{true, false}, Path.{_≡_, refl, ap, sym, subst, _∙_}}
+use mir.{Syntax.{w64}, Val.{Fits, SFits, toZ, ofZ}, ValLaws.{toZ-ofZ}}
 use native.Mathlib.Omega.{arith}
 use Rattle.calendar.proofs.Laws.{days-in-all, epoch}
-use Rattle.calendar.specs.{Moments.{secondsTo, instantOf, InDays, MomentOf}, declared.moment.Moment.the-variants.{At, Outside}}
+use Rattle.calendar.specs.{Moments.{secondsTo, instantOf, MomentOf}, declared.moment.Moment.the-variants.{At, Outside}}
 
 -- 1970 begins 62135596800 seconds after the year 1
 pub instant-plain : (day second : ℕ) → instantOf day second ≡ pos (86400 * day + second) -ℤ pos 62135596800

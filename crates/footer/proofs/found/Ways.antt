@@ -1,12 +1,12 @@
 -- The ways through what a string gives, and through the comparison of two local times. Assumes nothing.
 use Prim.Native.Nat.{ℕ, zero, suc, _+_, _-_, _^_, _≤_, _<_}
 use borrow.Author.Tests.{eq-eqb, ne-eqb}
-use lib.{Dec.{eqb, ltb, T}, IntN.{ℤ, pos, negsuc, _-ℤ_}, ListN.{length}, Signed.{mag}}
+use lib.{Dec.{eqb, ltb}, IntN.{ℤ, pos, negsuc, _-ℤ_}, ListN.{length}, Signed.{mag}}
 use mathlib.Core.{Bool.{Bool, true, false, cond}, List.{List}, Path.{_≡_, refl, ap, sym, subst, _∙_}}
 use mir.{Syntax.{w32, w64}, Val.{SFits, toZ, ofZ}, ValLaws.{toZ-ofZ, toZ-pos}}
 use native.Mathlib.{Numerals.{add-one}, Omega.{arith}}
-use Rattle.footer.specs.Found.{eastOf, foundOf, Short, sameOctets, sameFound}
-use Rattle.tzif.specs.{Reply.{if_then_else_}, Number.{octet}, declared.local.Found.{Found}}
+use Rattle.footer.specs.Found.{eastOf, foundOf, sameOctets, sameFound}
+use Rattle.tzif.specs.{Number.{octet}, declared.local.Found.{Found}}
 use Rattle.tzrule.specs.declared.ask.Time.{Time}
 
 -- seconds east fit an i32
@@ -38,9 +38,6 @@ module _ (west : ℕ) (short : west ≤ 1209600) where
 
   pub east-is : toZ w32 (ofZ w32 (toZ w64 (ofZ w64 (pos 604800 -ℤ toZ w64 west)))) ≡ eastOf west
   east-is = toZ-ofZ w32 _ east-fits ∙ east-wide
-
-  pub east-itself : toZ w32 (ofZ w32 (eastOf west)) ≡ eastOf west
-  east-itself = toZ-ofZ w32 _ (record { sfits = east-small west short })
 
 -- a local time by its four numbers
 pub found-is : (time : Time) {offset : ℤ} → offset ≡ eastOf (time .clock .west) → record { offset = offset; daylight = time .daylight; place = time .clock .name .start; length = time .clock .name .end - time .clock .name .start } ≡ foundOf time

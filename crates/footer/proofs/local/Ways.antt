@@ -1,16 +1,16 @@
 -- The ways to a local time. Assumes nothing.
 use Prim.Native.Nat.{ℕ, _≤_}
 use borrow.Author.Tests.{eq-eqb, ne-eqb}
-use lib.{Dec.{eqb}, IntN.{ℤ}, ListN.{length}}
-use mathlib.Core.{Bool.{Bool, true, false}, List.{List}, Path.{_≡_, refl, ap, sym, _∙_}}
+use lib.{IntN.{ℤ}, ListN.{length}}
+use mathlib.Core.{Bool.{Bool, true, false}, List.{List}, Path.{_≡_, ap, sym, _∙_}}
 use native.Mathlib.Omega.{arith}
 use Rattle.footer.specs.Found.{foundOf}
-use Rattle.footer.specs.Local.{askIn, rulesIn, isRuled, byRule, answerBy, answerAt, localTimeBy, localTime, toldRules, toldSaid, HeldRules, HeldStated, HeldSaid, HeldAsked, Sound}
+use Rattle.footer.specs.Local.{askIn, rulesIn, isRuled, byRule, answerBy, answerAt, localTimeBy, localTime, toldRules, toldSaid, HeldRules, HeldStated, HeldSaid, Sound}
 use Rattle.footer.specs.declared.{local.Said.{Said}, rule.{Rules.{Rules}, Stated.{Stated}}}
 use Rattle.footer.specs.declared.local.Said.the-variants as S
 use Rattle.footer.specs.declared.rule.Rules.the-variants as R
 use Rattle.footer.specs.declared.rule.Stated.the-variants as Q
-use Rattle.tzif.specs.{Reply.{if_then_else_, Reply, given, refused, refusal, _>>=_}, Header.{rfc9636}, Local.{isAfterLast, byTable, lent, named, replied, Held}}
+use Rattle.tzif.specs.{Reply.{Reply, given, refused, refusal, _>>=_}, Header.{rfc9636}, Local.{isAfterLast, byTable, lent, named, replied, Held}}
 use Rattle.tzif.specs.{Number.{lift}, Text.{zeros}, Zone.{readZone}}
 use Rattle.tzif.specs.declared.{block.Block.{Block}, local.{Answer.{Answer}, Found.{Found}, LocalTime.{LocalTime}}, refusal.Refusal.{Refusal}, zone.Zone.{Zone}}
 use Rattle.tzif.proofs.Goods.{zone-good, zone-leaps-rise, zone-string}

@@ -1,6 +1,6 @@
 -- How a string goes out into a lent text. Assumes nothing.
-use mathlib.Core.{Path.{_≡_, refl, sym, ap, _∙_}, List.{List, [], _∷_, _++_, map}}
-use Prim.Native.Nat.{ℕ, zero, suc, _+_, _-_, _/_, _%_, _≤_, _<_}
+use mathlib.Core.{Path.{_≡_, sym, ap, _∙_}, List.{List, _∷_, _++_, map}}
+use Prim.Native.Nat.{ℕ, _+_, _-_, _/_, _%_, _≤_, _<_}
 use native.Mathlib.Omega.{arith}
 use lib.{Bits.{bitXor}, ListN.{length, getD, set, take, drop, length-map, length-set}}
 use Rattle.numbers.specs.Lists.{over}

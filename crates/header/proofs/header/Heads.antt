@@ -1,5 +1,5 @@
 -- The header by how far it was read. Assumes nothing.
-use mathlib.Core.{Bool.{Bool}, Path.{_≡_, refl, sym, ap, _∙_}, List.{List}}
+use mathlib.Core.{Bool.{Bool}, Path.{_≡_, ap, _∙_}, List.{List}}
 use Prim.Native.Nat.{ℕ}
 use Rattle.numbers.{specs.{Reply.{Reply, given, refused, _>>=_}, declared.refusal.Refusal.{Refusal}}, proofs.Replies.{From, carried, onward, given-from, refused-from}}
 use Rattle.header.specs.Header.{textsOf, placeAfter, preambleOf, sectionsAt, Contents, contentsBy, headBy}

@@ -5,9 +5,6 @@ use mathlib.Core.Path.{sym}
 use Rattle.hour.proofs.main.Statement.{statement}
 use Rattle.hour.proofs.main.Tie as tie
 
-slice-aggregate-write-all : tie.Need-slice-aggregate-write-all
-slice-aggregate-write-all c = sym (length-take-le _ _ (c .before .before .before .hour .ensures .fits))
-
 pub main-spec : {M : Type 1} → statement M
 main-spec =
     tie.close
@@ -23,6 +20,6 @@ main-spec =
     (λ c. search needs)
     (λ c κs. search needs)
     (λ c. search needs)
-    slice-aggregate-write-all
+    (λ c. sym (length-take-le _ _ (c .before .before .before .hour .ensures .fits)))
     (λ c κs. search needs)
     (λ c. search needs))

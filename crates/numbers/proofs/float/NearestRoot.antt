@@ -1,15 +1,14 @@
 -- `root` is the square root rounded to the nearest f32 (`root-nearest`), and only one f32 is nearest (`one-nearest`). Assumes nothing.
-use mathlib.Core.{Path.{_≡_, refl, sym, ap, _∙_, subst}, Logic.{_⊎_, inl, inr}, Bool.{Bool, true, false}}
+use mathlib.Core.{Path.{_≡_, refl, sym, ap, _∙_, subst}, Logic.{inl, inr}, Bool.{false}}
 use Prim.Native.Nat.{ℕ, zero, suc, _+_, _-_, _*_, _/_, _^_, _≤_, _<_}
-use native.Mathlib.Nat.{le-trans, le-of-eq, le-of-lt, le-of-suc-le-suc, eq-or-lt-of-le, lt-of-lt-of-le, lt-of-le-of-lt, not-le-of-lt, add-comm, mul-assoc, mul-comm, mul-mul-mul-comm, mul-le-mul-left, mul-le-mul-right, mul-lt-mul-of-pos-right, lt-of-mul-lt-mul-right, mul-pos, add-mul, suc-mul}
+use native.Mathlib.Nat.{le-trans, le-of-eq, le-of-lt, le-of-suc-le-suc, eq-or-lt-of-le, lt-of-lt-of-le, lt-of-le-of-lt, not-le-of-lt, add-comm, mul-assoc, mul-mul-mul-comm, mul-le-mul-left, mul-le-mul-right, mul-lt-mul-of-pos-right, lt-of-mul-lt-mul-right, mul-pos, add-mul}
 use native.Mathlib.Omega.{arith}
 use lib.{Dec.{T, lit<}, Pow.{pow-add, pow-pos, pow-mono, shl-lt}}
-use lib.Ieee.{Float, nan, inf, fin, binary32, size, units, fits, ofBits, toBits, Digits.{back}, Exact.{HasValue, units-val}, Bits.{ofBits-toBits}}
-use lib.Ieee.Positive.{positive, first-pos, positive-of-value}
+use lib.Ieee.{Float, binary32, size, units, fits, ofBits, Digits.{back}, Exact.{HasValue, units-val}, Bits.{ofBits-toBits}, Positive.{positive, first-pos, positive-of-value}}
 use Rattle.numbers.specs.Float.Root.{unitsOf, nearestRoot, root, NearestTo√}
 use Rattle.numbers.proofs.float.Rounding.{no-overflow, units-fits, bits-of-value}
 use Rattle.numbers.proofs.float.Squares.{le-or-lt, square-le, square-lt, of-square-lt, next-square, twice-square, odd-square, IsNearest, nearestRoot-is, nearest-range}
-use Rattle.numbers.proofs.float.Smallest.{Shape, shape, decoded, value-units, Even, even, square-whole, root-by-digits}
+use Rattle.numbers.proofs.float.Smallest.{shape, decoded, value-units, even, square-whole, root-by-digits}
 
 -- ---- the f32 around R * 2 ^ k, for an R of 24 digits, are no closer than 2 ^ k
 multiple : (c i k : ℕ) → k ≤ i → c * 2 ^ i ≡ c * 2 ^ (i - k) * 2 ^ k

@@ -1,7 +1,6 @@
 -- The whole part of an f32 from 1 up to 2 ^ 63, by its bits: 24 digits, and the exponent's field, which is from 127 to 189. Assumes nothing.
 use Prim.Native.Nat.{ℕ, _+_, _-_, _*_, _/_, _%_, _^_, _≤_, _<_}
-use lib.Dec.{T, lit≤}
-use lib.Ieee.{Exact.{HasValue}, Nearest.{div-same}, Positive.{num, den, den-pos, le→cross, value→cross}, Float, isNan, binary32, fits, le, lt, toBits, toUnsigned}
+use lib.{Dec.{T, lit≤}, Ieee.{Exact.{HasValue}, Nearest.{div-same}, Positive.{num, den, den-pos, le→cross, value→cross}, Float, isNan, binary32, fits, le, lt, toBits, toUnsigned}}
 use lib.Pow.{pow-add, pow-pos, pow-mono, shl-lt}
 use mathlib.Core.{Bool.{false, not}, Path.{_≡_, sym, ap, _∙_, subst}}
 use native.Mathlib.Nat.{le-trans, le-of-eq, lt-of-lt-of-le, lt-of-le-of-lt, lt-of-not-le, not-le-of-lt, mul-one, one-mul, mul-assoc, mul-le-mul-right, le-div-iff-mul-le, div-lt-iff-lt-mul, mod-eq-of-lt}

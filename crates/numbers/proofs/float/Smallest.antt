@@ -1,7 +1,6 @@
 -- An f32 counted in the smallest one, 2 ^ -149: it is a number of at most 24 digits times a power of two, which its bits give; and the same scaled to an even power, for its root. Assumes nothing.
 use Prim.Native.Nat.{ℕ, zero, suc, _+_, _-_, _*_, _/_, _%_, _^_, _≤_, _<_}
-use lib.Dec.{T, leb, eqb, lit<}
-use lib.Ieee.{Bits.{ofBits-toBits}, Digits.{size-lt, size-le, size-reaches, back}, Exact.{HasValue, odd-sign}, Fits.{down-pos, kept-lt, eq→eqb}}
+use lib.{Dec.{T, leb, eqb, lit<}, Ieee.{Bits.{ofBits-toBits}, Digits.{size-lt, size-le, size-reaches, back}, Exact.{HasValue, odd-sign}, Fits.{down-pos, kept-lt, eq→eqb}}}
 use lib.Ieee.{Positive.{positive, value-pos}, Float, nan, inf, fin, isNan, binary32, down, size, odd, units, fits, ofFields, ofBits, toBits}
 use lib.Pow.{pow-add, pow-pos, pow-mono, shl-lt}
 use mathlib.Core.{Bool.{Bool, true, false, not, cond}, Logic.{inl, inr}, Path.{_≡_, refl, sym, ap, _∙_, subst}}

@@ -1,9 +1,9 @@
 -- Squares of whole numbers, and that `wholeRoot` and `nearestRoot` are what they are called. Nothing here is about floats. Assumes nothing.
-use mathlib.Core.{Path.{_≡_, refl, sym, ap, _∙_, subst}, Logic.{_⊎_, inl, inr}, Bool.{Bool, true, false, not, cond}}
-use Prim.Native.Nat.{ℕ, zero, suc, _+_, _-_, _*_, _/_, _%_, _^_, _≤_, _<_}
-use native.Mathlib.Nat.{le-trans, le-of-eq, le-of-lt, le-antisymm, le-of-suc-le-suc, lt-of-lt-of-le, lt-of-le-of-lt, lt-of-not-le, not-le-of-lt, eq-zero-or-pos, add-mul, mul-add, mul-assoc, mul-comm, mul-left-comm, mul-le-mul, mul-le-mul-left, mul-le-mul-right, mul-lt-mul-of-pos-right, zero-mul, pow-suc, div-mul-le-self, div-lt-iff-lt-mul, zero-lt-suc}
+use mathlib.Core.{Path.{_≡_, sym, ap, _∙_, subst}, Logic.{_⊎_, inl, inr}, Bool.{Bool, true, false, not, cond}}
+use Prim.Native.Nat.{ℕ, zero, suc, _+_, _-_, _*_, _/_, _^_, _≤_, _<_}
+use native.Mathlib.Nat.{le-trans, le-of-eq, le-of-lt, le-antisymm, le-of-suc-le-suc, lt-of-le-of-lt, lt-of-not-le, not-le-of-lt, eq-zero-or-pos, add-mul, mul-add, mul-assoc, mul-left-comm, mul-le-mul, mul-le-mul-left, mul-le-mul-right, mul-lt-mul-of-pos-right, zero-mul, pow-suc, div-lt-iff-lt-mul}
 use native.Mathlib.{Numerals.{add-one}, Omega.{arith}}
-use lib.Dec.{T, leb, ltb, leb→le, nleb→lt, ltb→lt, nltb→le, lit<, lit≤}
+use lib.Dec.{T, leb, ltb, leb→le, nleb→lt, ltb→lt, nltb→le, lit<}
 use Rattle.numbers.specs.Float.Root.{wholeRoot, nearestRoot}
 
 pub le-or-lt : (a b : ℕ) → (a ≤ b) ⊎ (b < a)

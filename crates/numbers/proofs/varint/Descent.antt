@@ -1,7 +1,7 @@
 -- What holds while a number is gathered on the way down: the invariant of `read_backward`'s loop, and what it gives where the loop is left.
 -- Assumes nothing.
 use mathlib.Core.{Path.{_≡_, refl, sym, ap, _∙_}, List.{List}}
-use Prim.Native.Nat.{ℕ, _+_, _-_, _*_, _%_, _^_, _≤_, _<_, min}
+use Prim.Native.Nat.{ℕ, _+_, _-_, _*_, _%_, _^_, _≤_, _<_}
 use native.Mathlib.Omega.{arith}
 use lib.{Bits.{bitOr}, ListN.{length, getD, drop, length-drop}}
 use Rattle.numbers.specs.{Answer.{failed, refused}, Varint.{numeral, valueOf, sizeOf, startOf, backwardAt}}

@@ -2,7 +2,7 @@
 use Prim.Native.Nat.{ℕ, _≤_}
 use borrow.Author.Tests.{le-leb}
 use lib.ListN.{length}
-use mathlib.Core.{Bool.{Bool, true, false}, List.{List}, Path.{_≡_, sym, ap, _∙_}}
+use mathlib.Core.{Bool.{Bool, true, false}, List.{List}, Path.{_≡_, sym, ap}}
 use Rattle.numbers.proofs.varint.Reading.{none-there}
 use Rattle.numbers.specs.{Answer.{Answer, found, failed, refused}, Varint.{Numeral, numeral, forwardAt, isComplete, wholeOf, readingOf}}
 

@@ -8,12 +8,10 @@ use Rattle.border.proofs.Signs.{both}
 use Rattle.writer.{proofs.Stores.{stored-front}, specs.Stored.{Stored}}
 use Rattle.header.specs.{Header.{headBy}, declared.header.Head.{Head}}
 use Rattle.moves.specs.Laid.{cap, Capped}
-use Rattle.numbers.proofs.Lists.{zeros-drop}
-use Rattle.numbers.specs.{Lists.{zeros, padded}, Reply.{Reply, given, refused, plain, demand, _>>=_, _>>_}, declared.refusal.Refusal.{Refusal}}
+use Rattle.numbers.{proofs.Lists.{zeros-drop}, specs.{Lists.{zeros, padded}, Reply.{Reply, given, refused, plain, demand, _>>=_, _>>_}, declared.refusal.Refusal.{Refusal}}}
 use Rattle.salvage.specs.{File.{headTexts, newFile}, Kept.{keptOf, linesFrom}, Salvage.{Salvaged, Replied, repliedOf, salvagedOf, salvaged}}
 use Rattle.table.specs.{Rows.{rowsIn}, declared.rows.Row.{Row}}
-use Rattle.rescue.specs.{Texts.{Inlined}, Told.{replied, Filled}, Turns.{Listed}, Whole.{wholeOf}}
-use Rattle.rescue.specs.declared.{lines.Lines.{Lines}, reply.{Counts.{Counts}, Rescued.{Rescued}}}
+use Rattle.rescue.specs.{Texts.{Inlined}, Told.{replied, Filled}, Turns.{Listed}, Whole.{wholeOf}, declared.{lines.Lines.{Lines}, reply.{Counts.{Counts}, Rescued.{Rescued}}}}
 use Rattle.rescue.specs.declared.reply.Rescued.the-variants as R
 use Rattle.rescue.specs.declared.texts.Put.the-variants as P
 

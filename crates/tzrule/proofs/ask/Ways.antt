@@ -1,13 +1,11 @@
 -- The ways to what a string says of an instant. Assumes nothing.
-use Prim.Native.Nat.{ℕ, _+_, _-_, _^_, _≤_, _<_}
+use Prim.Native.Nat.{ℕ, _-_, _^_, _≤_, _<_}
 use borrow.Author.Tests.{le-leb, lt-leb, leb-true}
 use lib.Dec.{leb, T}
 use mathlib.Core.{Bool.{Bool, true, false, _&&_}, Path.{_≡_, refl, ap, sym, subst, _∙_}}
 use native.Mathlib.Omega.{arith}
-use Rattle.numbers.specs.Answer.{if_then_else_}
 use Rattle.tzrule.specs.{Ask.{Ruled, corrected, inYears, since, clockAt, ask}, Summer.{isSummer, IsRule, InYears}}
-use Rattle.tzrule.specs.declared.ask.{Asked.{Asked, the-variants.{Holds, Outside}}, Time.{Time}}
-use Rattle.tzrule.specs.declared.rule.{Clock.{Clock}, Rule.{Rule}, Tz.{Tz, the-variants.{Fixed, Changing}}}
+use Rattle.tzrule.specs.declared.{ask.{Asked.the-variants.{Holds, Outside}, Time.{Time}}, rule.{Clock.{Clock}, Rule.{Rule}, Tz.{Tz, the-variants.{Fixed, Changing}}}}
 
 -- the two ways of the years
 module _ (u : ℕ) where

@@ -5,9 +5,6 @@ use mathlib.Core.Path.{sym}
 use Rattle.zone.proofs.print_front.Statement.{statement}
 use Rattle.zone.proofs.print_front.Tie as tie
 
-slice-aggregate-write-all : tie.Need-slice-aggregate-write-all
-slice-aggregate-write-all c = sym (length-take-le _ _ (c .before .least .ensures .1))
-
 pub print-front-spec : {M : Type 1} → statement M
 print-front-spec =
-    tie.close (tie.spec (λ c κs. search needs) slice-aggregate-write-all (λ c κs. search needs) (λ c. search needs))
+    tie.close (tie.spec (λ c κs. search needs) (λ c. sym (length-take-le _ _ (c .before .least .ensures .1))) (λ c κs. search needs) (λ c. search needs))

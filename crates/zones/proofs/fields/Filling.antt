@@ -6,8 +6,7 @@ use borrow.Author.Tests.{leb-true}
 use lib.{Dec.{leb}, ListN.{length, getD, take, drop, length-append, drop-of-length-le}, Seq.{drop-cons, length-take-le}}
 use Rattle.numbers.specs.{Lists.{zeros, padded}, Reply.{Reply, given, refused, plain, demand, _>>=_, _>>_}, declared.refusal.Refusal.{Refusal}}
 use Rattle.numbers.proofs.Replies.{given-from, carried, onward}
-use Rattle.header.specs.{Text.{bytesOf, textAt}, Field.{Field, field, fieldAt, toldField, sentOf, textAfter}}
-use Rattle.header.specs.declared.{header.Head.{Head}, field.{Sent.{Sent}, Written.{Written}}}
+use Rattle.header.specs.{Text.{bytesOf, textAt}, Field.{Field, field, fieldAt, toldField, sentOf, textAfter}, declared.{header.Head.{Head}, field.{Sent.{Sent}, Written.{Written}}}}
 use Rattle.header.proofs.Buffers.{over-length, tail-back}
 use Rattle.table.{specs.{Hits.{noHit}, Agreeing.{Agrees}, declared.hits.Hit.{Hit}}, proofs.Agreeing.{agree-given, agree-refused, gave, refused-so}}
 use Rattle.zones.specs.{Fields.{fieldsPlace, fieldsFrom, fieldsOf, toldFields, Wrote}, declared.fields.Fields.{Fields}}

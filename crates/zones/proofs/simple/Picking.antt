@@ -4,12 +4,10 @@ use Prim.Native.Nat.{ℕ, zero, suc, _+_, _-_, _≤_, _<_}
 use native.Mathlib.{Numerals.{add-one}, Nat.{sub-zero}, Omega.{arith}}
 use denote.Enum.Declared.{tagOf, declared}
 use lib.{Dec.{eqb}, ListN.{length, getD, drop, drop-of-length-le}, Seq.{drop-cons}}
-use Rattle.numbers.specs.{Answer.{if_then_else_}, Reply.{Reply, given, refused, _>>=_}, declared.refusal.Refusal.{Refusal}}
-use Rattle.numbers.proofs.Replies.{carried, onward, given-from}
+use Rattle.numbers.{specs.{Answer.{if_then_else_}, Reply.{Reply, given, refused, _>>=_}, declared.refusal.Refusal.{Refusal}}, proofs.Replies.{carried, onward, given-from}}
 use Rattle.header.{specs.{Text.{textAt, bytesOf}, Header.{blameOf}, declared.{header.Head.{Head}, text.{Text.{Text}, Blame.{Blame}}}}, proofs.Strings.{text-lies}}
 use Rattle.table.specs.{Hits.{noHit}, declared.hits.Hit.{Hit}}
-use Rattle.zones.specs.{Fields.{fieldsPlace}, Simple.{partOf, begun, newer, pickedFrom, checked, toldPicks}}
-use Rattle.zones.specs.declared.simple.{Value.{Value}, Picked.{Picked}, Picks.{Picks}}
+use Rattle.zones.specs.{Fields.{fieldsPlace}, Simple.{partOf, begun, newer, pickedFrom, checked, toldPicks}, declared.simple.{Value.{Value}, Picked.{Picked}, Picks.{Picks}}}
 use Rattle.zones.specs.declared.simple.Value.the-variants as X
 use Rattle.zones.specs.declared.simple.Picks.the-variants as P
 use Rattle.zones.proofs.simple.Picks as K

@@ -1,8 +1,8 @@
 -- `batch::many::answer_each` meets its contract. The loop's invariant is `Stamping`: the lists hold what the fixes so far came to. Assumes nothing.
 use borrow.Author.Needs.{needs}
-use Prim.Native.Nat.{_-_, _*_, _≤_, _<_}
+use Prim.Native.Nat.{_-_}
 use lib.{Ieee.{nan}, ListN.{length}}
-use mathlib.Core.Path.{_≡_, refl, sym, ap, _∙_}
+use mathlib.Core.Path.{ap, _∙_}
 use native.Mathlib.Omega.{arith}
 use Rattle.batch.proofs.{Stamping.{taken, came-back, each, Stamping, begins, ends, stops, counted-few, words-on, goes, used-is}, Window.{left-zero}}
 use Rattle.batch.proofs.many.answer_each.Statement.{statement}
@@ -22,15 +22,6 @@ abbrev μ-loop : tie.MeasureT-loop
 loop-holds : tie.Need-loop-holds Inv-loop μ-loop
 loop-holds c = begins _ _ _ _ _ _ _ _ _ _ _ (c .before .before .before .before .before .before .pre .1) (c .before .before .before .before .before .before .pre .2) (c .before .before .before .before .before .before .pre .3)
 
-mul-t18 : tie.Need-mul-t18 Inv-loop μ-loop
-mul-t18 c = search needs
-
-shared-slice-read-t21 : tie.Need-shared-slice-read-t21 Inv-loop μ-loop
-shared-slice-read-t21 c = c .before .loop-test .taken
-
-mul-t22 : tie.Need-mul-t22 Inv-loop μ-loop
-mul-t22 c = search needs
-
 shared-slice-read-t24 : tie.Need-shared-slice-read-t24 Inv-loop μ-loop
 shared-slice-read-t24 c = omega (arith, c .before .before .loop-test .taken, taken (length (c .before .before .before .before .before .before .before .before .before .before .args .lats .now)) (length (c .before .before .before .before .before .before .before .before .before .before .args .lons .now)) (length (c .before .before .before .before .before .before .before .before .before .before .args .answers .now)) (c .before .before .before .before .before .before .before .before .before .before .pre .0) .0)
 
@@ -46,29 +37,14 @@ sub-answer-one c = omega (arith, c .before .before .before .loop .inv .words-hel
 part-answer-one-start : tie.Need-part-answer-one-start Inv-loop μ-loop
 part-answer-one-start c = omega (arith, c .before .before .before .loop .inv .words-held .fits, held-length (c .before .before .before .loop .inv .words-held))
 
-part-answer-one-end : tie.Need-part-answer-one-end Inv-loop μ-loop
-part-answer-one-end c = omega arith
-
 sub-answer-one-2 : tie.Need-sub-answer-one-2 Inv-loop μ-loop
 sub-answer-one-2 c = omega (arith, c .before .before .before .before .loop .inv .text-held .fits, held-length (c .before .before .before .before .loop .inv .text-held))
 
 part-answer-one-start-2 : tie.Need-part-answer-one-start-2 Inv-loop μ-loop
 part-answer-one-start-2 c = omega (arith, c .before .before .before .before .loop .inv .text-held .fits, held-length (c .before .before .before .before .loop .inv .text-held))
 
-part-answer-one-end-2 : tie.Need-part-answer-one-end-2 Inv-loop μ-loop
-part-answer-one-end-2 c = omega arith
-
 answer-one-requires : tie.Need-answer-one-requires Inv-loop μ-loop
 answer-one-requires c κs = (left-zero (c .before .before .before .before .before .loop .inv .words-held), left-zero (c .before .before .before .before .before .loop .inv .text-held))
-
-enum-known-zones : tie.Need-enum-known-zones Inv-loop μ-loop
-enum-known-zones c = omega arith
-
-enum-known-why : tie.Need-enum-known-why Inv-loop μ-loop
-enum-known-why c = omega arith
-
-zero-all-requires : tie.Need-zero-all-requires Inv-loop μ-loop
-zero-all-requires c κs = tt
 
 same-length : tie.Need-same-length Inv-loop μ-loop
 same-length c = of-length _ _ (c .before .before .before .before .before .before .zero-all .ensures .0) ∙ c .before .before .before .before .before .before .before .before .before .before .before .before .before .before .before .before .hits .given .1 ∙ held-length (c .before .before .before .before .before .before .before .before .before .before .before .before .before .before .before .before .before .before .before .before .before .before .before .loop .inv .words-held)
@@ -95,9 +71,6 @@ sub-put-answer c = omega (arith, c .before .before .before .before .before .befo
 part-put-answer-start : tie.Need-part-put-answer-start Inv-loop μ-loop
 part-put-answer-start c = omega (arith, c .before .before .before .before .before .before .before .before .before .before .before .before .before .loop .inv .answers-held .fits, held-length (c .before .before .before .before .before .before .before .before .before .before .before .before .before .loop .inv .answers-held))
 
-part-put-answer-end : tie.Need-part-put-answer-end Inv-loop μ-loop
-part-put-answer-end c = omega arith
-
 put-answer-requires : tie.Need-put-answer-requires Inv-loop μ-loop
 put-answer-requires c κs = (
   omega (arith, remains-length (c .before .before .before .before .before .before .before .before .before .before .before .before .before .before .loop .inv .answers-held), c .before .before .before .before .before .before .before .before .before .before .before .before .before .before .loop .inv .answers-held .sized, c .before .before .before .before .before .before .before .before .before .before .before .before .before .loop-test .taken, taken (length (c .before .before .before .before .before .before .before .before .before .before .before .before .before .before .before .before .before .before .before .before .before .args .lats .now)) (length (c .before .before .before .before .before .before .before .before .before .before .before .before .before .before .before .before .before .before .before .before .before .args .lons .now)) (length (c .before .before .before .before .before .before .before .before .before .before .before .before .before .before .before .before .before .before .before .before .before .args .answers .now)) (c .before .before .before .before .before .before .before .before .before .before .before .before .before .before .before .before .before .before .before .before .before .pre .0) .1),
@@ -122,18 +95,6 @@ add-i c = omega (arith, c .before .before .before .before .before .before .befor
 loop-less : tie.Need-loop-less Inv-loop μ-loop
 loop-less c = omega (arith, c .before .before .before .before .before .before .before .before .before .before .before .before .before .before .before .before .before .before .loop-test .taken)
 
-same-length-4 : tie.Need-same-length-4 Inv-loop μ-loop
-same-length-4 c = held-length (c .before .loop .inv .words-held)
-
-same-length-5 : tie.Need-same-length-5 Inv-loop μ-loop
-same-length-5 c = held-length (c .before .loop .inv .text-held)
-
-same-length-6 : tie.Need-same-length-6 Inv-loop μ-loop
-same-length-6 c = held-length (c .before .loop .inv .answers-held)
-
-returns-2 : tie.Need-returns-2 Inv-loop μ-loop
-returns-2 c = ends _ _ _ _ _ _ _ _ (c .before .loop .inv) (c .loop-test .left)
-
 pub answer-each-spec : {M : Type 1} → statement M
 answer-each-spec =
     tie.close
@@ -141,22 +102,22 @@ answer-each-spec =
     Inv-loop
     μ-loop
     loop-holds
-    mul-t18
-    shared-slice-read-t21
-    mul-t22
+    (λ c. search needs)
+    (λ c. c .before .loop-test .taken)
+    (λ c. search needs)
     shared-slice-read-t24
     mul-at
     mul-answer-one
     sub-answer-one
     part-answer-one-start
-    part-answer-one-end
+    (λ c. omega arith)
     sub-answer-one-2
     part-answer-one-start-2
-    part-answer-one-end-2
+    (λ c. omega arith)
     answer-one-requires
-    enum-known-zones
-    enum-known-why
-    zero-all-requires
+    (λ c. omega arith)
+    (λ c. omega arith)
+    (λ c κs. tt)
     same-length
     same-length-2
     same-length-3
@@ -165,14 +126,14 @@ answer-each-spec =
     mul-put-answer
     sub-put-answer
     part-put-answer-start
-    part-put-answer-end
+    (λ c. omega arith)
     put-answer-requires
     add-matches
     add-used
     add-i
     loop-less
     loop-again
-    same-length-4
-    same-length-5
-    same-length-6
-    returns-2)
+    (λ c. held-length (c .before .loop .inv .words-held))
+    (λ c. held-length (c .before .loop .inv .text-held))
+    (λ c. held-length (c .before .loop .inv .answers-held))
+    (λ c. ends _ _ _ _ _ _ _ _ (c .before .loop .inv) (c .loop-test .left)))

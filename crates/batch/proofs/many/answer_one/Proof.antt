@@ -6,58 +6,12 @@ use mathlib.Core.Path.{_∙_}
 use Rattle.batch.proofs.{Window.{front-length, windowed}, many.answer_one.Statement.{statement}}
 use Rattle.zones.specs.Lookup.{lookedWith}
 use Rattle.batch.proofs.many.answer_one.Tie as tie
-use Rattle.batch.proofs.many.answer_one.Reads as reads
-use Rattle.batch.proofs.many.answer_one.Lts as lts
-use Rattle.batch.proofs.many.least.Reads as least-reads
-use Rattle.zones.proofs.lookup.lookup_in.Reads as lookup-in-reads
-
-least-requires : tie.Need-least-requires
-least-requires c κs = search needs
-
-least-requires-2 : tie.Need-least-requires-2
-least-requires-2 c κs = search needs
-
-slice-relend-prefix-lookup-in : tie.Need-slice-relend-prefix-lookup-in
-slice-relend-prefix-lookup-in c = search needs
-
-slice-aggregate-lookup-in : tie.Need-slice-aggregate-lookup-in
-slice-aggregate-lookup-in c = front-length _ _ (omega (arith, c .before .before .least .ensures))
-
-slice-relend-prefix-lookup-in-2 : tie.Need-slice-relend-prefix-lookup-in-2
-slice-relend-prefix-lookup-in-2 c = search needs
-
-slice-aggregate-lookup-in-2 : tie.Need-slice-aggregate-lookup-in-2
-slice-aggregate-lookup-in-2 c = front-length _ _ (omega (arith, c .before .before .least2 .ensures))
-
-lookup-in-requires : tie.Need-lookup-in-requires
-lookup-in-requires c κs = search needs
-
-enum-known-zones : tie.Need-enum-known-zones
-enum-known-zones c = search needs
-
-enum-told : tie.Need-enum-told
-enum-told c = search needs
-
-lookup-in-requires-2 : tie.Need-lookup-in-requires-2
-lookup-in-requires-2 c κs = search needs
-
-same-length : tie.Need-same-length
-same-length c = search needs
-
-same-length-2 : tie.Need-same-length-2
-same-length-2 c = search needs
 
 returns : tie.Need-returns
 returns c =
     let args = c .before .before .before .before .before .before .before .before .before .before .before .before .before .before .before .before .before .before .before .before .before .args in
     let look = c .before .before .before .before .lookup-in2 in
     look .ensures ∙ (λ i. lookedWith (now (args .file)) (args .head) (args .location) (args .asked) (c .before .before .before .before .before .before .before .before .before .before .before .before .hits .given .1 i) (c .before .before .before .before .before .before .before .before .before .before .text .given .1 i))
-
-same-length-3 : tie.Need-same-length-3
-same-length-3 c = search needs
-
-same-length-4 : tie.Need-same-length-4
-same-length-4 c = search needs
 
 returns-2 : tie.Need-returns-2
 returns-2 c =
@@ -71,19 +25,19 @@ pub answer-one-spec : {M : Type 1} → statement M
 answer-one-spec =
     tie.close
     (tie.spec
-    least-requires
-    least-requires-2
-    slice-relend-prefix-lookup-in
-    slice-aggregate-lookup-in
-    slice-relend-prefix-lookup-in-2
-    slice-aggregate-lookup-in-2
-    lookup-in-requires
-    enum-known-zones
-    enum-told
-    lookup-in-requires-2
-    same-length
-    same-length-2
+    (λ c κs. search needs)
+    (λ c κs. search needs)
+    (λ c. search needs)
+    (λ c. front-length _ _ (omega (arith, c .before .before .least .ensures)))
+    (λ c. search needs)
+    (λ c. front-length _ _ (omega (arith, c .before .before .least2 .ensures)))
+    (λ c κs. search needs)
+    (λ c. search needs)
+    (λ c. search needs)
+    (λ c κs. search needs)
+    (λ c. search needs)
+    (λ c. search needs)
     returns
-    same-length-3
-    same-length-4
+    (λ c. search needs)
+    (λ c. search needs)
     returns-2)

@@ -5,9 +5,6 @@ use native.Mathlib.Omega.{arith}
 use Rattle.batch.proofs.{Stamping.{answer-put}, many.put_answer.Statement.{statement}}
 use Rattle.batch.proofs.many.put_answer.Tie as tie
 
-slice-write-answers-2 : tie.Need-slice-write-answers-2
-slice-write-answers-2 c = simp length-set (omega (arith, c .before .before .pre .0))
-
 returns : tie.Need-returns
 returns c = answer-put (c .before .before .args .answers .now) (c .before .before .args .zones) (c .before .before .pre .0)
 
@@ -18,7 +15,7 @@ put-answer-spec =
     (λ c. search needs)
     (λ c. search needs)
     (λ c. search needs)
-    slice-write-answers-2
+    (λ c. simp length-set (omega (arith, c .before .before .pre .0)))
     (λ c. search needs)
     (λ c. search needs)
     returns)

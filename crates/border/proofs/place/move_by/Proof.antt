@@ -26,9 +26,6 @@ add-lat c =
     let y : SFits w32 (a .by .lat) = search needs in
     rw (widened x, widened y) (sum-fits x y)
 
-fits-i32-requires : tie.Need-fits-i32-requires
-fits-i32-requires c κs = search needs
-
 returns : tie.Need-returns
 unfolding movedBy
 returns c =
@@ -56,9 +53,6 @@ add-lon c =
     let u : SFits w32 (a .p .lon .0) = search needs in
     let v : SFits w32 (a .by .lon) = search needs in
     rw (widened u, widened v) (sum-fits u v)
-
-fits-i32-requires-2 : tie.Need-fits-i32-requires-2
-fits-i32-requires-2 c κs = search needs
 
 returns-2 : tie.Need-returns-2
 unfolding movedBy
@@ -107,4 +101,4 @@ returns-3 c =
 pub move-by-spec : {M : Type 1} → statement M
 move-by-spec =
     tie.close
-    (tie.spec cast-lat cast-lat-2 add-lat fits-i32-requires returns cast-lon cast-lon-2 add-lon fits-i32-requires-2 returns-2 cast-t9 cast-t11 returns-3)
+    (tie.spec cast-lat cast-lat-2 add-lat (λ c κs. search needs) returns cast-lon cast-lon-2 add-lon (λ c κs. search needs) returns-2 cast-t9 cast-t11 returns-3)

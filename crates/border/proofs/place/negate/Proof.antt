@@ -19,9 +19,6 @@ sub-lat c =
     let x : SFits w32 (a .by .lat) = search needs in
     rw (widened x) (negation-fits x)
 
-fits-i32-requires : tie.Need-fits-i32-requires
-fits-i32-requires c κs = search needs
-
 returns : tie.Need-returns
 unfolding negated
 returns c =
@@ -41,9 +38,6 @@ sub-lon c =
     let a = c .before .before .before .before .before .before .args in
     let y : SFits w32 (a .by .lon) = search needs in
     rw (widened y) (negation-fits y)
-
-fits-i32-requires-2 : tie.Need-fits-i32-requires-2
-fits-i32-requires-2 c κs = search needs
 
 returns-2 : tie.Need-returns-2
 unfolding negated
@@ -86,4 +80,4 @@ returns-3 c =
 pub negate-spec : {M : Type 1} → statement M
 negate-spec =
     tie.close
-    (tie.spec cast-lat sub-lat fits-i32-requires returns cast-lon sub-lon fits-i32-requires-2 returns-2 cast-t7 cast-t8 returns-3)
+    (tie.spec cast-lat sub-lat (λ c κs. search needs) returns cast-lon sub-lon (λ c κs. search needs) returns-2 cast-t7 cast-t8 returns-3)

@@ -6,23 +6,11 @@ use Rattle.border.specs.{declared.reader.Reader.{Reader}, Reader.{gives,
 use Rattle.numbers.specs.Answer.{found}
 use Rattle.border.proofs.reader.advance.Tie as tie
 
-move-by-requires : tie.Need-move-by-requires
-move-by-requires c κs = search needs
-
-enum-known-point : tie.Need-enum-known-point
-enum-known-point c = search needs
-
-enum-told : tie.Need-enum-told
-enum-told c = search needs
-
 returns : tie.Need-returns
 returns c =
     let args = c .before .before .before .before .args in
     let move-by = c .before .before .move-by in
     sym (advance-over (onward (args .reader) (args .place) (args .reader .moves) (args .run)) (args .by) (rw (c .enum-told .given .1) at (move-by .ensures)))
-
-arrive-requires : tie.Need-arrive-requires
-arrive-requires c κs = search needs
 
 returns-2 : tie.Need-returns-2
 returns-2 c =
@@ -35,4 +23,4 @@ returns-2 c =
 pub advance-spec : {M : Type 1} → statement M
 advance-spec =
     tie.close
-    (tie.spec move-by-requires enum-known-point enum-told returns arrive-requires returns-2)
+    (tie.spec (λ c κs. search needs) (λ c. search needs) (λ c. search needs) returns (λ c κs. search needs) returns-2)

@@ -11,12 +11,6 @@ unfolding counted
 returns c =
     rw (c .if1 .taken)
 
-read-number-requires : tie.Need-read-number-requires
-read-number-requires c κs = search needs
-
-enum-known-n : tie.Need-enum-known-n
-enum-known-n c = search needs
-
 returns-2 : tie.Need-returns-2
 unfolding counted
 returns-2 c =
@@ -34,4 +28,4 @@ returns-4 c =
 
 pub moves-left-spec : {M : Type 1} → statement M
 moves-left-spec =
-    tie.close (tie.spec returns read-number-requires enum-known-n returns-2 returns-3 returns-4)
+    tie.close (tie.spec returns (λ c κs. search needs) (λ c. search needs) returns-2 returns-3 returns-4)

@@ -13,18 +13,6 @@ Inv-loop file encoding state₀ state = nextPoint file encoding state ≡ nextPo
 abbrev μ-loop : tie.MeasureT-loop
 μ-loop file encoding state₀ state = left file state
 
-loop-holds : tie.Need-loop-holds Inv-loop μ-loop
-loop-holds c = refl
-
-turn-once-requires : tie.Need-turn-once-requires Inv-loop μ-loop
-turn-once-requires c κs = search needs
-
-enum-known-t : tie.Need-enum-known-t Inv-loop μ-loop
-enum-known-t c = search needs
-
-settled-requires : tie.Need-settled-requires Inv-loop μ-loop
-settled-requires c κs = search needs
-
 returns : tie.Need-returns Inv-loop μ-loop
 returns c =
     let args = c .before .before .before .before .before .args in
@@ -60,10 +48,10 @@ next-point-spec =
     (tie.spec
     Inv-loop
     μ-loop
-    loop-holds
-    turn-once-requires
-    enum-known-t
-    settled-requires
+    (λ c. refl)
+    (λ c κs. search needs)
+    (λ c. search needs)
+    (λ c κs. search needs)
     returns
     loop-less
     loop-again)

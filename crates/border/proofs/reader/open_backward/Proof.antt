@@ -11,24 +11,6 @@ returns c =
     let if1 = c .before .if1 in
     backward-over (args .base) (args .start) (search needs) (args .more) (if1 .taken) (c .if2 .taken)
 
-add-before : tie.Need-add-before
-add-before c = search needs
-
-data-place-requires : tie.Need-data-place-requires
-data-place-requires c κs = search needs
-
-sub-data-place : tie.Need-sub-data-place
-sub-data-place c = search needs
-
-cast-data-place : tie.Need-cast-data-place
-cast-data-place c = search needs
-
-add-data-place : tie.Need-add-data-place
-add-data-place c = search needs
-
-data-place-requires-2 : tie.Need-data-place-requires-2
-data-place-requires-2 c κs = search needs
-
 returns-2 : tie.Need-returns-2
 returns-2 c =
     let data-place = c .before .data-place in
@@ -43,10 +25,10 @@ open-backward-spec =
     tie.close
     (tie.spec
     returns
-    add-before
-    data-place-requires
-    sub-data-place
-    cast-data-place
-    add-data-place
-    data-place-requires-2
+    (λ c. search needs)
+    (λ c κs. search needs)
+    (λ c. search needs)
+    (λ c. search needs)
+    (λ c. search needs)
+    (λ c κs. search needs)
     returns-2)

@@ -8,23 +8,11 @@ use Rattle.border.proofs.reader.open_forward.Tie as tie
 returns : tie.Need-returns
 returns c = rw (c .if1 .taken) (none-opened (c .before .args .base) (c .before .args .start))
 
-add-if3 : tie.Need-add-if3
-add-if3 c = search needs
-
 returns-2 : tie.Need-returns-2
 returns-2 c =
     let args = c .before .before .before .args in
     let if2 = c .before .if2 in
     forward-over (args .base) (args .start) (search needs) (args .size) (if2 .taken) (c .if3 .taken)
-
-data-place-requires : tie.Need-data-place-requires
-data-place-requires c κs = search needs
-
-add-data-place : tie.Need-add-data-place
-add-data-place c = search needs
-
-data-place-requires-2 : tie.Need-data-place-requires-2
-data-place-requires-2 c κs = search needs
 
 returns-3 : tie.Need-returns-3
 returns-3 c =
@@ -41,9 +29,9 @@ open-forward-spec =
     tie.close
     (tie.spec
     returns
-    add-if3
+    (λ c. search needs)
     returns-2
-    data-place-requires
-    add-data-place
-    data-place-requires-2
+    (λ c κs. search needs)
+    (λ c. search needs)
+    (λ c κs. search needs)
     returns-3)

@@ -8,30 +8,12 @@ use Rattle.border.specs.{declared.reader.{Reader.{Reader}, Run.the-varia
 use Rattle.numbers.{specs.{Varint.{readingOf}, Answer.{found}}, proofs.Laws.{goes-on, stops}}
 use Rattle.border.proofs.reader.open_reference.Tie as tie
 
-read-number-requires : tie.Need-read-number-requires
-read-number-requires c κs = search needs
-
-enum-known-n : tie.Need-enum-known-n
-enum-known-n c = search needs
-
-stop-requires : tie.Need-stop-requires
-stop-requires c κs = search needs
-
 returns : tie.Need-returns
 unfolding reference
 returns c =
     let read-number = c .before .before .read-number in
     let matched = c .before .match in
     c .stop .ensures ∙ stops (read-number .result) (read-number .ensures) (matched .keys2) _ _
-
-read-number-requires-2 : tie.Need-read-number-requires-2
-read-number-requires-2 c κs = search needs
-
-enum-known-m : tie.Need-enum-known-m
-enum-known-m c = search needs
-
-stop-requires-2 : tie.Need-stop-requires-2
-stop-requires-2 c κs = search needs
 
 returns-2 : tie.Need-returns-2
 unfolding reference
@@ -44,18 +26,6 @@ returns-2 c =
     ∙ stops (read-number2 .result) (read-number2 .ensures) (match2 .keys2) _ _
     ∙ goes-on (read-number .result) (read-number .ensures) (n .given .1) _
 
-signed-requires : tie.Need-signed-requires
-signed-requires c κs = search needs
-
-open-run-requires : tie.Need-open-run-requires
-open-run-requires c κs = search needs
-
-enum-known-run : tie.Need-enum-known-run
-enum-known-run c = search needs
-
-enum-told : tie.Need-enum-told
-enum-told c = search needs
-
 returns-3 : tie.Need-returns-3
 returns-3 c =
     let args = c .before .before .before .before .before .before .before .before .before .before .before .before .before .args in
@@ -66,9 +36,6 @@ returns-3 c =
     let signed = c .before .before .before .signed in
     let open-run = c .before .before .open-run in
     sym (reference-over (readingOf (args .strict) (now (args .file))) (now (args .file)) (args .base) (onward (args .reader) (args .place) (args .reader .moves) Idle) (rw (n .given .1) at (read-number .ensures)) (rw (m .given .1) at (read-number2 .ensures)) (rw (toZ-ofZ w32 _ (sfits-of (signed .ok)) ∙ signed .ensures, c .enum-told .given .1) at (open-run .ensures)))
-
-go-on-requires : tie.Need-go-on-requires
-go-on-requires c κs = search needs
 
 returns-4 : tie.Need-returns-4
 returns-4 c =
@@ -87,18 +54,18 @@ pub open-reference-spec : {M : Type 1} → statement M
 open-reference-spec =
     tie.close
     (tie.spec
-    read-number-requires
-    enum-known-n
-    stop-requires
+    (λ c κs. search needs)
+    (λ c. search needs)
+    (λ c κs. search needs)
     returns
-    read-number-requires-2
-    enum-known-m
-    stop-requires-2
+    (λ c κs. search needs)
+    (λ c. search needs)
+    (λ c κs. search needs)
     returns-2
-    signed-requires
-    open-run-requires
-    enum-known-run
-    enum-told
+    (λ c κs. search needs)
+    (λ c κs. search needs)
+    (λ c. search needs)
+    (λ c. search needs)
     returns-3
-    go-on-requires
+    (λ c κs. search needs)
     returns-4)

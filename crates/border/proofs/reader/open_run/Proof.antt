@@ -25,18 +25,12 @@ cast-open-backward c =
     let small : SFits w32 (pos (mag (args .length))) = record { sfits = fits .length .sfits } in
     rw (z, turned (args .length) (rw z at (c .if1 .taken)), toZ-ofZ {w = w32} small) (let s : mag (args .length) < 2 ^ 31 = fits .length .sfits in (tt, record { fits = omega arith }))
 
-open-backward-requires : tie.Need-open-backward-requires
-open-backward-requires c κs = search needs
-
 cast-open-forward : tie.Need-cast-open-forward
 cast-open-forward c =
     let fits = c .before .fits in
     let args = c .before .args in
     let z = toZ-ofZ {w = w32} (fits .length) in
     rw (z, ← above (args .length) (rw z at (c .if1 .left))) (let s : mag (args .length) < 2 ^ 31 = fits .length .sfits in (tt, record { fits = omega arith }))
-
-open-forward-requires : tie.Need-open-forward-requires
-open-forward-requires c κs = search needs
 
 returns : tie.Need-returns
 returns c =
@@ -63,8 +57,8 @@ open-run-spec =
     (tie.spec
     sub-open-backward
     cast-open-backward
-    open-backward-requires
+    (λ c κs. search needs)
     cast-open-forward
-    open-forward-requires
+    (λ c κs. search needs)
     returns
     returns-2)

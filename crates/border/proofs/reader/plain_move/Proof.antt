@@ -5,12 +5,6 @@ use Rattle.border.proofs.reader.{Turns.{pair-closes, pair-moves, pair-o
 use Rattle.border.specs.{Reader.{onward}, declared.reader.Run.the-variants.{Idle}}
 use Rattle.border.proofs.reader.plain_move.Tie as tie
 
-close-requires : tie.Need-close-requires
-close-requires c κs = search needs
-
-shown-requires : tie.Need-shown-requires
-shown-requires c κs = search needs
-
 returns : tie.Need-returns
 returns c =
     let close = c .before .close in
@@ -18,30 +12,12 @@ returns c =
     let if1 = c .before .before .if1 in
     rw (close .ensures) at (c .shown .ensures) ∙ sym (pair-closes (onward (args .reader) (args .place) (args .moves) Idle) (args .by) (if1 .taken))
 
-move-by-requires : tie.Need-move-by-requires
-move-by-requires c κs = search needs
-
-enum-known-point : tie.Need-enum-known-point
-enum-known-point c = search needs
-
-enum-told : tie.Need-enum-told
-enum-told c = search needs
-
 returns-2 : tie.Need-returns-2
 returns-2 c =
     let args = c .before .before .before .before .before .args in
     let if1 = c .before .before .before .before .if1 in
     let move-by = c .before .before .move-by in
     sym (pair-over (onward (args .reader) (args .place) (args .moves) Idle) (args .by) (if1 .left) (rw (c .enum-told .given .1) at (move-by .ensures)))
-
-sub-arrive : tie.Need-sub-arrive
-sub-arrive c = search needs
-
-arrive-requires : tie.Need-arrive-requires
-arrive-requires c κs = search needs
-
-shown-requires-2 : tie.Need-shown-requires-2
-shown-requires-2 c κs = search needs
 
 returns-3 : tie.Need-returns-3
 returns-3 c =
@@ -56,14 +32,14 @@ pub plain-move-spec : {M : Type 1} → statement M
 plain-move-spec =
     tie.close
     (tie.spec
-    close-requires
-    shown-requires
+    (λ c κs. search needs)
+    (λ c κs. search needs)
     returns
-    move-by-requires
-    enum-known-point
-    enum-told
+    (λ c κs. search needs)
+    (λ c. search needs)
+    (λ c. search needs)
     returns-2
-    sub-arrive
-    arrive-requires
-    shown-requires-2
+    (λ c. search needs)
+    (λ c κs. search needs)
+    (λ c κs. search needs)
     returns-3)

@@ -8,30 +8,12 @@ use Rattle.border.specs.{Reader.{onward, plainPair}, declared.reader.Run
 use Rattle.numbers.{specs.Varint.{readingOf}, proofs.Laws.{goes-on, stops}}
 use Rattle.border.proofs.reader.plain_pair.Tie as tie
 
-read-number-requires : tie.Need-read-number-requires
-read-number-requires c κs = search needs
-
-enum-known-n : tie.Need-enum-known-n
-enum-known-n c = search needs
-
-stop-requires : tie.Need-stop-requires
-stop-requires c κs = search needs
-
 returns : tie.Need-returns
 unfolding plainPair
 returns c =
     let read-number = c .before .before .read-number in
     let matched = c .before .match in
     c .stop .ensures ∙ stops (read-number .result) (read-number .ensures) (matched .keys2) _ _
-
-read-number-requires-2 : tie.Need-read-number-requires-2
-read-number-requires-2 c κs = search needs
-
-enum-known-m : tie.Need-enum-known-m
-enum-known-m c = search needs
-
-stop-requires-2 : tie.Need-stop-requires-2
-stop-requires-2 c κs = search needs
 
 returns-2 : tie.Need-returns-2
 unfolding plainPair
@@ -43,15 +25,6 @@ returns-2 c =
     c .stop2 .ensures
     ∙ stops (read-number2 .result) (read-number2 .ensures) (match2 .keys2) _ _
     ∙ goes-on (read-number .result) (read-number .ensures) (n .given .1) _
-
-signed-requires : tie.Need-signed-requires
-signed-requires c κs = search needs
-
-signed-requires-2 : tie.Need-signed-requires-2
-signed-requires-2 c κs = search needs
-
-plain-move-requires : tie.Need-plain-move-requires
-plain-move-requires c κs = search needs
 
 returns-3 : tie.Need-returns-3
 returns-3 c =
@@ -68,15 +41,15 @@ pub plain-pair-spec : {M : Type 1} → statement M
 plain-pair-spec =
     tie.close
     (tie.spec
-    read-number-requires
-    enum-known-n
-    stop-requires
+    (λ c κs. search needs)
+    (λ c. search needs)
+    (λ c κs. search needs)
     returns
-    read-number-requires-2
-    enum-known-m
-    stop-requires-2
+    (λ c κs. search needs)
+    (λ c. search needs)
+    (λ c κs. search needs)
     returns-2
-    signed-requires
-    signed-requires-2
-    plain-move-requires
+    (λ c κs. search needs)
+    (λ c κs. search needs)
+    (λ c κs. search needs)
     returns-3)

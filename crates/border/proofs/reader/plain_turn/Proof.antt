@@ -6,23 +6,11 @@ use Rattle.border.proofs.reader.{Counts.{pairFrom, counted-turn}, plain
 use borrow.Author.Needs.{needs}
 use Rattle.border.proofs.reader.plain_turn.Tie as tie
 
-moves-left-requires : tie.Need-moves-left-requires
-moves-left-requires c κs = search needs
-
-enum-known-n : tie.Need-enum-known-n
-enum-known-n c = search needs
-
-stop-requires : tie.Need-stop-requires
-stop-requires c κs = search needs
-
 returns : tie.Need-returns
 returns c =
     let args = c .before .before .before .before .args in
     let read = readingOf (args .strict) (now (args .file)) in
     c .stop .ensures ∙ stops (c .before .before .moves-left .result) (c .before .before .moves-left .ensures) (c .before .match .keys2) _ (pairFrom read (args .reader)) ∙ counted-turn read (args .reader)
-
-plain-pair-requires : tie.Need-plain-pair-requires
-plain-pair-requires c κs = search needs
 
 returns-2 : tie.Need-returns-2
 returns-2 c =
@@ -33,4 +21,4 @@ returns-2 c =
 pub plain-turn-spec : {M : Type 1} → statement M
 plain-turn-spec =
     tie.close
-    (tie.spec moves-left-requires enum-known-n stop-requires returns plain-pair-requires returns-2)
+    (tie.spec (λ c κs. search needs) (λ c. search needs) (λ c κs. search needs) returns (λ c κs. search needs) returns-2)

@@ -7,24 +7,12 @@ use Rattle.border.specs.{declared.reader.{Reader.{Reader}, Run.the-varia
 use Rattle.numbers.{specs.{Varint.{readingOf}, Answer.{found}}, proofs.Laws.{stops}}
 use Rattle.border.proofs.reader.read_marker.Tie as tie
 
-read-number-requires : tie.Need-read-number-requires
-read-number-requires c κs = search needs
-
-enum-known-n : tie.Need-enum-known-n
-enum-known-n c = search needs
-
-stop-requires : tie.Need-stop-requires
-stop-requires c κs = search needs
-
 returns : tie.Need-returns
 unfolding marker
 returns c =
     let read-number = c .before .before .read-number in
     let matched = c .before .match in
     c .stop .ensures ∙ stops (read-number .result) (read-number .ensures) (matched .keys2) _ _
-
-close-requires : tie.Need-close-requires
-close-requires c κs = search needs
 
 returns-2 : tie.Need-returns-2
 returns-2 c =
@@ -34,9 +22,6 @@ returns-2 c =
     let if1 = c .before .if1 in
     ap (λ (t : Reader). found (gives t)) (c .close .ensures) ∙ sym (mark-closes (readingOf (args .strict) (now (args .file))) (now (args .file)) (args .base) (onward (args .reader) (args .place) (args .reader .moves) Idle) (rw (n .given .1) at (read-number .ensures)) (if1 .taken))
 
-open-reference-requires : tie.Need-open-reference-requires
-open-reference-requires c κs = search needs
-
 returns-3 : tie.Need-returns-3
 returns-3 c =
     let args = c .before .before .before .before .before .before .before .before .before .before .args in
@@ -45,9 +30,6 @@ returns-3 c =
     let if1 = c .before .before .before .if1 in
     let if2 = c .before .if2 in
     c .open-reference .ensures ∙ sym (mark-opens (readingOf (args .strict) (now (args .file))) (now (args .file)) (args .base) (onward (args .reader) (args .place) (args .reader .moves) Idle) (rw (n .given .1) at (read-number .ensures)) (if1 .left) (if2 .taken))
-
-arrive-requires : tie.Need-arrive-requires
-arrive-requires c κs = search needs
 
 returns-4 : tie.Need-returns-4
 returns-4 c =
@@ -62,13 +44,13 @@ pub read-marker-spec : {M : Type 1} → statement M
 read-marker-spec =
     tie.close
     (tie.spec
-    read-number-requires
-    enum-known-n
-    stop-requires
+    (λ c κs. search needs)
+    (λ c. search needs)
+    (λ c κs. search needs)
     returns
-    close-requires
+    (λ c κs. search needs)
     returns-2
-    open-reference-requires
+    (λ c κs. search needs)
     returns-3
-    arrive-requires
+    (λ c κs. search needs)
     returns-4)

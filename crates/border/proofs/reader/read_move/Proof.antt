@@ -7,24 +7,12 @@ use Rattle.border.specs.Reader.{packedTurn}
 use Rattle.numbers.{specs.Varint.{readingOf}, proofs.Laws.{stops}}
 use Rattle.border.proofs.reader.read_move.Tie as tie
 
-read-number-requires : tie.Need-read-number-requires
-read-number-requires c κs = search needs
-
-enum-known-n : tie.Need-enum-known-n
-enum-known-n c = search needs
-
-stop-requires : tie.Need-stop-requires
-stop-requires c κs = search needs
-
 returns : tie.Need-returns
 unfolding packedTurn
 returns c =
     let read-number = c .before .before .read-number in
     let matched = c .before .match in
     c .stop .ensures ∙ stops (read-number .result) (read-number .ensures) (matched .keys2) _ _
-
-read-marker-requires : tie.Need-read-marker-requires
-read-marker-requires c κs = search needs
 
 returns-2 : tie.Need-returns-2
 returns-2 c =
@@ -33,12 +21,6 @@ returns-2 c =
     let read-number = c .before .before .before .before .before .before .read-number in
     let if1 = c .before .if1 in
     c .read-marker .ensures ∙ sym (turn-marker (readingOf (args .strict) (now (args .file))) (now (args .file)) (args .base) (args .reader) (rw (n .given .1) at (read-number .ensures)) (if1 .taken))
-
-decode-point-requires : tie.Need-decode-point-requires
-decode-point-requires c κs = search needs
-
-advance-requires : tie.Need-advance-requires
-advance-requires c κs = search needs
 
 returns-3 : tie.Need-returns-3
 returns-3 c =
@@ -53,12 +35,12 @@ pub read-move-spec : {M : Type 1} → statement M
 read-move-spec =
     tie.close
     (tie.spec
-    read-number-requires
-    enum-known-n
-    stop-requires
+    (λ c κs. search needs)
+    (λ c. search needs)
+    (λ c κs. search needs)
     returns
-    read-marker-requires
+    (λ c κs. search needs)
     returns-2
-    decode-point-requires
-    advance-requires
+    (λ c κs. search needs)
+    (λ c κs. search needs)
     returns-3)

@@ -7,15 +7,6 @@ use Rattle.border.specs.Reader.{packedTurn}
 use Rattle.numbers.{specs.Varint.{readingOf}, proofs.Laws.{stops}}
 use Rattle.border.proofs.reader.run_backward.Tie as tie
 
-read-backward-requires : tie.Need-read-backward-requires
-read-backward-requires c κs = search needs
-
-enum-known-n : tie.Need-enum-known-n
-enum-known-n c = search needs
-
-stop-requires : tie.Need-stop-requires
-stop-requires c κs = search needs
-
 returns : tie.Need-returns
 unfolding packedTurn
 returns c =
@@ -30,18 +21,6 @@ returns-2 c =
     let read-backward = c .before .before .before .before .before .read-backward in
     sym (backward-fails (readingOf (args .strict) (now (args .file))) (now (args .file)) (args .base) (args .reader) (args .next) (args .end) (rw (n .given .1) at (read-backward .ensures)) (c .if1 .taken))
 
-decode-point-requires : tie.Need-decode-point-requires
-decode-point-requires c κs = search needs
-
-negate-requires : tie.Need-negate-requires
-negate-requires c κs = search needs
-
-enum-known-by : tie.Need-enum-known-by
-enum-known-by c = search needs
-
-enum-told : tie.Need-enum-told
-enum-told c = search needs
-
 returns-3 : tie.Need-returns-3
 returns-3 c =
     let args = c .before .before .before .before .before .before .before .before .before .before .before .args in
@@ -51,12 +30,6 @@ returns-3 c =
     let decode-point = c .before .before .before .decode-point in
     let negate = c .before .before .negate in
     sym (backward-over (readingOf (args .strict) (now (args .file))) (now (args .file)) (args .base) (args .reader) (args .next) (args .end) (rw (n .given .1) at (read-backward .ensures)) (if1 .left) (rw (decode-point .ensures, c .enum-told .given .1) at (negate .ensures)))
-
-backward-from-requires : tie.Need-backward-from-requires
-backward-from-requires c κs = search needs
-
-advance-requires : tie.Need-advance-requires
-advance-requires c κs = search needs
 
 returns-4 : tie.Need-returns-4
 returns-4 c =
@@ -75,16 +48,16 @@ pub run-backward-spec : {M : Type 1} → statement M
 run-backward-spec =
     tie.close
     (tie.spec
-    read-backward-requires
-    enum-known-n
-    stop-requires
+    (λ c κs. search needs)
+    (λ c. search needs)
+    (λ c κs. search needs)
     returns
     returns-2
-    decode-point-requires
-    negate-requires
-    enum-known-by
-    enum-told
+    (λ c κs. search needs)
+    (λ c κs. search needs)
+    (λ c. search needs)
+    (λ c. search needs)
     returns-3
-    backward-from-requires
-    advance-requires
+    (λ c κs. search needs)
+    (λ c κs. search needs)
     returns-4)

@@ -7,15 +7,6 @@ use Rattle.border.specs.Reader.{packedTurn}
 use Rattle.numbers.{specs.Varint.{readingOf}, proofs.Laws.{stops}}
 use Rattle.border.proofs.reader.run_forward.Tie as tie
 
-read-number-requires : tie.Need-read-number-requires
-read-number-requires c κs = search needs
-
-enum-known-n : tie.Need-enum-known-n
-enum-known-n c = search needs
-
-stop-requires : tie.Need-stop-requires
-stop-requires c κs = search needs
-
 returns : tie.Need-returns
 unfolding packedTurn
 returns c =
@@ -29,15 +20,6 @@ returns-2 c =
     let n = c .before .before .before .n in
     let read-number = c .before .before .before .before .before .read-number in
     sym (forward-fails (readingOf (args .strict) (now (args .file))) (now (args .file)) (args .base) (args .reader) (args .next) (args .end) (rw (n .given .1) at (read-number .ensures)) (c .if1 .taken))
-
-forward-from-requires : tie.Need-forward-from-requires
-forward-from-requires c κs = search needs
-
-decode-point-requires : tie.Need-decode-point-requires
-decode-point-requires c κs = search needs
-
-advance-requires : tie.Need-advance-requires
-advance-requires c κs = search needs
 
 returns-3 : tie.Need-returns-3
 returns-3 c =
@@ -53,12 +35,12 @@ pub run-forward-spec : {M : Type 1} → statement M
 run-forward-spec =
     tie.close
     (tie.spec
-    read-number-requires
-    enum-known-n
-    stop-requires
+    (λ c κs. search needs)
+    (λ c. search needs)
+    (λ c κs. search needs)
     returns
     returns-2
-    forward-from-requires
-    decode-point-requires
-    advance-requires
+    (λ c κs. search needs)
+    (λ c κs. search needs)
+    (λ c κs. search needs)
     returns-3)

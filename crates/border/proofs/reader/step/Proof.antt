@@ -4,21 +4,6 @@ use Rattle.border.proofs.reader.step.Statement.{statement}
 use Rattle.border.specs.Told.{steppedBy}
 use Rattle.border.proofs.reader.step.Tie as tie
 
-next-point-requires : tie.Need-next-point-requires
-next-point-requires c κs = search needs
-
-enum-known-n : tie.Need-enum-known-n
-enum-known-n c = search needs
-
-enum-told : tie.Need-enum-told
-enum-told c = search needs
-
-enum-told-2 : tie.Need-enum-told-2
-enum-told-2 c = search needs
-
-enum-known-n-2 : tie.Need-enum-known-n-2
-enum-known-n-2 c = search needs
-
 returns : tie.Need-returns
 unfolding steppedBy
 returns c =
@@ -45,11 +30,11 @@ pub step-spec : {M : Type 1} → statement M
 step-spec =
     tie.close
     (tie.spec
-    next-point-requires
-    enum-known-n
-    enum-told
-    enum-told-2
-    enum-known-n-2
+    (λ c κs. search needs)
+    (λ c. search needs)
+    (λ c. search needs)
+    (λ c. search needs)
+    (λ c. search needs)
     returns
     returns-2
     returns-3

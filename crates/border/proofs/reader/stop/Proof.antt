@@ -3,8 +3,5 @@ use borrow.Author.Needs.{needs}
 use Rattle.border.proofs.reader.stop.Statement.{statement}
 use Rattle.border.proofs.reader.stop.Tie as tie
 
-returns : tie.Need-returns
-returns c = rw (c .before .n .given .1)
-
 pub stop-spec : {M : Type 1} → statement M
-stop-spec = tie.close (tie.spec (λ c. search needs) (λ c. search needs) (λ c. search needs) returns (λ c. search needs) (λ c. search needs))
+stop-spec = tie.close (tie.spec (λ c. search needs) (λ c. search needs) (λ c. search needs) (λ c. rw (c .before .n .given .1)) (λ c. search needs) (λ c. search needs))

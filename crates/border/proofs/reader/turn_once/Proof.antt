@@ -12,15 +12,6 @@ returns c = sym (closed-ends (c .before .before .args .encoding .strict) (now (c
 enum-told : tie.Need-enum-told
 enum-told c = search needs
 
-packed-turn-requires : tie.Need-packed-turn-requires
-packed-turn-requires c κs = search needs
-
-enum-told-2 : tie.Need-enum-told-2
-enum-told-2 c = search needs
-
-plain-turn-requires : tie.Need-plain-turn-requires
-plain-turn-requires c κs = search needs
-
 returns-2 : tie.Need-returns-2
 unfolding turnOf
 returns-2 c =
@@ -41,8 +32,8 @@ turn-once-spec =
     (tie.spec
     returns
     enum-told
-    packed-turn-requires
-    enum-told-2
-    plain-turn-requires
+    (λ c κs. search needs)
+    (λ c. search needs)
+    (λ c κs. search needs)
     returns-2
     returns-3)

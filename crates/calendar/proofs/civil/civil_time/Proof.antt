@@ -5,17 +5,8 @@ use mir.{Syntax.{w32, w64}, ValLaws.{toZ-ofZ}}
 use Rattle.calendar.proofs.civil.{Clock.{at-days, civil-at, civil-outside}, civil_time.Statement.{statement}}
 use Rattle.calendar.proofs.civil.civil_time.Tie as tie
 
-local-moment-requires : tie.Need-local-moment-requires
-local-moment-requires c κs = search needs
-
-enum-known-moment : tie.Need-enum-known-moment
-enum-known-moment c = search needs
-
 shown-requires : tie.Need-shown-requires
 shown-requires c κs = at-days _ _ _ _ (toZ-ofZ w64 _ (c .before .before .before .before .fits .instant)) (toZ-ofZ w32 _ (c .before .before .before .before .fits .offset)) _ (c .before .before .before .local-moment .ensures) (c .before .moment .given .1) .0
-
-enum-told : tie.Need-enum-told
-enum-told c = search needs
 
 returns : tie.Need-returns
 returns c = civil-at _ _ _ _ (toZ-ofZ w64 _ (c .before .before .before .before .before .fits .instant)) (toZ-ofZ w32 _ (c .before .before .before .before .before .fits .offset)) _ (c .before .before .before .before .local-moment .ensures) (c .before .before .moment .given .1) (c .shown .ensures)
@@ -26,4 +17,4 @@ returns-2 c = civil-outside _ _ _ _ (toZ-ofZ w64 _ (c .before .before .before .f
 pub civil-time-spec : {M : Type 1} → statement M
 civil-time-spec =
     tie.close
-    (tie.spec local-moment-requires enum-known-moment shown-requires enum-told returns returns-2)
+    (tie.spec (λ c κs. search needs) (λ c. search needs) shown-requires (λ c. search needs) returns returns-2)

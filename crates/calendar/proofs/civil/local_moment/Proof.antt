@@ -17,13 +17,10 @@ cast-moment-of c = offset-fits _ _ _ (toZ-ofZ w64 _ (c .before .before .fits .in
 add-moment-of : tie.Need-add-moment-of
 add-moment-of c = sum-fits _ _ _ (toZ-ofZ w64 _ (c .before .before .fits .instant)) (c .before .before .fits .offset) (c .before .if1 .left) (c .if2 .left)
 
-moment-of-requires : tie.Need-moment-of-requires
-moment-of-requires c κs = search needs
-
 returns-3 : tie.Need-returns-3
 returns-3 c = of-sum _ _ _ (toZ-ofZ w64 _ (c .before .before .before .fits .instant)) (c .before .before .before .fits .offset) (c .before .before .if1 .left) (c .before .if2 .left) (c .moment-of .result) (c .moment-of .ensures)
 
 pub local-moment-spec : {M : Type 1} → statement M
 local-moment-spec =
     tie.close
-    (tie.spec returns returns-2 cast-moment-of add-moment-of moment-of-requires returns-3)
+    (tie.spec returns returns-2 cast-moment-of add-moment-of (λ c κs. search needs) returns-3)

@@ -4,14 +4,8 @@ use borrow.Author.Needs.{needs}
 use Rattle.calendar.proofs.civil.{Clock.{day-short, shows}, shown.Statement.{statement}}
 use Rattle.calendar.proofs.civil.shown.Tie as tie
 
-date-at-requires : tie.Need-date-at-requires
-date-at-requires c κs = day-short _ _ (c .pre)
-
-weekday-of-requires : tie.Need-weekday-of-requires
-weekday-of-requires c κs = search needs
-
 returns : tie.Need-returns
 returns c = shows _ _ (c .before .before .pre) (c .before .date-at .ensures) (c .weekday-of .ensures)
 
 pub shown-spec : {M : Type 1} → statement M
-shown-spec = tie.close (tie.spec date-at-requires weekday-of-requires returns)
+shown-spec = tie.close (tie.spec (λ c κs. day-short _ _ (c .pre)) (λ c κs. search needs) returns)

@@ -4,21 +4,6 @@ use borrow.Author.Needs.{needs}
 use Rattle.calendar.proofs.{Dates.{place-short, placed-date}, date.date_at.Statement.{statement}}
 use Rattle.calendar.proofs.date.date_at.Tie as tie
 
-year-at-requires : tie.Need-year-at-requires
-year-at-requires c κs = search needs
-
-sub-days-of-years : tie.Need-sub-days-of-years
-sub-days-of-years c = search needs
-
-days-of-years-requires : tie.Need-days-of-years-requires
-days-of-years-requires c κs = search needs
-
-sub-place : tie.Need-sub-place
-sub-place c = search needs
-
-is-leap-requires : tie.Need-is-leap-requires
-is-leap-requires c κs = search needs
-
 month-at-requires : tie.Need-month-at-requires
 month-at-requires c κs =
     let year-at = c .before .before .year-at in
@@ -34,10 +19,10 @@ pub date-at-spec : {M : Type 1} → statement M
 date-at-spec =
     tie.close
     (tie.spec
-    year-at-requires
-    sub-days-of-years
-    days-of-years-requires
-    sub-place
-    is-leap-requires
+    (λ c κs. search needs)
+    (λ c. search needs)
+    (λ c κs. search needs)
+    (λ c. search needs)
+    (λ c κs. search needs)
     month-at-requires
     returns)

@@ -7,21 +7,9 @@ use Rattle.calendar.proofs.{Weeks.{weekday-small}, rule.last_on.Stateme
 use Rattle.calendar.specs.Rules.{lastOn}
 use Rattle.calendar.proofs.rule.last_on.Tie as tie
 
-weekday-of-requires : tie.Need-weekday-of-requires
-weekday-of-requires c κs = search needs
-
-add-result : tie.Need-add-result
-add-result c = omega (arith, c .weekday-of .ensures, weekday-small (c .before .args .day))
-
-sub-result : tie.Need-sub-result
-sub-result c = search needs
-
-sub-result-2 : tie.Need-sub-result-2
-sub-result-2 c = search needs
-
 returns : tie.Need-returns
 unfolding lastOn
 returns c = ap (λ (w : ℕ). c .before .args .day - (w + 7 - c .before .args .weekday) % 7) (c .weekday-of .ensures)
 
 pub last-on-spec : {M : Type 1} → statement M
-last-on-spec = tie.close (tie.spec weekday-of-requires add-result sub-result sub-result-2 returns)
+last-on-spec = tie.close (tie.spec (λ c κs. search needs) (λ c. omega (arith, c .weekday-of .ensures, weekday-small (c .before .args .day))) (λ c. search needs) (λ c. search needs) returns)

@@ -3,12 +3,6 @@ use borrow.Author.Needs.{needs}
 use Rattle.calendar.proofs.{Sums.{leap-early, leap-late, leap-never}, rule.leap_day.Statement.{statement}}
 use Rattle.calendar.proofs.rule.leap_day.Tie as tie
 
-add-is-leap : tie.Need-add-is-leap
-add-is-leap c = search needs
-
-is-leap-requires : tie.Need-is-leap-requires
-is-leap-requires c κs = search needs
-
 returns : tie.Need-returns
 returns c =
     let is-leap = c .before .before .is-leap in
@@ -21,8 +15,5 @@ returns-2 c =
     let if1 = c .before .if1 in
     leap-late _ (is-leap .ensures) _ (if1 .taken) (c .if2 .left)
 
-returns-3 : tie.Need-returns-3
-returns-3 c = leap-never _ (c .before .is-leap .ensures) _ (c .if1 .left)
-
 pub leap-day-spec : {M : Type 1} → statement M
-leap-day-spec = tie.close (tie.spec add-is-leap is-leap-requires returns returns-2 returns-3)
+leap-day-spec = tie.close (tie.spec (λ c. search needs) (λ c κs. search needs) returns returns-2 (λ c. leap-never _ (c .before .is-leap .ensures) _ (c .if1 .left)))

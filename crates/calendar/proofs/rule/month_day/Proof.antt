@@ -4,12 +4,6 @@ use native.Mathlib.Omega.{arith}
 use Rattle.calendar.proofs.{Sums.{first-few, weeks-few, month-sum}, rule.month_day.Statement.{statement}}
 use Rattle.calendar.proofs.rule.month_day.Tie as tie
 
-first-of-requires : tie.Need-first-of-requires
-first-of-requires c κs = search needs
-
-weeks-of-requires : tie.Need-weeks-of-requires
-weeks-of-requires c κs = search needs
-
 add-last-on : tie.Need-add-last-on
 add-last-on c =
     let first-of = c .before .first-of in
@@ -38,4 +32,4 @@ returns c =
 pub month-day-spec : {M : Type 1} → statement M
 month-day-spec =
     tie.close
-    (tie.spec first-of-requires weeks-of-requires add-last-on sub-last-on last-on-requires returns)
+    (tie.spec (λ c κs. search needs) (λ c κs. search needs) add-last-on sub-last-on last-on-requires returns)

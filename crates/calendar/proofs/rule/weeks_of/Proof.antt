@@ -4,21 +4,6 @@ use native.Mathlib.Omega.{arith}
 use Rattle.calendar.proofs.{Sums.{weeks-all, weeks-cut}, rule.weeks_of.Statement.{statement}}
 use Rattle.calendar.proofs.rule.weeks_of.Tie as tie
 
-add-is-leap : tie.Need-add-is-leap
-add-is-leap c = search needs
-
-is-leap-requires : tie.Need-is-leap-requires
-is-leap-requires c κs = search needs
-
-month-length-requires : tie.Need-month-length-requires
-month-length-requires c κs = search needs
-
-mul-if1 : tie.Need-mul-if1
-mul-if1 c = search needs
-
-mul-result : tie.Need-mul-result
-mul-result c = search needs
-
 returns : tie.Need-returns
 returns c =
     let is-leap = c .before .before .is-leap in
@@ -37,10 +22,10 @@ pub weeks-of-spec : {M : Type 1} → statement M
 weeks-of-spec =
     tie.close
     (tie.spec
-    add-is-leap
-    is-leap-requires
-    month-length-requires
-    mul-if1
-    mul-result
+    (λ c. search needs)
+    (λ c κs. search needs)
+    (λ c κs. search needs)
+    (λ c. search needs)
+    (λ c. search needs)
     returns
     returns-2)

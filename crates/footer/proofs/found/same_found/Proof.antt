@@ -1,14 +1,8 @@
 -- `footer::found::same_found` meets its contract. Assumes nothing.
 use native.Mathlib.Omega.{arith}
-use mathlib.Core.Path.{sym, ap, _∙_}
+use mathlib.Core.Path.{_∙_}
 use Rattle.footer.proofs.found.{Ways.{other-offset, other-daylight, other-length, same-so-far}, same_found.Statement.{statement}}
 use Rattle.footer.proofs.found.same_found.Tie as tie
-
-returns : tie.Need-returns
-returns c = other-offset _ _ _ (c .if1 .taken)
-
-returns-2 : tie.Need-returns-2
-returns-2 c = other-daylight _ _ _ (c .before .before .before .if1 .left) (c .if2 .taken)
 
 returns-3 : tie.Need-returns-3
 returns-3 c = other-length _ _ _ (c .before .before .before .before .before .before .if1 .left) (c .before .before .before .if2 .left) (c .if3 .taken)
@@ -23,8 +17,8 @@ pub same-found-spec : {M : Type 1} → statement M
 same-found-spec =
     tie.close
     (tie.spec
-    returns
-    returns-2
+    (λ c. other-offset _ _ _ (c .if1 .taken))
+    (λ c. other-daylight _ _ _ (c .before .before .before .if1 .left) (c .if2 .taken))
     returns-3
     same-octets-requires
     returns-4)

@@ -12,29 +12,8 @@ Inv-loop file a b count i₀ i = (i ≤ count) × (sameOctets file a b i ≡ tru
 abbrev μ-loop : tie.MeasureT-loop
 μ-loop file a b count i₀ i = count - i
 
-loop-holds : tie.Need-loop-holds Inv-loop μ-loop
-loop-holds c = (omega arith, same-none _ _ _)
-
-add-octet : tie.Need-add-octet Inv-loop μ-loop
-add-octet c = omega (arith, c .before .before .before .pre)
-
-octet-requires : tie.Need-octet-requires Inv-loop μ-loop
-octet-requires c κs = omega (arith, c .before .before .before .pre)
-
-add-octet-2 : tie.Need-add-octet-2 Inv-loop μ-loop
-add-octet-2 c = omega (arith, c .before .before .before .before .pre)
-
-octet-requires-2 : tie.Need-octet-requires-2 Inv-loop μ-loop
-octet-requires-2 c κs = omega (arith, c .before .before .before .before .pre)
-
-add-i : tie.Need-add-i Inv-loop μ-loop
-add-i c = omega arith
-
 returns : tie.Need-returns Inv-loop μ-loop
 returns c = same-differs _ _ _ (c .before .before .before .before .loop .i) _ (omega arith) (c .before .before .octet .ensures .same) (c .before .octet2 .ensures .same) (c .before .before .before .before .loop .inv .1) (c .if1 .taken)
-
-loop-less : tie.Need-loop-less Inv-loop μ-loop
-loop-less c = omega arith
 
 loop-again : tie.Need-loop-again Inv-loop μ-loop
 loop-again c = (omega arith, same-more _ _ _ (c .before .before .before .before .loop .i) (c .before .before .octet .ensures .same) (c .before .octet2 .ensures .same) (c .before .before .before .before .loop .inv .1) (c .if1 .left))
@@ -48,13 +27,13 @@ same-octets-spec =
     (tie.spec
     Inv-loop
     μ-loop
-    loop-holds
-    add-octet
-    octet-requires
-    add-octet-2
-    octet-requires-2
-    add-i
+    (λ c. (omega arith, same-none _ _ _))
+    (λ c. omega (arith, c .before .before .before .pre))
+    (λ c κs. omega (arith, c .before .before .before .pre))
+    (λ c. omega (arith, c .before .before .before .before .pre))
+    (λ c κs. omega (arith, c .before .before .before .before .pre))
+    (λ c. omega arith)
     returns
-    loop-less
+    (λ c. omega arith)
     loop-again
     returns-2)

@@ -1,9 +1,8 @@
 -- `footer::local::answer_at` meets its contract. Assumes nothing.
 use borrow.Author.Needs.{needs}
-use mathlib.Core.Path.{sym, ap, _∙_}
+use mathlib.Core.Path.{ap, _∙_}
 use mir.{Syntax.{w64}, ValLaws.{toZ-ofZ}}
-use Rattle.footer.proofs.local.Ways.{sound, string-within, rules-given, rules-refused, held-rules, not-read, not-ruled, answered}
-use Rattle.footer.proofs.local.answer_at.Statement.{statement}
+use Rattle.footer.proofs.local.{Ways.{sound, string-within, rules-given, rules-refused, held-rules, not-read, not-ruled, answered}, answer_at.Statement.{statement}}
 use Rattle.footer.specs.Local.{HeldSaid}
 use Rattle.tzif.{proofs.{Goods.{zone-short}, Zones.{zone-given, zone-refused}}, specs.Number.{lift}}
 use Rattle.footer.proofs.local.answer_at.Tie as tie

@@ -1,6 +1,6 @@
 -- `footer::local::by_transitions` meets its contract. Assumes nothing.
 use borrow.Author.Needs.{needs}
-use mathlib.Core.Path.{sym, ap, _∙_}
+use mathlib.Core.Path.{sym, _∙_}
 use Rattle.footer.proofs.local.{Ways.{table-found, table-unknown}, by_transitions.Statement.{statement}}
 use Rattle.footer.specs.Local.{HeldSaid}
 use Rattle.tzif.proofs.Goods.{found-held}

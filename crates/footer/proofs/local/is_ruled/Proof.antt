@@ -1,19 +1,13 @@
 -- `footer::local::is_ruled` meets its contract. Assumes nothing.
 use borrow.Author.Needs.{needs}
-use mathlib.Core.Path.{sym, ap, _∙_}
+use mathlib.Core.Path.{_∙_}
 use Rattle.footer.proofs.local.{Ways.{no-transitions, after-last}, is_ruled.Statement.{statement}}
 use Rattle.footer.proofs.local.is_ruled.Tie as tie
-
-returns : tie.Need-returns
-returns c = no-transitions _ _ _ (c .if1 .taken)
-
-returns-2 : tie.Need-returns-2
-returns-2 c = c .is-after-last .ensures ∙ after-last _ _ _ (c .before .if1 .left)
 
 pub is-ruled-spec : {M : Type 1} → statement M
 is-ruled-spec =
     tie.close
     (tie.spec
-    returns
+    (λ c. no-transitions _ _ _ (c .if1 .taken))
     (λ c κs. search needs)
-    returns-2)
+    (λ c. c .is-after-last .ensures ∙ after-last _ _ _ (c .before .if1 .left)))

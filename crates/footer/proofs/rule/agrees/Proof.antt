@@ -1,14 +1,10 @@
 -- `footer::rule::agrees` meets its contract. Assumes nothing.
 use borrow.Author.Needs.{needs}
 use native.Mathlib.Omega.{arith}
-use mathlib.Core.Path.{sym, ap, _∙_}
 use Rattle.footer.proofs.rule.Ways.{last-is, type-is, type-few, type-within, holds-clock, clock-short, clock-found, no-transitions, not-asked, compared}
 use Rattle.footer.proofs.rule.agrees.Statement.{statement}
 use Rattle.tzif.proofs.Widths.{transitions-inside}
 use Rattle.footer.proofs.rule.agrees.Tie as tie
-
-returns : tie.Need-returns
-returns c = no-transitions _ _ _ (c .if1 .taken)
 
 time-in-requires : tie.Need-time-in-requires
 time-in-requires c κs = rw (c .transitions-of .ensures) (transitions-inside (c .before .before .before .pre .0 .good .within), omega (arith, c .before .if1 .left))
@@ -35,7 +31,7 @@ pub agrees-spec : {M : Type 1} → statement M
 agrees-spec =
     tie.close
     (tie.spec
-    returns
+    (λ c. no-transitions _ _ _ (c .if1 .taken))
     (λ c κs. search needs)
     (λ c. search needs)
     time-in-requires

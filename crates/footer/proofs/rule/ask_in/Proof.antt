@@ -4,9 +4,6 @@ use Rattle.footer.proofs.rule.{Ways.{ask-is, asked-held}, ask_in.Statem
 use Rattle.tzrule.proofs.Laws.{is-ruled}
 use Rattle.footer.proofs.rule.ask_in.Tie as tie
 
-ask-at-requires : tie.Need-ask-at-requires
-ask-at-requires c κs = (is-ruled _ _ (c .before .before .pre .1), c .correction-at .ensures .fits)
-
 returns : tie.Need-returns
 returns c = (ask-is _ _ _ _ (c .before .correction-at .ensures .same) (c .ask-at .ensures), asked-held _ _ _ _ (c .before .before .before .pre .1) (c .ask-at .ensures))
 
@@ -15,5 +12,5 @@ ask-in-spec =
     tie.close
     (tie.spec
     (λ c κs. search needs)
-    ask-at-requires
+    (λ c κs. (is-ruled _ _ (c .before .before .pre .1), c .correction-at .ensures .fits))
     returns)

@@ -1,7 +1,7 @@
 -- `footer::rule::rules_in` meets its contract. Assumes nothing.
 use borrow.Author.Needs.{needs}
 use native.Mathlib.Omega.{arith}
-use mathlib.Core.Path.{sym, ap, _∙_}
+use mathlib.Core.Path.{sym, _∙_}
 use Rattle.footer.proofs.rule.{Ways.{without, no-string, ruled, contradicts}, rules_in.Statement.{statement}}
 use Rattle.footer.specs.Local.{HeldRules, HeldStated}
 use Rattle.tzrule.proofs.Laws.{string-is, string-good, string-fault}

@@ -5,15 +5,6 @@ use native.Mathlib.Omega.{arith}
 use Rattle.header.proofs.field.{Entries.{entry-fits, entry-put, entry-length}, put_entry.Statement.{statement}}
 use Rattle.header.proofs.field.put_entry.Tie as tie
 
-slice-write-text-2 : tie.Need-slice-write-text-2
-slice-write-text-2 c = simp length-set (omega arith)
-
-sub-unmask : tie.Need-sub-unmask
-sub-unmask c = simp length-set (omega arith)
-
-part-unmask-start : tie.Need-part-unmask-start
-part-unmask-start c = simp length-set (omega arith)
-
 unmask-requires : tie.Need-unmask-requires
 unmask-requires c κs =
     let args = c .before .before .before .args in
@@ -38,9 +29,9 @@ put-entry-spec =
     (λ c. omega arith)
     (λ c. omega arith)
     (λ c. omega arith)
-    slice-write-text-2
-    sub-unmask
-    part-unmask-start
+    (λ c. simp length-set (omega arith))
+    (λ c. simp length-set (omega arith))
+    (λ c. simp length-set (omega arith))
     (λ c. omega arith)
     unmask-requires
     same-length

@@ -5,12 +5,6 @@ use native.Mathlib.Omega.{arith}
 use Rattle.header.proofs.field.{Entries.{field-fits, field-put, field-length}, put_field.Statement.{statement}}
 use Rattle.header.proofs.field.put_field.Tie as tie
 
-sub-put-entry : tie.Need-sub-put-entry
-sub-put-entry c = simp length-set (omega arith)
-
-part-put-entry-start : tie.Need-part-put-entry-start
-part-put-entry-start c = simp length-set (omega arith)
-
 put-entry-requires : tie.Need-put-entry-requires
 put-entry-requires c κs =
     let args = c .before .before .before .args in
@@ -34,8 +28,8 @@ put-field-spec =
     tie.close
     (tie.spec
     (λ c. omega arith)
-    sub-put-entry
-    part-put-entry-start
+    (λ c. simp length-set (omega arith))
+    (λ c. simp length-set (omega arith))
     (λ c. omega arith)
     put-entry-requires
     same-length

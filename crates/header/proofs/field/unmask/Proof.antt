@@ -12,23 +12,11 @@ Inv-loop text₀ stored i₀ text i = (i ≤ length stored) × (length stored �
 abbrev μ-loop : tie.MeasureT-loop
 μ-loop text₀ stored i₀ text i = length stored - i
 
-loop-holds : tie.Need-loop-holds Inv-loop μ-loop
-loop-holds c = (omega arith, c .pre, refl)
-
-shared-slice-read-text : tie.Need-shared-slice-read-text Inv-loop μ-loop
-shared-slice-read-text c = omega arith
-
 slice-write-text : tie.Need-slice-write-text Inv-loop μ-loop
 slice-write-text c =
     let loop = c .before .before .loop in
     let args = c .before .before .before .args in
     omega (arith, ap length (loop .inv .2) ∙ unmask-length (args .stored .now) (args .text .now) (loop .i) (omega arith) (omega arith))
-
-add-i : tie.Need-add-i Inv-loop μ-loop
-add-i c = omega arith
-
-loop-less : tie.Need-loop-less Inv-loop μ-loop
-loop-less c = omega arith
 
 loop-again : tie.Need-loop-again Inv-loop μ-loop
 loop-again c =
@@ -54,11 +42,11 @@ unmask-spec =
     (tie.spec
     Inv-loop
     μ-loop
-    loop-holds
-    shared-slice-read-text
+    (λ c. (omega arith, c .pre, refl))
+    (λ c. omega arith)
     slice-write-text
-    add-i
-    loop-less
+    (λ c. omega arith)
+    (λ c. omega arith)
     loop-again
     same-length
     returns)

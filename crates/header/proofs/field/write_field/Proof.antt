@@ -18,17 +18,8 @@ lying c =
     let args = c .before .before .before .before .before .args in
     lies (args .strict) _ (args .metadata) (args .place) (args .tag) (args .text .now) _ (read c)
 
-add-if1 : tie.Need-add-if1
-add-if1 c = omega (arith, lying (c .before) .short)
-
 returns-2 : tie.Need-returns-2
 returns-2 c = no-room _ _ _ _ _ _ _ (read (c .before .before .before)) _ (c .plain .ensures) (c .before .if1 .taken)
-
-add-put-field : tie.Need-add-put-field
-add-put-field c = omega (arith, lying (c .before .before .before) .inside)
-
-part-put-field-end : tie.Need-part-put-field-end
-part-put-field-end c = omega (arith, lying (c .before .before .before) .inside)
 
 put-field-requires : tie.Need-put-field-requires
 put-field-requires c κs =
@@ -47,13 +38,13 @@ write-field-spec =
     (λ c. omega arith)
     (λ c. omega arith)
     returns
-    add-if1
+    (λ c. omega (arith, lying (c .before) .short))
     (λ c κs. tt)
     returns-2
-    add-put-field
+    (λ c. omega (arith, lying (c .before .before .before) .inside))
     (λ c. omega arith)
     (λ c. omega arith)
-    part-put-field-end
+    (λ c. omega (arith, lying (c .before .before .before) .inside))
     put-field-requires
     (λ c. omega arith)
     (λ c. omega arith)

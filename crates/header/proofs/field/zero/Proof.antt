@@ -12,9 +12,6 @@ Inv-loop text₀ i₀ text i = (i ≤ length text₀) × (text ≡ zeroed i text
 abbrev μ-loop : tie.MeasureT-loop
 μ-loop text₀ i₀ text i = length text₀ - i
 
-loop-holds : tie.Need-loop-holds Inv-loop μ-loop
-loop-holds c = (omega arith, refl)
-
 slice-write-text : tie.Need-slice-write-text Inv-loop μ-loop
 slice-write-text c =
     let loop = c .before .loop in
@@ -59,7 +56,7 @@ zero-spec =
     (tie.spec
     Inv-loop
     μ-loop
-    loop-holds
+    (λ c. (omega arith, refl))
     slice-write-text
     add-i
     loop-less

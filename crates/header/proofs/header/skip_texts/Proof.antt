@@ -10,9 +10,6 @@ Inv-loop file strict names index₀ place₀ index place = Skipping strict file 
 abbrev μ-loop : tie.MeasureT-loop
 μ-loop file strict names index₀ place₀ index place = names + 1 - index
 
-loop-holds : tie.Need-loop-holds Inv-loop μ-loop
-loop-holds c = starts _ _ _
-
 returns : tie.Need-returns Inv-loop μ-loop
 returns c =
     let loop = c .before .before .before .before .before .loop in
@@ -27,9 +24,6 @@ add-index c =
     let loop = c .before .before .before .before .before .loop in
     omega (arith, pre, loop .inv .at)
 
-loop-less : tie.Need-loop-less Inv-loop μ-loop
-loop-less c = omega (arith, c .before .before .before .before .loop-test .taken)
-
 loop-again : tie.Need-loop-again Inv-loop μ-loop
 loop-again c =
     let loop = c .before .before .before .before .before .loop in
@@ -38,21 +32,18 @@ loop-again c =
     let read-header-text = c .before .before .before .read-header-text in
     goes (loop .inv) (loop-test .taken) _ (rw (text .given .1) at (read-header-text .ensures))
 
-returns-2 : tie.Need-returns-2 Inv-loop μ-loop
-returns-2 c = ends (c .before .loop .inv) (c .loop-test .left)
-
 pub skip-texts-spec : {M : Type 1} → statement M
 skip-texts-spec =
     tie.close
     (tie.spec
     Inv-loop
     μ-loop
-    loop-holds
+    (λ c. starts _ _ _)
     (λ c κs. tt)
     (λ c. omega arith)
     (λ c. omega arith)
     returns
     add-index
-    loop-less
+    (λ c. omega (arith, c .before .before .before .before .loop-test .taken))
     loop-again
-    returns-2)
+    (λ c. ends (c .before .loop .inv) (c .loop-test .left)))

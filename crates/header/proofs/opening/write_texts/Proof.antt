@@ -16,12 +16,6 @@ Inv-loop text₀ file strict names index₀ place₀ at₀ text index place at =
 abbrev μ-loop : tie.MeasureT-loop
 μ-loop text₀ file strict names index₀ place₀ at₀ text index place at = names + 1 - index
 
-loop-holds : tie.Need-loop-holds Inv-loop μ-loop
-loop-holds c = starts _ _ _ _ (c .before .before .pre .0)
-
-same-length : tie.Need-same-length Inv-loop μ-loop
-same-length c = c .before .before .before .before .loop .inv .text-length
-
 returns : tie.Need-returns Inv-loop μ-loop
 returns c =
     let read-header-text = c .before .before .read-header-text in
@@ -45,12 +39,6 @@ sub-if1 c =
     let loop = c .before .before .before .before .before .loop in
     omega (arith, loop .inv .at-room, loop .inv .text-length)
 
-add-if1 : tie.Need-add-if1 Inv-loop μ-loop
-add-if1 c = size-fits (c .before)
-
-same-length-2 : tie.Need-same-length-2 Inv-loop μ-loop
-same-length-2 c = c .before .before .before .before .before .before .loop .inv .text-length
-
 returns-2 : tie.Need-returns-2 Inv-loop μ-loop
 returns-2 c = full (c .before .before .before .before .before .before .loop .inv) (c .before .before .before .before .before .loop-test .taken) _ (read (c .before .before)) _ (c .if1 .taken)
 
@@ -70,24 +58,12 @@ part-put-entry-start c =
     let loop = c .before .before .before .before .before .before .loop in
     omega (arith, loop .inv .at-room, loop .inv .text-length)
 
-add-put-entry : tie.Need-add-put-entry Inv-loop μ-loop
-add-put-entry c = end-fits (c .before .before .before)
-
-part-put-entry-end-2 : tie.Need-part-put-entry-end-2 Inv-loop μ-loop
-part-put-entry-end-2 c = omega (arith, lying (c .before .before .before) .inside)
-
 put-entry-requires : tie.Need-put-entry-requires Inv-loop μ-loop
 put-entry-requires c κs =
     let loop = c .before .before .before .before .before .before .before .before .loop in
     let l = lying (c .before .before .before .before) in
     let p = part-length _ _ l in
     (omega (arith, p, lent-length (loop .at) (loop .text), c .before .before .if1 .left), omega (arith, p, l .short))
-
-add-at : tie.Need-add-at Inv-loop μ-loop
-add-at c = size-fits (c .before .before .before .before .before .before .before)
-
-add-at-2 : tie.Need-add-at-2 Inv-loop μ-loop
-add-at-2 c = next-fits (c .before .before .before .before .before)
 
 add-index : tie.Need-add-index Inv-loop μ-loop
 add-index c =
@@ -100,40 +76,34 @@ loop-less c = omega (arith, c .before .before .before .before .before .before .b
 loop-again : tie.Need-loop-again Inv-loop μ-loop
 loop-again c = goes (c .before .before .before .before .before .before .before .before .before .before .before .loop .inv) (c .before .before .before .before .before .before .before .before .before .before .loop-test .taken) _ (read (c .before .before .before .before .before .before .before)) _ (c .before .before .before .before .before .if1 .left) (c .before .before .put-entry .ensures)
 
-same-length-3 : tie.Need-same-length-3 Inv-loop μ-loop
-same-length-3 c = c .before .loop .inv .text-length
-
-returns-3 : tie.Need-returns-3 Inv-loop μ-loop
-returns-3 c = ends (c .before .loop .inv) (c .loop-test .left)
-
 pub write-texts-spec : {M : Type 1} → statement M
 write-texts-spec =
     tie.close
     (tie.spec
     Inv-loop
     μ-loop
-    loop-holds
+    (λ c. starts _ _ _ _ (c .before .before .pre .0))
     (λ c κs. tt)
     (λ c. omega arith)
     (λ c. omega arith)
-    same-length
+    (λ c. c .before .before .before .before .loop .inv .text-length)
     returns
     sub-if1
-    add-if1
-    same-length-2
+    (λ c. size-fits (c .before))
+    (λ c. c .before .before .before .before .before .before .loop .inv .text-length)
     returns-2
     sub-put-entry
     part-put-entry-start
     (λ c. omega arith)
-    add-put-entry
+    (λ c. end-fits (c .before .before .before))
     (λ c. omega arith)
     (λ c. omega arith)
-    part-put-entry-end-2
+    (λ c. omega (arith, lying (c .before .before .before) .inside))
     put-entry-requires
-    add-at
-    add-at-2
+    (λ c. size-fits (c .before .before .before .before .before .before .before))
+    (λ c. next-fits (c .before .before .before .before .before))
     add-index
     loop-less
     loop-again
-    same-length-3
-    returns-3)
+    (λ c. c .before .loop .inv .text-length)
+    (λ c. ends (c .before .loop .inv) (c .loop-test .left)))

@@ -6,9 +6,6 @@ use Rattle.header.proofs.utf8.{Octets.{first-byte, too-low, too-high, r
 use Rattle.header.specs.Utf8.{toldStep}
 use Rattle.header.proofs.utf8.follow.Tie as tie
 
-returns : tie.Need-returns
-returns c = c .begin .ensures ∙ first-byte _ _ (c .before .if1 .taken)
-
 returns-2 : tie.Need-returns-2
 returns-2 c =
     let args = c .before .before .before .before .args in
@@ -33,4 +30,4 @@ returns-4 c =
 pub follow-spec : {M : Type 1} → statement M
 follow-spec =
     tie.close
-    (tie.spec (λ c κs. tt) returns returns-2 returns-3 (λ c. omega arith) (λ c κs. tt) returns-4)
+    (tie.spec (λ c κs. tt) (λ c. c .begin .ensures ∙ first-byte _ _ (c .before .if1 .taken)) returns-2 returns-3 (λ c. omega arith) (λ c κs. tt) returns-4)

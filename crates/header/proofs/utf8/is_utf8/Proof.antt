@@ -11,12 +11,6 @@ Inv-loop stored pending₀ i₀ pending i = Going stored pending i
 abbrev μ-loop : tie.MeasureT-loop
 μ-loop stored pending₀ i₀ pending i = length stored - i
 
-loop-holds : tie.Need-loop-holds Inv-loop μ-loop
-loop-holds c = starts _
-
-shared-slice-read-follow : tie.Need-shared-slice-read-follow Inv-loop μ-loop
-shared-slice-read-follow c = c .before .loop-test .taken
-
 returns : tie.Need-returns Inv-loop μ-loop
 returns c =
     let loop = c .before .before .before .before .before .loop in
@@ -24,12 +18,6 @@ returns c =
     let follow = c .before .before .follow in
     let matched = c .before .match in
     fails (loop .inv) (loop-test .taken) (follow .result) (follow .ensures) (matched .keys2)
-
-add-i : tie.Need-add-i Inv-loop μ-loop
-add-i c = omega (arith, c .before .before .before .before .before .loop-test .taken)
-
-loop-less : tie.Need-loop-less Inv-loop μ-loop
-loop-less c = omega (arith, c .before .before .before .before .before .loop-test .taken)
 
 loop-again : tie.Need-loop-again Inv-loop μ-loop
 loop-again c =
@@ -39,22 +27,19 @@ loop-again c =
     let step = c .before .step in
     goes (loop .inv) (loop-test .taken) (follow .result) (follow .ensures) (step .given .1)
 
-returns-2 : tie.Need-returns-2 Inv-loop μ-loop
-returns-2 c = ends (c .before .before .loop .inv) (c .before .loop-test .left)
-
 pub is-utf8-spec : {M : Type 1} → statement M
 is-utf8-spec =
     tie.close
     (tie.spec
     Inv-loop
     μ-loop
-    loop-holds
-    shared-slice-read-follow
+    (λ c. starts _)
+    (λ c. c .before .loop-test .taken)
     (λ c κs. tt)
     (λ c. omega arith)
     (λ c. omega arith)
     returns
-    add-i
-    loop-less
+    (λ c. omega (arith, c .before .before .before .before .before .loop-test .taken))
+    (λ c. omega (arith, c .before .before .before .before .before .loop-test .taken))
     loop-again
-    returns-2)
+    (λ c. ends (c .before .before .loop .inv) (c .before .loop-test .left)))

@@ -12,9 +12,6 @@ Inv-loop hits₀ i₀ hits i = (i ≤ length hits₀) × (hits ≡ zeroed i hits
 abbrev μ-loop : tie.MeasureT-loop
 μ-loop hits₀ i₀ hits i = length hits₀ - i
 
-loop-holds : tie.Need-loop-holds Inv-loop μ-loop
-loop-holds c = (omega arith, refl)
-
 slice-write-hits : tie.Need-slice-write-hits Inv-loop μ-loop
 slice-write-hits c =
     let loop = c .before .loop in
@@ -54,4 +51,4 @@ returns c =
     loop .inv .1 ∙ zeroed-all (args .hits .now) (loop .i) (omega arith) (omega arith)
 
 pub zero-words-spec : {M : Type 1} → statement M
-zero-words-spec = tie.close (tie.spec Inv-loop μ-loop loop-holds (λ c. omega arith) slice-write-hits add-i loop-less loop-again same-length returns)
+zero-words-spec = tie.close (tie.spec Inv-loop μ-loop (λ c. (omega arith, refl)) (λ c. omega arith) slice-write-hits add-i loop-less loop-again same-length returns)

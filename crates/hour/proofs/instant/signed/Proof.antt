@@ -7,12 +7,6 @@ use Rattle.hour.proofs.{Signs.{read-high}, instant.signed.Statement.{st
 use Rattle.numbers.proofs.Signed.{complement-fits}
 use Rattle.hour.proofs.instant.signed.Tie as tie
 
-sub-result-2 : tie.Need-sub-result-2
-sub-result-2 c = complement-fits w64 (2 ^ 64 - 1 - c .before .args .bits) (omega arith)
-
-returns-2 : tie.Need-returns-2
-returns-2 c = read-high _ (c .if1 .left) (omega (arith, c .before .fits .bits))
-
 pub signed-spec : {M : Type 1} → statement M
 signed-spec =
     tie.close
@@ -20,6 +14,6 @@ signed-spec =
     (λ c. search needs)
     (λ c. search needs)
     (λ c. search needs)
-    sub-result-2
+    (λ c. complement-fits w64 (2 ^ 64 - 1 - c .before .args .bits) (omega arith))
     (λ c. search needs)
-    returns-2)
+    (λ c. read-high _ (c .if1 .left) (omega (arith, c .before .fits .bits))))

@@ -22,9 +22,6 @@ loop-again c =
     let put = c .before .before .put in
     (omega arith, put-as (shown-next (args .text .now) (loop .i) (omega arith)) (put-then _ _ (loop .inv .1) (put-byte (shown .ensures) (put .ensures))))
 
-same-length : tie.Need-same-length Inv-loop μ-loop
-same-length c = put-length (c .before .loop .inv .1)
-
 returns : tie.Need-returns Inv-loop μ-loop
 returns c =
     let args = c .before .before .before .before .args in
@@ -44,5 +41,5 @@ put-shown-spec =
     (λ c. omega arith)
     (λ c. omega arith)
     loop-again
-    same-length
+    (λ c. put-length (c .before .loop .inv .1))
     returns)

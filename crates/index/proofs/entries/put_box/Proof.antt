@@ -1,11 +1,8 @@
 -- `index::entries::put_box` meets its contract. Assumes nothing.
 use borrow.Author.Needs.{needs}
-use mathlib.Core.{List.{List, [], _∷_, _++_}, Path.{subst, ap, _∙_}}
+use mathlib.Core.Path.{ap, _∙_}
 use native.Mathlib.Omega.{arith}
-use mir.{Syntax.{w32}, Val.{SFits, ofZ}, ValLaws.{toZ-ofZ}}
-use Prim.Native.Nat.{ℕ}
-use Rattle.writer.specs.Stored.{Stored}
-use Rattle.index.specs.Tiles.{wordOf}
+use mir.{Syntax.{w32}, Val.{ofZ}, ValLaws.{toZ-ofZ}}
 use Rattle.index.proofs.{Stores.{stored-then, same-word}, entries.put_box.Statement.{statement}}
 use Rattle.index.proofs.entries.put_box.Tie as tie
 

@@ -1,6 +1,5 @@
 -- `index::entries::put_record` meets its contract. Assumes nothing.
 use borrow.Author.Needs.{needs}
-use native.Mathlib.Omega.{arith}
 use Rattle.index.proofs.{Stores.{stored-then}, entries.put_record.Statement.{statement}}
 use Rattle.index.proofs.entries.put_record.Tie as tie
 

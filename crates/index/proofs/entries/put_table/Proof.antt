@@ -16,17 +16,8 @@ Inv-loop file index₀ strict end at₀ floor₀ place₀ n₀ index at floor pl
 abbrev μ-loop : tie.MeasureT-loop
 μ-loop file index₀ strict end at₀ floor₀ place₀ n₀ index at floor place n = end - at .place
 
-loop-holds : tie.Need-loop-holds Inv-loop μ-loop
-loop-holds c = (tabling-starts _ _ _ _ _ _, refl)
-
-same-length : tie.Need-same-length Inv-loop μ-loop
-same-length c = c .before .before .before .before .before .loop .inv .1
-
 returns : tie.Need-returns Inv-loop μ-loop
 returns c = agree-refused _ (tabling-unreadable _ _ _ _ _ _ (c .before .before .before .before .before .loop .inv .0) (c .before .before .before .if1 .taken) (sym (ap toldReading (c .enum-told .given .1)) ∙ c .before .before .row-at .ensures) ∙ same-table _ _ (c .before .before .before .before .before .before .start-at .ensures))
-
-same-length-2 : tie.Need-same-length-2 Inv-loop μ-loop
-same-length-2 c = c .before .before .before .before .before .loop .inv .1
 
 returns-2 : tie.Need-returns-2 Inv-loop μ-loop
 returns-2 c = agree-refused _ (tabling-refused _ _ _ _ _ _ (c .before .before .before .before .before .loop .inv .0) (c .before .before .before .if1 .taken) (sym (ap toldReading (c .enum-told2 .given .1)) ∙ c .before .before .row-at .ensures) ∙ same-table _ _ (c .before .before .before .before .before .before .start-at .ensures))
@@ -52,9 +43,6 @@ same-length-3 c = c .before .before .before .before .before .before .before .bef
 returns-3 : tie.Need-returns-3 Inv-loop μ-loop
 returns-3 c = agree-refused _ (tabling-not-next _ _ _ _ _ _ (c .before .before .before .before .before .before .before .before .before .loop .inv .0) (c .before .before .before .before .before .before .before .if1 .taken) (sym (ap toldReading (c .before .before .before .before .row .given .1)) ∙ c .before .before .before .before .before .before .row-at .ensures) (sym (c .before .is-next .ensures) ∙ c .if2 .left) ∙ same-table _ _ (c .before .before .before .before .before .before .before .before .before .before .start-at .ensures))
 
-same-length-4 : tie.Need-same-length-4 Inv-loop μ-loop
-same-length-4 c = c .before .before .loop .inv .1
-
 returns-4 : tie.Need-returns-4 Inv-loop μ-loop
 returns-4 c =
     let e = tabling-ends _ _ _ _ _ _ (c .before .before .loop .inv .0) (c .if1 .left) (omega (arith, c .before .before .before .before .before .struct-known .given)) in
@@ -69,14 +57,14 @@ put-table-spec =
     (λ c. search needs)
     (λ c. search needs)
     (λ c κs. search needs)
-    loop-holds
+    (λ c. (tabling-starts _ _ _ _ _ _, refl))
     (λ c κs. search needs)
     (λ c. search needs)
     (λ c. search needs)
-    same-length
+    (λ c. c .before .before .before .before .before .loop .inv .1)
     returns
     (λ c. search needs)
-    same-length-2
+    (λ c. c .before .before .before .before .before .loop .inv .1)
     returns-2
     (λ c κs. search needs)
     put-record-requires
@@ -86,5 +74,5 @@ put-table-spec =
     loop-again
     same-length-3
     returns-3
-    same-length-4
+    (λ c. c .before .before .loop .inv .1)
     returns-4)

@@ -10,9 +10,6 @@ Inv-loop file size index₀ from at₀ place₀ index at place = Keeping file si
 abbrev μ-loop : tie.MeasureT-loop
 μ-loop file size index₀ from at₀ place₀ index at place = size + 3 - place
 
-loop-holds : tie.Need-loop-holds Inv-loop μ-loop
-loop-holds c = keeping-starts
-
 four-at-requires : tie.Need-four-at-requires Inv-loop μ-loop
 four-at-requires c κs = omega (arith, c .before .loop-test .taken, c .before .before .before .before .before .pre .0)
 
@@ -22,17 +19,8 @@ put-requires c κs = omega (arith, c .before .before .before .loop .inv .few, c 
 add-place : tie.Need-add-place Inv-loop μ-loop
 add-place c = omega (arith, c .before .before .before .before .before .loop-test .taken, c .before .before .before .before .before .before .before .before .before .pre .0)
 
-loop-less : tie.Need-loop-less Inv-loop μ-loop
-loop-less c = omega (arith, c .before .before .before .before .before .loop-test .taken)
-
 loop-again : tie.Need-loop-again Inv-loop μ-loop
 loop-again c = keeping-step (c .before .before .before .before .before .before .loop .inv) (c .before .before .before .before .before .loop-test .taken) (same-word (c .before .before .before .four-at .ensures) (c .before .before .put .ensures))
-
-same-length : tie.Need-same-length Inv-loop μ-loop
-same-length c = c .before .loop .inv .left .size
-
-returns : tie.Need-returns Inv-loop μ-loop
-returns c = keeping-ends (c .before .loop .inv) (c .loop-test .left)
 
 pub put-kept-spec : {M : Type 1} → statement M
 put-kept-spec =
@@ -40,11 +28,11 @@ put-kept-spec =
     (tie.spec
     Inv-loop
     μ-loop
-    loop-holds
+    (λ c. keeping-starts)
     four-at-requires
     put-requires
     add-place
-    loop-less
+    (λ c. omega (arith, c .before .before .before .before .before .loop-test .taken))
     loop-again
-    same-length
-    returns)
+    (λ c. c .before .loop .inv .left .size)
+    (λ c. keeping-ends (c .before .loop .inv) (c .loop-test .left)))

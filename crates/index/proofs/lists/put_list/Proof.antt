@@ -11,12 +11,6 @@ Inv-loop index₀ tile n from at₀ k₀ index at k = Going index₀ tile n from
 abbrev μ-loop : tie.MeasureT-loop
 μ-loop index₀ tile n from at₀ k₀ index at k = n - k
 
-loop-holds : tie.Need-loop-holds Inv-loop μ-loop
-loop-holds c = going-starts
-
-add-k : tie.Need-add-k Inv-loop μ-loop
-add-k c = omega (arith, c .loop-test .taken, c .before .before .before .pre .0)
-
 is-met-in-requires : tie.Need-is-met-in-requires Inv-loop μ-loop
 is-met-in-requires c κs = (omega (arith, c .before .loop-test .taken, c .before .before .before .before .pre .0), omega (arith, c .before .loop-test .taken, c .before .before .before .before .pre .3, c .before .before .loop .inv .left .size))
 
@@ -32,17 +26,8 @@ loop-less c = omega (arith, c .before .before .before .before .before .before .b
 loop-again : tie.Need-loop-again Inv-loop μ-loop
 loop-again c = going-met (c .before .before .before .before .before .before .before .before .loop .inv) (c .before .before .before .before .before .before .before .loop-test .taken) (c .before .before .before .before .before .before .before .before .before .before .pre .1) (sym (c .before .before .before .before .before .is-met-in .ensures) ∙ c .before .before .before .before .if1 .taken) (c .before .before .put .ensures)
 
-loop-less-2 : tie.Need-loop-less-2 Inv-loop μ-loop
-loop-less-2 c = omega (arith, c .before .before .before .loop-test .taken)
-
 loop-again-2 : tie.Need-loop-again-2 Inv-loop μ-loop
 loop-again-2 c = going-not (c .before .before .before .before .loop .inv) (c .before .before .before .loop-test .taken) (c .before .before .before .before .before .before .pre .1) (sym (c .before .is-met-in .ensures) ∙ c .if1 .left)
-
-same-length : tie.Need-same-length Inv-loop μ-loop
-same-length c = c .before .loop .inv .left .size
-
-returns : tie.Need-returns Inv-loop μ-loop
-returns c = going-ends (c .before .loop .inv) (c .loop-test .left)
 
 pub put-list-spec : {M : Type 1} → statement M
 put-list-spec =
@@ -50,14 +35,14 @@ put-list-spec =
     (tie.spec
     Inv-loop
     μ-loop
-    loop-holds
-    add-k
+    (λ c. going-starts)
+    (λ c. omega (arith, c .loop-test .taken, c .before .before .before .pre .0))
     is-met-in-requires
     cast-put
     put-requires
     loop-less
     loop-again
-    loop-less-2
+    (λ c. omega (arith, c .before .before .before .loop-test .taken))
     loop-again-2
-    same-length
-    returns)
+    (λ c. c .before .loop .inv .left .size)
+    (λ c. going-ends (c .before .loop .inv) (c .loop-test .left)))

@@ -1,7 +1,6 @@
 -- `index::lists::put_lists` meets its contract. The loop's invariant is `Tiling`. Assumes nothing.
 use Prim.Native.Nat.{_-_}
-use borrow.Author.Needs.{needs}
-use mathlib.Core.Path.{sym, _∙_}
+use mathlib.Core.Path.{_∙_}
 use native.Mathlib.Omega.{arith}
 use Rattle.index.specs.Index.{tiles}
 use Rattle.index.proofs.{Listing.{Tiling, tiling-starts, tiling-step, tiling-ends, same-tile}, Stores.{stored-length}, lists.put_lists.Statement.{statement}}
@@ -12,18 +11,6 @@ Inv-loop index₀ precision n from at₀ t₀ index at t = Tiling index₀ preci
 
 abbrev μ-loop : tie.MeasureT-loop
 μ-loop index₀ precision n from at₀ t₀ index at t = tiles - t
-
-loop-holds : tie.Need-loop-holds Inv-loop μ-loop
-loop-holds c = tiling-starts _ _ _ _
-
-add-put : tie.Need-add-put Inv-loop μ-loop
-add-put c = omega (arith, c .before .loop-test .taken)
-
-cast-put : tie.Need-cast-put Inv-loop μ-loop
-cast-put c = omega arith
-
-put-requires : tie.Need-put-requires Inv-loop μ-loop
-put-requires c κs = omega (arith, c .before .loop-test .taken)
 
 tile-at-requires : tie.Need-tile-at-requires Inv-loop μ-loop
 tile-at-requires c κs = (c .before .before .before .before .before .before .before .pre .4, c .before .before .before .before .before .before .before .pre .5, c .before .before .before .before .loop-test .taken)
@@ -42,12 +29,6 @@ loop-less c = omega (arith, c .before .before .before .before .before .before .b
 loop-again : tie.Need-loop-again Inv-loop μ-loop
 loop-again c = tiling-step _ _ _ _ (c .before .before .before .before .before .before .before .before .before .before .loop .inv) (c .before .before .before .before .before .before .before .before .before .loop-test .taken) (c .before .before .before .before .before .before .before .before .before .before .before .before .pre .1) (c .before .before .before .before .before .before .before .before .before .before .before .before .pre .0) (c .before .before .before .before .before .before .before .put .ensures) (same-tile _ (c .before .before .before .before .tile-at .ensures) (c .before .before .put-list .ensures))
 
-cast-put-2 : tie.Need-cast-put-2 Inv-loop μ-loop
-cast-put-2 c = omega arith
-
-put-requires-2 : tie.Need-put-requires-2 Inv-loop μ-loop
-put-requires-2 c κs = omega arith
-
 same-length : tie.Need-same-length Inv-loop μ-loop
 same-length c = stored-length (c .before .before .put2 .ensures) ∙ c .before .before .before .before .before .loop .inv .size
 
@@ -60,16 +41,16 @@ put-lists-spec =
     (tie.spec
     Inv-loop
     μ-loop
-    loop-holds
-    add-put
-    cast-put
-    put-requires
+    (λ c. tiling-starts _ _ _ _)
+    (λ c. omega (arith, c .before .loop-test .taken))
+    (λ c. omega arith)
+    (λ c κs. omega (arith, c .before .loop-test .taken))
     tile-at-requires
     put-list-requires
     add-t
     loop-less
     loop-again
-    cast-put-2
-    put-requires-2
+    (λ c. omega arith)
+    (λ c κs. omega arith)
     same-length
     returns)

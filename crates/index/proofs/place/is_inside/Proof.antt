@@ -9,9 +9,6 @@ returns c = and-true _ _ _ (le-leb _ _ (c .before .before .if1 .taken)) (le-leb 
 returns-2 : tie.Need-returns-2
 returns-2 c = and-second _ _ _ (le-leb _ _ (c .before .if1 .taken)) (lt-leb _ _ (c .if2 .left))
 
-returns-3 : tie.Need-returns-3
-returns-3 c = and-self _ _ (lt-leb _ _ (c .if1 .left))
-
 pub is-inside-spec : {M : Type 1} → statement M
 is-inside-spec =
     tie.close
@@ -27,4 +24,4 @@ is-inside-spec =
     (λ c. search needs)
     returns
     returns-2
-    returns-3)
+    (λ c. and-self _ _ (lt-leb _ _ (c .if1 .left))))

@@ -1,6 +1,6 @@
 -- `index::place::list_of` meets its contract, by the test that led to each answer. Assumes nothing.
 use borrow.Author.{Needs.{needs}, Tests.{not-true, not-false}}
-use mathlib.Core.Path.{sym, ap, _∙_}
+use mathlib.Core.Path.{sym, _∙_}
 use native.Mathlib.Omega.{arith}
 use Rattle.index.proofs.{Filling.{precise}, Placing.{no-precision, no-head, tile-same, outside, stands}, Tying.{begin-inside}, place.list_of.Statement.{statement}}
 use Rattle.index.proofs.place.list_of.Tie as tie

@@ -4,8 +4,7 @@ use borrow.Author.{Needs.{needs}, Tests.{eq-eqb, ne-eqb}}
 use lib.ListN.{length, take}
 use mathlib.Core.Path.{sym, _∙_}
 use native.Mathlib.Omega.{arith}
-use Rattle.index.proofs.Tying.{Comparing, comparing-starts, comparing-inside, comparing-next, comparing-differs, comparing-ends}
-use Rattle.index.proofs.tied.keeps.Statement.{statement}
+use Rattle.index.proofs.{Tying.{Comparing, comparing-starts, comparing-inside, comparing-next, comparing-differs, comparing-ends}, tied.keeps.Statement.{statement}}
 use Rattle.index.proofs.tied.keeps.Tie as tie
 
 abbrev Inv-loop : tie.InvT-loop
@@ -13,9 +12,6 @@ Inv-loop file size index from at₀ place₀ at place = Comparing index from (ta
 
 abbrev μ-loop : tie.MeasureT-loop
 μ-loop file size index from at₀ place₀ at place = size + 3 - place
-
-loop-holds : tie.Need-loop-holds Inv-loop μ-loop
-loop-holds c = comparing-starts _ _ _ _
 
 mul-if1 : tie.Need-mul-if1 Inv-loop μ-loop
 mul-if1 c =
@@ -37,14 +33,8 @@ add-at c = omega (arith, comparing-inside _ _ _ _ (c .before .before .before .be
 add-place : tie.Need-add-place Inv-loop μ-loop
 add-place c = omega (arith, c .before .before .before .loop-test .taken, c .before .before .before .before .before .before .before .pre .0)
 
-loop-less : tie.Need-loop-less Inv-loop μ-loop
-loop-less c = omega (arith, c .before .before .before .loop-test .taken)
-
 loop-again : tie.Need-loop-again Inv-loop μ-loop
 loop-again c = comparing-next _ _ _ _ (c .before .before .before .before .loop .inv) (c .before .before .before .loop-test .taken) (eq-eqb _ _ (c .if1 .left ∙ c .before .four-at .ensures))
-
-returns-2 : tie.Need-returns-2 Inv-loop μ-loop
-returns-2 c = comparing-ends _ _ _ _ (c .before .loop .inv) (c .loop-test .left)
 
 pub keeps-spec : {M : Type 1} → statement M
 keeps-spec =
@@ -52,13 +42,13 @@ keeps-spec =
     (tie.spec
     Inv-loop
     μ-loop
-    loop-holds
+    (λ c. comparing-starts _ _ _ _)
     mul-if1
     shared-slice-read-if1
     four-at-requires
     returns
     add-at
     add-place
-    loop-less
+    (λ c. omega (arith, c .before .before .before .loop-test .taken))
     loop-again
-    returns-2)
+    (λ c. comparing-ends _ _ _ _ (c .before .loop .inv) (c .loop-test .left)))

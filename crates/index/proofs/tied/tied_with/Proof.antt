@@ -1,5 +1,4 @@
 -- `index::tied::tied_with` meets its contract. Assumes nothing.
-use borrow.Author.Needs.{needs}
 use mathlib.Core.Path.{sym, _∙_}
 use Rattle.index.proofs.{Tying.{with-imprecise, with-so, with-not}, tied.tied_with.Statement.{statement}}
 use Rattle.index.proofs.tied.tied_with.Tie as tie

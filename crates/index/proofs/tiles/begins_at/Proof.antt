@@ -13,9 +13,6 @@ mul-result c = rw (c .side-of .ensures) (omega (arith, away-small (c .before .be
 add-result : tie.Need-add-result
 add-result c = rw (c .side-of .ensures) (omega (arith, away-small (c .before .before .args .power) (c .before .before .args .precision) (c .before .before .args .i) (c .before .before .pre .1) (c .before .before .pre .2)))
 
-returns : tie.Need-returns
-returns c = rw (c .side-of .ensures, c .before .power-of-two .ensures)
-
 pub begins-at-spec : {M : Type 1} → statement M
 begins-at-spec =
     tie.close
@@ -26,4 +23,4 @@ begins-at-spec =
     sub-result
     mul-result
     add-result
-    returns)
+    (λ c. rw (c .side-of .ensures, c .before .power-of-two .ensures)))

@@ -1,5 +1,5 @@
 -- `index::tiles::from_of` meets its contract. Assumes nothing.
-use borrow.Author.{Needs.{needs}, Tests.{ne-eqb, eq-eqb}}
+use borrow.Author.Tests.{ne-eqb, eq-eqb}
 use native.Mathlib.Omega.{arith}
 use Rattle.index.specs.Tiles.{spanOf}
 use Rattle.index.proofs.tiles.from_of.Statement.{statement}

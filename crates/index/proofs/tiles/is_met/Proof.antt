@@ -9,8 +9,5 @@ returns c = and-true _ _ _ (le-leb _ _ (c .before .before .before .if1 .taken)) 
 returns-2 : tie.Need-returns-2
 returns-2 c = and-second _ _ _ (le-leb _ _ (c .before .before .if1 .taken)) (le-ltb _ _ (c .if2 .left))
 
-returns-3 : tie.Need-returns-3
-returns-3 c = and-self _ _ (lt-leb _ _ (c .if1 .left))
-
 pub is-met-spec : {M : Type 1} → statement M
-is-met-spec = tie.close (tie.spec returns returns-2 returns-3)
+is-met-spec = tie.close (tie.spec returns returns-2 (λ c. and-self _ _ (lt-leb _ _ (c .if1 .left))))

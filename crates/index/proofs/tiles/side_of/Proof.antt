@@ -1,11 +1,7 @@
 -- `index::tiles::side_of` meets its contract. Assumes nothing.
 use borrow.Author.Needs.{needs}
-use native.Mathlib.Omega.{arith}
 use Rattle.index.proofs.tiles.side_of.Statement.{statement}
 use Rattle.index.proofs.tiles.side_of.Tie as tie
 
-returns : tie.Need-returns
-returns c = rw (c .power-of-two .ensures, c .before .more-than .ensures)
-
 pub side-of-spec : {M : Type 1} → statement M
-side-of-spec = tie.close (tie.spec (λ c κs. tt) (λ c κs. search needs) returns)
+side-of-spec = tie.close (tie.spec (λ c κs. tt) (λ c κs. search needs) (λ c. rw (c .power-of-two .ensures, c .before .more-than .ensures)))

@@ -1,11 +1,7 @@
 -- `index::tiles::span_of` meets its contract. Assumes nothing.
 use borrow.Author.Needs.{needs}
-use Rattle.index.specs.declared.tiles.Span.{Span}
 use Rattle.index.proofs.tiles.span_of.Statement.{statement}
 use Rattle.index.proofs.tiles.span_of.Tie as tie
 
-returns : tie.Need-returns
-returns c = rw (c .before .from-of .ensures, c .end-of .ensures)
-
 pub span-of-spec : {M : Type 1} → statement M
-span-of-spec = tie.close (tie.spec (λ c κs. search needs) (λ c κs. search needs) returns)
+span-of-spec = tie.close (tie.spec (λ c κs. search needs) (λ c κs. search needs) (λ c. rw (c .before .from-of .ensures, c .end-of .ensures)))

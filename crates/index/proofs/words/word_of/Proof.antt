@@ -1,5 +1,4 @@
 -- `index::words::word_of` meets its contract. Assumes nothing.
-use borrow.Author.Needs.{needs}
 use mir.{Syntax.{w32}, Val.{SFits}}
 use native.Mathlib.Omega.{arith}
 use Rattle.index.proofs.{Bits.{rest-fits, rest-form, bits-below, from-zero, bits-above}, words.word_of.Statement.{statement}}

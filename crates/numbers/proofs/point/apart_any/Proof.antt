@@ -10,21 +10,6 @@ Inv-loop w both₀ rest₀ place₀ both rest place = Stands w both rest place
 abbrev μ-loop : tie.MeasureT-loop
 μ-loop w both₀ rest₀ place₀ both rest place = rest
 
-apart-requires : tie.Need-apart-requires Inv-loop μ-loop
-apart-requires c κs = omega (arith, c .if1 .taken)
-
-returns : tie.Need-returns Inv-loop μ-loop
-returns c = c .apart .ensures
-
-loop-holds : tie.Need-loop-holds Inv-loop μ-loop
-loop-holds c = at-low refl refl refl
-
-apart-requires-2 : tie.Need-apart-requires-2 Inv-loop μ-loop
-apart-requires-2 c κs = omega arith
-
-shl-both : tie.Need-shl-both Inv-loop μ-loop
-shl-both c = omega (arith, place-small (c .before .loop .inv))
-
 add-both : tie.Need-add-both Inv-loop μ-loop
 add-both c =
     let l = c .before .loop in
@@ -34,12 +19,6 @@ returns-2 : tie.Need-returns-2 Inv-loop μ-loop
 returns-2 c =
     let l = c .before .before .loop in
     added-last _ (l .both) (l .rest) (l .place) _ (c .before .before .before .before .fits .w .fits) (c .before .apart2 .ensures) (l .inv) (c .if2 .taken)
-
-add-place : tie.Need-add-place Inv-loop μ-loop
-add-place c = record { fits = omega (arith, place-small (c .before .before .loop .inv)) }
-
-loop-less : tie.Need-loop-less Inv-loop μ-loop
-loop-less c = smaller (c .before .before .loop .rest) (c .if2 .left)
 
 loop-again : tie.Need-loop-again Inv-loop μ-loop
 loop-again c =
@@ -52,13 +31,13 @@ apart-any-spec =
     (tie.spec
     Inv-loop
     μ-loop
-    apart-requires
-    returns
-    loop-holds
-    apart-requires-2
-    shl-both
+    (λ c κs. omega (arith, c .if1 .taken))
+    (λ c. c .apart .ensures)
+    (λ c. at-low refl refl refl)
+    (λ c κs. omega arith)
+    (λ c. omega (arith, place-small (c .before .loop .inv)))
     add-both
     returns-2
-    add-place
-    loop-less
+    (λ c. record { fits = omega (arith, place-small (c .before .before .loop .inv)) })
+    (λ c. smaller (c .before .before .loop .rest) (c .if2 .left))
     loop-again)

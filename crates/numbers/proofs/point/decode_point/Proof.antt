@@ -8,15 +8,6 @@ use Rattle.numbers.proofs.point.{BothBits.{low-of-both, high-of-both}, 
 use Rattle.numbers.specs.Point.{signedOf, pointOf}
 use Rattle.numbers.proofs.point.decode_point.Tie as tie
 
-apart-any-requires : tie.Need-apart-any-requires
-apart-any-requires c κs = search needs
-
-signed-requires : tie.Need-signed-requires
-signed-requires c κs = search needs
-
-signed-requires-2 : tie.Need-signed-requires-2
-signed-requires-2 c κs = search needs
-
 returns : tie.Need-returns
 unfolding pointOf
 returns c =
@@ -28,4 +19,4 @@ returns c =
 
 pub decode-point-spec : {M : Type 1} → statement M
 decode-point-spec =
-    tie.close (tie.spec apart-any-requires signed-requires signed-requires-2 returns)
+    tie.close (tie.spec (λ c κs. search needs) (λ c κs. search needs) (λ c κs. search needs) returns)

@@ -6,30 +6,21 @@ use Rattle.numbers.proofs.varint.{Reading.{none-there, one-byte, two-by
 use Rattle.numbers.specs.Varint.{endOf}
 use Rattle.numbers.proofs.varint.number_end.Tie as tie
 
-returns : tie.Need-returns
-returns c = ap endOf (sym (none-there _ _ (c .if1 .taken)))
-
-returns-2 : tie.Need-returns-2
-returns-2 c = ap endOf (one-byte _ _ refl (search needs) (c .if3 .taken))
-
 returns-3 : tie.Need-returns-3
 returns-3 c = ap endOf (two-bytes _ _ refl (c .before .before .if3 .left) refl (search needs) (c .if4 .taken))
 
 returns-4 : tie.Need-returns-4
 returns-4 c = ap endOf (three-bytes _ _ refl (c .before .before .before .before .if3 .left) refl (c .before .before .if4 .left) refl (search needs) (c .if5 .taken))
 
-returns-5 : tie.Need-returns-5
-returns-5 c = c .end-of .ensures ∙ ap endOf (c .before .read-long .ensures)
-
 pub number-end-spec : {M : Type 1} → statement M
 number-end-spec =
     tie.close
     (tie.spec
-    returns
+    (λ c. ap endOf (sym (none-there _ _ (c .if1 .taken))))
     (λ c. search needs)
     (λ c. search needs)
     (λ c. search needs)
-    returns-2
+    (λ c. ap endOf (one-byte _ _ refl (search needs) (c .if3 .taken)))
     (λ c. search needs)
     (λ c. search needs)
     (λ c. search needs)
@@ -40,4 +31,4 @@ number-end-spec =
     returns-4
     (λ c κs. search needs)
     (λ c κs. search needs)
-    returns-5)
+    (λ c. c .end-of .ensures ∙ ap endOf (c .before .read-long .ensures)))

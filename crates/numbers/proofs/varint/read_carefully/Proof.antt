@@ -9,8 +9,5 @@ use Rattle.numbers.proofs.varint.read_carefully.Tie as tie
 returns : tie.Need-returns
 returns c = by-strict _ _ (c .before .if1 .taken) (c .strictly .ensures ∙ ap (wholeOf (now (c .before .before .before .before .args .file))) (c .before .before .read-long .ensures))
 
-returns-2 : tie.Need-returns-2
-returns-2 c = by-plain _ _ (c .if1 .left) (c .before .read-long .ensures)
-
 pub read-carefully-spec : {M : Type 1} → statement M
-read-carefully-spec = tie.close (tie.spec (λ c κs. search needs) (λ c κs. search needs) returns returns-2)
+read-carefully-spec = tie.close (tie.spec (λ c κs. search needs) (λ c κs. search needs) returns (λ c. by-plain _ _ (c .if1 .left) (c .before .read-long .ensures)))

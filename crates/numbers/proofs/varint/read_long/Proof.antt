@@ -13,26 +13,14 @@ Inv-loop file place value₀ shift₀ next₀ value shift next = Reading file pl
 abbrev μ-loop : tie.MeasureT-loop
 μ-loop file place value₀ shift₀ next₀ value shift next = length file - next
 
-loop-holds : tie.Need-loop-holds Inv-loop μ-loop
-loop-holds c = begun _ _ (c .pre)
-
 returns : tie.Need-returns Inv-loop μ-loop
 returns c =
     let loop = c .before .before .loop in
     let loop-test = c .before .loop-test in
     eleventh (loop .inv) (c .if1 .taken) (loop-test .taken)
 
-shared-slice-read-byte : tie.Need-shared-slice-read-byte Inv-loop μ-loop
-shared-slice-read-byte c = search needs
-
 cast-value : tie.Need-cast-value Inv-loop μ-loop
 cast-value c = omega (arith, c .shared-slice-known .given (c .before .before .before .loop .next))
-
-shl-value : tie.Need-shl-value Inv-loop μ-loop
-shl-value c = search needs
-
-add-next : tie.Need-add-next Inv-loop μ-loop
-add-next c = search needs
 
 returns-2 : tie.Need-returns-2 Inv-loop μ-loop
 returns-2 c =
@@ -41,12 +29,6 @@ returns-2 c =
     let if1 = c .before .before .if1 in
     finished (loop .inv) (loop-test .taken) (if1 .left) (c .if2 .taken)
 
-add-shift : tie.Need-add-shift Inv-loop μ-loop
-add-shift c = search needs
-
-loop-less : tie.Need-loop-less Inv-loop μ-loop
-loop-less c = search needs
-
 loop-again : tie.Need-loop-again Inv-loop μ-loop
 loop-again c =
     let loop = c .before .before .before .before .loop in
@@ -54,27 +36,21 @@ loop-again c =
     let if1 = c .before .before .if1 in
     further (loop .inv) (loop-test .taken) (if1 .left) (c .if2 .left)
 
-add-past : tie.Need-add-past Inv-loop μ-loop
-add-past c = search needs
-
-returns-3 : tie.Need-returns-3 Inv-loop μ-loop
-returns-3 c = ended (c .before .loop .inv) (c .loop-test .left)
-
 pub read-long-spec : {M : Type 1} → statement M
 read-long-spec =
     tie.close
     (tie.spec
     Inv-loop
     μ-loop
-    loop-holds
+    (λ c. begun _ _ (c .pre))
     returns
-    shared-slice-read-byte
+    (λ c. search needs)
     cast-value
-    shl-value
-    add-next
+    (λ c. search needs)
+    (λ c. search needs)
     returns-2
-    add-shift
-    loop-less
+    (λ c. search needs)
+    (λ c. search needs)
     loop-again
-    add-past
-    returns-3)
+    (λ c. search needs)
+    (λ c. ended (c .before .loop .inv) (c .loop-test .left)))

@@ -42,29 +42,17 @@ loop-holds : tie.Need-loop-holds Inv-loop μ-loop
 unfolding interleaved
 loop-holds c = (omega arith, refl, refl)
 
-sub-i : tie.Need-sub-i Inv-loop μ-loop
-sub-i c = omega arith
-
 div-out : tie.Need-div-out Inv-loop μ-loop
 div-out c = let l = c .before .loop in rw (half (l .weight) (l .i) (omega arith) (l .inv .1)) (some-weight (l .i - 1))
 
 div-out-2 : tie.Need-div-out-2 Inv-loop μ-loop
 div-out-2 c = let l = c .before .loop in rw (half (l .weight) (l .i) (omega arith) (l .inv .1)) (some-weight (l .i - 1))
 
-mul-out : tie.Need-mul-out Inv-loop μ-loop
-mul-out c = omega arith
-
-add-out : tie.Need-add-out Inv-loop μ-loop
-add-out c = omega arith
-
 mul-out-2 : tie.Need-mul-out-2 Inv-loop μ-loop
 mul-out-2 c = let l = c .before .loop in omega (arith, room (l .out) (l .i) _ _ (omega arith) (l .inv .0) (l .inv .2))
 
 add-out-2 : tie.Need-add-out-2 Inv-loop μ-loop
 add-out-2 c = let l = c .before .loop in omega (arith, room (l .out) (l .i) _ _ (omega arith) (l .inv .0) (l .inv .2))
-
-loop-less : tie.Need-loop-less Inv-loop μ-loop
-loop-less c = omega arith
 
 loop-again : tie.Need-loop-again Inv-loop μ-loop
 loop-again c = let l = c .before .loop in let a = c .before .before .args in
@@ -82,13 +70,13 @@ interleave-spec =
     Inv-loop
     μ-loop
     loop-holds
-    sub-i
+    (λ c. omega arith)
     div-out
     div-out-2
-    mul-out
-    add-out
+    (λ c. omega arith)
+    (λ c. omega arith)
     mul-out-2
     add-out-2
-    loop-less
+    (λ c. omega arith)
     loop-again
     returns)

@@ -11,12 +11,6 @@ Inv-loop out₀ place value next₀ rest₀ left₀ out next rest left = Writing
 abbrev μ-loop : tie.MeasureT-loop
 μ-loop out₀ place value next₀ rest₀ left₀ out next rest left = left
 
-loop-holds : tie.Need-loop-holds Inv-loop μ-loop
-loop-holds c = begun _ _ _ (search needs)
-
-sub-result : tie.Need-sub-result Inv-loop μ-loop
-sub-result c = omega (arith, c .before .before .before .before .before .before .loop .inv .few)
-
 same-length : tie.Need-same-length Inv-loop μ-loop
 same-length c = put-length (c .before .before .before .before .before .before .loop .out) (c .before .before .before .before .before .before .loop .next) (c .before .before .before .before .before .before .loop .rest) (c .before .before .put .ensures .0) ∙ c .before .before .before .before .before .before .loop .inv .size
 
@@ -41,10 +35,10 @@ write-varint-spec =
     (tie.spec
     Inv-loop
     μ-loop
-    loop-holds
+    (λ c. begun _ _ _ (search needs))
     (λ c. omega arith)
     (λ c κs. search needs)
-    sub-result
+    (λ c. omega (arith, c .before .before .before .before .before .before .loop .inv .few))
     same-length
     returns
     (λ c. omega arith)

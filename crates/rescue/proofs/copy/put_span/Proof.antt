@@ -9,23 +9,8 @@ Inv-loop file from size out₀ at here₀ left₀ next₀ out here left next = C
 abbrev μ-loop : tie.MeasureT-loop
 μ-loop file from size out₀ at here₀ left₀ next₀ out here left next = left
 
-loop-holds : tie.Need-loop-holds Inv-loop μ-loop
-loop-holds c = copies-start _ _ _ _ _
-
-same-length : tie.Need-same-length Inv-loop μ-loop
-same-length c = c .before .before .loop .inv .laid .size
-
-returns : tie.Need-returns Inv-loop μ-loop
-returns c = copies-past _ _ _ _ _ (c .before .before .loop .inv) (c .if1 .taken)
-
 loop-again : tie.Need-loop-again Inv-loop μ-loop
 loop-again c = copies-go _ _ _ _ _ (c .before .before .before .before .before .before .before .loop .inv) (c .before .before .before .before .before .before .loop-test .taken) (c .before .before .before .before .before .if1 .left) (c .before .before .put-byte .ensures)
-
-same-length-2 : tie.Need-same-length-2 Inv-loop μ-loop
-same-length-2 c = c .before .loop .inv .laid .size
-
-returns-2 : tie.Need-returns-2 Inv-loop μ-loop
-returns-2 c = copies-end _ _ _ _ _ (c .before .loop .inv) (c .loop-test .left)
 
 pub put-span-spec : {M : Type 1} → statement M
 put-span-spec =
@@ -33,14 +18,14 @@ put-span-spec =
     (tie.spec
     Inv-loop
     μ-loop
-    loop-holds
-    same-length
-    returns
+    (λ c. copies-start _ _ _ _ _)
+    (λ c. c .before .before .loop .inv .laid .size)
+    (λ c. copies-past _ _ _ _ _ (c .before .before .loop .inv) (c .if1 .taken))
     (λ c. search needs)
     (λ c κs. search needs)
     (λ c. search needs)
     (λ c. search needs)
     (λ c. search needs)
     loop-again
-    same-length-2
-    returns-2)
+    (λ c. c .before .loop .inv .laid .size)
+    (λ c. copies-end _ _ _ _ _ (c .before .loop .inv) (c .loop-test .left)))

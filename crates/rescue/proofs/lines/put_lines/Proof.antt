@@ -14,9 +14,6 @@ Inv-loop file head list₀ end at₀ number₀ words₀ kept₀ list at number w
 abbrev μ-loop : tie.MeasureT-loop
 μ-loop file head list₀ end at₀ number₀ words₀ kept₀ list at number words kept = head .sections .metadata - at .place
 
-loop-holds : tie.Need-loop-holds Inv-loop μ-loop
-loop-holds c = lists-start _ _ _ (c .start-at .ensures)
-
 -- ---- an entry that is kept
 kept : (c : tie.After-known-told Inv-loop μ-loop) → Turned (c .before .before .before .before .before .before .before .before .before .before .before .before .args .file .now) (c .before .before .before .before .before .before .before .before .before .before .before .before .args .head) (c .before .before .before .before .before .before .loop .number) (c .before .before .before .before .before .before .loop .at) (T.Kept (c .before .next .given .0 .0))
 kept c = turned (c .before .before .before .before .before .before .before .before .before .before .before .before .args .file .now) (c .before .before .before .before .before .before .before .before .before .before .before .before .args .head) (c .before .before .before .before .before .before .loop .number) (c .before .before .before .before .before .before .loop .at) (c .before .before .before .before .if1 .taken) (rw (c .before .next .given .1) at (c .before .before .before .turn-at .ensures))
@@ -30,9 +27,6 @@ add-number : tie.Need-add-number Inv-loop μ-loop
 add-number c =
     let small : c .before .before .before .before .before .before .before .before .before .before .before .before .args .head .sections .metadata < 2 ^ 32 = search needs in
     omega (arith, c .before .before .before .before .before .before .loop .inv .few, c .before .before .before .before .if1 .taken)
-
-loop-less : tie.Need-loop-less Inv-loop μ-loop
-loop-less c = omega (arith, kept c .2, c .before .before .before .before .if1 .taken)
 
 loop-again : tie.Need-loop-again Inv-loop μ-loop
 loop-again c = lists-keep _ _ _ (c .before .before .before .before .before .before .loop .inv) _ (kept c)
@@ -83,12 +77,6 @@ returns c =
     (turned (c .before .before .before .before .before .before .before .before .before .before .before .before .before .before .before .before .before .before .before .before .args .file .now) (c .before .before .before .before .before .before .before .before .before .before .before .before .before .before .before .before .before .before .before .before .args .head) (c .before .before .before .before .before .before .before .before .before .before .before .before .before .before .loop .number) (c .before .before .before .before .before .before .before .before .before .before .before .before .before .before .loop .at) (c .before .before .before .before .before .before .before .before .before .before .before .before .if1 .taken) (rw (c .before .before .before .before .before .before .before .before .before .reason .given .1) at (c .before .before .before .before .before .before .before .before .before .before .before .turn-at .ensures)))
     (c .before .before .before .before .before .before .put-line2 .ensures) (c .before .before .put-line3 .ensures)
 
-same-length-2 : tie.Need-same-length-2 Inv-loop μ-loop
-same-length-2 c = c .before .before .loop .inv .left .size
-
-returns-2 : tie.Need-returns-2 Inv-loop μ-loop
-returns-2 c = lists-end _ _ _ (c .before .before .loop .inv) (c .if1 .left)
-
 pub put-lines-spec : {M : Type 1} → statement M
 put-lines-spec =
     tie.close
@@ -98,12 +86,12 @@ put-lines-spec =
     (λ c. search needs)
     (λ c. search needs)
     (λ c κs. search needs)
-    loop-holds
+    (λ c. lists-start _ _ _ (c .start-at .ensures))
     (λ c κs. search needs)
     (λ c. search needs)
     add-kept
     add-number
-    loop-less
+    (λ c. omega (arith, kept c .2, c .before .before .before .before .if1 .taken))
     loop-again
     (λ c. search needs)
     put-line-requires
@@ -116,5 +104,5 @@ put-lines-spec =
     put-line-requires-3
     same-length
     returns
-    same-length-2
-    returns-2)
+    (λ c. c .before .before .loop .inv .left .size)
+    (λ c. lists-end _ _ _ (c .before .before .loop .inv) (c .if1 .left)))

@@ -5,8 +5,5 @@ use mathlib.Core.Path.{sym}
 use Rattle.rescue.proofs.lines.put_word.Statement.{statement}
 use Rattle.rescue.proofs.lines.put_word.Tie as tie
 
-returns : tie.Need-returns
-returns c = sym (set-out _ _ _ (c .if1 .taken))
-
 pub put-word-spec : {M : Type 1} → statement M
-put-word-spec = tie.close (tie.spec returns (λ c. search needs) (λ c. search needs) (λ c. search needs) (λ c. search needs))
+put-word-spec = tie.close (tie.spec (λ c. sym (set-out _ _ _ (c .if1 .taken))) (λ c. search needs) (λ c. search needs) (λ c. search needs) (λ c. search needs))

@@ -10,23 +10,11 @@ Inv-loop file head out₀ at left₀ place₀ next₀ out left place next = Text
 abbrev μ-loop : tie.MeasureT-loop
 μ-loop file head out₀ at left₀ place₀ next₀ out left place next = left
 
-loop-holds : tie.Need-loop-holds Inv-loop μ-loop
-loop-holds c = texts-start _ _ _ _ refl
-
-same-length : tie.Need-same-length Inv-loop μ-loop
-same-length c = c .before .before .before .before .before .loop .inv .laid .size
-
 returns : tie.Need-returns Inv-loop μ-loop
 returns c = texts-stop _ _ _ _ (c .before .before .before .before .before .loop .inv) (c .before .before .before .before .before .loop .out) (c .before .before .before .before .loop-test .taken) (rw (c .before .why .given .1) at (c .before .before .before .short-text .ensures))
 
 loop-again : tie.Need-loop-again Inv-loop μ-loop
 loop-again c = texts-go _ _ _ _ (c .before .before .before .before .before .before .before .before .before .loop .inv) (c .before .before .before .before .before .before .before .before .loop-test .taken) (rw (c .before .before .before .before .before .text .given .1) at (c .before .before .before .before .before .before .before .short-text .ensures)) (c .before .before .put-text .ensures)
-
-same-length-2 : tie.Need-same-length-2 Inv-loop μ-loop
-same-length-2 c = c .before .loop .inv .laid .size
-
-returns-2 : tie.Need-returns-2 Inv-loop μ-loop
-returns-2 c = texts-end _ _ _ _ (c .before .loop .inv) (c .loop-test .left)
 
 pub put-texts-spec : {M : Type 1} → statement M
 put-texts-spec =
@@ -36,15 +24,15 @@ put-texts-spec =
     μ-loop
     (λ c. search needs)
     (λ c. search needs)
-    loop-holds
+    (λ c. texts-start _ _ _ _ refl)
     (λ c κs. search needs)
     (λ c. search needs)
     (λ c. search needs)
-    same-length
+    (λ c. c .before .before .before .before .before .loop .inv .laid .size)
     returns
     (λ c κs. search needs)
     (λ c. search needs)
     (λ c. search needs)
     loop-again
-    same-length-2
-    returns-2)
+    (λ c. c .before .loop .inv .laid .size)
+    (λ c. texts-end _ _ _ _ (c .before .loop .inv) (c .loop-test .left)))

@@ -17,9 +17,6 @@ Inv-loop file place n₀ n = (n ≤ n₀) × (lastWith n (nulAt file place) ≡ 
 abbrev μ-loop : tie.MeasureT-loop
 μ-loop file place n₀ n = n
 
-loop-holds : tie.Need-loop-holds Inv-loop μ-loop
-loop-holds c = (omega arith, refl)
-
 returns : tie.Need-returns Inv-loop μ-loop
 unfolding nulEnd
 returns c =
@@ -34,12 +31,6 @@ returns c =
     let args = args in
     let designations-of = designations-of in
     last-here _ _ (loop-test .taken) (eq-eqb _ _ (sym (octet .ensures .same) ∙ c .if1 .taken)) ∙ loop .inv .1 ∙ ap (λ (p : ℕ). lastWith (args .block .charcnt) (nulAt (args .file .now) p)) (designations-of .ensures)
-
-sub-n : tie.Need-sub-n Inv-loop μ-loop
-sub-n c = omega (arith, c .before .before .loop-test .taken)
-
-loop-less : tie.Need-loop-less Inv-loop μ-loop
-loop-less c = omega (arith, c .before .before .loop-test .taken)
 
 loop-again : tie.Need-loop-again Inv-loop μ-loop
 loop-again c =
@@ -69,12 +60,12 @@ nul-end-spec =
     Inv-loop
     μ-loop
     (λ c κs. omega arith)
-    loop-holds
+    (λ c. (omega arith, refl))
     (λ c. omega arith)
     (λ c. omega arith)
     (λ c κs. omega arith)
     returns
-    sub-n
-    loop-less
+    (λ c. omega (arith, c .before .before .loop-test .taken))
+    (λ c. omega (arith, c .before .before .loop-test .taken))
     loop-again
     returns-2)

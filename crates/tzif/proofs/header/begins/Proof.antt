@@ -9,9 +9,6 @@ returns : tie.Need-returns
 unfolding begins
 returns c = rw (← c .before .holds .ensures, not-true (c .before .holds .result) (c .if1 .taken)) refl
 
-be32-requires : tie.Need-be32-requires
-be32-requires c κs = leb-true _ _ (sym (c .before .holds .ensures) ∙ not-false _ (c .if1 .left))
-
 returns-2 : tie.Need-returns-2
 unfolding begins
 returns-2 c =
@@ -22,4 +19,4 @@ returns-2 c =
     rw (← holds .ensures, not-false (holds .result) (if1 .left)) (cc)
 
 pub begins-spec : {M : Type 1} → statement M
-begins-spec = tie.close (tie.spec (λ c κs. search needs) returns be32-requires returns-2)
+begins-spec = tie.close (tie.spec (λ c κs. search needs) returns (λ c κs. leb-true _ _ (sym (c .before .holds .ensures) ∙ not-false _ (c .if1 .left))) returns-2)

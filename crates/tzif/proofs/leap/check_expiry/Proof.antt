@@ -19,9 +19,6 @@ time-in-requires-2 c κs = rw (c .before .occurrences-of .ensures) (occurrences-
 leap-place-requires : tie.Need-leap-place-requires
 leap-place-requires c κs = (omega (arith, row (c .before .before .before .before .args .i) (c .before .before .before .before .args .block .leapcnt) (c .before .before .before .before .args .block .width + 4) (c .before .before .before .before .pre .1 .1), c .before .before .before .before .pre .0 .end), omega (arith, row (c .before .before .before .before .args .i) (c .before .before .before .before .args .block .leapcnt) (c .before .before .before .before .args .block .width + 4) (c .before .before .before .before .pre .1 .1), c .before .before .before .before .pre .0 .end))
 
-returns : tie.Need-returns
-returns c = cc
-
 pub check-expiry-spec : {M : Type 1} → statement M
 check-expiry-spec =
     tie.close
@@ -32,4 +29,4 @@ check-expiry-spec =
     time-in-requires-2
     leap-place-requires
     (λ c κs. search needs)
-    returns)
+    (λ c. cc))

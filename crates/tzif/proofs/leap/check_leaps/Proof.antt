@@ -12,18 +12,9 @@ Inv-loop file fourth block i₀ i = Passed (checkLeap file fourth block) (block 
 abbrev μ-loop : tie.MeasureT-loop
 μ-loop file fourth block i₀ i = block .leapcnt - i
 
-loop-holds : tie.Need-loop-holds Inv-loop μ-loop
-loop-holds c = starts _ _
-
 returns : tie.Need-returns Inv-loop μ-loop
 unfolding checkLeaps
 returns c = fault-found (c .before .before .before .before .before .loop .inv) (c .before .before .before .if1 .taken) (c .before .before .check-leap .ensures) (c .enum-told2 .given .1)
-
-add-i : tie.Need-add-i Inv-loop μ-loop
-add-i c = omega (arith, c .before .before .before .if1 .taken)
-
-loop-less : tie.Need-loop-less Inv-loop μ-loop
-loop-less c = omega (arith, c .before .before .before .if1 .taken)
 
 loop-again : tie.Need-loop-again Inv-loop μ-loop
 loop-again c = next-index (c .before .before .before .before .before .loop .inv) (c .before .before .before .if1 .taken) (c .before .before .check-leap .ensures) (c .enum-told .given .1)
@@ -38,12 +29,12 @@ check-leaps-spec =
     (tie.spec
     Inv-loop
     μ-loop
-    loop-holds
+    (λ c. starts _ _)
     (λ c κs. search needs)
     (λ c. search needs)
     (λ c. search needs)
     returns
-    add-i
-    loop-less
+    (λ c. omega (arith, c .before .before .before .if1 .taken))
+    (λ c. omega (arith, c .before .before .before .if1 .taken))
     loop-again
     returns-2)

@@ -4,11 +4,5 @@ use mathlib.Core.Path.{refl}
 use Rattle.tzif.proofs.leap.expires.Statement.{statement}
 use Rattle.tzif.proofs.leap.expires.Tie as tie
 
-returns : tie.Need-returns
-returns c = rw (c .before .if1 .taken) (c .is-expiry .ensures)
-
-returns-2 : tie.Need-returns-2
-returns-2 c = rw (c .if1 .left) refl
-
 pub expires-spec : {M : Type 1} → statement M
-expires-spec = tie.close (tie.spec (λ c κs. search needs) returns returns-2)
+expires-spec = tie.close (tie.spec (λ c κs. search needs) (λ c. rw (c .before .if1 .taken) (c .is-expiry .ensures)) (λ c. rw (c .if1 .left) refl))

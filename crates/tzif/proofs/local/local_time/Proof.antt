@@ -2,8 +2,7 @@
 use borrow.Author.Needs.{needs}
 use mathlib.Core.Path.{sym, ap, _∙_}
 use mir.{Syntax.{w64}, ValLaws.{toZ-ofZ}}
-use Rattle.tzif.proofs.{Goods.{zone-good, found-held}, Locals.{not-read, not-known, is-found}, Zones.{zone-given, zone-refused}}
-use Rattle.tzif.proofs.local.local_time.Statement.{statement}
+use Rattle.tzif.proofs.{Goods.{zone-good, found-held}, Locals.{not-read, not-known, is-found}, Zones.{zone-given, zone-refused}, local.local_time.Statement.{statement}}
 use Rattle.tzif.specs.Number.{lift}
 use Rattle.tzif.proofs.local.local_time.Tie as tie
 

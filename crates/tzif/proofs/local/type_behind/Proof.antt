@@ -10,9 +10,6 @@ returns : tie.Need-returns
 unfolding typeBehind
 returns c = rw (eq-eqb _ _ (c .if1 .taken)) refl
 
-indices-of-requires : tie.Need-indices-of-requires
-indices-of-requires c κs = omega (arith, c .before .before .pre .0 .within .end)
-
 add-octet : tie.Need-add-octet
 add-octet c = omega (arith, c .before .before .before .pre .0 .within .end, c .indices-of .ensures)
 
@@ -32,4 +29,4 @@ returns-2 c =
 pub type-behind-spec : {M : Type 1} → statement M
 type-behind-spec =
     tie.close
-    (tie.spec returns indices-of-requires (λ c. search needs) add-octet octet-requires returns-2)
+    (tie.spec returns (λ c κs. omega (arith, c .before .before .pre .0 .within .end)) (λ c. search needs) add-octet octet-requires returns-2)

@@ -13,9 +13,6 @@ Inv-loop file block part count i₀ i = (count ≡ countOf block part) × Passed
 abbrev μ-loop : tie.MeasureT-loop
 μ-loop file block part count i₀ i = count - i
 
-loop-holds : tie.Need-loop-holds Inv-loop μ-loop
-loop-holds c = (c .count-of .ensures, starts _ _)
-
 check-of-requires : tie.Need-check-of-requires Inv-loop μ-loop
 check-of-requires c κs =
     let pre = c .before .before .before .before .pre in
@@ -34,12 +31,6 @@ returns c =
     let loop-test = loop-test in
     let check-of = check-of in
     rw (← loop .inv .0) (fault-found (loop .inv .1) (loop-test .taken) (check-of .ensures) (c .enum-told2 .given .1))
-
-add-i : tie.Need-add-i Inv-loop μ-loop
-add-i c = omega (arith, c .before .before .before .loop-test .taken)
-
-loop-less : tie.Need-loop-less Inv-loop μ-loop
-loop-less c = omega (arith, c .before .before .before .loop-test .taken)
 
 loop-again : tie.Need-loop-again Inv-loop μ-loop
 loop-again c =
@@ -62,12 +53,12 @@ check-part-spec =
     Inv-loop
     μ-loop
     (λ c κs. search needs)
-    loop-holds
+    (λ c. (c .count-of .ensures, starts _ _))
     check-of-requires
     (λ c. search needs)
     (λ c. search needs)
     returns
-    add-i
-    loop-less
+    (λ c. omega (arith, c .before .before .before .loop-test .taken))
+    (λ c. omega (arith, c .before .before .before .loop-test .taken))
     loop-again
     returns-2)

@@ -16,9 +16,6 @@ Inv-loop other file from most i₀ i = (i ≤ most) × (firstWith i (stopAt othe
 abbrev μ-loop : tie.MeasureT-loop
 μ-loop other file from most i₀ i = most - i
 
-loop-holds : tie.Need-loop-holds Inv-loop μ-loop
-loop-holds c = (omega arith, none-yet _)
-
 returns : tie.Need-returns Inv-loop μ-loop
 unfolding runTo
 returns c =
@@ -29,12 +26,6 @@ returns c =
     let loop-test = c .before .before .before .loop-test in
     let args = args in
     record { same = here _ _ (loop .inv .1) (sym (ap (isStop (args .other)) (octet .ensures .same)) ∙ sym (is-stop .ensures) ∙ c .if1 .taken) _ (loop-test .taken); within = loop .inv .0 }
-
-add-i : tie.Need-add-i Inv-loop μ-loop
-add-i c = omega (arith, c .before .before .before .loop-test .taken)
-
-loop-less : tie.Need-loop-less Inv-loop μ-loop
-loop-less c = omega (arith, c .before .before .before .loop-test .taken)
 
 loop-again : tie.Need-loop-again Inv-loop μ-loop
 loop-again c =
@@ -60,12 +51,12 @@ run-to-spec =
     (tie.spec
     Inv-loop
     μ-loop
-    loop-holds
+    (λ c. (omega arith, none-yet _))
     (λ c. omega arith)
     (λ c κs. omega arith)
     (λ c κs. search needs)
     returns
-    add-i
-    loop-less
+    (λ c. omega (arith, c .before .before .before .loop-test .taken))
+    (λ c. omega (arith, c .before .before .before .loop-test .taken))
     loop-again
     returns-2)

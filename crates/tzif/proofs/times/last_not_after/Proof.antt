@@ -11,12 +11,6 @@ Inv-loop file times instant low₀ high₀ low high = Narrowed (timeIn file time
 abbrev μ-loop : tie.MeasureT-loop
 μ-loop file times instant low₀ high₀ low high = high - low
 
-loop-holds : tie.Need-loop-holds Inv-loop μ-loop
-loop-holds c = widest _ _ _
-
-time-in-requires : tie.Need-time-in-requires Inv-loop μ-loop
-time-in-requires c κs = (c .before .before .before .pre .0, omega arith)
-
 loop-again : tie.Need-loop-again Inv-loop μ-loop
 loop-again c =
     let loop = c .before .before .before .loop in
@@ -45,10 +39,10 @@ last-not-after-spec =
     (tie.spec
     Inv-loop
     μ-loop
-    loop-holds
+    (λ c. widest _ _ _)
     (λ c. omega arith)
     (λ c. omega arith)
-    time-in-requires
+    (λ c κs. (c .before .before .before .pre .0, omega arith))
     (λ c. omega arith)
     (λ c. omega arith)
     loop-again

@@ -3,8 +3,5 @@ use borrow.Author.Needs.{needs}
 use Rattle.tzif.proofs.times.occurrences_of.Statement.{statement}
 use Rattle.tzif.proofs.times.occurrences_of.Tie as tie
 
-returns : tie.Need-returns
-returns c = cc
-
 pub occurrences-of-spec : {M : Type 1} → statement M
-occurrences-of-spec = tie.close (tie.spec (λ c κs. search needs) (λ c. search needs) returns)
+occurrences-of-spec = tie.close (tie.spec (λ c κs. search needs) (λ c. search needs) (λ c. cc))

@@ -5,9 +5,6 @@ use native.Mathlib.Omega.{arith}
 use Rattle.tzif.proofs.{Goods.{block-read}, Zones.{block-given, header-held, too-long, first-refused, as-short, as-long}, zone.read_zone.Statement.{statement}}
 use Rattle.tzif.proofs.zone.read_zone.Tie as tie
 
-returns : tie.Need-returns
-returns c = too-long (c .before .before .args .file .now) (c .if1 .taken)
-
 returns-2 : tie.Need-returns-2
 returns-2 c =
     let args = c .before .before .before .before .before .before .args in
@@ -62,7 +59,7 @@ pub read-zone-spec : {M : Type 1} → statement M
 read-zone-spec =
     tie.close
     (tie.spec
-    returns
+    (λ c. too-long (c .before .before .args .file .now) (c .if1 .taken))
     (λ c κs. search needs)
     (λ c. search needs)
     (λ c. search needs)

@@ -4,12 +4,6 @@ use Rattle.tzrule.specs.Ask.{corrected}
 use Rattle.tzrule.proofs.ask.{Ways.{far-before, far-after}, ask_at.Statement.{statement}}
 use Rattle.tzrule.proofs.ask.ask_at.Tie as tie
 
-returns : tie.Need-returns
-returns c = far-before _ _ _ (c .before .pre .1) (c .if1 .taken)
-
-returns-2 : tie.Need-returns-2
-returns-2 c = far-after _ _ _ (c .before .before .pre .1) (c .if2 .taken)
-
 returns-3 : tie.Need-returns-3
 unfolding corrected
 returns-3 c = c .ask-in-years .ensures
@@ -18,8 +12,8 @@ pub ask-at-spec : {M : Type 1} → statement M
 ask-at-spec =
     tie.close
     (tie.spec
-    returns
-    returns-2
+    (λ c. far-before _ _ _ (c .before .pre .1) (c .if1 .taken))
+    (λ c. far-after _ _ _ (c .before .before .pre .1) (c .if2 .taken))
     (λ c. search needs)
     (λ c. search needs)
     (λ c κs. search needs)

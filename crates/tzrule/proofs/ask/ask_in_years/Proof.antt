@@ -4,20 +4,14 @@ use mathlib.Core.Path.{sym, _∙_}
 use Rattle.tzrule.proofs.ask.{Ways.{ask-inside, ask-outside}, ask_in_years.Statement.{statement}}
 use Rattle.tzrule.proofs.ask.ask_in_years.Tie as tie
 
-clock-at-requires : tie.Need-clock-at-requires
-clock-at-requires c κs = (sym (c .before .in-years .ensures) ∙ c .if1 .taken, c .before .before .pre)
-
 returns : tie.Need-returns
 returns c = ask-inside _ _ (sym (c .before .before .in-years .ensures) ∙ c .before .if1 .taken) (c .clock-at .ensures)
-
-returns-2 : tie.Need-returns-2
-returns-2 c = ask-outside _ _ (sym (c .before .in-years .ensures) ∙ c .if1 .left)
 
 pub ask-in-years-spec : {M : Type 1} → statement M
 ask-in-years-spec =
     tie.close
     (tie.spec
     (λ c κs. search needs)
-    clock-at-requires
+    (λ c κs. (sym (c .before .in-years .ensures) ∙ c .if1 .taken, c .before .before .pre))
     returns
-    returns-2)
+    (λ c. ask-outside _ _ (sym (c .before .in-years .ensures) ∙ c .if1 .left)))

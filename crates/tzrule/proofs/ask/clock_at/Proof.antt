@@ -4,17 +4,11 @@ use native.Mathlib.Omega.{arith}
 use Rattle.tzrule.proofs.ask.{Ways.{years-range, since-years, since-summer, ruled-is, fixed-clock, summer-clock, winter-clock}, clock_at.Statement.{statement}}
 use Rattle.tzrule.proofs.ask.clock_at.Tie as tie
 
-sub-summer-at : tie.Need-sub-summer-at
-sub-summer-at c = omega (arith, years-range _ (c .before .before .before .pre .0))
-
 summer-at-requires : tie.Need-summer-at-requires
 summer-at-requires c κs = (ruled-is (c .before .tz2 .given .1) (c .before .before .before .pre .1), since-years _ (c .before .before .before .pre .0))
 
 returns : tie.Need-returns
 returns c = summer-clock _ (c .before .before .before .before .tz2 .given .1) (since-summer _ _ (c .before .before .before .before .before .before .pre .0) (c .before .before .summer-at .ensures)) (c .before .if1 .taken)
-
-returns-2 : tie.Need-returns-2
-returns-2 c = fixed-clock _ _ (c .before .tz .given .1)
 
 returns-3 : tie.Need-returns-3
 returns-3 c = winter-clock _ (c .before .before .before .before .tz2 .given .1) (since-summer _ _ (c .before .before .before .before .before .before .pre .0) (c .before .before .summer-at .ensures)) (c .before .if1 .left)
@@ -25,8 +19,8 @@ clock-at-spec =
     (tie.spec
     (λ c. search needs)
     (λ c. search needs)
-    sub-summer-at
+    (λ c. omega (arith, years-range _ (c .before .before .before .pre .0)))
     summer-at-requires
     returns
-    returns-2
+    (λ c. fixed-clock _ _ (c .before .tz .given .1))
     returns-3)

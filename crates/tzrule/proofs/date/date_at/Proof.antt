@@ -4,12 +4,6 @@ use mathlib.Core.Path.{_∙_}
 use Rattle.tzrule.proofs.{Signs.{date-julian, date-month, date-zero}, Times.{byte-inside}, date.date_at.Statement.{statement}}
 use Rattle.tzrule.proofs.date.date_at.Tie as tie
 
-byte-at-requires : tie.Need-byte-at-requires
-byte-at-requires c κs = search needs
-
-add-julian-at : tie.Need-add-julian-at
-add-julian-at c = search needs
-
 julian-at-requires : tie.Need-julian-at-requires
 julian-at-requires c κs =
     let pre = c .before .before .before .pre in
@@ -21,9 +15,6 @@ returns c =
     let byte-at = c .before .before .byte-at in
     let if1 = c .before .if1 in
     (c .julian-at .ensures .0 ∙ date-julian _ _ (byte-at .ensures) (if1 .taken), c .julian-at .ensures .1)
-
-add-month-at : tie.Need-add-month-at
-add-month-at c = search needs
 
 month-at-requires : tie.Need-month-at-requires
 month-at-requires c κs =
@@ -38,9 +29,6 @@ returns-2 c =
     let if2 = c .before .if2 in
     (c .month-at .ensures .0 ∙ date-month _ _ (byte-at .ensures) (if1 .left) (if2 .taken), c .month-at .ensures .1)
 
-zero-at-requires : tie.Need-zero-at-requires
-zero-at-requires c κs = search needs
-
 returns-3 : tie.Need-returns-3
 returns-3 c =
     let byte-at = c .before .before .before .byte-at in
@@ -52,12 +40,12 @@ pub date-at-spec : {M : Type 1} → statement M
 date-at-spec =
     tie.close
     (tie.spec
-    byte-at-requires
-    add-julian-at
+    (λ c κs. search needs)
+    (λ c. search needs)
     julian-at-requires
     returns
-    add-month-at
+    (λ c. search needs)
     month-at-requires
     returns-2
-    zero-at-requires
+    (λ c κs. search needs)
     returns-3)

@@ -5,18 +5,12 @@ use Rattle.tzrule.proofs.{Signs.{dot-none, dot-there}, Times.{byte-insi
 use Rattle.tzrule.specs.Answer.{Within}
 use Rattle.tzrule.proofs.date.dotted_at.Tie as tie
 
-byte-at-requires : tie.Need-byte-at-requires
-byte-at-requires c κs = search needs
-
 returns : tie.Need-returns
 unfolding Within
 returns c =
     let byte-at = c .before .byte-at in
     let pre = c .before .before .before .pre in
     (dot-none _ _ _ (byte-at .ensures) (c .if1 .taken), pre .1)
-
-add-number-at : tie.Need-add-number-at
-add-number-at c = search needs
 
 number-at-requires : tie.Need-number-at-requires
 number-at-requires c κs =
@@ -32,4 +26,4 @@ returns-2 c =
 
 pub dotted-at-spec : {M : Type 1} → statement M
 dotted-at-spec =
-    tie.close (tie.spec byte-at-requires returns add-number-at number-at-requires returns-2)
+    tie.close (tie.spec (λ c κs. search needs) returns (λ c. search needs) number-at-requires returns-2)

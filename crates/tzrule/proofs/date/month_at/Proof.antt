@@ -4,21 +4,12 @@ use Rattle.tzrule.proofs.{Signs.{number-range, month-read, month-fault}
 use Rattle.tzrule.specs.Answer.{GoodDate}
 use Rattle.tzrule.proofs.date.month_at.Tie as tie
 
-number-at-requires : tie.Need-number-at-requires
-number-at-requires c κs = search needs
-
-enum-known-part : tie.Need-enum-known-part
-enum-known-part c = search needs
-
 week-at-requires : tie.Need-week-at-requires
 week-at-requires c κs =
     let pre = c .before .before .before .before .before .pre in
     let part = c .before .part in
     let number-at = c .before .before .before .number-at in
     (pre .0, (read-within (part .given .1) (number-at .ensures .1)) .1, (number-range _ _ _ _ _ (read-is (part .given .1) (number-at .ensures .0))) .0, (number-range _ _ _ _ _ (read-is (part .given .1) (number-at .ensures .0))) .1)
-
-enum-known-part-2 : tie.Need-enum-known-part-2
-enum-known-part-2 c = search needs
 
 returns : tie.Need-returns
 returns c =
@@ -37,9 +28,9 @@ pub month-at-spec : {M : Type 1} → statement M
 month-at-spec =
     tie.close
     (tie.spec
-    number-at-requires
-    enum-known-part
+    (λ c κs. search needs)
+    (λ c. search needs)
     week-at-requires
-    enum-known-part-2
+    (λ c. search needs)
     returns
     returns-2)

@@ -4,21 +4,12 @@ use Rattle.tzrule.proofs.{Signs.{dotted-range, week-read, week-fault}, 
 use Rattle.tzrule.specs.Answer.{GoodDate}
 use Rattle.tzrule.proofs.date.week_at.Tie as tie
 
-dotted-at-requires : tie.Need-dotted-at-requires
-dotted-at-requires c κs = search needs
-
-enum-known-part : tie.Need-enum-known-part
-enum-known-part c = search needs
-
 weekday-at-requires : tie.Need-weekday-at-requires
 weekday-at-requires c κs =
     let pre = c .before .before .before .before .before .pre in
     let part = c .before .part in
     let dotted-at = c .before .before .before .dotted-at in
     (pre .0, (read-within (part .given .1) (dotted-at .ensures .1)) .1, pre .2, pre .3, (dotted-range _ _ _ _ _ (read-is (part .given .1) (dotted-at .ensures .0))) .0, (dotted-range _ _ _ _ _ (read-is (part .given .1) (dotted-at .ensures .0))) .1)
-
-enum-known-part-2 : tie.Need-enum-known-part-2
-enum-known-part-2 c = search needs
 
 returns : tie.Need-returns
 returns c =
@@ -37,9 +28,9 @@ pub week-at-spec : {M : Type 1} → statement M
 week-at-spec =
     tie.close
     (tie.spec
-    dotted-at-requires
-    enum-known-part
+    (λ c κs. search needs)
+    (λ c. search needs)
     weekday-at-requires
-    enum-known-part-2
+    (λ c. search needs)
     returns
     returns-2)

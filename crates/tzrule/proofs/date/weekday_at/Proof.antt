@@ -5,15 +5,6 @@ use Rattle.tzrule.specs.Answer.{GoodDate}
 use Rattle.calendar.specs.Rules.{IsWhen}
 use Rattle.tzrule.proofs.date.weekday_at.Tie as tie
 
-dotted-at-requires : tie.Need-dotted-at-requires
-dotted-at-requires c κs = search needs
-
-enum-known-part : tie.Need-enum-known-part
-enum-known-part c = search needs
-
-enum-known-part-2 : tie.Need-enum-known-part-2
-enum-known-part-2 c = search needs
-
 returns : tie.Need-returns
 unfolding GoodDate IsWhen
 returns c =
@@ -31,4 +22,4 @@ returns-2 c =
 
 pub weekday-at-spec : {M : Type 1} → statement M
 weekday-at-spec =
-    tie.close (tie.spec dotted-at-requires enum-known-part enum-known-part-2 returns returns-2)
+    tie.close (tie.spec (λ c κs. search needs) (λ c. search needs) (λ c. search needs) returns returns-2)

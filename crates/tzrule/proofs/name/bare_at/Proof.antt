@@ -5,12 +5,6 @@ use Rattle.tzrule.proofs.{Letters.{bare-short, bare-read}, name.bare_at
 use Rattle.tzrule.specs.Names.{Inside}
 use Rattle.tzrule.proofs.name.bare_at.Tie as tie
 
-name-end-requires : tie.Need-name-end-requires
-name-end-requires c κs = search needs
-
-add-if1 : tie.Need-add-if1
-add-if1 c = search needs
-
 returns : tie.Need-returns
 unfolding Inside
 returns c = (bare-short _ _ (c .before .name-end .ensures .0) (c .if1 .taken), c .before .name-end .ensures .1)
@@ -20,4 +14,4 @@ unfolding Inside
 returns-2 c = (bare-read _ _ (c .before .name-end .ensures .0) (c .if1 .left), (omega arith, omega arith, c .before .name-end .ensures .1))
 
 pub bare-at-spec : {M : Type 1} → statement M
-bare-at-spec = tie.close (tie.spec name-end-requires add-if1 returns returns-2)
+bare-at-spec = tie.close (tie.spec (λ c κs. search needs) (λ c. search needs) returns returns-2)

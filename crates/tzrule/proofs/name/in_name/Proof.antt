@@ -3,15 +3,6 @@ use borrow.Author.Needs.{needs}
 use Rattle.tzrule.proofs.{Letters.{by-letter, by-none, by-digit, by-plus, by-minus}, name.in_name.Statement.{statement}}
 use Rattle.tzrule.proofs.name.in_name.Tie as tie
 
-is-letter-requires : tie.Need-is-letter-requires
-is-letter-requires c κs = search needs
-
-returns : tie.Need-returns
-returns c = by-letter _ _ (c .before .is-letter .ensures) (c .if1 .taken)
-
-is-digit-requires : tie.Need-is-digit-requires
-is-digit-requires c κs = search needs
-
 returns-2 : tie.Need-returns-2
 returns-2 c =
     let is-letter = c .before .before .before .before .is-letter in
@@ -47,4 +38,4 @@ returns-5 c =
 pub in-name-spec : {M : Type 1} → statement M
 in-name-spec =
     tie.close
-    (tie.spec is-letter-requires returns is-digit-requires returns-2 returns-3 returns-4 returns-5)
+    (tie.spec (λ c κs. search needs) (λ c. by-letter _ _ (c .before .is-letter .ensures) (c .if1 .taken)) (λ c κs. search needs) returns-2 returns-3 returns-4 returns-5)

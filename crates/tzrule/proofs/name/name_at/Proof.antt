@@ -4,12 +4,6 @@ use mathlib.Core.Path.{_∙_}
 use Rattle.tzrule.proofs.{Letters.{name-quoted, name-bare}, Times.{byte-inside}, name.name_at.Statement.{statement}}
 use Rattle.tzrule.proofs.name.name_at.Tie as tie
 
-byte-at-requires : tie.Need-byte-at-requires
-byte-at-requires c κs = search needs
-
-add-quoted-at : tie.Need-add-quoted-at
-add-quoted-at c = search needs
-
 quoted-at-requires : tie.Need-quoted-at-requires
 quoted-at-requires c κs =
     let pre = c .before .before .before .pre in
@@ -22,9 +16,6 @@ returns c =
     let if1 = c .before .if1 in
     (c .quoted-at .ensures .0 ∙ name-quoted _ _ (byte-at .ensures) (if1 .taken), c .quoted-at .ensures .1)
 
-bare-at-requires : tie.Need-bare-at-requires
-bare-at-requires c κs = search needs
-
 returns-2 : tie.Need-returns-2
 returns-2 c =
     let byte-at = c .before .before .byte-at in
@@ -34,4 +25,4 @@ returns-2 c =
 pub name-at-spec : {M : Type 1} → statement M
 name-at-spec =
     tie.close
-    (tie.spec byte-at-requires add-quoted-at quoted-at-requires returns bare-at-requires returns-2)
+    (tie.spec (λ c κs. search needs) (λ c. search needs) quoted-at-requires returns (λ c κs. search needs) returns-2)

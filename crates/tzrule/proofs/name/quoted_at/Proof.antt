@@ -5,21 +5,9 @@ use Rattle.tzrule.proofs.{Letters.{quoted-short, quoted-read, quoted-op
 use Rattle.tzrule.specs.Names.{Inside}
 use Rattle.tzrule.proofs.name.quoted_at.Tie as tie
 
-name-end-requires : tie.Need-name-end-requires
-name-end-requires c κs = search needs
-
-add-if1 : tie.Need-add-if1
-add-if1 c = search needs
-
 returns : tie.Need-returns
 unfolding Inside
 returns c = (quoted-short _ _ (c .before .name-end .ensures .0) (c .if1 .taken), c .before .name-end .ensures .1)
-
-byte-at-requires : tie.Need-byte-at-requires
-byte-at-requires c κs = search needs
-
-add-next : tie.Need-add-next
-add-next c = search needs
 
 returns-2 : tie.Need-returns-2
 unfolding Inside
@@ -40,4 +28,4 @@ returns-3 c =
 pub quoted-at-spec : {M : Type 1} → statement M
 quoted-at-spec =
     tie.close
-    (tie.spec name-end-requires add-if1 returns byte-at-requires add-next returns-2 returns-3)
+    (tie.spec (λ c κs. search needs) (λ c. search needs) returns (λ c κs. search needs) (λ c. search needs) returns-2 returns-3)

@@ -3,8 +3,7 @@ use Prim.Native.Nat.{_+_, _-_}
 use borrow.Author.Needs.{needs}
 use mathlib.Core.Path.{sym, _∙_}
 use native.Mathlib.Omega.{arith}
-use Rattle.tzrule.proofs.Numbers.{was-false, was-true, Taken, digit-range, few, taken-first, taken-end, taken-stop, taken-more}
-use Rattle.tzrule.proofs.number.digits_at.Statement.{statement}
+use Rattle.tzrule.proofs.{Numbers.{was-false, was-true, Taken, digit-range, few, taken-first, taken-end, taken-stop, taken-more}, number.digits_at.Statement.{statement}}
 use Rattle.tzrule.proofs.number.digits_at.Tie as tie
 
 abbrev Inv-loop : tie.InvT-loop
@@ -12,21 +11,6 @@ Inv-loop text at most value₀ next₀ end value next = Taken text at most value
 
 abbrev μ-loop : tie.MeasureT-loop
 μ-loop text at most value₀ next₀ end value next = at + most - next
-
-add-end : tie.Need-add-end Inv-loop μ-loop
-add-end c = omega (arith, c .before .pre)
-
-loop-holds : tie.Need-loop-holds Inv-loop μ-loop
-loop-holds c = taken-first _ _ _ (c .before .pre .1)
-
-byte-at-requires : tie.Need-byte-at-requires Inv-loop μ-loop
-byte-at-requires c κs = search needs
-
-wide-requires : tie.Need-wide-requires Inv-loop μ-loop
-wide-requires c κs = search needs
-
-is-digit-requires : tie.Need-is-digit-requires Inv-loop μ-loop
-is-digit-requires c κs = search needs
 
 returns : tie.Need-returns Inv-loop μ-loop
 returns c =
@@ -58,9 +42,6 @@ add-next c =
     let pre = c .before .before .before .before .before .before .before .pre in
     omega (arith, loop .inv .inside, pre)
 
-loop-less : tie.Need-loop-less Inv-loop μ-loop
-loop-less c = omega arith
-
 loop-again : tie.Need-loop-again Inv-loop μ-loop
 loop-again c =
     let loop = c .before .before .before .before .before .loop in
@@ -69,25 +50,22 @@ loop-again c =
     let is-digit = c .before .is-digit in
     taken-more (loop .inv) (omega arith) (wide .ensures ∙ byte-at .ensures) (sym (is-digit .ensures) ∙ was-true _ (c .if1 .left))
 
-returns-2 : tie.Need-returns-2 Inv-loop μ-loop
-returns-2 c = (taken-end (c .before .loop .inv) (omega arith), c .before .loop .inv .inside)
-
 pub digits-at-spec : {M : Type 1} → statement M
 digits-at-spec =
     tie.close
     (tie.spec
     Inv-loop
     μ-loop
-    add-end
-    loop-holds
-    byte-at-requires
-    wide-requires
-    is-digit-requires
+    (λ c. omega (arith, c .before .pre))
+    (λ c. taken-first _ _ _ (c .before .pre .1))
+    (λ c κs. search needs)
+    (λ c κs. search needs)
+    (λ c κs. search needs)
     returns
     mul-value
     sub-value
     add-value
     add-next
-    loop-less
+    (λ c. omega arith)
     loop-again
-    returns-2)
+    (λ c. (taken-end (c .before .loop .inv) (omega arith), c .before .loop .inv .inside)))

@@ -4,12 +4,6 @@ use Rattle.tzrule.proofs.{Times.{number-short, number-low, number-high,
 use Rattle.tzrule.specs.Answer.{Within}
 use Rattle.tzrule.proofs.number.number_at.Tie as tie
 
-digits-at-requires : tie.Need-digits-at-requires
-digits-at-requires c κs = search needs
-
-add-if1 : tie.Need-add-if1
-add-if1 c = search needs
-
 returns : tie.Need-returns
 unfolding Within
 returns c = (number-short _ _ _ (c .before .before .digits-at .ensures .0) (c .if1 .taken), c .before .before .digits-at .ensures .1)
@@ -41,4 +35,4 @@ returns-4 c =
 
 pub number-at-spec : {M : Type 1} → statement M
 number-at-spec =
-    tie.close (tie.spec digits-at-requires add-if1 returns returns-2 returns-3 returns-4)
+    tie.close (tie.spec (λ c κs. search needs) (λ c. search needs) returns returns-2 returns-3 returns-4)

@@ -1,38 +1,19 @@
 -- `tzrule::string::change_at` meets its contract. Assumes nothing.
 use borrow.Author.Needs.{needs}
-use native.Mathlib.Omega.{arith}
 use Rattle.tzrule.proofs.Times.{byte-inside, read-is, read-within, fault-is, fault-within}
 use Rattle.tzrule.proofs.string.{Ways.{day-is, day-good, day-fault, day-place, no-comma, no-date, no-time, change-read}, change_at.Statement.{statement}}
 use Rattle.tzrule.specs.String.{GoodChange}
 use Rattle.tzrule.proofs.string.change_at.Tie as tie
 
-byte-at-requires : tie.Need-byte-at-requires
-byte-at-requires c κs = search needs
-
 returns : tie.Need-returns
 unfolding GoodChange
 returns c = (no-comma _ _ (c .before .byte-at .ensures) _ (c .if1 .taken), c .before .before .before .pre .1)
 
-add-date-at : tie.Need-add-date-at
-add-date-at c = search needs
-
 date-at-requires : tie.Need-date-at-requires
 date-at-requires c κs = (c .before .before .before .pre .0, byte-inside _ _ (c .before .byte-at .ensures) (c .if1 .left))
 
-enum-known-date : tie.Need-enum-known-date
-enum-known-date c = search needs
-
 time-at-requires : tie.Need-time-at-requires
 time-at-requires c κs = (c .before .before .before .before .before .before .before .pre .0, day-good (c .before .date .given .1) _ (c .before .before .before .date-at .ensures .1) .1)
-
-enum-known-timed : tie.Need-enum-known-timed
-enum-known-timed c = search needs
-
-enum-known-timed-2 : tie.Need-enum-known-timed-2
-enum-known-timed-2 c = search needs
-
-enum-known-date-2 : tie.Need-enum-known-date-2
-enum-known-date-2 c = search needs
 
 returns-2 : tie.Need-returns-2
 unfolding GoodChange
@@ -50,15 +31,15 @@ pub change-at-spec : {M : Type 1} → statement M
 change-at-spec =
     tie.close
     (tie.spec
-    byte-at-requires
+    (λ c κs. search needs)
     returns
-    add-date-at
+    (λ c. search needs)
     date-at-requires
-    enum-known-date
+    (λ c. search needs)
     time-at-requires
-    enum-known-timed
-    enum-known-timed-2
-    enum-known-date-2
+    (λ c. search needs)
+    (λ c. search needs)
+    (λ c. search needs)
     returns-2
     returns-3
     returns-4)

@@ -5,14 +5,8 @@ use native.Mathlib.Omega.{arith}
 use Rattle.tzrule.proofs.string.{Ways.{around-within, hours-wide, hours-plain}, hours_at.Statement.{statement}}
 use Rattle.tzrule.proofs.string.hours_at.Tie as tie
 
-signed-at-requires : tie.Need-signed-at-requires
-signed-at-requires c κs = search needs
-
 returns : tie.Need-returns
 returns c = (c .signed-at .ensures .0 ∙ hours-wide _ _ (c .before .if1 .taken), around-within _ _ _ (omega arith) (c .signed-at .ensures .1))
-
-later-at-requires : tie.Need-later-at-requires
-later-at-requires c κs = search needs
 
 returns-2 : tie.Need-returns-2
 returns-2 c = (c .later-at .ensures .0 ∙ hours-plain _ _ (c .before .if1 .left), around-within _ _ _ (omega arith) (c .later-at .ensures .1))
@@ -21,7 +15,7 @@ pub hours-at-spec : {M : Type 1} → statement M
 hours-at-spec =
     tie.close
     (tie.spec
-    signed-at-requires
+    (λ c κs. search needs)
     returns
-    later-at-requires
+    (λ c κs. search needs)
     returns-2)

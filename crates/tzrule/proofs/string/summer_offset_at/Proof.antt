@@ -6,18 +6,9 @@ use Rattle.tzrule.proofs.string.{Ways.{around-within, summer-default, s
 use Rattle.tzrule.specs.Answer.{Within}
 use Rattle.tzrule.proofs.string.summer_offset_at.Tie as tie
 
-byte-at-requires : tie.Need-byte-at-requires
-byte-at-requires c κs = search needs
-
-sub-value : tie.Need-sub-value
-sub-value c = search needs
-
 returns : tie.Need-returns
 unfolding Within
 returns c = (summer-default _ _ (c .before .byte-at .ensures) _ (c .if1 .taken), (omega (arith, c .before .before .before .pre), c .before .before .before .pre .1))
-
-offset-at-requires : tie.Need-offset-at-requires
-offset-at-requires c κs = search needs
 
 returns-2 : tie.Need-returns-2
 returns-2 c = (c .offset-at .ensures .0 ∙ summer-written _ _ (c .before .before .byte-at .ensures) _ (c .before .if1 .left), around-within _ _ _ (omega arith) (c .offset-at .ensures .1))
@@ -26,8 +17,8 @@ pub summer-offset-at-spec : {M : Type 1} → statement M
 summer-offset-at-spec =
     tie.close
     (tie.spec
-    byte-at-requires
-    sub-value
+    (λ c κs. search needs)
+    (λ c. search needs)
     returns
-    offset-at-requires
+    (λ c κs. search needs)
     returns-2)

@@ -6,12 +6,6 @@ use Rattle.tzrule.proofs.{Times.{byte-inside}, string.{Ways.{time-writt
 use Rattle.tzrule.specs.Answer.{Within}
 use Rattle.tzrule.proofs.string.time_at.Tie as tie
 
-byte-at-requires : tie.Need-byte-at-requires
-byte-at-requires c κs = search needs
-
-add-hours-at : tie.Need-add-hours-at
-add-hours-at c = search needs
-
 hours-at-requires : tie.Need-hours-at-requires
 hours-at-requires c κs = (c .before .before .before .pre .0, byte-inside _ _ (c .before .byte-at .ensures) (c .if1 .taken))
 
@@ -26,8 +20,8 @@ pub time-at-spec : {M : Type 1} → statement M
 time-at-spec =
     tie.close
     (tie.spec
-    byte-at-requires
-    add-hours-at
+    (λ c κs. search needs)
+    (λ c. search needs)
     hours-at-requires
     returns
     returns-2)

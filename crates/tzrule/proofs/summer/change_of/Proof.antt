@@ -7,9 +7,6 @@ use Rattle.tzrule.proofs.{Guess.{day-few}, summer.change_of.Statement.{
 use Rattle.tzrule.specs.Summer.{changeOf}
 use Rattle.tzrule.proofs.summer.change_of.Tie as tie
 
-day-of-requires : tie.Need-day-of-requires
-day-of-requires c κs = search needs
-
 mul-result : tie.Need-mul-result
 mul-result c =
     let args = c .before .args in
@@ -38,4 +35,4 @@ returns c =
     ap (λ (day : ℕ). 86400 * day + args .change .time + args .west) (day-of .ensures)
 
 pub change-of-spec : {M : Type 1} → statement M
-change-of-spec = tie.close (tie.spec day-of-requires mul-result add-result add-result-2 returns)
+change-of-spec = tie.close (tie.spec (λ c κs. search needs) mul-result add-result add-result-2 returns)

@@ -3,18 +3,6 @@ use borrow.Author.Needs.{needs}
 use Rattle.tzrule.proofs.{Guess.{close-next, close-same}, summer.close_of.Statement.{statement}}
 use Rattle.tzrule.proofs.summer.close_of.Tie as tie
 
-end-of-requires : tie.Need-end-of-requires
-end-of-requires c κs = search needs
-
-start-of-requires : tie.Need-start-of-requires
-start-of-requires c κs = search needs
-
-add-end-of : tie.Need-add-end-of
-add-end-of c = search needs
-
-end-of-requires-2 : tie.Need-end-of-requires-2
-end-of-requires-2 c κs = search needs
-
 returns : tie.Need-returns
 returns c =
     let end-of = c .before .before .before .end-of in
@@ -31,4 +19,4 @@ returns-2 c =
 pub close-of-spec : {M : Type 1} → statement M
 close-of-spec =
     tie.close
-    (tie.spec end-of-requires start-of-requires add-end-of end-of-requires-2 returns returns-2)
+    (tie.spec (λ c κs. search needs) (λ c κs. search needs) (λ c. search needs) (λ c κs. search needs) returns returns-2)

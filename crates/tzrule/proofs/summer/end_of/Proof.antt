@@ -4,12 +4,9 @@ use Rattle.tzrule.proofs.summer.end_of.Statement.{statement}
 use Rattle.tzrule.specs.Summer.{endOf}
 use Rattle.tzrule.proofs.summer.end_of.Tie as tie
 
-change-of-requires : tie.Need-change-of-requires
-change-of-requires c κs = search needs
-
 returns : tie.Need-returns
 unfolding endOf
 returns c = c .change-of .ensures
 
 pub end-of-spec : {M : Type 1} → statement M
-end-of-spec = tie.close (tie.spec change-of-requires returns)
+end-of-spec = tie.close (tie.spec (λ c κs. search needs) returns)

@@ -4,12 +4,9 @@ use Rattle.tzrule.proofs.summer.start_of.Statement.{statement}
 use Rattle.tzrule.specs.Summer.{startOf}
 use Rattle.tzrule.proofs.summer.start_of.Tie as tie
 
-change-of-requires : tie.Need-change-of-requires
-change-of-requires c κs = search needs
-
 returns : tie.Need-returns
 unfolding startOf
 returns c = c .change-of .ensures
 
 pub start-of-spec : {M : Type 1} → statement M
-start-of-spec = tie.close (tie.spec change-of-requires returns)
+start-of-spec = tie.close (tie.spec (λ c κs. search needs) returns)

@@ -11,20 +11,8 @@ Inv-loop rule instant guess year₀ year = (startOf rule year ≤ instant) × (y
 abbrev μ-loop : tie.MeasureT-loop
 μ-loop rule instant guess year₀ year = instant / 31556952 + 2 - year
 
-sub-year : tie.Need-sub-year Inv-loop μ-loop
-sub-year c = omega (arith, c .pre .1 .from)
-
 loop-holds : tie.Need-loop-holds Inv-loop μ-loop
 loop-holds c = (begun (c .args .rule) (c .pre .0) _ (c .args .instant) (omega (arith, c .pre .1 .from)), omega arith)
-
-add-start-of : tie.Need-add-start-of Inv-loop μ-loop
-add-start-of c = omega (arith, c .before .pre .1 .to)
-
-start-of-requires : tie.Need-start-of-requires Inv-loop μ-loop
-start-of-requires c κs = (omega (arith, c .before .pre .1 .to), c .before .pre .0)
-
-add-year : tie.Need-add-year Inv-loop μ-loop
-add-year c = omega (arith, c .before .before .before .pre .1 .to)
 
 loop-less : tie.Need-loop-less Inv-loop μ-loop
 loop-less c =
@@ -58,11 +46,11 @@ summer-at-spec =
     (tie.spec
     Inv-loop
     μ-loop
-    sub-year
+    (λ c. omega (arith, c .pre .1 .from))
     loop-holds
-    add-start-of
-    start-of-requires
-    add-year
+    (λ c. omega (arith, c .before .pre .1 .to))
+    (λ c κs. (omega (arith, c .before .pre .1 .to), c .before .pre .0))
+    (λ c. omega (arith, c .before .before .before .pre .1 .to))
     loop-less
     loop-again
     close-of-requires

@@ -5,12 +5,6 @@ use Rattle.tzrule.proofs.{Times.{read-is, read-within, fault-is, fault-
 use Rattle.tzrule.specs.Answer.{Within}
 use Rattle.tzrule.proofs.time.clock_at.Tie as tie
 
-number-at-requires : tie.Need-number-at-requires
-number-at-requires c κs = search needs
-
-enum-known-part : tie.Need-enum-known-part
-enum-known-part c = search needs
-
 mul-minutes-at : tie.Need-mul-minutes-at
 mul-minutes-at c =
     let part = c .before .part in
@@ -24,9 +18,6 @@ minutes-at-requires c κs =
     let part = c .before .part in
     let number-at = c .before .before .before .number-at in
     (pre .0, (read-within (part .given .1) (number-at .ensures .1)) .1, omega (arith, read-within (part .given .1) (number-at .ensures .1), pre .2 .high))
-
-enum-known-part-2 : tie.Need-enum-known-part-2
-enum-known-part-2 c = search needs
 
 returns : tie.Need-returns
 returns c =
@@ -45,10 +36,10 @@ pub clock-at-spec : {M : Type 1} → statement M
 clock-at-spec =
     tie.close
     (tie.spec
-    number-at-requires
-    enum-known-part
+    (λ c κs. search needs)
+    (λ c. search needs)
     mul-minutes-at
     minutes-at-requires
-    enum-known-part-2
+    (λ c. search needs)
     returns
     returns-2)

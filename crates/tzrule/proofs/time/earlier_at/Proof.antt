@@ -5,21 +5,12 @@ use Rattle.tzrule.proofs.{Signs.{earlier-read, earlier-fault}, Times.{r
 use Rattle.tzrule.specs.Answer.{Around}
 use Rattle.tzrule.proofs.time.earlier_at.Tie as tie
 
-clock-at-requires : tie.Need-clock-at-requires
-clock-at-requires c κs = search needs
-
-enum-known-part : tie.Need-enum-known-part
-enum-known-part c = search needs
-
 sub-total : tie.Need-sub-total
 sub-total c =
     let part = c .before .part in
     let clock-at = c .before .before .before .clock-at in
     let pre = c .before .before .before .before .before .pre in
     omega (arith, read-within (part .given .1) (clock-at .ensures .1), pre .3)
-
-enum-known-part-2 : tie.Need-enum-known-part-2
-enum-known-part-2 c = search needs
 
 returns : tie.Need-returns
 unfolding Around
@@ -39,4 +30,4 @@ returns-2 c =
 pub earlier-at-spec : {M : Type 1} → statement M
 earlier-at-spec =
     tie.close
-    (tie.spec clock-at-requires enum-known-part sub-total enum-known-part-2 returns returns-2)
+    (tie.spec (λ c κs. search needs) (λ c. search needs) sub-total (λ c. search needs) returns returns-2)

@@ -6,9 +6,6 @@ use Rattle.tzrule.proofs.time.seconds_at.Statement.{statement}
 use Rattle.tzrule.specs.Answer.{Within}
 use Rattle.tzrule.proofs.time.seconds_at.Tie as tie
 
-byte-at-requires : tie.Need-byte-at-requires
-byte-at-requires c κs = search needs
-
 returns : tie.Need-returns
 unfolding Within
 returns c =
@@ -16,17 +13,11 @@ returns c =
     let pre = c .before .before .before .pre in
     (seconds-none _ _ _ (byte-at .ensures) (c .if1 .taken), (omega arith, pre .1))
 
-add-number-at : tie.Need-add-number-at
-add-number-at c = search needs
-
 number-at-requires : tie.Need-number-at-requires
 number-at-requires c κs =
     let pre = c .before .before .before .pre in
     let byte-at = c .before .byte-at in
     (pre .0, byte-inside _ _ (byte-at .ensures) (c .if1 .left), sixty-shape)
-
-enum-known-part : tie.Need-enum-known-part
-enum-known-part c = search needs
 
 add-total : tie.Need-add-total
 add-total c =
@@ -34,9 +25,6 @@ add-total c =
     let number-at = c .before .before .before .number-at in
     let pre = c .before .before .before .before .before .before .before .pre in
     omega (arith, read-within (part .given .1) (number-at .ensures .1), pre .2)
-
-enum-known-part-2 : tie.Need-enum-known-part-2
-enum-known-part-2 c = search needs
 
 returns-2 : tie.Need-returns-2
 unfolding Within
@@ -60,12 +48,12 @@ pub seconds-at-spec : {M : Type 1} → statement M
 seconds-at-spec =
     tie.close
     (tie.spec
-    byte-at-requires
+    (λ c κs. search needs)
     returns
-    add-number-at
+    (λ c. search needs)
     number-at-requires
-    enum-known-part
+    (λ c. search needs)
     add-total
-    enum-known-part-2
+    (λ c. search needs)
     returns-2
     returns-3)

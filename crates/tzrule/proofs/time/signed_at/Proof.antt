@@ -4,12 +4,6 @@ use mathlib.Core.Path.{_∙_}
 use Rattle.tzrule.proofs.{Signs.{sign-minus, sign-plus, sign-none}, Times.{byte-inside}, time.signed_at.Statement.{statement}}
 use Rattle.tzrule.proofs.time.signed_at.Tie as tie
 
-byte-at-requires : tie.Need-byte-at-requires
-byte-at-requires c κs = search needs
-
-add-earlier-at : tie.Need-add-earlier-at
-add-earlier-at c = search needs
-
 earlier-at-requires : tie.Need-earlier-at-requires
 earlier-at-requires c κs =
     let pre = c .before .before .before .pre in
@@ -21,9 +15,6 @@ returns c =
     let byte-at = c .before .before .byte-at in
     let if1 = c .before .if1 in
     (c .earlier-at .ensures .0 ∙ sign-minus _ _ _ (byte-at .ensures) (if1 .taken), c .earlier-at .ensures .1)
-
-add-later-at : tie.Need-add-later-at
-add-later-at c = search needs
 
 later-at-requires : tie.Need-later-at-requires
 later-at-requires c κs =
@@ -38,9 +29,6 @@ returns-2 c =
     let if2 = c .before .if2 in
     (c .later-at .ensures .0 ∙ sign-plus _ _ _ (byte-at .ensures) (if1 .left) (if2 .taken), c .later-at .ensures .1)
 
-later-at-requires-2 : tie.Need-later-at-requires-2
-later-at-requires-2 c κs = search needs
-
 returns-3 : tie.Need-returns-3
 returns-3 c =
     let byte-at = c .before .before .before .byte-at in
@@ -52,12 +40,12 @@ pub signed-at-spec : {M : Type 1} → statement M
 signed-at-spec =
     tie.close
     (tie.spec
-    byte-at-requires
-    add-earlier-at
+    (λ c κs. search needs)
+    (λ c. search needs)
     earlier-at-requires
     returns
-    add-later-at
+    (λ c. search needs)
     later-at-requires
     returns-2
-    later-at-requires-2
+    (λ c κs. search needs)
     returns-3)

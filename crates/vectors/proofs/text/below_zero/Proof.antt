@@ -7,9 +7,6 @@ use Rattle.numbers.proofs.Signed.{complement-fits}
 use Rattle.vectors.proofs.text.below_zero.Statement.{statement}
 use Rattle.vectors.proofs.text.below_zero.Tie as tie
 
-sub-result-2 : tie.Need-sub-result-2
-sub-result-2 c = complement-fits w64 (c .before .before .args .size - 1) (omega arith)
-
 pub below-zero-spec : {M : Type 1} → statement M
 below-zero-spec =
-    tie.close (tie.spec (λ c. search needs) (λ c. search needs) (λ c. search needs) (λ c. search needs) sub-result-2 (λ c. search needs))
+    tie.close (tie.spec (λ c. search needs) (λ c. search needs) (λ c. search needs) (λ c. search needs) (λ c. complement-fits w64 (c .before .before .args .size - 1) (omega arith)) (λ c. search needs))

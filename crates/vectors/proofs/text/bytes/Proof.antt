@@ -17,20 +17,11 @@ Inv-loop word out₀ i₀ at₀ out i at = (i ≤ length word) × (at ≤ length
 abbrev μ-loop : tie.MeasureT-loop
 μ-loop word out₀ i₀ at₀ out i at = length word - i
 
-returns : tie.Need-returns Inv-loop μ-loop
-returns c = counts _ _ (c .before .before .loop .inv .1)
-
-returns-2 : tie.Need-returns-2 Inv-loop μ-loop
-returns-2 c = counts _ _ (c .before .before .before .loop .inv .1)
-
 loop-again : tie.Need-loop-again Inv-loop μ-loop
 loop-again c =
     let loop = c .before .before .before .before .before .before .before .loop in
     let loop = loop in
     simp length-set (omega arith, omega arith, loop .inv .2)
-
-returns-3 : tie.Need-returns-3 Inv-loop μ-loop
-returns-3 c = counts _ _ (c .before .loop .inv .1)
 
 pub bytes-spec : {M : Type 1} → statement M
 bytes-spec =
@@ -41,9 +32,9 @@ bytes-spec =
     (λ c. search needs)
     (λ c. search needs)
     (λ c. search needs)
-    returns
+    (λ c. counts _ _ (c .before .before .loop .inv .1))
     (λ c. search needs)
-    returns-2
+    (λ c. counts _ _ (c .before .before .before .loop .inv .1))
     (λ c. search needs)
     (λ c κs. search needs)
     (λ c. search needs)
@@ -57,4 +48,4 @@ bytes-spec =
     (λ c. search needs)
     loop-again
     (λ c. search needs)
-    returns-3)
+    (λ c. counts _ _ (c .before .loop .inv .1)))

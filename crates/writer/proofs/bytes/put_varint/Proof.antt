@@ -8,8 +8,5 @@ use Rattle.writer.proofs.bytes.put_varint.Tie as tie
 add-result : tie.Need-add-result
 add-result c = omega (arith, c .before .before .write-varint .ensures .counted, varint-few (c .before .before .before .before .before .args .value))
 
-returns : tie.Need-returns
-returns c = stored-put (c .before .before .write-varint .ensures)
-
 pub put-varint-spec : {M : Type 1} → statement M
-put-varint-spec = tie.close (tie.spec (λ c κs. search needs) add-result (λ c. search needs) returns)
+put-varint-spec = tie.close (tie.spec (λ c κs. search needs) add-result (λ c. search needs) (λ c. stored-put (c .before .before .write-varint .ensures)))

@@ -4,8 +4,7 @@ use native.Mathlib.Omega.{arith}
 use Prim.Native.Nat.{_-_, _≤_}
 use lib.ListN.{length}
 use Rattle.numbers.specs.Lists.{zeros}
-use Rattle.writer.proofs.Stores.{Left, left-all, left-step, left-none, stored-one, stored-zeros, zeros-all, zeros-next, zeros-done}
-use Rattle.writer.proofs.bytes.zero_bytes.Statement.{statement}
+use Rattle.writer.proofs.{Stores.{Left, left-all, left-step, left-none, stored-one, stored-zeros, zeros-all, zeros-next, zeros-done}, bytes.zero_bytes.Statement.{statement}}
 use Rattle.writer.proofs.bytes.zero_bytes.Tie as tie
 
 abbrev Inv-loop : tie.InvT-loop
@@ -17,21 +16,9 @@ abbrev μ-loop : tie.MeasureT-loop
 loop-holds : tie.Need-loop-holds Inv-loop μ-loop
 loop-holds c = let out = c .args .out .now in (omega arith, subst (Left out 0 (zeros (length out)) out 0) (zeros-all (length out)) left-all)
 
-slice-write-out : tie.Need-slice-write-out Inv-loop μ-loop
-slice-write-out c = omega arith
-
-add-i : tie.Need-add-i Inv-loop μ-loop
-add-i c = omega arith
-
-loop-less : tie.Need-loop-less Inv-loop μ-loop
-loop-less c = omega (arith, c .before .loop .inv .1 .size)
-
 loop-again : tie.Need-loop-again Inv-loop μ-loop
 loop-again c = let l = c .before .loop in let out = c .before .before .args .out .now in
     (omega (arith, l .inv .1 .size), left-step (0 ∷ []) (subst (Left out 0 _ (l .out) (l .i)) (zeros-next (length out) (l .i) (omega (arith, l .inv .1 .size))) (l .inv .1)) (stored-one (l .out) (l .i) 0))
-
-same-length : tie.Need-same-length Inv-loop μ-loop
-same-length c = c .before .loop .inv .1 .size
 
 returns : tie.Need-returns Inv-loop μ-loop
 returns c = let l = c .before .loop in let out = c .before .before .args .out .now in
@@ -44,9 +31,9 @@ zero-bytes-spec =
     Inv-loop
     μ-loop
     loop-holds
-    slice-write-out
-    add-i
-    loop-less
+    (λ c. omega arith)
+    (λ c. omega arith)
+    (λ c. omega (arith, c .before .loop .inv .1 .size))
     loop-again
-    same-length
+    (λ c. c .before .loop .inv .1 .size)
     returns)

@@ -15,15 +15,6 @@ Inv-loop list i₀ i = (i ≤ length list) × (every near (drop i list) ≡ ever
 abbrev μ-loop : tie.MeasureT-loop
 μ-loop list i₀ i = length list - i
 
-loop-holds : tie.Need-loop-holds Inv-loop μ-loop
-loop-holds c = (omega arith, refl)
-
-mul-is-near : tie.Need-mul-is-near Inv-loop μ-loop
-mul-is-near c = omega arith
-
-shared-slice-copy-out-is-near : tie.Need-shared-slice-copy-out-is-near Inv-loop μ-loop
-shared-slice-copy-out-is-near c = omega arith
-
 returns : tie.Need-returns Inv-loop μ-loop
 returns c =
     let args = c .before .before .before .before .before .args in
@@ -35,12 +26,6 @@ returns c =
     let fit : SFits w32 (getD zs (l .i) (pos 0)) = record { sfits = is-near-arg .given } in
     let bad : near (getD zs (l .i) (pos 0)) ≡ false = ap near (sym (toZ-ofZ fit)) ∙ sym (is-near .ensures) ∙ not-true _ (c .if1 .taken) in
     sym (every-bad near zs (l .i) (pos 0) (loop-test .taken) bad) ∙ l .inv .1
-
-add-i : tie.Need-add-i Inv-loop μ-loop
-add-i c = omega arith
-
-loop-less : tie.Need-loop-less Inv-loop μ-loop
-loop-less c = omega arith
 
 loop-again : tie.Need-loop-again Inv-loop μ-loop
 loop-again c =
@@ -64,12 +49,12 @@ all-near-spec =
     (tie.spec
     Inv-loop
     μ-loop
-    loop-holds
-    mul-is-near
-    shared-slice-copy-out-is-near
+    (λ c. (omega arith, refl))
+    (λ c. omega arith)
+    (λ c. omega arith)
     (λ c κs. tt)
     returns
-    add-i
-    loop-less
+    (λ c. omega arith)
+    (λ c. omega arith)
     loop-again
     returns-2)

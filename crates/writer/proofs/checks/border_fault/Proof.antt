@@ -22,9 +22,6 @@ apart : (c : tie.Else6) → let args = c .before .before .before .before .before
 apart c = sym (c .before .none-repeated .ensures) ∙ not-false _ (c .if6 .left)
 
 -- ---- the answers
-returns : tie.Need-returns
-returns c = ap passed (c .refused .ensures) ∙ long-data _ _ _ _ (c .before .if1 .taken)
-
 returns-2 : tie.Need-returns-2
 returns-2 c = ap passed (c .refused2 .ensures) ∙ odd-version _ _ _ _ (c .before .before .if1 .left) (c .before .if2 .taken)
 
@@ -59,7 +56,7 @@ border-fault-spec =
     tie.close
     (tie.spec
     (λ c κs. tt)
-    returns
+    (λ c. ap passed (c .refused .ensures) ∙ long-data _ _ _ _ (c .before .if1 .taken))
     (λ c κs. tt)
     returns-2
     (λ c κs. tt)

@@ -14,12 +14,6 @@ Inv-loop lats lons i₀ i = (1 ≤ i) × (every isMove (drop i (movesOf lats lon
 abbrev μ-loop : tie.MeasureT-loop
 μ-loop lats lons i₀ i = length lats - i
 
-loop-holds : tie.Need-loop-holds Inv-loop μ-loop
-loop-holds c = (omega arith, refl)
-
-moves-at-requires : tie.Need-moves-at-requires Inv-loop μ-loop
-moves-at-requires c κs = (omega arith, omega (arith, c .before .before .pre .1))
-
 returns : tie.Need-returns Inv-loop μ-loop
 returns c =
     let a = c .before .before .before .before .args in
@@ -32,12 +26,6 @@ returns c =
     let same = pre .1 in
     let bad : isMove (getD ms (l .i) still) ≡ false = ap isMove (move-at (a .lats .now) (a .lons .now) (l .i) test (omega arith)) ∙ sym (moves-at .ensures) ∙ not-true _ (c .if1 .taken) in
     sym (every-bad isMove ms (l .i) still (omega (arith, border-length (a .lats .now) (a .lons .now))) bad) ∙ l .inv .1
-
-add-i : tie.Need-add-i Inv-loop μ-loop
-add-i c = omega arith
-
-loop-less : tie.Need-loop-less Inv-loop μ-loop
-loop-less c = omega arith
 
 loop-again : tie.Need-loop-again Inv-loop μ-loop
 loop-again c =
@@ -65,10 +53,10 @@ none-repeated-spec =
     (tie.spec
     Inv-loop
     μ-loop
-    loop-holds
-    moves-at-requires
+    (λ c. (omega arith, refl))
+    (λ c κs. (omega arith, omega (arith, c .before .before .pre .1)))
     returns
-    add-i
-    loop-less
+    (λ c. omega arith)
+    (λ c. omega arith)
     loop-again
     returns-2)

@@ -5,9 +5,6 @@ use native.Mathlib.Omega.{arith}
 use Rattle.writer.proofs.{Indexed.{before-first, before-next}, moves.before.Statement.{statement}}
 use Rattle.writer.proofs.moves.before.Tie as tie
 
-returns : tie.Need-returns
-returns c = before-first (c .before .args .list .now) (c .before .args .i) (c .if1 .taken)
-
 returns-2 : tie.Need-returns-2
 returns-2 c =
     let a = c .before .before .args in
@@ -15,4 +12,4 @@ returns-2 c =
 
 pub before-spec : {M : Type 1} → statement M
 before-spec =
-    tie.close (tie.spec returns (λ c. omega arith) (λ c. omega arith) (λ c. omega arith) returns-2)
+    tie.close (tie.spec (λ c. before-first (c .before .args .list .now) (c .before .args .i) (c .if1 .taken)) (λ c. omega arith) (λ c. omega arith) (λ c. omega arith) returns-2)

@@ -4,15 +4,6 @@ use Rattle.border.proofs.place.Whole.{widens}
 use Rattle.writer.proofs.{Signs.{gap-fits, away-fits, away-small, away-sign, away-form, read-small, read-sign, read-form}, moves.form_of.Statement.{statement}}
 use Rattle.writer.proofs.moves.form_of.Tie as tie
 
-cast-by : tie.Need-cast-by
-cast-by c = widens (c .fits .to)
-
-cast-by-2 : tie.Need-cast-by-2
-cast-by-2 c = widens (c .fits .from)
-
-sub-by : tie.Need-sub-by
-sub-by c = gap-fits (c .args .from) (c .args .to) (c .fits .from) (c .fits .to)
-
 sub-result : tie.Need-sub-result
 sub-result c = let b = c .before in away-fits (b .args .from) (b .args .to) (b .fits .from) (b .fits .to)
 
@@ -49,9 +40,9 @@ pub form-of-spec : {M : Type 1} → statement M
 form-of-spec =
     tie.close
     (tie.spec
-    cast-by
-    cast-by-2
-    sub-by
+    (λ c. widens (c .fits .to))
+    (λ c. widens (c .fits .from))
+    (λ c. gap-fits (c .args .from) (c .args .to) (c .fits .from) (c .fits .to))
     sub-result
     cast-result
     mul-result

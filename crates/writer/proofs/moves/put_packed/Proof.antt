@@ -15,20 +15,11 @@ Inv-loop out₀ place lats lons from to next₀ i₀ out next i =
 abbrev μ-loop : tie.MeasureT-loop
 μ-loop out₀ place lats lons from to next₀ i₀ out next i = to - i
 
-loop-holds : tie.Need-loop-holds Inv-loop μ-loop
-loop-holds c = left-all
-
 move-number-requires : tie.Need-move-number-requires Inv-loop μ-loop
 move-number-requires c κs = (omega (arith, c .before .before .before .before .pre .0), omega (arith, c .before .before .before .before .pre .1))
 
 put-varint-requires : tie.Need-put-varint-requires Inv-loop μ-loop
 put-varint-requires c κs = omega (arith, c .before .before .before .loop .inv .places, c .before .before .before .before .before .pre .2)
-
-add-i : tie.Need-add-i Inv-loop μ-loop
-add-i c = omega arith
-
-loop-less : tie.Need-loop-less Inv-loop μ-loop
-loop-less c = omega arith
 
 loop-again : tie.Need-loop-again Inv-loop μ-loop
 unfolding packedMoveBytes
@@ -46,9 +37,6 @@ loop-again c =
     packedMoveBytes (a .to) (loop-test .taken) (start .pre .0) (start .pre .1))
     (l .inv)) s
 
-same-length : tie.Need-same-length Inv-loop μ-loop
-same-length c = c .before .loop .inv .size
-
 returns : tie.Need-returns Inv-loop μ-loop
 returns c =
     let l = c .before .loop in
@@ -61,11 +49,11 @@ put-packed-spec =
     (tie.spec
     Inv-loop
     μ-loop
-    loop-holds
+    (λ c. left-all)
     move-number-requires
     put-varint-requires
-    add-i
-    loop-less
+    (λ c. omega arith)
+    (λ c. omega arith)
     loop-again
-    same-length
+    (λ c. c .before .loop .inv .size)
     returns)

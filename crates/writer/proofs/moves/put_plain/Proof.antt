@@ -15,23 +15,8 @@ Inv-loop out₀ place lats lons from to next₀ i₀ out next i =
 abbrev μ-loop : tie.MeasureT-loop
 μ-loop out₀ place lats lons from to next₀ i₀ out next i = to - i
 
-loop-holds : tie.Need-loop-holds Inv-loop μ-loop
-loop-holds c = left-all
-
-gap-form-requires : tie.Need-gap-form-requires Inv-loop μ-loop
-gap-form-requires c κs = omega (arith, c .before .before .before .before .pre .0)
-
-gap-form-requires-2 : tie.Need-gap-form-requires-2 Inv-loop μ-loop
-gap-form-requires-2 c κs = omega (arith, c .before .before .before .before .before .pre .1)
-
 put-two-requires : tie.Need-put-two-requires Inv-loop μ-loop
 put-two-requires c κs = omega (arith, c .before .before .before .before .loop .inv .places, c .before .before .before .before .before .before .pre .2)
-
-add-i : tie.Need-add-i Inv-loop μ-loop
-add-i c = omega arith
-
-loop-less : tie.Need-loop-less Inv-loop μ-loop
-loop-less c = omega arith
 
 loop-again : tie.Need-loop-again Inv-loop μ-loop
 unfolding plainMoveBytes
@@ -52,9 +37,6 @@ loop-again c =
     (each-next (a .lats .now) (a .lons .now) (l .i) (omega (arith, start .pre .0, test)) (omega (arith, start .pre .1, test)) plainMoveBytes (a .to) test (start .pre .0) (start .pre .1))
     (l .inv)) t
 
-same-length : tie.Need-same-length Inv-loop μ-loop
-same-length c = c .before .loop .inv .size
-
 returns : tie.Need-returns Inv-loop μ-loop
 returns c =
     let l = c .before .loop in
@@ -67,12 +49,12 @@ put-plain-spec =
     (tie.spec
     Inv-loop
     μ-loop
-    loop-holds
-    gap-form-requires
-    gap-form-requires-2
+    (λ c. left-all)
+    (λ c κs. omega (arith, c .before .before .before .before .pre .0))
+    (λ c κs. omega (arith, c .before .before .before .before .before .pre .1))
     put-two-requires
-    add-i
-    loop-less
+    (λ c. omega arith)
+    (λ c. omega arith)
     loop-again
-    same-length
+    (λ c. c .before .loop .inv .size)
     returns)

@@ -8,9 +8,6 @@ use Rattle.writer.proofs.{Signs.{formed, turned}, moves.turned_form.Sta
 use borrow.Author.{Needs.{sfits-of}, Tests.{eq-eqb, ne-eqb}}
 use Rattle.writer.proofs.moves.turned_form.Tie as tie
 
-returns : tie.Need-returns
-returns c = rw (eq-eqb _ _ (c .before .if1 .taken)) (c .gap-form .ensures)
-
 returns-2 : tie.Need-returns-2
 unfolding gapAt
 returns-2 c =
@@ -27,7 +24,7 @@ turned-form-spec =
     tie.close
     (tie.spec
     (λ c κs. omega arith)
-    returns
+    (λ c. rw (eq-eqb _ _ (c .before .if1 .taken)) (c .gap-form .ensures))
     (λ c. omega arith)
     (λ c. omega arith)
     (λ c κs. omega arith)

@@ -20,8 +20,7 @@ use denote.{RattleType.{owns}, Laws.{Is, shows}, Memory.{pointee}, Builtin.{u8, 
 use denote.Slice.{sliceTy, sliceVal, ShrSlice, Room, slice-vals, shr-slice-tells, shr-slice-lawful, shr-slice-copy}
 use denote.{Index.{place-is, elem-out, elem-back, looks-slice, shuts-slice}, Signature.{plain}, Steps.{only, owned, peeks, heard, nothing}}
 use denote.Triple.{Entry.{onEntry}, Spec.{Meets, tripleOf}, Statement.{Contract, Triple}, Call.{calls-at}, Clauses.{ensured, lasts}, Table.{entered, cited}}
-use denote.Triple.Walked.{says, Stays, stay-none-slice, stay-none, walkOf, AllGo, goes-none-slice, goes-none, Walks, ends-at, walked, walk-meets}
-use denote.Exit.{yes}
+use denote.{Triple.Walked.{says, Stays, stay-none-slice, stay-none, walkOf, AllGo, goes-none-slice, goes-none, Walks, ends-at, walked, walk-meets}, Exit.{yes}}
 use denote.Struct.Laws as SL
 use Rattle.writer.specs.{Moves.{movesOf}, Stored.{Checked}, declared.{write.Piece.{Piece}, pieces.Check.{Check}}}
 use Rattle.writer.proofs.{Packing.{none}, Records.{piece-vals, check-vals, scaled}}

@@ -16,15 +16,6 @@ loop-holds : tie.Need-loop-holds Inv-loop μ-loop
 unfolding firstPieces
 loop-holds c = (omega arith, λ h. h)
 
-piece-at-requires : tie.Need-piece-at-requires Inv-loop μ-loop
-piece-at-requires c κs = omega arith
-
-add-i : tie.Need-add-i Inv-loop μ-loop
-add-i c = omega arith
-
-loop-less : tie.Need-loop-less Inv-loop μ-loop
-loop-less c = omega arith
-
 loop-again : tie.Need-loop-again Inv-loop μ-loop
 loop-again c =
     let a = c .before .before .before .before .before .before .args in
@@ -48,9 +39,9 @@ check-words-spec =
     Inv-loop
     μ-loop
     loop-holds
-    piece-at-requires
+    (λ c κs. omega arith)
     (λ c κs. tt)
-    add-i
-    loop-less
+    (λ c. omega arith)
+    (λ c. omega arith)
     loop-again
     returns)

@@ -5,12 +5,6 @@ use native.Mathlib.Omega.{arith}
 use Rattle.writer.proofs.{Accepting.{Inside, low, empty, past-lats, past-lons, outside, forward, behind, backward}, pieces.is_accepted.Statement.{statement}}
 use Rattle.writer.proofs.pieces.is_accepted.Tie as tie
 
-returns : tie.Need-returns
-returns c = low _ _ _ _ _ (c .if1 .taken)
-
-returns-2 : tie.Need-returns-2
-returns-2 c = empty _ _ _ _ _ (c .before .if1 .left) (c .if2 .taken)
-
 returns-3 : tie.Need-returns-3
 returns-3 c = past-lats _ _ _ _ _ (c .before .before .if1 .left) (c .before .if2 .left) (c .if3 .taken)
 
@@ -30,9 +24,6 @@ inside c =
       among-lons = c .before .if4 .left;
       lies = c .if5 .left;
     }
-
-run-spells-requires : tie.Need-run-spells-requires
-run-spells-requires c κs = let t = inside (c .before .before .before) in (t .among-lats, t .among-lons)
 
 returns-6 : tie.Need-returns-6
 returns-6 c = forward (inside (c .before .before .before .before)) (c .before .before .if6 .taken) (c .run-spells .ensures)
@@ -56,15 +47,15 @@ is-accepted-spec =
     (λ c. omega arith)
     (λ c. omega arith)
     (λ c. omega arith)
-    returns
-    returns-2
+    (λ c. low _ _ _ _ _ (c .if1 .taken))
+    (λ c. empty _ _ _ _ _ (c .before .if1 .left) (c .if2 .taken))
     returns-3
     returns-4
     returns-5
     (λ c. omega arith)
     (λ c. omega arith)
     (λ c. omega arith)
-    run-spells-requires
+    (λ c κs. let t = inside (c .before .before .before) in (t .among-lats, t .among-lons))
     returns-6
     (λ c κs. omega arith)
     returns-7

@@ -14,9 +14,6 @@ Inv-loop run lats lons piece place₀ j₀ place j = (j ≤ piece .count) × (sp
 abbrev μ-loop : tie.MeasureT-loop
 μ-loop run lats lons piece place₀ j₀ place j = piece .count - j
 
-loop-holds : tie.Need-loop-holds Inv-loop μ-loop
-loop-holds c = (omega arith, refl)
-
 returns : tie.Need-returns Inv-loop μ-loop
 returns c =
     let pre = c .before .before .before .before .before .before .pre in
@@ -33,9 +30,6 @@ returns-3 c =
     of-zero _ _ _ (pre .0) (pre .1) _ _ _ (c .before .before .before .before .before .before .before .before .if1 .taken) _ (c .before .before .before .before .before .before .before .read-forward .ensures) _ (c .before .before .before .before .before .number .given .1) (c .before .before .if2 .left) (c .if3 .taken)
     ∙ c .before .before .before .before .before .before .before .before .before .before .loop .inv .1
 
-index-of-requires : tie.Need-index-of-requires Inv-loop μ-loop
-index-of-requires c κs = c .before .before .before .before .before .before .before .before .if1 .taken
-
 is-lent-requires : tie.Need-is-lent-requires Inv-loop μ-loop
 is-lent-requires c κs =
     let pre = c .before .before .before .before .before .before .before .before .before .before .before .before .before .pre in
@@ -49,12 +43,6 @@ returns-4 c =
     let loop = c .before .before .before .before .before .before .before .before .before .before .before .before .before .loop in
     of-other _ _ _ (pre .0) (pre .1) _ _ _ (c .before .before .before .before .before .before .before .before .before .before .before .if1 .taken) _ (c .before .before .before .before .before .before .before .before .before .before .read-forward .ensures) _ (c .before .before .before .before .before .before .before .before .number .given .1) (c .before .before .before .before .before .if2 .left) (c .before .before .before .if3 .left)
     (c .before .before .index-of .ensures) (c .before .is-lent .ensures) (not-true _ (c .if4 .taken)) ∙ loop .inv .1
-
-add-j : tie.Need-add-j Inv-loop μ-loop
-add-j c = omega arith
-
-loop-less : tie.Need-loop-less Inv-loop μ-loop
-loop-less c = omega arith
 
 loop-again : tie.Need-loop-again Inv-loop μ-loop
 loop-again c =
@@ -77,16 +65,16 @@ run-spells-spec =
     (tie.spec
     Inv-loop
     μ-loop
-    loop-holds
+    (λ c. (omega arith, refl))
     (λ c κs. tt)
     (λ c. omega arith)
     returns
     returns-2
     returns-3
-    index-of-requires
+    (λ c κs. c .before .before .before .before .before .before .before .before .if1 .taken)
     is-lent-requires
     returns-4
-    add-j
-    loop-less
+    (λ c. omega arith)
+    (λ c. omega arith)
     loop-again
     returns-5)

@@ -13,8 +13,5 @@ returns c =
     ap (λ (w : Written). replied w (zero-bytes .last .0)) (c .refused .ensures)
     ∙ rw (lt-leb _ _ (if1 .taken)) (ap (replied (Refused 24 0)) (zero-bytes .ensures))
 
-returns-2 : tie.Need-returns-2
-returns-2 c = rw (le-leb _ _ (c .if1 .left))
-
 pub finish-spec : {M : Type 1} → statement M
-finish-spec = tie.close (tie.spec (λ c κs. tt) (λ c κs. tt) (λ c. omega arith) returns returns-2)
+finish-spec = tie.close (tie.spec (λ c κs. tt) (λ c κs. tt) (λ c. omega arith) returns (λ c. rw (le-leb _ _ (c .if1 .left))))

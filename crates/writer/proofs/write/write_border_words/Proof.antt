@@ -4,15 +4,6 @@ use Rattle.writer.specs.Pieces.{piecesOf}
 use Rattle.writer.proofs.write.write_border_words.Statement.{statement}
 use Rattle.writer.proofs.write.write_border_words.Tie as tie
 
-no-pieces-requires : tie.Need-no-pieces-requires
-no-pieces-requires c κs = tt
-
-check-words-requires : tie.Need-check-words-requires
-check-words-requires c κs = tt
-
-write-checked-requires : tie.Need-write-checked-requires
-write-checked-requires c κs = tt
-
 returns : tie.Need-returns
 returns c =
     let a = c .before .before .before .before .before .before .before .before .before .args in
@@ -24,4 +15,4 @@ returns c =
 pub write-border-words-spec : {M : Type 1} → statement M
 write-border-words-spec =
     tie.close
-    (tie.spec no-pieces-requires check-words-requires write-checked-requires (λ c. omega arith) returns)
+    (tie.spec (λ c κs. tt) (λ c κs. tt) (λ c κs. tt) (λ c. omega arith) returns)

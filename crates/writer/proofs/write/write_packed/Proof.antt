@@ -17,15 +17,6 @@ abbrev μ-loop : tie.MeasureT-loop
 known : (s : tie.Start Inv-loop μ-loop) → Known (s .args .lats .now) (s .args .lons .now) (s .args .t4) (s .args .count)
 known s = record { same = s .pre .0; short = s .pre .1; most = s .pre .2; size = search needs }
 
-loop-holds : tie.Need-loop-holds Inv-loop μ-loop
-loop-holds c = record { upto = omega arith; low = omega arith; left = left-all }
-
-mul-piece : tie.Need-mul-piece Inv-loop μ-loop
-mul-piece c = omega (arith, c .before .loop .inv .upto, c .before .before .before .pre .2)
-
-array-copy-out-piece : tie.Need-array-copy-out-piece Inv-loop μ-loop
-array-copy-out-piece c = omega (arith, c .before .before .before .pre .2)
-
 put-packed-requires : tie.Need-put-packed-requires Inv-loop μ-loop
 put-packed-requires c κs = own-asked (known (c .before .before .before .before .before .before .before)) (c .before .before .before .before .before .loop .inv) (c .before .before .before .before .loop-test .taken) (c .before .least .ensures)
 
@@ -38,9 +29,6 @@ put-piece-requires c κs =
 
 add-j : tie.Need-add-j Inv-loop μ-loop
 add-j c = omega (arith, c .before .before .before .before .before .before .before .before .before .before .before .before .before .loop .inv .upto, c .before .before .before .before .before .before .before .before .before .before .before .before .before .before .before .pre .2)
-
-loop-less : tie.Need-loop-less Inv-loop μ-loop
-loop-less c = omega arith
 
 loop-again : tie.Need-loop-again Inv-loop μ-loop
 loop-again c =
@@ -68,9 +56,9 @@ write-packed-spec =
     (tie.spec
     Inv-loop
     μ-loop
-    loop-holds
-    mul-piece
-    array-copy-out-piece
+    (λ c. record { upto = omega arith; low = omega arith; left = left-all })
+    (λ c. omega (arith, c .before .loop .inv .upto, c .before .before .before .pre .2))
+    (λ c. omega (arith, c .before .before .before .pre .2))
     (λ c. omega arith)
     (λ c κs. tt)
     put-packed-requires
@@ -78,7 +66,7 @@ write-packed-spec =
     (λ c. omega arith)
     (λ c. omega arith)
     add-j
-    loop-less
+    (λ c. omega arith)
     loop-again
     put-packed-requires-2
     put-two-requires

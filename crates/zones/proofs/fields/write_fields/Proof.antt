@@ -3,8 +3,7 @@ use Prim.Native.Nat.{_-_, _≤_}
 use lib.ListN.{length, take}
 use mathlib.Core.List.{[]}
 use native.Mathlib.Omega.{arith}
-use Rattle.zones.proofs.fields.Filling.{Writing, begins, writing-length, from-here, all-written, match-refused, match-written}
-use Rattle.zones.proofs.fields.write_fields.Statement.{statement}
+use Rattle.zones.proofs.fields.{Filling.{Writing, begins, writing-length, from-here, all-written, match-refused, match-written}, write_fields.Statement.{statement}}
 use Rattle.table.{proofs.Words.{count-slots, slot-is}, specs.Hits.{slots}}
 use Rattle.zones.specs.Fields.{fieldsOf}
 use Rattle.zones.proofs.fields.write_fields.Tie as tie
@@ -15,17 +14,8 @@ Inv-loop text₀ file head hits count at₀ i₀ text at i = Writing file head (
 abbrev μ-loop : tie.MeasureT-loop
 μ-loop text₀ file head hits count at₀ i₀ text at i = count - i
 
-loop-holds : tie.Need-loop-holds Inv-loop μ-loop
-loop-holds c = (begins _ _ _ _ _ (c .before .before .before .pre .0), omega arith)
-
-hit-at-requires : tie.Need-hit-at-requires Inv-loop μ-loop
-hit-at-requires c κs = omega (arith, c .before .before .before .before .before .pre .1)
-
 add-i : tie.Need-add-i Inv-loop μ-loop
 add-i c = omega (arith, c .before .loop-test .taken, c .before .before .before .before .before .before .fits)
-
-write-match-requires : tie.Need-write-match-requires Inv-loop μ-loop
-write-match-requires c κs = from-here _ _ _ _ (c .before .before .before .before .loop .inv .0)
 
 same-length : tie.Need-same-length Inv-loop μ-loop
 same-length c =
@@ -61,9 +51,6 @@ loop-again c =
     let next = c .before .next in
     (match-written _ _ _ _ (loop .inv .0) (omega (arith, loop-test .taken, count-slots (args .hits .now) (args .count) (pre .1))) _ (slot-is (args .hits .now) (args .count) (pre .1) _ _ (loop-test .taken) (hit-at .ensures)) _ (fields-place .ensures) (write-match .result) (write-match .last .0) (write-match .ensures) (omega (arith, text .given, writing-length _ _ _ _ (loop .inv .0))) (next .given .1), omega (arith, loop-test .taken))
 
-same-length-2 : tie.Need-same-length-2 Inv-loop μ-loop
-same-length-2 c = writing-length _ _ _ _ (c .before .loop .inv .0)
-
 returns-2 : tie.Need-returns-2 Inv-loop μ-loop
 returns-2 c =
     let loop = c .before .loop in
@@ -77,16 +64,16 @@ write-fields-spec =
     (tie.spec
     Inv-loop
     μ-loop
-    loop-holds
-    hit-at-requires
+    (λ c. (begins _ _ _ _ _ (c .before .before .before .pre .0), omega arith))
+    (λ c κs. omega (arith, c .before .before .before .before .before .pre .1))
     add-i
     (λ c κs. tt)
-    write-match-requires
+    (λ c κs. from-here _ _ _ _ (c .before .before .before .before .loop .inv .0))
     (λ c. omega arith)
     (λ c. omega arith)
     same-length
     returns
     loop-less
     loop-again
-    same-length-2
+    (λ c. writing-length _ _ _ _ (c .before .loop .inv .0))
     returns-2)

@@ -67,12 +67,6 @@ add-tag c =
 loop-less : tie.Need-loop-less Inv-loop μ-loop
 loop-less c = omega (arith, c .before .before .before .before .before .before .before .before .if1 .taken)
 
-same-length-2 : tie.Need-same-length-2 Inv-loop μ-loop
-same-length-2 c = filling-length _ _ _ _ (c .before .before .loop .inv)
-
-returns-2 : tie.Need-returns-2 Inv-loop μ-loop
-returns-2 c = ends _ _ _ _ (c .before .before .loop .inv) (c .if1 .left)
-
 pub write-match-spec : {M : Type 1} → statement M
 write-match-spec =
     tie.close
@@ -92,5 +86,5 @@ write-match-spec =
     add-tag
     loop-less
     loop-again
-    same-length-2
-    returns-2)
+    (λ c. filling-length _ _ _ _ (c .before .before .loop .inv))
+    (λ c. ends _ _ _ _ (c .before .before .loop .inv) (c .if1 .left)))

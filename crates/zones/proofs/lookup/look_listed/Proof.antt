@@ -4,8 +4,7 @@ use borrow.Author.Needs.{needs}
 use lib.ListN.{length}
 use mathlib.Core.Path.{ap}
 use native.Mathlib.Omega.{arith}
-use Rattle.table.proofs.{Agreeing.{gave, refused-so}, Matches.{listed-agrees, matches-room}}
-use Rattle.table.specs.{Find.{toldFound, Matching}, GivenRows.{matchedListed}, Hits.{width}}
+use Rattle.table.{proofs.{Agreeing.{gave, refused-so}, Matches.{listed-agrees, matches-room}}, specs.{Find.{toldFound, Matching}, GivenRows.{matchedListed}, Hits.{width}}}
 use Rattle.zones.proofs.lookup.{Looking.{no-match, looked}, look_listed.Statement.{statement}}
 use Rattle.zones.specs.Lookup.{zonesListed, toldLooked}
 use Rattle.zones.proofs.lookup.look_listed.Tie as tie

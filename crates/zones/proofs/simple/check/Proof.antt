@@ -15,20 +15,11 @@ Inv-loop file head hits count i₀ i = (checked file head (drop i (take count (s
 abbrev μ-loop : tie.MeasureT-loop
 μ-loop file head hits count i₀ i = count - i
 
-loop-holds : tie.Need-loop-holds Inv-loop μ-loop
-loop-holds c = (refl, omega arith)
-
-hit-at-requires : tie.Need-hit-at-requires Inv-loop μ-loop
-hit-at-requires c κs = omega (arith, c .before .before .before .before .pre)
-
 add-i : tie.Need-add-i Inv-loop μ-loop
 add-i c = omega (arith, c .before .loop-test .taken, c .before .before .before .before .before .fits)
 
 enum-told : tie.Need-enum-told Inv-loop μ-loop
 enum-told c = search needs
-
-loop-less : tie.Need-loop-less Inv-loop μ-loop
-loop-less c = omega (arith, c .before .before .before .before .before .loop-test .taken)
 
 loop-again : tie.Need-loop-again Inv-loop μ-loop
 loop-again c =
@@ -66,13 +57,13 @@ check-spec =
     (tie.spec
     Inv-loop
     μ-loop
-    loop-holds
-    hit-at-requires
+    (λ c. (refl, omega arith))
+    (λ c κs. omega (arith, c .before .before .before .before .pre))
     add-i
     (λ c κs. tt)
     (λ c κs. tt)
     enum-told
-    loop-less
+    (λ c. omega (arith, c .before .before .before .before .before .loop-test .taken))
     loop-again
     (λ c. omega arith)
     returns

@@ -46,12 +46,6 @@ both : (c : tie.After-unmask2) → let args = c .before .before .before .before 
     (take (args .one .size) text ++ (c .unmask2 .last .0 ++ drop (length text - args .one .size) (drop (args .one .size) text))) (args .one .size + args .two .size)
 both c = two-held (one (c .before .before .before .before .before)) _ _ (c .before .before .before .before .before .before .before .before .before .before .before .before .pre .2) (fits (c .before .before .before .before .before .before .before .before)) (c .unmask2 .ensures)
 
-same-length : tie.Need-same-length
-same-length c = held-length (both (c .before .before))
-
-returns-3 : tie.Need-returns-3
-returns-3 c = all-fits (both (c .before .before))
-
 pub join-spec : {M : Type 1} → statement M
 join-spec =
     tie.close
@@ -75,5 +69,5 @@ join-spec =
     (λ c. omega arith)
     unmask-requires-2
     add-t12
-    same-length
-    returns-3)
+    (λ c. held-length (both (c .before .before)))
+    (λ c. all-fits (both (c .before .before))))

@@ -16,9 +16,6 @@ Inv-loop file start preamble sections strict names blame index₀ name₀ place�
 abbrev μ-loop : tie.MeasureT-loop
 μ-loop file start preamble sections strict names blame index₀ name₀ place₀ last₀ index name place last = names - index
 
-loop-holds : tie.Need-loop-holds Inv-loop μ-loop
-loop-holds c = (starts _ _ _ _ (c .begun .ensures), omega arith)
-
 returns : tie.Need-returns Inv-loop μ-loop
 returns c =
     let loop = c .before .before .before .before .before .loop in
@@ -65,9 +62,6 @@ loop-again c =
     let part-of = c .before .part-of in
     (goes _ _ _ _ _ _ _ (loop .inv .0) (loop-test .taken) (sym (ap toldRead (called .given .1)) ∙ read-header-text .ensures) (sym (ap toldRead (value .given .1)) ∙ read-text .ensures) (part-of .ensures) (c .newer .ensures), omega (arith, loop-test .taken))
 
-returns-3 : tie.Need-returns-3 Inv-loop μ-loop
-returns-3 c = all-picked _ _ _ _ _ _ _ (c .before .loop .inv .0) (c .loop-test .left)
-
 pub pick-spec : {M : Type 1} → statement M
 pick-spec =
     tie.close
@@ -76,7 +70,7 @@ pick-spec =
     μ-loop
     (λ c. omega arith)
     (λ c κs. tt)
-    loop-holds
+    (λ c. (starts _ _ _ _ (c .begun .ensures), omega arith))
     (λ c κs. tt)
     (λ c. omega arith)
     (λ c. omega arith)
@@ -90,4 +84,4 @@ pick-spec =
     add-index
     loop-less
     loop-again
-    returns-3)
+    (λ c. all-picked _ _ _ _ _ _ _ (c .before .loop .inv .0) (c .loop-test .left)))

@@ -15,14 +15,8 @@ nan-bits : toBits binary32 nan ≡ 0x7fc0_0000
 unfolding toBits
 nan-bits = refl
 
-float-to-bits-result : tie.Need-float-to-bits-result
-float-to-bits-result c = no-nan (c .before .args .x) (c .if1 .left)
-
 returns : tie.Need-returns
 returns c = sym (ap (toBits binary32) (differs-from-itself (c .before .args .x) (subst T (sym (c .if1 .taken)) tt)) ∙ nan-bits)
 
-returns-2 : tie.Need-returns-2
-returns-2 c = search needs
-
 pub bits-of-spec : {M : Type 1} → statement M
-bits-of-spec = tie.close (tie.spec float-to-bits-result returns returns-2)
+bits-of-spec = tie.close (tie.spec (λ c. no-nan (c .before .args .x) (c .if1 .left)) returns (λ c. search needs))

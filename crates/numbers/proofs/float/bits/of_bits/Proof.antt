@@ -1,7 +1,7 @@
 -- `numbers::float::bits::of_bits` meets its contract. Without its sign a NaN's pattern is a number above the infinity's, and 0 / 0 is the NaN. Assumes nothing.
 use Prim.Native.Nat.{ℕ, _%_, _<_}
 use borrow.Author.Needs.{needs}
-use lib.{Arith.{le→nltb}, Dec.{T, ltb, lt→ltb}, Ieee.{Bits.{nanBits-is, nanBits-above}, Float, nan, inf, fin, binary32, isNan, ofBits, div}}
+use lib.{Arith.{le→nltb}, Dec.{T, lt→ltb}, Ieee.{Bits.{nanBits-is, nanBits-above}, Float, nan, inf, fin, binary32, isNan, ofBits, div}}
 use mathlib.Core.{Bool.{Bool, not}, Path.{_≡_, refl, sym, _∙_, subst}}
 use Rattle.numbers.proofs.float.bits.of_bits.Statement.{statement}
 use Rattle.numbers.proofs.float.bits.of_bits.Tie as tie
@@ -23,11 +23,5 @@ float-from-bits-result : tie.Need-float-from-bits-result
 float-from-bits-result c =
     subst (λ (t : Bool). T (not t)) (sym (nanBits-above binary32 (c .before .args .b))) (le→nltb 0x7f80_0000 (c .before .args .b % 0x8000_0000) (c .if1 .left))
 
-returns : tie.Need-returns
-returns c = zero-over-zero ∙ sym (nan-of (c .before .args .b) (c .if1 .taken))
-
-returns-2 : tie.Need-returns-2
-returns-2 c = search needs
-
 pub of-bits-spec : {M : Type 1} → statement M
-of-bits-spec = tie.close (tie.spec float-from-bits-result returns returns-2)
+of-bits-spec = tie.close (tie.spec float-from-bits-result (λ c. zero-over-zero ∙ sym (nan-of (c .before .args .b) (c .if1 .taken))) (λ c. search needs))

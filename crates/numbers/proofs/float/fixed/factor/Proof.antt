@@ -16,15 +16,6 @@ other-bit : (p : ℕ) → ((p + 31) % 32 ≡ 31 → ⊥) → toF32 (oneShifted p
 unfolding oneShifted
 other-bit p e = simp (ne-eqb _ _ e)
 
-add-place : tie.Need-add-place
-add-place c = search needs
-
-power-of-two-requires : tie.Need-power-of-two-requires
-power-of-two-requires c κs = search needs
-
-of-u64-requires : tie.Need-of-u64-requires
-of-u64-requires c κs = search needs
-
 returns : tie.Need-returns
 returns c =
     let of-u64 = c .before .of-u64 in
@@ -45,4 +36,4 @@ returns-2 c =
 
 pub factor-spec : {M : Type 1} → statement M
 factor-spec =
-    tie.close (tie.spec add-place power-of-two-requires of-u64-requires returns returns-2)
+    tie.close (tie.spec (λ c. search needs) (λ c κs. search needs) (λ c κs. search needs) returns returns-2)

@@ -7,12 +7,6 @@ use Rattle.numbers.proofs.float.fixed.to_fixed.Statement.{statement}
 use Rattle.numbers.specs.Float.{fixedPoint}
 use Rattle.numbers.proofs.float.fixed.to_fixed.Tie as tie
 
-factor-requires : tie.Need-factor-requires
-factor-requires c κs = search needs
-
-to-i32-requires : tie.Need-to-i32-requires
-to-i32-requires c κs = search needs
-
 returns : tie.Need-returns
 unfolding fixedPoint
 returns c =
@@ -24,4 +18,4 @@ returns c =
     ∙ ap (λ (y : Float). toSigned 31 (mul binary32 (div binary32 (n .input) (n .scale)) y)) (factor .ensures)
 
 pub to-fixed-spec : {M : Type 1} → statement M
-to-fixed-spec = tie.close (tie.spec factor-requires to-i32-requires returns)
+to-fixed-spec = tie.close (tie.spec (λ c κs. search needs) (λ c κs. search needs) returns)

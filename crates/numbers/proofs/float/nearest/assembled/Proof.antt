@@ -10,21 +10,9 @@ use Rattle.numbers.proofs.float.nearest.assembled.Tie as tie
 no-nan : (b : ℕ) → b ≤ 2130706432 → T (not (nanBits binary32 b))
 no-nan b h = subst (λ (t : Bool). T (not t)) (sym (nanBits-above binary32 b)) (le→nltb 2139095040 (b % 2147483648) (omega arith))
 
-mul-result : tie.Need-mul-result
-mul-result c = search needs
-
-add-result : tie.Need-add-result
-add-result c = search needs
-
-cast-result : tie.Need-cast-result
-cast-result c = search needs
-
-float-from-bits-result : tie.Need-float-from-bits-result
-float-from-bits-result c = no-nan _ (omega arith)
-
 returns : tie.Need-returns
 returns c = sym (pattern (c .args .kept) (c .args .place) (c .pre .0) (c .pre .1) (c .pre .2))
 
 pub assembled-spec : {M : Type 1} → statement M
 assembled-spec =
-    tie.close (tie.spec mul-result add-result cast-result float-from-bits-result returns)
+    tie.close (tie.spec (λ c. search needs) (λ c. search needs) (λ c. search needs) (λ c. no-nan _ (omega arith)) returns)

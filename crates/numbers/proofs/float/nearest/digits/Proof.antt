@@ -20,14 +20,5 @@ all-but-zeros n h =
       | inr p ↦ let t = leading-top 64 n p h in rest (leadingZeros 64 n) (t .0) (size n) (t .1) (size-is (t .0) n (t .2) (t .3))
     ]
 
-cast-result : tie.Need-cast-result
-cast-result c = omega (arith, leading-le 64 (c .args .n))
-
-sub-result : tie.Need-sub-result
-sub-result c = leading-le 64 (c .args .n)
-
-returns : tie.Need-returns
-returns c = all-but-zeros (c .args .n) (omega arith)
-
 pub digits-spec : {M : Type 1} → statement M
-digits-spec = tie.close (tie.spec cast-result sub-result returns)
+digits-spec = tie.close (tie.spec (λ c. omega (arith, leading-le 64 (c .args .n))) (λ c. leading-le 64 (c .args .n)) (λ c. all-but-zeros (c .args .n) (omega arith)))

@@ -23,18 +23,6 @@ module _ (n k : ℕ) (h : n < 2 ^ 64) where
   at-order o {unit} e found =
       ap (nearest (n / 2 ^ k)) (sym (order-is (n % 2 ^ k * 2) (2 ^ k) o (subst (λ (u : ℕ). Cmp o (n % 2 ^ k * 2) u) e (subst (λ (r : ℕ). Cmp o (r * 2) unit) rest found))))
 
-power-of-two-requires : tie.Need-power-of-two-requires
-power-of-two-requires c κs = search needs
-
-shr-kept : tie.Need-shr-kept
-shr-kept c = search needs
-
-shl-twice : tie.Need-shl-twice
-shl-twice c = search needs
-
-sub-twice : tie.Need-sub-twice
-sub-twice c = back-le (c .before .args .n) (c .before .args .k) (omega arith)
-
 mul-twice : tie.Need-mul-twice
 mul-twice c =
     let args = c .before .args in
@@ -47,14 +35,8 @@ mul-twice c =
 returns : tie.Need-returns
 returns c = at-order _ _ (omega arith) Ordering·lt (c .before .power-of-two .ensures) (c .if1 .taken)
 
-add-result : tie.Need-add-result
-add-result c = search needs
-
 returns-2 : tie.Need-returns-2
 returns-2 c = add-one _ ∙ at-order _ _ (omega arith) Ordering·gt (c .before .before .power-of-two .ensures) (c .if2 .taken)
-
-add-result-2 : tie.Need-add-result-2
-add-result-2 c = search needs
 
 returns-3 : tie.Need-returns-3
 returns-3 c =
@@ -66,13 +48,13 @@ pub nearest-shifted-spec : {M : Type 1} → statement M
 nearest-shifted-spec =
     tie.close
     (tie.spec
-    power-of-two-requires
-    shr-kept
-    shl-twice
-    sub-twice
+    (λ c κs. search needs)
+    (λ c. search needs)
+    (λ c. search needs)
+    (λ c. back-le (c .before .args .n) (c .before .args .k) (omega arith))
     mul-twice
     returns
-    add-result
+    (λ c. search needs)
     returns-2
-    add-result-2
+    (λ c. search needs)
     returns-3)

@@ -38,29 +38,11 @@ rounded : (n : ℕ) → ofInt binary32 (pos n) ≡ round binary32 false n 1
 unfolding ofInt
 rounded n = refl
 
-int-to-float-result : tie.Need-int-to-float-result
-int-to-float-result c = whole-held _ (c .before .if1 .taken)
-
-returns : tie.Need-returns
-returns c = search needs
-
-digits-requires : tie.Need-digits-requires
-digits-requires c κs = search needs
-
 at : (c : tie.After-digits) → Kept (c .before .before .args .n) (c .digits .result)
 at c =
     let args = c .before .before .args in
     let if1 = c .before .if1 in
     kept (args .n) (c .digits .result) (le-of-lt (if1 .left)) (omega arith) (c .digits .ensures)
-
-sub-dropped : tie.Need-sub-dropped
-sub-dropped c = le-of-lt (at c .longer)
-
-nearest-shifted-requires : tie.Need-nearest-shifted-requires
-nearest-shifted-requires c κs = (omega (arith, at c .short), at c .under)
-
-add-assembled : tie.Need-add-assembled
-add-assembled c = omega (arith, at (c .before) .short)
 
 assembled-requires : tie.Need-assembled-requires
 assembled-requires c κs =
@@ -83,11 +65,11 @@ pub of-u64-spec : {M : Type 1} → statement M
 of-u64-spec =
     tie.close
     (tie.spec
-    int-to-float-result
-    returns
-    digits-requires
-    sub-dropped
-    nearest-shifted-requires
-    add-assembled
+    (λ c. whole-held _ (c .before .if1 .taken))
+    (λ c. search needs)
+    (λ c κs. search needs)
+    (λ c. le-of-lt (at c .longer))
+    (λ c κs. (omega (arith, at c .short), at c .under))
+    (λ c. omega (arith, at (c .before) .short))
     assembled-requires
     returns-2)

@@ -12,18 +12,6 @@ by-root : (n r : ℕ) → n < 281474976710656 → IsRoot n r → nearestRoot n �
 unfolding nearestRoot
 by-root n r h k = ap (λ (x : ℕ). cond (ltb (x * x + x) n) (suc x) x) (one-root (wholeRoot-is 24 n h) k)
 
-whole-root-requires : tie.Need-whole-root-requires
-whole-root-requires c κs = search needs
-
-mul-if1 : tie.Need-mul-if1
-mul-if1 c = search needs
-
-add-if1 : tie.Need-add-if1
-add-if1 c = search needs
-
-add-result : tie.Need-add-result
-add-result c = search needs
-
 returns : tie.Need-returns
 returns c =
     let args = c .before .before .args in
@@ -46,4 +34,4 @@ returns-2 c =
 
 pub nearest-root-spec : {M : Type 1} → statement M
 nearest-root-spec =
-    tie.close (tie.spec whole-root-requires mul-if1 add-if1 add-result returns returns-2)
+    tie.close (tie.spec (λ c κs. search needs) (λ c. search needs) (λ c. search needs) (λ c. search needs) returns returns-2)

@@ -4,16 +4,9 @@ use borrow.Author.Needs.{needs}
 use lib.{Dec.{lit<, lit≤}, Ieee.{binary32, size, units}}
 use mathlib.Core.{Bool.{false}, Path.{_≡_, sym, ap, _∙_, subst}}
 use native.Mathlib.{Nat.{lt-of-lt-of-le}, Omega.{arith}}
-use Rattle.numbers.proofs.float.{Smallest.{Even, even, root-by-digits}, Squares.{IsNearest, nearestRoot-is, nearest-range}}
-use Rattle.numbers.proofs.float.root.positive_root.Statement.{statement}
+use Rattle.numbers.proofs.float.{Smallest.{Even, even, root-by-digits}, Squares.{IsNearest, nearestRoot-is, nearest-range}, root.positive_root.Statement.{statement}}
 use Rattle.numbers.specs.Float.Root.{nearestRoot}
 use Rattle.numbers.proofs.float.root.positive_root.Tie as tie
-
-taken-apart-requires : tie.Need-taken-apart-requires
-taken-apart-requires c κs = search needs
-
-digits-requires : tie.Need-digits-requires
-digits-requires c κs = search needs
 
 -- x's digits and place, and their scaling
 scaled : (c : tie.After-taken-apart) → Even (c .taken-apart .result .digits) (c .taken-apart .result .place)
@@ -21,24 +14,6 @@ scaled c = even (c .taken-apart .result .digits) (c .taken-apart .result .place)
 
 short : (c : tie.After-digits) → c .digits .result ≤ 24
 short c = subst (λ (z : ℕ). z ≤ 24) (sym (c .digits .ensures)) (scaled (c .before) .short)
-
-add-half : tie.Need-add-half
-add-half c = omega (arith, short c, c .before .taken-apart .ensures .1 .2)
-
-add-half-2 : tie.Need-add-half-2
-add-half-2 c = omega (arith, short c, c .before .taken-apart .ensures .1 .2)
-
-add-power-of-two : tie.Need-add-power-of-two
-add-power-of-two c = search needs
-
-mul-power-of-two : tie.Need-mul-power-of-two
-mul-power-of-two c = omega (arith, short c, c .before .taken-apart .ensures .1 .2)
-
-sub-power-of-two : tie.Need-sub-power-of-two
-sub-power-of-two c = omega (arith, short c)
-
-power-of-two-requires : tie.Need-power-of-two-requires
-power-of-two-requires c κs = omega (arith, short c)
 
 -- what is rooted, with the digits counted as the definition does
 square-is : (c : tie.After-power-of-two) → c .before .before .taken-apart .result .digits * c .power-of-two .result
@@ -55,12 +30,6 @@ under c = subst (λ (x : ℕ). x < 281474976710656) (sym (square-is c)) (scaled 
 
 least : (c : tie.After-power-of-two) → 70368744177664 ≤ c .before .before .taken-apart .result .digits * c .power-of-two .result
 least c = subst (λ (x : ℕ). 70368744177664 ≤ x) (sym (square-is c)) (scaled (c .before .before) .least)
-
-mul-square : tie.Need-mul-square
-mul-square c = record { fits = lt-of-lt-of-le (under c) (lit≤ tt) }
-
-nearest-root-requires : tie.Need-nearest-root-requires
-nearest-root-requires c κs = under c
 
 -- a root of 24 digits, or 2 ^ 24
 in-range : (n r : ℕ) → 70368744177664 ≤ n → n < 281474976710656 → r ≡ nearestRoot n → (8388608 ≤ r) × (r ≤ 16777216)
@@ -91,15 +60,15 @@ pub positive-root-spec : {M : Type 1} → statement M
 positive-root-spec =
     tie.close
     (tie.spec
-    taken-apart-requires
-    digits-requires
-    add-half
-    add-half-2
-    add-power-of-two
-    mul-power-of-two
-    sub-power-of-two
-    power-of-two-requires
-    mul-square
-    nearest-root-requires
+    (λ c κs. search needs)
+    (λ c κs. search needs)
+    (λ c. omega (arith, short c, c .before .taken-apart .ensures .1 .2))
+    (λ c. omega (arith, short c, c .before .taken-apart .ensures .1 .2))
+    (λ c. search needs)
+    (λ c. omega (arith, short c, c .before .taken-apart .ensures .1 .2))
+    (λ c. omega (arith, short c))
+    (λ c κs. omega (arith, short c))
+    (λ c. record { fits = lt-of-lt-of-le (under c) (lit≤ tt) })
+    (λ c κs. under c)
     assembled-requires
     returns)

@@ -83,9 +83,6 @@ positive-root-requires c κs =
     let if1 = c .before .if1 in
     is-positive (args .x) (if1 .taken) (c .if2 .taken)
 
-returns : tie.Need-returns
-returns c = search needs
-
 returns-2 : tie.Need-returns-2
 unfolding ofBits div
 returns-2 c =
@@ -105,4 +102,4 @@ returns-4 c =
     has-none (args .x) (if1 .left) (c .if3 .left)
 
 pub sqrt-spec : {M : Type 1} → statement M
-sqrt-spec = tie.close (tie.spec positive-root-requires returns returns-2 returns-3 returns-4)
+sqrt-spec = tie.close (tie.spec positive-root-requires (λ c. search needs) returns-2 returns-3 returns-4)

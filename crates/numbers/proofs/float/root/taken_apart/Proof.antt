@@ -15,9 +15,6 @@ held c = subst T (sym (c .good .0 .1)) tt
 known : (c : tie.Start) → Decoded (unitsOf (c .args .x)) (toBits binary32 (c .args .x))
 known c = decoded (c .args .x) (held c) (c .pre)
 
-float-to-bits-bits : tie.Need-float-to-bits-bits
-float-to-bits-bits c = positive-no-nan (c .args .x) (c .pre)
-
 cast-bits : tie.Need-cast-bits
 cast-bits c = record { fits = lt-of-lt-of-le (toBits-lt binary32 (c .args .x) (held c)) (lit≤ tt) }
 
@@ -25,12 +22,6 @@ returns : tie.Need-returns
 returns c =
     let b = known (c .before) .low (c .if1 .taken) in
     (mul-one _ ∙ b, (subst (λ (x : ℕ). 0 < x) (sym b) (known (c .before) .above), c .if1 .taken, lit< tt))
-
-add-t6 : tie.Need-add-t6
-add-t6 c = search needs
-
-sub-t8 : tie.Need-sub-t8
-sub-t8 c = search needs
 
 -- with the leading digit there are 24
 full : (b : ℕ) → (0 < b % 8388608 + 8388608) × (b % 8388608 + 8388608 < 16777216)
@@ -44,4 +35,4 @@ returns-2 c =
 
 pub taken-apart-spec : {M : Type 1} → statement M
 taken-apart-spec =
-    tie.close (tie.spec float-to-bits-bits cast-bits returns add-t6 sub-t8 returns-2)
+    tie.close (tie.spec (λ c. positive-no-nan (c .args .x) (c .pre)) cast-bits returns (λ c. search needs) (λ c. search needs) returns-2)

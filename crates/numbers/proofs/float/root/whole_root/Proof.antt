@@ -12,29 +12,8 @@ Inv-loop n low₀ high₀ low high = (low * low ≤ n) × (n < high * high) × (
 abbrev μ-loop : tie.MeasureT-loop
 μ-loop n low₀ high₀ low high = high - low
 
-loop-holds : tie.Need-loop-holds Inv-loop μ-loop
-loop-holds c = omega arith
-
-add-loop : tie.Need-add-loop Inv-loop μ-loop
-add-loop c = omega arith
-
-add-middle : tie.Need-add-middle Inv-loop μ-loop
-add-middle c = omega arith
-
 mul-if1 : tie.Need-mul-if1 Inv-loop μ-loop
 mul-if1 c = record { fits = lt-of-le-of-lt (square-le {b = 16777216} (omega arith)) (lit< {m = 16777216 * 16777216} tt) }
-
-loop-less : tie.Need-loop-less Inv-loop μ-loop
-loop-less c = omega arith
-
-loop-again : tie.Need-loop-again Inv-loop μ-loop
-loop-again c = omega arith
-
-loop-less-2 : tie.Need-loop-less-2 Inv-loop μ-loop
-loop-less-2 c = omega arith
-
-loop-again-2 : tie.Need-loop-again-2 Inv-loop μ-loop
-loop-again-2 c = omega arith
 
 next : (low high : ℕ) → low < high → high ≤ low + 1 → high ≡ low + 1
 next low high h k = omega arith
@@ -53,12 +32,12 @@ whole-root-spec =
     (tie.spec
     Inv-loop
     μ-loop
-    loop-holds
-    add-loop
-    add-middle
+    (λ c. omega arith)
+    (λ c. omega arith)
+    (λ c. omega arith)
     mul-if1
-    loop-less
-    loop-again
-    loop-less-2
-    loop-again-2
+    (λ c. omega arith)
+    (λ c. omega arith)
+    (λ c. omega arith)
+    (λ c. omega arith)
     returns)

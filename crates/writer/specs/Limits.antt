@@ -1,0 +1,8 @@
+-- How much a border may have: document 01, "The writer".
+use Prim.Native.Nat.{ℕ}
+
+abbrev pub mostPoints : ℕ
+mostPoints = 65535
+
+abbrev pub mostPieces : ℕ
+mostPieces = 16
