@@ -1,7 +1,8 @@
-/* uskelzar.h: which zone holds a fix, by a PLB border file; a writer of borders and a builder of files; salvage of a damaged file; local time, by a TZif file; and dates.
+/* uskelzar.h: which zone holds a fix, by a PLB border file; a writer of borders, a builder of files, and one that holds yards which may still change; salvage of a damaged file;
+ * local time, by a TZif file; and dates.
  *
  * For libuskelzar.a. What its functions answer, write and touch, and that they end, is proved for every input; what it calls
- * is seen to by a test of the archive. What holds for all fifteen:
+ * is seen to by a test of the archive. What holds for all twenty-one:
  *
  * You bring    pointers that are not null, aligned for their type and good for their length: to read from, or where the
  *              buffer is lent (no const), to write to. Lent buffers and `reply` do not overlap each other or an input, and
@@ -10,8 +11,9 @@
  * You get      0 and the answer's values in `reply`; or the number of a refusal (enum uskelzar_refusal), its cause in
  *              reply[0], its detail in reply[1], and zeros in the other three words (of many fixes, the index in reply[2]).
  * Lent buffers are written whole on every call, whatever they held before: the answer at the front and zeros behind it; on
- *              a refusal zeros alone. No call leaves half an answer, or anything of an earlier one.
- * It never     allocates, keeps a pointer or a state between calls, touches anything but its arguments, reads or writes a
+ *              a refusal zeros alone. No call leaves half an answer, or anything of an earlier one. Only a builder's state and
+ *              its five lists, which uskelzar_begin writes whole, are kept from call to call, and a refused call leaves them.
+ * It never     allocates, keeps a pointer or anything of its own between calls, touches anything but its arguments, reads or writes a
  *              file, stops the program, or runs without end. It calls nothing but memset and memcpy; threads may call it
  *              at the same time.
  */
@@ -57,10 +59,12 @@ enum uskelzar_refusal {
     USKELZAR_FIRST_POINT_ZERO = 22,   /* first point (0,0) */
     USKELZAR_PIECE = 23,              /* piece list; detail: the piece's index */
     USKELZAR_OUTPUT_ROOM = 24,        /* border doesn't fit the output */
-    USKELZAR_YARDS = 25,              /* build: no yards, over 4,096, over 255 names, or a yard with more or fewer values than names */
-    USKELZAR_TEXT = 26,               /* build: a text over 255 bytes or not UTF-8; salvage: a name or notice of 256 bytes, which can't stand inline */
-    USKELZAR_FORM = 27,               /* build: a precision outside 1 to 31, a version above 1, or a type other than 'T' and 'C' */
-    USKELZAR_FILE_ROOM = 28,          /* build, salvage: output, list or working lists too short, or a file over 1,073,741,824 bytes */
+    USKELZAR_YARDS = 25,              /* builders: no yards, over 4,096, over 255 names, or a yard with more or fewer values than names */
+    USKELZAR_TEXT = 26,               /* builders: a text over 255 bytes or not UTF-8; salvage: a name or notice of 256 bytes, which can't stand inline */
+    USKELZAR_FORM = 27,               /* builders: a precision outside 1 to 31, a version above 1, or a type other than 'T' and 'C' */
+    USKELZAR_FILE_ROOM = 28,          /* builders, salvage: output, list or working lists too short, or a file over 1,073,741,824 bytes */
+    USKELZAR_NO_YARD = 29,            /* drop_last: the builder holds no yard */
+    USKELZAR_NO_VALUE = 30,           /* replace: no such yard or field */
     USKELZAR_INCOMPLETE = 31,         /* a number that the file's end cuts; of the two strict functions and of salvage */
     USKELZAR_NOTHING_LEFT = 32,       /* salvage: no entry is left */
     USKELZAR_FIXES = 33,              /* many fixes: lists of unequal length, over 4,096 fixes, or `answers` too short */
@@ -141,7 +145,14 @@ enum {
     USKELZAR_MANY_USED = 2,           /* bytes of text used */
     USKELZAR_MANY_INDEX = 2           /* of a refusal: the index of its fix, 0 for 33 and what opening refuses */
 };
-enum { USKELZAR_WRITE_LENGTH = 0, USKELZAR_BUILD_LENGTH = 0 };
+enum { USKELZAR_WRITE_LENGTH = 0, USKELZAR_BUILD_LENGTH = 0, USKELZAR_FINISH_LENGTH = 0 };
+enum {                                /* the totals of a builder that holds yards */
+    USKELZAR_TOTALS_TABLE = 0,        /* bytes of the table */
+    USKELZAR_TOTALS_METADATA = 1,     /* bytes of the metadata */
+    USKELZAR_TOTALS_DATA = 2,         /* bytes of the data, the zero byte included: 1 with no yards */
+    USKELZAR_TOTALS_YARDS = 3,
+    USKELZAR_TOTALS_GREATEST = 4      /* the greatest of the yards' lower latitudes, 0 with no yards: the bits of an int32_t */
+};
 enum { USKELZAR_INDEX_USED = 0 };     /* words of an index */
 enum {
     USKELZAR_SALVAGE_LENGTH = 0,      /* the new file's bytes */
@@ -208,6 +219,19 @@ enum {
 #define USKELZAR_BUILD_PLACES(yards) (2 * (size_t)(yards))
 #define USKELZAR_BUILD_BOXES(yards) (4 * (size_t)(yards))
 #define USKELZAR_BUILD_BYTES(out_length) (out_length)
+
+/* ---- the state of a builder that holds yards: so many words, which mean nothing to anyone else */
+enum { USKELZAR_STATE_WORDS = 13 };
+
+/* ---- how long its own lists must be, in elements: for so many yards and names, so many bytes of all texts (names, notice and values) and so many of data. They may
+ * be longer, and as long as the most that is ever to be held; the same lists are lent to each call. */
+#define USKELZAR_HELD_BOXES(yards) (4 * (size_t)(yards))
+#define USKELZAR_HELD_BORDERS(yards) ((size_t)(yards))
+#define USKELZAR_HELD_LENGTHS(yards, names) ((size_t)(names) + 1 + USKELZAR_BUILD_FIELDS(yards, names))
+#define USKELZAR_HELD_TEXTS(text_bytes) (text_bytes)
+#define USKELZAR_HELD_BYTES(data_bytes) (data_bytes)
+/* The lists to work in are USKELZAR_BUILD_STARTS to USKELZAR_BUILD_PLACES, for the yards held after the call; `out` of add is as long as the data with the new border, and of
+ * replace as long as all texts were. So of data never over n bytes, n bytes of `bytes` and `out` are enough. */
 
 /* ---- a line of salvage's list: two words */
 enum { USKELZAR_DROPPED_ENTRY = 0, USKELZAR_DROPPED_REASON = 1, USKELZAR_DROPPED_WORDS = 2 };
@@ -339,6 +363,84 @@ uint8_t uskelzar_build(uint8_t type, uint8_t version, uint8_t precision, uint32_
                        size_t held_length, uint32_t *words, size_t words_length, uint32_t *places, size_t places_length,
                        int32_t *boxes, size_t boxes_length, uint8_t *bytes, size_t bytes_length, uint8_t *out,
                        size_t out_length, uint64_t reply[USKELZAR_REPLY_WORDS]);
+
+/* A builder that holds yards: begin one, add yards, take the last one away, put another text in the place of a value, take all yards away; and at any time the file of the yards
+ * that are held. After every call the totals, in `reply`, are those of that file: so what is still to fit is known before it is written.
+ * state:   the builder's numbers. uskelzar_begin writes them; lend them to each later call as they are. uskelzar_finish only reads them.
+ * boxes to bytes: the builder's own lists, in which it holds its yards. uskelzar_begin writes them whole, whatever they held; lend the same five to each later call, and write to
+ *          none between the calls. How long each must be: USKELZAR_HELD_.. above. Behind what is held they are zero.
+ * starts to places, and `out` of add and replace: lists to work in, whatever they hold; zeros afterwards. A list that is too short is 28, last.
+ * A refused call changes neither state nor lists. Numbers that no call has made with these lists are refused 28 where they do not fit the lists (a drop: 29), and else answered
+ * with some totals or other; nothing outside the lists is touched.
+ *
+ * Begins a builder for files of at most `room` bytes.
+ * sizes:   how many bytes each text has: those of the names, of the notice.
+ * strings: the bytes of all of them, one after the other.
+ * Answers: the totals of no yards: 0, 0, 1, 0, 0.
+ * Refuses: 25 for over 255 names or fewer sizes; 26, 27; 28 only for a list that is too short. State and lists are then zero. */
+uint8_t uskelzar_begin(uint64_t state[USKELZAR_STATE_WORDS], uint8_t type, uint8_t version, uint8_t precision, uint32_t names,
+                       size_t room, const uint32_t *sizes, size_t sizes_length, const uint8_t *strings, size_t strings_length,
+                       int32_t *boxes, size_t boxes_length, uint32_t *borders, size_t borders_length, uint32_t *lengths,
+                       size_t lengths_length, uint8_t *texts, size_t texts_length, uint8_t *bytes, size_t bytes_length,
+                       uint64_t reply[USKELZAR_REPLY_WORDS]);
+
+/* Adds a yard, behind those that are held.
+ * lats, lons, pieces: its border, as for uskelzar_build; a piece's `start` counts from the data's first byte, the zero byte, and may lie in any border that is held.
+ * sizes, values: how many bytes each of its values has, and their bytes.
+ * Answers: the totals with it.
+ * Refuses: 19, 20, 21, 22, each over the whole border; 25 for a 4,097th yard, or more or fewer sizes than names; 26; 23 (detail: the piece's index); 28 for the data against
+ *          the builder's room, `bytes`, `out` and 1 GiB, then for the whole file against its room and 1 GiB, and for every other list. So it is refused as uskelzar_build would
+ *          refuse the held yards and this one. */
+uint8_t uskelzar_add(uint64_t state[USKELZAR_STATE_WORDS], const int32_t *lats, size_t lats_length, const int32_t *lons,
+                     size_t lons_length, const uint32_t *pieces, size_t pieces_length, const uint32_t *sizes,
+                     size_t sizes_length, const uint8_t *values, size_t values_length, int32_t *boxes, size_t boxes_length,
+                     uint32_t *borders, size_t borders_length, uint32_t *lengths, size_t lengths_length, uint8_t *texts,
+                     size_t texts_length, uint8_t *bytes, size_t bytes_length, uint32_t *starts, size_t starts_length,
+                     uint64_t *keys, size_t keys_length, uint64_t *spare, size_t spare_length, uint32_t *kept,
+                     size_t kept_length, uint8_t *held, size_t held_length, uint32_t *words, size_t words_length,
+                     uint32_t *places, size_t places_length, uint8_t *out, size_t out_length,
+                     uint64_t reply[USKELZAR_REPLY_WORDS]);
+
+/* Takes the yard away that was added last.
+ * Answers: the totals without it. A text that two records shared may now stand in one alone, so metadata and file can be longer than before, and longer than the builder's room: then
+ *          adds and replacements are refused 28 until the file fits again.
+ * Refuses: 29 where there is no yard; 28 only for a list to work in that is too short. */
+uint8_t uskelzar_drop_last(uint64_t state[USKELZAR_STATE_WORDS], int32_t *boxes, size_t boxes_length, uint32_t *borders,
+                           size_t borders_length, uint32_t *lengths, size_t lengths_length, uint8_t *texts, size_t texts_length,
+                           uint8_t *bytes, size_t bytes_length, uint32_t *starts, size_t starts_length, uint64_t *keys,
+                           size_t keys_length, uint64_t *spare, size_t spare_length, uint32_t *kept, size_t kept_length,
+                           uint8_t *held, size_t held_length, uint32_t *words, size_t words_length, uint32_t *places,
+                           size_t places_length, uint64_t reply[USKELZAR_REPLY_WORDS]);
+
+/* Puts a text in the place of a yard's value. Yards and fields count from 0, yards in the order in which they were added.
+ * Answers: the totals with it.
+ * Refuses: 30 where there is no such yard or field; 26; 28 for the file against the builder's room and 1 GiB, and for a list that is too short. */
+uint8_t uskelzar_replace(uint64_t state[USKELZAR_STATE_WORDS], uint32_t yard, uint32_t field, const uint8_t *text,
+                         size_t text_length, int32_t *boxes, size_t boxes_length, uint32_t *borders, size_t borders_length,
+                         uint32_t *lengths, size_t lengths_length, uint8_t *texts, size_t texts_length, uint8_t *bytes,
+                         size_t bytes_length, uint32_t *starts, size_t starts_length, uint64_t *keys, size_t keys_length,
+                         uint64_t *spare, size_t spare_length, uint32_t *kept, size_t kept_length, uint8_t *held,
+                         size_t held_length, uint32_t *words, size_t words_length, uint32_t *places, size_t places_length,
+                         uint8_t *out, size_t out_length, uint64_t reply[USKELZAR_REPLY_WORDS]);
+
+/* Takes all yards away: the builder is as it was begun.
+ * Answers: the totals of no yards.
+ * Refuses: nothing of a builder that calls have made. */
+uint8_t uskelzar_clear(uint64_t state[USKELZAR_STATE_WORDS], int32_t *boxes, size_t boxes_length, uint32_t *borders,
+                       size_t borders_length, uint32_t *lengths, size_t lengths_length, uint8_t *texts, size_t texts_length,
+                       uint8_t *bytes, size_t bytes_length, uint64_t reply[USKELZAR_REPLY_WORDS]);
+
+/* The file of the yards that are held: what uskelzar_build would write of them. The builder stays as it is.
+ * Answers: the file's length.
+ * out:     the file.
+ * Refuses: 25 where there are no yards; 28 for the file against `out`, which may be shorter or longer than the builder's room, and 1 GiB, and for a list to work in. */
+uint8_t uskelzar_finish(const uint64_t state[USKELZAR_STATE_WORDS], const int32_t *boxes, size_t boxes_length,
+                        const uint32_t *borders, size_t borders_length, const uint32_t *lengths, size_t lengths_length,
+                        const uint8_t *texts, size_t texts_length, const uint8_t *bytes, size_t bytes_length, uint32_t *starts,
+                        size_t starts_length, uint64_t *keys, size_t keys_length, uint64_t *spare, size_t spare_length,
+                        uint32_t *kept, size_t kept_length, uint8_t *held, size_t held_length, uint32_t *words,
+                        size_t words_length, uint32_t *places, size_t places_length, uint8_t *out, size_t out_length,
+                        uint64_t reply[USKELZAR_REPLY_WORDS]);
 
 /* A new file with what is left of a damaged one: each entry whose six numbers, border and strings all read strictly and whose strings, lengths
  * included, lie wholly in the metadata section, in the old order.

@@ -1,9 +1,11 @@
 //! Files from yards.
 
+use crate::desk::Desk;
+use crate::draft::Draft;
 use crate::map::Table;
-use crate::raw::{self, Lengths, Plan, Work, MOST_NAMES, MOST_YARDS, YARD_WORDS};
+use crate::raw::{self, Lengths, Plan, Start, MOST_NAMES, MOST_YARDS, YARD_WORDS};
 use crate::refusal::{Number, Refusal};
-use crate::{most_bytes, words_of, Piece};
+use crate::{most_bytes, word, words_of, Piece};
 use std::fmt;
 
 /// A file in the making: what [`Builder::new`] is given, and yards behind each other.
@@ -90,11 +92,6 @@ struct Parts<'a> {
     values: &'a [String],
 }
 
-/// A count as the library takes it; one that it cannot take is refused there.
-fn word(count: usize) -> u32 {
-    u32::try_from(count).unwrap_or(u32::MAX)
-}
-
 impl Builder {
     /// Of this type and precision, with these names of fields; version 1, without a notice.
     pub fn new(table: Table, precision: u8, names: &[&str]) -> Builder {
@@ -147,16 +144,42 @@ impl Builder {
         self
     }
 
+    fn kind(&self) -> u8 {
+        match self.table {
+            Table::TimeZones => b'T',
+            Table::Countries => b'C',
+        }
+    }
+
+    /// A draft with this form and room, these names and this notice, and these yards, whose yards may still change; or the first refusal and what met it.
+    pub fn begin(&self) -> Result<Draft, NotBuilt> {
+        let texts = || self.names.iter().chain([&self.notice]);
+        let lengths: Vec<u32> = texts().map(|text| word(text.len())).collect();
+        let bytes: Vec<u8> = texts().flat_map(|text| text.bytes()).collect();
+        let start = Start {
+            kind: self.kind(),
+            version: self.version,
+            precision: self.precision,
+            names: word(self.names.len()),
+            room: self.room,
+            lengths: &lengths,
+            texts: &bytes,
+        };
+        let mut draft = Draft::begin(&start).map_err(|why| NotBuilt { place: self.place_of(why), why })?;
+        for (index, yard) in self.parts().enumerate() {
+            let added = draft.offer((yard.lats, yard.lons), yard.pieces, yard.values);
+            added.map_err(|why| NotBuilt { place: self.place_in(index, why), why })?;
+        }
+        Ok(draft)
+    }
+
     /// The file's bytes; or the first refusal and what met it.
     pub fn build(&self) -> Result<Vec<u8>, NotBuilt> {
         let texts = || self.names.iter().chain([&self.notice]).chain(&self.values);
         let lengths: Vec<u32> = texts().map(|text| word(text.len())).collect();
         let bytes: Vec<u8> = texts().flat_map(|text| text.bytes()).collect();
         let plan = Plan {
-            kind: match self.table {
-                Table::TimeZones => b'T',
-                Table::Countries => b'C',
-            },
+            kind: self.kind(),
             version: self.version,
             precision: self.precision,
             names: word(self.names.len()),
@@ -168,29 +191,20 @@ impl Builder {
             texts: &bytes,
         };
         let mut out = vec![0; self.most_bytes().min(self.room)];
-        let reply = self.work(out.len(), |work| raw::build(&plan, work, &mut out));
+        let mut desk = self.desk();
+        let mut boxes = vec![0; 4 * self.yards.len().min(MOST_YARDS * YARD_WORDS) / YARD_WORDS];
+        let reply = raw::build(&plan, desk.lend(), &mut boxes, &mut vec![0; out.len()], &mut out);
         let [length, ..] = reply.map_err(|why| NotBuilt { place: self.place_of(why), why })?;
         out.truncate(length as usize);
         Ok(out)
     }
 
-    /// Lends the working lists. More yards and names than a file may have are refused before any of them is used.
-    fn work<A>(&self, out: usize, call: impl FnOnce(Work) -> A) -> A {
+    /// The working lists. More yards and names than a file may have are refused before any of them is used.
+    fn desk(&self) -> Desk {
         let yards = (self.yards.len() / YARD_WORDS).min(MOST_YARDS);
         let names = self.names.len().min(MOST_NAMES);
         let held = self.values.iter().map(String::len).sum();
-        let lengths = Lengths::of(yards, names, held, out);
-        call(Work {
-            starts: &mut vec![0; lengths.starts],
-            keys: &mut vec![0; lengths.keys],
-            spare: &mut vec![0; lengths.spare],
-            kept: &mut vec![0; lengths.kept],
-            held: &mut vec![0; lengths.held],
-            words: &mut vec![0; lengths.words],
-            places: &mut vec![0; lengths.places],
-            boxes: &mut vec![0; lengths.boxes],
-            bytes: &mut vec![0; lengths.bytes],
-        })
+        Desk::new(Lengths::of(yards, names, held))
     }
 
     /// No file of these yards is longer: seven bytes and three sizes, each text with its length or with a word and its length, six numbers an entry, a zero byte and the borders.
@@ -227,6 +241,15 @@ impl Builder {
             _ => self.unchecked(),
         };
         found.unwrap_or(Place::File)
+    }
+
+    /// What met the refusal of a yard that a draft was offered.
+    fn place_in(&self, yard: usize, why: Refusal) -> Place {
+        match why.number {
+            Number::Yards if yard == MOST_YARDS => Place::File,
+            Number::Text => self.bad_text().unwrap_or(Place::Yard(yard)),
+            _ => Place::Yard(yard),
+        }
     }
 
     /// The first yard whose border is refused by itself, 19 to 22.

@@ -10,13 +10,17 @@
 //! # }
 //! ```
 //!
-//! [`Printer`] has the whole question of a slip: which hour holds at a fix and an instant, or why none is printed. [`Builder`] writes a file from yards. [`raw`] has the fifteen functions as they are, over lent buffers, and needs no `std` (`default-features = false`); [`Map`] and [`TimeZone`] lend the buffers themselves.
+//! [`Printer`] has the whole question of a slip: which hour holds at a fix and an instant, or why none is printed. [`Builder`] writes a file from yards, and a [`Draft`] holds yards that may still change. [`raw`] has the twenty-one functions as they are, over lent buffers, and needs no `std` (`default-features = false`); [`Map`] and [`TimeZone`] lend the buffers themselves.
 
 #![cfg_attr(not(feature = "std"), no_std)]
 #![deny(unsafe_op_in_unsafe_fn, missing_docs)]
 
 #[cfg(feature = "std")]
 mod builder;
+#[cfg(feature = "std")]
+mod desk;
+#[cfg(feature = "std")]
+mod draft;
 #[cfg(feature = "std")]
 mod entries;
 #[cfg(feature = "std")]
@@ -43,6 +47,10 @@ mod survey;
 
 #[cfg(feature = "std")]
 pub use builder::{Builder, NotBuilt, Place};
+#[cfg(feature = "std")]
+pub use desk::Desk;
+#[cfg(feature = "std")]
+pub use draft::{Draft, Totals};
 #[cfg(feature = "std")]
 pub use entry::Entry;
 #[cfg(feature = "std")]
@@ -110,4 +118,10 @@ fn words_of(piece: &Piece) -> [u32; 5] {
 /// Room for every border of so many points: ten bytes a move, a count or 16 pieces of at most 12 bytes, and two at the end.
 fn most_bytes(points: usize) -> usize {
     points * 10 + 16 * 12 + 2
+}
+
+#[cfg(feature = "std")]
+/// A count as the library takes it; one that it cannot take is refused there.
+fn word(count: usize) -> u32 {
+    u32::try_from(count).unwrap_or(u32::MAX)
 }

@@ -1,4 +1,4 @@
-//! The library's fifteen functions over lent buffers (include/uskelzar.h has their contracts). It asks nothing of `std`, and all that is unsafe
+//! The library's twenty-one functions over lent buffers (include/uskelzar.h has their contracts). It asks nothing of `std`, and all that is unsafe
 //! in this crate is here, but for the mapping of files.
 
 pub use crate::hit::HIT_WORDS;
@@ -22,6 +22,9 @@ pub const YARD_WORDS: usize = 4;
 pub const MOST_YARDS: usize = 4096;
 #[allow(missing_docs)]
 pub const MOST_NAMES: usize = 255;
+
+/// The numbers of a builder that holds yards: the library's own, handed on from call to call.
+pub type State = [u64; 13];
 
 mod library {
     extern "C" {
@@ -190,6 +193,175 @@ mod library {
             boxes_length: usize,
             bytes: *mut u8,
             bytes_length: usize,
+            out: *mut u8,
+            out_length: usize,
+            reply: *mut [u64; 5],
+        ) -> u8;
+        pub fn uskelzar_begin(
+            state: *mut [u64; 13],
+            kind: u8,
+            version: u8,
+            precision: u8,
+            names: u32,
+            room: usize,
+            sizes: *const u32,
+            sizes_length: usize,
+            strings: *const u8,
+            strings_length: usize,
+            boxes: *mut i32,
+            boxes_length: usize,
+            borders: *mut u32,
+            borders_length: usize,
+            lengths: *mut u32,
+            lengths_length: usize,
+            texts: *mut u8,
+            texts_length: usize,
+            bytes: *mut u8,
+            bytes_length: usize,
+            reply: *mut [u64; 5],
+        ) -> u8;
+        pub fn uskelzar_add(
+            state: *mut [u64; 13],
+            lats: *const i32,
+            lats_length: usize,
+            lons: *const i32,
+            lons_length: usize,
+            pieces: *const u32,
+            pieces_length: usize,
+            sizes: *const u32,
+            sizes_length: usize,
+            values: *const u8,
+            values_length: usize,
+            boxes: *mut i32,
+            boxes_length: usize,
+            borders: *mut u32,
+            borders_length: usize,
+            lengths: *mut u32,
+            lengths_length: usize,
+            texts: *mut u8,
+            texts_length: usize,
+            bytes: *mut u8,
+            bytes_length: usize,
+            starts: *mut u32,
+            starts_length: usize,
+            keys: *mut u64,
+            keys_length: usize,
+            spare: *mut u64,
+            spare_length: usize,
+            kept: *mut u32,
+            kept_length: usize,
+            held: *mut u8,
+            held_length: usize,
+            words: *mut u32,
+            words_length: usize,
+            places: *mut u32,
+            places_length: usize,
+            out: *mut u8,
+            out_length: usize,
+            reply: *mut [u64; 5],
+        ) -> u8;
+        pub fn uskelzar_drop_last(
+            state: *mut [u64; 13],
+            boxes: *mut i32,
+            boxes_length: usize,
+            borders: *mut u32,
+            borders_length: usize,
+            lengths: *mut u32,
+            lengths_length: usize,
+            texts: *mut u8,
+            texts_length: usize,
+            bytes: *mut u8,
+            bytes_length: usize,
+            starts: *mut u32,
+            starts_length: usize,
+            keys: *mut u64,
+            keys_length: usize,
+            spare: *mut u64,
+            spare_length: usize,
+            kept: *mut u32,
+            kept_length: usize,
+            held: *mut u8,
+            held_length: usize,
+            words: *mut u32,
+            words_length: usize,
+            places: *mut u32,
+            places_length: usize,
+            reply: *mut [u64; 5],
+        ) -> u8;
+        pub fn uskelzar_replace(
+            state: *mut [u64; 13],
+            yard: u32,
+            field: u32,
+            text: *const u8,
+            text_length: usize,
+            boxes: *mut i32,
+            boxes_length: usize,
+            borders: *mut u32,
+            borders_length: usize,
+            lengths: *mut u32,
+            lengths_length: usize,
+            texts: *mut u8,
+            texts_length: usize,
+            bytes: *mut u8,
+            bytes_length: usize,
+            starts: *mut u32,
+            starts_length: usize,
+            keys: *mut u64,
+            keys_length: usize,
+            spare: *mut u64,
+            spare_length: usize,
+            kept: *mut u32,
+            kept_length: usize,
+            held: *mut u8,
+            held_length: usize,
+            words: *mut u32,
+            words_length: usize,
+            places: *mut u32,
+            places_length: usize,
+            out: *mut u8,
+            out_length: usize,
+            reply: *mut [u64; 5],
+        ) -> u8;
+        pub fn uskelzar_clear(
+            state: *mut [u64; 13],
+            boxes: *mut i32,
+            boxes_length: usize,
+            borders: *mut u32,
+            borders_length: usize,
+            lengths: *mut u32,
+            lengths_length: usize,
+            texts: *mut u8,
+            texts_length: usize,
+            bytes: *mut u8,
+            bytes_length: usize,
+            reply: *mut [u64; 5],
+        ) -> u8;
+        pub fn uskelzar_finish(
+            state: *const [u64; 13],
+            boxes: *const i32,
+            boxes_length: usize,
+            borders: *const u32,
+            borders_length: usize,
+            lengths: *const u32,
+            lengths_length: usize,
+            texts: *const u8,
+            texts_length: usize,
+            bytes: *const u8,
+            bytes_length: usize,
+            starts: *mut u32,
+            starts_length: usize,
+            keys: *mut u64,
+            keys_length: usize,
+            spare: *mut u64,
+            spare_length: usize,
+            kept: *mut u32,
+            kept_length: usize,
+            held: *mut u8,
+            held_length: usize,
+            words: *mut u32,
+            words_length: usize,
+            places: *mut u32,
+            places_length: usize,
             out: *mut u8,
             out_length: usize,
             reply: *mut [u64; 5],
@@ -505,7 +677,7 @@ pub struct Plan<'a> {
     pub texts: &'a [u8],
 }
 
-/// The lists that the builder works in. They may hold anything, and are zero afterwards; include/uskelzar.h says what each must be for.
+/// The lists that a builder works in. They may hold anything, and are zero afterwards; include/uskelzar.h says what each must be for.
 #[derive(Debug)]
 #[allow(missing_docs)] // `Lengths` says how long each is
 pub struct Work<'a> {
@@ -516,11 +688,9 @@ pub struct Work<'a> {
     pub held: &'a mut [u8],
     pub words: &'a mut [u32],
     pub places: &'a mut [u32],
-    pub boxes: &'a mut [i32],
-    pub bytes: &'a mut [u8],
 }
 
-/// How long the builder's working lists must be; longer ones are as good.
+/// How long the working lists must be; longer ones are as good.
 #[derive(Clone, Copy, Debug, Eq, PartialEq)]
 #[allow(missing_docs)] // the names are those of `Work`
 pub struct Lengths {
@@ -531,13 +701,11 @@ pub struct Lengths {
     pub held: usize,
     pub words: usize,
     pub places: usize,
-    pub boxes: usize,
-    pub bytes: usize,
 }
 
 impl Lengths {
-    /// For so many yards and names, so many bytes of values and an output of so many bytes.
-    pub fn of(yards: usize, names: usize, value_bytes: usize, out: usize) -> Lengths {
+    /// For so many yards and names, and so many bytes of values.
+    pub fn of(yards: usize, names: usize, value_bytes: usize) -> Lengths {
         let fields = yards * names;
         Lengths {
             starts: fields + 1,
@@ -547,55 +715,150 @@ impl Lengths {
             held: value_bytes,
             words: fields,
             places: 2 * yards,
-            boxes: 4 * yards,
-            bytes: out,
         }
     }
 }
 
-/// The file's length; the file in `out`. A refusal does not say which yard met it.
-pub fn build(plan: &Plan, work: Work, out: &mut [u8]) -> Result<Reply, Refusal> {
-    // SAFETY: as in `open_by`.
-    answered(|reply| unsafe {
-        library::uskelzar_build(
-            plan.kind,
-            plan.version,
-            plan.precision,
-            plan.names,
-            plan.yards.as_ptr(),
-            plan.yards.len(),
-            plan.lats.as_ptr(),
-            plan.lats.len(),
-            plan.lons.as_ptr(),
-            plan.lons.len(),
-            plan.pieces.as_ptr(),
-            plan.pieces.len(),
-            plan.lengths.as_ptr(),
-            plan.lengths.len(),
-            plan.texts.as_ptr(),
-            plan.texts.len(),
-            work.starts.as_mut_ptr(),
-            work.starts.len(),
-            work.keys.as_mut_ptr(),
-            work.keys.len(),
-            work.spare.as_mut_ptr(),
-            work.spare.len(),
-            work.kept.as_mut_ptr(),
-            work.kept.len(),
-            work.held.as_mut_ptr(),
-            work.held.len(),
-            work.words.as_mut_ptr(),
-            work.words.len(),
-            work.places.as_mut_ptr(),
-            work.places.len(),
-            work.boxes.as_mut_ptr(),
-            work.boxes.len(),
-            work.bytes.as_mut_ptr(),
-            work.bytes.len(),
-            out.as_mut_ptr(),
-            out.len(),
-            reply,
-        )
+/// A call of the library with each list in brackets as its pointer and its length.
+macro_rules! lending {
+    ($function:ident($($first:expr),*; $($read:expr),*; $($lent:expr),*; $reply:expr)) => {
+        // SAFETY: as in `open_by`.
+        unsafe { library::$function($($first,)* $($read.as_ptr(), $read.len(),)* $($lent.as_mut_ptr(), $lent.len(),)* $reply) }
+    };
+}
+
+/// The file's length; the file in `out`. Four numbers a yard of `boxes` and as many `bytes` as `out` has are worked in too. A refusal does not say which yard met it.
+pub fn build(plan: &Plan, work: Work, boxes: &mut [i32], bytes: &mut [u8], out: &mut [u8]) -> Result<Reply, Refusal> {
+    answered(|reply| {
+        lending!(uskelzar_build(
+            plan.kind, plan.version, plan.precision, plan.names;
+            plan.yards, plan.lats, plan.lons, plan.pieces, plan.lengths, plan.texts;
+            work.starts, work.keys, work.spare, work.kept, work.held, work.words, work.places, boxes, bytes, out;
+            reply
+        ))
+    })
+}
+
+/// What a builder that holds yards is begun with.
+#[derive(Clone, Copy, Debug)]
+pub struct Start<'a> {
+    /// `T` or `C`.
+    pub kind: u8,
+    /// How borders are written: 0 or 1.
+    pub version: u8,
+    /// The bits of the grid: 1 to 31.
+    pub precision: u8,
+    /// How many names there are.
+    pub names: u32,
+    /// How many bytes the file may have.
+    pub room: usize,
+    /// How many bytes each text has: the names, the notice.
+    pub lengths: &'a [u32],
+    /// Their bytes.
+    pub texts: &'a [u8],
+}
+
+/// A yard for a builder.
+#[derive(Clone, Copy, Debug)]
+#[allow(missing_docs)] // as in `Plan`
+pub struct Offer<'a> {
+    pub lats: &'a [i32],
+    pub lons: &'a [i32],
+    pub pieces: &'a [u32],
+    pub lengths: &'a [u32],
+    pub texts: &'a [u8],
+}
+
+/// The lists in which a builder holds its yards, the library's own as its state is: four numbers of `boxes` and one of `borders` a yard, a length a text
+/// with names and notice, the bytes of all texts, the data section.
+#[derive(Debug)]
+#[allow(missing_docs)]
+pub struct Holding<'a> {
+    pub boxes: &'a mut [i32],
+    pub borders: &'a mut [u32],
+    pub lengths: &'a mut [u32],
+    pub texts: &'a mut [u8],
+    pub bytes: &'a mut [u8],
+}
+
+/// The totals of an empty builder; on a refusal its state and lists are zero. Every call of a builder answers with table, metadata and data size, the number
+/// of yards and the greatest lower latitude's bits; the later ones, refused, leave state and lists as they are.
+pub fn begin(start: &Start, state: &mut State, holding: Holding) -> Result<Reply, Refusal> {
+    answered(|reply| {
+        lending!(uskelzar_begin(
+            state, start.kind, start.version, start.precision, start.names, start.room;
+            start.lengths, start.texts;
+            holding.boxes, holding.borders, holding.lengths, holding.texts, holding.bytes;
+            reply
+        ))
+    })
+}
+
+/// The totals with a yard more. `out` is worked in and zero afterwards: as long as the data with this yard's border.
+pub fn add(offer: &Offer, state: &mut State, holding: Holding, work: Work, out: &mut [u8]) -> Result<Reply, Refusal> {
+    answered(|reply| {
+        lending!(uskelzar_add(
+            state;
+            offer.lats, offer.lons, offer.pieces, offer.lengths, offer.texts;
+            holding.boxes, holding.borders, holding.lengths, holding.texts, holding.bytes,
+            work.starts, work.keys, work.spare, work.kept, work.held, work.words, work.places, out;
+            reply
+        ))
+    })
+}
+
+/// The totals without the last yard.
+pub fn drop_last(state: &mut State, holding: Holding, work: Work) -> Result<Reply, Refusal> {
+    answered(|reply| {
+        lending!(uskelzar_drop_last(
+            state;;
+            holding.boxes, holding.borders, holding.lengths, holding.texts, holding.bytes,
+            work.starts, work.keys, work.spare, work.kept, work.held, work.words, work.places;
+            reply
+        ))
+    })
+}
+
+/// The totals with another text in the place of a yard's value. `out` is worked in and zero afterwards: as long as all texts.
+pub fn replace(
+    (yard, field): (u32, u32),
+    text: &[u8],
+    state: &mut State,
+    holding: Holding,
+    work: Work,
+    out: &mut [u8],
+) -> Result<Reply, Refusal> {
+    answered(|reply| {
+        lending!(uskelzar_replace(
+            state, yard, field;
+            text;
+            holding.boxes, holding.borders, holding.lengths, holding.texts, holding.bytes,
+            work.starts, work.keys, work.spare, work.kept, work.held, work.words, work.places, out;
+            reply
+        ))
+    })
+}
+
+/// The totals of the builder as it was begun.
+pub fn clear(state: &mut State, holding: Holding) -> Result<Reply, Refusal> {
+    answered(|reply| {
+        lending!(uskelzar_clear(
+            state;;
+            holding.boxes, holding.borders, holding.lengths, holding.texts, holding.bytes;
+            reply
+        ))
+    })
+}
+
+/// The file's length; the file of the held yards in `out`. State and lists are only read.
+pub fn finish(state: &State, holding: &Holding, work: Work, out: &mut [u8]) -> Result<Reply, Refusal> {
+    answered(|reply| {
+        lending!(uskelzar_finish(
+            state;
+            holding.boxes, holding.borders, holding.lengths, holding.texts, holding.bytes;
+            work.starts, work.keys, work.spare, work.kept, work.held, work.words, work.places, out;
+            reply
+        ))
     })
 }
 

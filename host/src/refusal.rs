@@ -35,6 +35,8 @@ pub enum Number {
     Text = 26,
     Form = 27,
     FileRoom = 28,
+    NoYard = 29,
+    NoValue = 30,
     Incomplete = 31,
     NothingLeft = 32,
     Fixes = 33,
@@ -68,7 +70,7 @@ pub enum Number {
 use Number::*;
 
 /// Each number with document 01's words for it, in order.
-const TABLE: [(Number, &str); 56] = [
+const TABLE: [(Number, &str); 58] = [
     (
         TooLarge,
         "file, or the writer's earlier data, over 1,073,741,824 bytes",
@@ -115,6 +117,8 @@ const TABLE: [(Number, &str); 56] = [
         "precision outside 1 to 31, a version above 1 or a type other than T or C",
     ),
     (FileRoom, "output full or the file over 1 GiB"),
+    (NoYard, "drop from an empty builder"),
+    (NoValue, "replace of a yard or field that isn't there"),
     (Incomplete, "a number that the file's end cuts"),
     (NothingLeft, "no entry is left"),
     (
@@ -170,7 +174,7 @@ impl Number {
 
     fn of(number: u8) -> Number {
         Number::known(number)
-            .expect("the library's refusals are 1 to 28, 31 to 36 and 40 to 61")
+            .expect("the library's refusals are 1 to 36 and 40 to 61")
     }
 
     /// The documents' words.
@@ -273,7 +277,7 @@ mod tests {
 
     #[test]
     fn the_table_is_in_order() {
-        let numbers: Vec<u8> = (1..=28).chain(31..=36).chain(40..=61).collect();
+        let numbers: Vec<u8> = (1..=36).chain(40..=61).collect();
         assert_eq!(TABLE.map(|(number, _)| number as u8).to_vec(), numbers);
         for (number, words) in TABLE {
             assert_eq!(Number::of(number as u8), number);

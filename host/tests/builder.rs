@@ -2,9 +2,10 @@
 
 mod common;
 
-use common::fence::{Edge, Fence, Plain, EDGES};
+use common::desk::{is_zero, FencedDesk, EACH_LENGTH};
+use common::fence::{Edge, Fence, EDGES};
 use common::files::{LAT_STEP, LON_STEP};
-use uskelzar::raw::{self, Lengths, Plan, Reply, Work};
+use uskelzar::raw::{self, Lengths, Plan, Reply};
 use uskelzar::{Builder, End, Kind, Map, NotBuilt, Number, Piece, Place, Refusal, Table};
 
 const OUTER: [(i32, i32); 4] = [(2, 2), (10, 2), (10, 10), (2, 10)];
@@ -48,9 +49,21 @@ impl Lists {
     }
 }
 
-/// What the working lists are to be for the plan of `Lists::new`.
-fn enough(out: usize) -> Lengths {
-    Lengths::of(3, 2, 25, out)
+/// How long the lists are that are worked in.
+#[derive(Clone, Copy, Debug)]
+struct Rooms {
+    work: Lengths,
+    boxes: usize,
+    bytes: usize,
+}
+
+/// What they are to be for the plan of `Lists::new`.
+fn enough(out: usize) -> Rooms {
+    Rooms {
+        work: Lengths::of(3, 2, 25),
+        boxes: 12,
+        bytes: out,
+    }
 }
 
 /// A reply, with the output and whether every working list is zero.
@@ -61,20 +74,16 @@ struct Outcome {
     worked: bool,
 }
 
-/// Six inputs, nine working lists and the output, each between guards.
-struct Desk([Fence; 16]);
-
-fn is_zero<T: Plain + PartialEq + Default>(list: &[T]) -> bool {
-    list.iter().all(|item| *item == T::default())
-}
+/// Six inputs, two of the working lists and the output, each between guards, and the other working lists.
+struct Desk([Fence; 9], FencedDesk);
 
 impl Desk {
     fn new() -> Desk {
-        Desk([(); 16].map(|()| Fence::new(1024)))
+        Desk([(); 9].map(|()| Fence::new(1024)), FencedDesk::new())
     }
 
-    fn build(&mut self, lists: &Lists, lengths: Lengths, room: usize, edge: Edge) -> Outcome {
-        let [a, b, c, d, e, f, g, h, i, j, k, l, m, n, o, p] = &mut self.0;
+    fn build(&mut self, lists: &Lists, rooms: Rooms, room: usize, edge: Edge) -> Outcome {
+        let [a, b, c, d, e, f, g, h, i] = &mut self.0;
         let plan = Plan {
             kind: b'C',
             version: 1,
@@ -87,22 +96,14 @@ impl Desk {
             lengths: e.hold(&lists.lengths, edge),
             texts: f.hold(&lists.texts, edge),
         };
-        let starts: &mut [u32] = g.lend(lengths.starts, edge);
-        let keys: &mut [u64] = h.lend(lengths.keys, edge);
-        let spare: &mut [u64] = i.lend(lengths.spare, edge);
-        let kept: &mut [u32] = j.lend(lengths.kept, edge);
-        let held: &mut [u8] = k.lend(lengths.held, edge);
-        let words: &mut [u32] = l.lend(lengths.words, edge);
-        let places: &mut [u32] = m.lend(lengths.places, edge);
-        let boxes: &mut [i32] = n.lend(lengths.boxes, edge);
-        let bytes: &mut [u8] = o.lend(lengths.bytes, edge);
-        let out: &mut [u8] = p.lend(room, edge);
-        let reply = raw::build(&plan, Work { starts, keys, spare, kept, held, words, places, boxes, bytes }, out);
-        let zero = [is_zero(starts), is_zero(keys), is_zero(spare), is_zero(kept), is_zero(held), is_zero(words), is_zero(places), is_zero(boxes), is_zero(bytes)];
+        let boxes: &mut [i32] = g.lend(rooms.boxes, edge);
+        let bytes: &mut [u8] = h.lend(rooms.bytes, edge);
+        let out: &mut [u8] = i.lend(room, edge);
+        let (reply, zero) = self.1.work(rooms.work, edge, |work| raw::build(&plan, work, boxes, bytes, out));
         let outcome = Outcome {
             reply,
             out: out.to_vec(),
-            worked: zero == [true; 9],
+            worked: zero && is_zero(boxes) && is_zero(bytes),
         };
         let sizes = [
             4 * lists.yards.len(),
@@ -111,15 +112,8 @@ impl Desk {
             4 * lists.pieces.len(),
             4 * lists.lengths.len(),
             lists.texts.len(),
-            4 * lengths.starts,
-            8 * lengths.keys,
-            8 * lengths.spare,
-            4 * lengths.kept,
-            lengths.held,
-            4 * lengths.words,
-            4 * lengths.places,
-            4 * lengths.boxes,
-            lengths.bytes,
+            4 * rooms.boxes,
+            rooms.bytes,
             room,
         ];
         for (fence, size) in self.0.iter_mut().zip(sizes) {
@@ -174,61 +168,28 @@ fn every_room() {
     }
 }
 
-/// One list other than it must be.
-fn changed(change: impl Fn(&mut Lengths), out: usize) -> Lengths {
-    let mut lengths = enough(out);
-    change(&mut lengths);
-    lengths
-}
-
-type Change = fn(&mut Lengths);
-
 #[test]
 fn every_working_list() {
     let (file, lists, mut desk) = (three_yards().build().unwrap(), Lists::new(), Desk::new());
     let room = file.len();
-    let shorter: [Change; 8] = [
-        |l| l.starts -= 1,
-        |l| l.keys -= 1,
-        |l| l.spare -= 1,
-        |l| l.kept -= 1,
-        |l| l.held -= 1,
-        |l| l.words -= 1,
-        |l| l.places -= 1,
-        |l| l.boxes -= 1,
-    ];
-    let none: [Change; 9] = [
-        |l| l.starts = 0,
-        |l| l.keys = 0,
-        |l| l.spare = 0,
-        |l| l.kept = 0,
-        |l| l.held = 0,
-        |l| l.words = 0,
-        |l| l.places = 0,
-        |l| l.boxes = 0,
-        |l| l.bytes = 0,
-    ];
-    let longer: [Change; 9] = [
-        |l| l.starts += 9,
-        |l| l.keys += 9,
-        |l| l.spare += 9,
-        |l| l.kept += 9,
-        |l| l.held += 9,
-        |l| l.words += 9,
-        |l| l.places += 9,
-        |l| l.boxes += 9,
-        |l| l.bytes += 9,
-    ];
-    for edge in EDGES {
-        for change in shorter.iter().chain(&none) {
-            let lengths = changed(change, room);
-            assert_eq!(desk.build(&lists, lengths, room, edge), refused(plain(Number::FileRoom), room), "{lengths:?}");
+    let mut try_with = |change: &dyn Fn(&mut Rooms), fits: bool| {
+        let mut rooms = enough(room);
+        change(&mut rooms);
+        let want = if fits { answered(&file, room) } else { refused(plain(Number::FileRoom), room) };
+        for edge in EDGES {
+            assert_eq!(desk.build(&lists, rooms, room, edge), want, "{rooms:?}");
         }
-        for change in longer {
-            let lengths = changed(change, room);
-            assert_eq!(desk.build(&lists, lengths, room, edge), answered(&file, room), "{lengths:?}");
-        }
+    };
+    for length in EACH_LENGTH {
+        try_with(&|rooms| *length(&mut rooms.work) -= 1, false);
+        try_with(&|rooms| *length(&mut rooms.work) = 0, false);
+        try_with(&|rooms| *length(&mut rooms.work) += 9, true);
     }
+    try_with(&|rooms| rooms.boxes -= 1, false);
+    try_with(&|rooms| rooms.boxes = 0, false);
+    try_with(&|rooms| rooms.bytes = 0, false);
+    try_with(&|rooms| rooms.boxes += 9, true);
+    try_with(&|rooms| rooms.bytes += 9, true);
 }
 
 /// The data section alone may take as much as the working list of bytes has.
@@ -237,7 +198,7 @@ fn every_list_of_bytes() {
     let (file, lists, mut desk) = (three_yards().build().unwrap(), Lists::new(), Desk::new());
     let fits: Vec<bool> = (0..=file.len())
         .map(|bytes| {
-            let got = desk.build(&lists, changed(|lengths| lengths.bytes = bytes, 0), file.len(), Edge::Back);
+            let got = desk.build(&lists, enough(bytes), file.len(), Edge::Back);
             let built = got.reply.is_ok();
             let want = if built { answered(&file, file.len()) } else { refused(plain(Number::FileRoom), file.len()) };
             assert_eq!(got, want);

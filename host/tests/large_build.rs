@@ -5,8 +5,8 @@ use std::ffi::{c_int, c_void};
 use std::fs::File;
 use std::os::fd::AsRawFd;
 use std::os::unix::fs::FileExt;
-use uskelzar::raw::{self, Lengths, Plan, Work};
-use uskelzar::{Number, Refusal};
+use uskelzar::raw::{self, Lengths, Plan};
+use uskelzar::{Desk, Number, Refusal};
 
 extern "C" {
     fn mmap(at: *mut c_void, length: usize, access: c_int, flags: c_int, file: c_int, from: i64) -> *mut c_void;
@@ -71,7 +71,6 @@ impl Corners {
         let mut counts = [POINTS as u32, POINTS as u32, 0, 0].repeat(yards);
         counts.extend([last as u32, last as u32, 0, 0]);
         let points = yards * POINTS + last;
-        let lengths = Lengths::of(yards + 1, 0, 0, 0);
         let plan = Plan {
             kind: b'C',
             version: 0,
@@ -84,18 +83,9 @@ impl Corners {
             lengths: &[notice as u32],
             texts: &vec![b'n'; notice],
         };
-        let work = Work {
-            starts: &mut vec![0; lengths.starts],
-            keys: &mut vec![0; lengths.keys],
-            spare: &mut vec![0; lengths.spare],
-            kept: &mut vec![0; lengths.kept],
-            held: &mut vec![0; lengths.held],
-            words: &mut vec![0; lengths.words],
-            places: &mut vec![0; lengths.places],
-            boxes: &mut vec![0; lengths.boxes],
-            bytes: &mut self.bytes,
-        };
-        raw::build(&plan, work, &mut self.out).map(|[length, ..]| length as usize)
+        let mut desk = Desk::new(Lengths::of(yards + 1, 0, 0));
+        let mut boxes = vec![0; 4 * (yards + 1)];
+        raw::build(&plan, desk.lend(), &mut boxes, &mut self.bytes, &mut self.out).map(|[length, ..]| length as usize)
     }
 }
 

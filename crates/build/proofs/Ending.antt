@@ -208,10 +208,14 @@ module _ (work : Bool) (room : ℕ) (file out : List ℕ) where
         ∙ ap (fitted room) (sym (ends true (le-leb (length file) (upTo room) (omega (arith, size, h))))))
 
 -- ---- `build`
-pub settled-builds : (lent : Lent) (room : Room) (before after : List ℕ) (built r : Built) → length before ≡ room .file → Fills (builtOf (planOf lent) room) (room .file) before built → Settles built before after r → Builds lent room after r
-unfolding Builds Fills Settles fitted
-settled-builds lent room before after (W.Length n) r size f s =
+pub settled-fits : (reply : Reply (List ℕ)) (room : ℕ) (before after : List ℕ) (built r : Built) → length before ≡ room → Fills reply room before built → Settles built before after r → record { reply = toldBuilt r; out = after } ≡ fitted room reply
+unfolding Fills Settles fitted
+settled-fits reply room before after (W.Length n) r size f s =
     ap (λ (b : Built). record { reply = toldBuilt b; out = after }) (s .0) ∙ (ap (λ (l : List ℕ). record { reply = given n; out = l }) (s .1) ∙ f)
-settled-builds lent room before after (W.Refused why) r size f s =
+settled-fits reply room before after (W.Refused why) r size f s =
     ap (λ (b : Built). record { reply = toldBuilt b; out = after }) (s .0)
-    ∙ (ap (λ (l : List ℕ). record { reply = refused why; out = l }) (s .1 ∙ ap zeros size) ∙ ap (fitted (room .file)) (sym f))
+    ∙ (ap (λ (l : List ℕ). record { reply = refused why; out = l }) (s .1 ∙ ap zeros size) ∙ ap (fitted room) (sym f))
+
+pub settled-builds : (lent : Lent) (room : Room) (before after : List ℕ) (built r : Built) → length before ≡ room .file → Fills (builtOf (planOf lent) room) (room .file) before built → Settles built before after r → Builds lent room after r
+unfolding Builds
+settled-builds lent room before after built r size f s = settled-fits (builtOf (planOf lent) room) (room .file) before after built r size f s

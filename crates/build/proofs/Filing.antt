@@ -97,6 +97,31 @@ remotes-few : (fields : List Text) → length (flatMap inlined (remotes fields))
 unfolding remotes
 remotes-few fields = omega (arith, firsts-few [] (goodOnes (isRemote fields) fields), good-few (isRemote fields) fields, inline-few fields)
 
+-- ---- what is laid out is a section that can be written
+module _ (names count : ℕ) (values strings : List ℕ) (many : length values ≡ count * names) (whole : length strings ≡ sumOf values) (bound : sumOf values + 10 * length values < 2 ^ 32) where
+  module _ (before kept held words places : List ℕ) (records remote sizes bytes : ℕ) (own : Recorded names count values strings before kept held words places records remote sizes bytes) where
+    abbrev laidFields : List Text
+    laidFields = fieldsTo names values strings count
+
+    laid-few : length (joined laidFields) + 10 * length laidFields < 2 ^ 32
+    laid-few = omega (arith, fields-few names count values strings many, fields-short names count values strings many (omega (arith, whole)), bound)
+
+    pub laid-section : SectionIn records remote sizes bytes kept held words
+    unfolding sectionFrom
+    laid-section = record {
+      kept-in = own .kept-in;
+      held-in = own .held-in;
+      words-in = own .words-in;
+      section = record {
+        many = recorded-lengths names count values strings before kept held words places records remote sizes bytes own;
+        whole = recorded-texts names count values strings before kept held words places records remote sizes bytes own;
+        bound = omega (arith, recorded-few names count values strings before kept held words places records remote sizes bytes own many (omega (arith, whole)), bound);
+        words-are = recorded-words names count values strings before kept held words places records remote sizes bytes own;
+        size-is = sym (ap length (recorded-section names count values strings before kept held words places records remote sizes bytes own) ∙ recorded-size names count values strings before kept held words places records remote sizes bytes own);
+        small = omega (arith, own .records-are, own .remote-is, layout-few laidFields, remotes-few laidFields, laid-few);
+      };
+    }
+
 -- ---- over what a plan needs
 module _ (names : ℕ) (yards lengths texts : List ℕ) (need : Need) (work : Work) (f : Filling names yards lengths texts need work) where
   abbrev lentLengths : Need → List ℕ
@@ -174,28 +199,9 @@ module _ (names : ℕ) (yards lengths texts : List ℕ) (need : Need) (work : Wo
     unfolding needOf
     own = subst (λ (n : Need). Recorded names (n .count) (lentLengths n) (lentTexts n) before kept held words places records remote sizes bytes) (f .is) r
 
-    abbrev fields : List Text
-    fields = fieldsTo names values strings count
-
-    few : length (joined fields) + 10 * length fields < 2 ^ 32
-    few = omega (arith, fields-few names count values strings many, fields-short names count values strings many (omega (arith, whole)), laying .bound)
-
     -- the metadata section
     pub filling-section : SectionIn records remote sizes bytes kept held words
-    unfolding sectionFrom
-    filling-section = record {
-      kept-in = own .kept-in;
-      held-in = own .held-in;
-      words-in = own .words-in;
-      section = record {
-        many = recorded-lengths names count values strings before kept held words places records remote sizes bytes own;
-        whole = recorded-texts names count values strings before kept held words places records remote sizes bytes own;
-        bound = omega (arith, recorded-few names count values strings before kept held words places records remote sizes bytes own many (omega (arith, whole)), laying .bound);
-        words-are = recorded-words names count values strings before kept held words places records remote sizes bytes own;
-        size-is = sym (ap length (recorded-section names count values strings before kept held words places records remote sizes bytes own) ∙ recorded-size names count values strings before kept held words places records remote sizes bytes own);
-        small = omega (arith, own .records-are, own .remote-is, layout-few fields, remotes-few fields, few);
-      };
-    }
+    filling-section = laid-section names count values strings many whole (laying .bound) before kept held words places records remote sizes bytes own
 
     module _ (kind version precision : ℕ) (lats lons : List ℤ) (pieces : List ℕ) where
       abbrev lent : Lent

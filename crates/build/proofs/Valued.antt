@@ -12,15 +12,15 @@ use Rattle.recording.proofs.Fewer.{map-same}
 use Rattle.build.proofs.Planned.{both}
 
 -- ---- yard by yard, so many values each
-abbrev part : ℕ → List Text → ℕ → List Text
+abbrev pub part : ℕ → List Text → ℕ → List Text
 part names texts yard = take names (drop (yard * names) texts)
 
-map-next : {A : Type 0} (f : ℕ → A) (i n : ℕ) → map f (numbersFrom (suc i) n) ≡ map (λ (k : ℕ). f (suc k)) (numbersFrom i n)
+pub map-next : {A : Type 0} (f : ℕ → A) (i n : ℕ) → map f (numbersFrom (suc i) n) ≡ map (λ (k : ℕ). f (suc k)) (numbersFrom i n)
 unfolding numbersFrom
 map-next f i zero = refl
 map-next {A} f i (suc n) = ap (λ (l : List A). f (suc i) ∷ l) (map-next f (suc i) n)
 
-shift : (names : ℕ) (t : List Text) (k : ℕ) → part names (drop names t) k ≡ part names t (suc k)
+pub shift : (names : ℕ) (t : List Text) (k : ℕ) → part names (drop names t) k ≡ part names t (suc k)
 shift names t k =
     let e : names + k * names ≡ suc k * names = omega (arith, suc-mul k names) in
     ap (take names) (drop-drop (k * names) names t) ∙ ap (λ (n : ℕ). take names (drop n t)) e

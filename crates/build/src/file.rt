@@ -233,7 +233,7 @@ fn clear(
 }
 
 // Where it is refused, the output is zero.
-fn settle(built: Built, out: &mut [u8]) -> Built
+pub fn settle(built: Built, out: &mut [u8]) -> Built
     ensures { λ r. ⌜ Settles built (now (out .entry)) (now (out .exit)) r ⌝ }
 {
     match built {

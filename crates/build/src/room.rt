@@ -46,7 +46,8 @@ pub fn data_room(out: usize, bytes: usize) -> usize
     up_to(bytes)
 }
 
-pub(crate) fn sum_of(lengths: &[u32]) -> usize
+// The sum of some lengths.
+pub fn sum_of(lengths: &[u32]) -> usize
     requires { ⌜ sumOf (now lengths) < 2 ^ 60 ⌝ }
     ensures { λ r. ⌜ r ≡ sumOf (now (lengths .entry)) ⌝ }
 {
@@ -78,7 +79,7 @@ pub(crate) fn need_of(names: usize, words: usize, lengths: &[u32]) -> Need
 }
 
 // The working lists are long enough for so many yards, fields and bytes of values.
-fn has_lists(work: Work, count: usize, fields: usize, bytes: usize) -> bool
+pub fn has_lists(work: Work, count: usize, fields: usize, bytes: usize) -> bool
     requires { ⌜ count ≤ 4096 ⌝ }
     ensures { λ r. ⌜ r ≡ enough work count fields bytes ⌝ }
 {

@@ -42,7 +42,7 @@ fn put_section(
 }
 
 // The bytes of the table.
-fn table_size(keys: &[u64], boxes: &[i32], places: &[u32]) -> usize
+pub fn table_size(keys: &[u64], boxes: &[i32], places: &[u32]) -> usize
     requires { ⌜ length (now keys) ≤ 4096 ⌝ }
     ensures { λ r. ⌜ r ≡ length (tableFrom 0 0 (map (entryOfWord (now (boxes .entry)) (now (places .entry))) (now (keys .entry)))) ⌝ }
 {
@@ -74,7 +74,7 @@ fn put_sections(
 }
 
 // The whole file, over zeros. The first lengths and texts are those of the names and the notice.
-pub(crate) fn write_file(
+pub fn write_file(
     form: Form,
     front: &[u32],
     strings: &[u8],

@@ -4,10 +4,11 @@ use lib.{IntN.{ℤ, pos}, ListN.{length, drop, getD, set, length-map, length-set
 use mathlib.Core.{List.{List, [], _∷_, _++_, map, zipWith}, Path.{_≡_, refl, sym, ap, _∙_}}
 use native.Mathlib.Omega.{arith}
 use Rattle.builder.proofs.Ordered.{table-is}
-use Rattle.builder.specs.{Borders.{Drawn, withBorder, drawnFrom}, Entries.{Entry, boxOf, boundsAt, placesAt, entryAt, entryOfWord, tableFrom, tableOf}, File.{entryOf}}
+use Rattle.builder.specs.{Borders.{Drawn, withBorder, drawnFrom}, Entries.{Entry, boxOf, boundsAt, placesAt, entryAt, entryOfWord, wordOfYard, tableFrom, tableOf}, File.{entryOf}}
 use Rattle.builder.specs.{Metadata.{recordsOf, startOf}, Sharing.{sameTexts, firsts}, Yards.{Text, Yard, yardsFrom}, declared.boxes.Bounds.{Bounds}}
 use Rattle.drawing.specs.Section.{spread}
 use Rattle.grouping.specs.{Items.{startsFrom, itemAt}, Keys.{numbersFrom}}
+use Rattle.layout.specs.Order.{keyOf, sortedBy}
 use Rattle.metadata.{proofs.Begun.{spread-at}, specs.Kept.{valuesTo, beginOf}}
 use Rattle.numbers.{proofs.Replies.{given-from}, specs.Reply.{given}}
 use Rattle.entries.proofs.Cornered.{corners-alone}
@@ -106,26 +107,20 @@ module _ (all : List Yard) (boxes : List ℤ) (places : List ℕ) where
       ∙ ap (λ (es : List Entry). entryOf all y d ∷ es) (entries-from (suc i) ys ds (lies-on i y ys d ds l))
 
 -- ---- the table
--- the yards' boxes and words as they were put in order, where each border begins, and then twice a place for each record, of which the second is where it begins
-pub table-of : (ns : List ℕ) (ys xs : List ℤ) (w : List ℕ) (t : List Text) (yards : List Yard) → yards ≡ yardsFrom ns ys xs w t
-    → (boxes boxes′ : List ℤ) (keys spare spare′ : List ℕ) → InOrder (yardsFrom ns ys xs [] []) boxes boxes′ keys spare spare′
+-- the yards' boxes at the front of a list and their words in order, where each border begins, and then twice a place for each record, of which the second is where it begins
+pub table-over : (yards : List Yard) (boxes rest : List ℤ) (keys : List ℕ) → length yards ≤ 4096 → boxes ≡ cornersOf yards ++ rest
+    → keys ≡ sortedBy keyOf (map (wordOfYard boxes) (numbersFrom 0 (length yards)))
     → (before drawn heads begins places : List ℕ) → length drawn ≡ length yards → 2 * length yards ≤ length before
     → begins ≡ map (λ (y : Yard). startOf (recordsOf yards) (y .values)) yards → places ≡ spread 0 begins (spread 0 heads (spread 1 drawn before))
-    → tableFrom 0 0 (map (entryOfWord boxes′ places) keys) ≡ tableOf (zipWith (entryOf yards) yards drawn)
-table-of ns ys xs w t yards is boxes boxes′ keys spare spare′ o before drawn heads begins places many room eb ep =
-    let bare : List Yard = yardsFrom ns ys xs [] [] in
-    let corners : cornersOf bare ≡ cornersOf yards = corners-alone ns ys xs [] w [] t ∙ ap cornersOf (sym is) in
-    let four : 4 * length bare ≡ 4 * length yards = sym (corners-size bare) ∙ (ap length corners ∙ corners-size yards) in
-    let count : length bare ≡ length yards = omega (arith, four) in
-    let laid : boxes′ ≡ cornersOf yards ++ drop (0 + length (cornersOf yards)) boxes =
-    o .corners ∙ (ap (sets boxes 0) corners ∙ sets-eq (cornersOf yards) boxes 0 (omega (arith, o .room, four, corners-size yards))) in
+    → tableFrom 0 0 (map (entryOfWord boxes places) keys) ≡ tableOf (zipWith (entryOf yards) yards drawn)
+table-over yards boxes rest keys few laid order before drawn heads begins places many room eb ep =
     let middle : List ℕ = spread 0 heads (spread 1 drawn before) in
     let wide : length middle ≡ length before = spread-size 0 heads (spread 1 drawn before) ∙ spread-size 1 drawn before in
     let started : length begins ≡ length yards = ap length eb ∙ length-map yards (λ (y : Yard). startOf (recordsOf yards) (y .values)) in
-    let lies : Lies yards boxes′ places 0 yards drawn = record {
-      few = omega (arith, o .few, count);
+    let lies : Lies yards boxes places 0 yards drawn = record {
+      few = omega (arith, few);
       size = many;
-      rest = drop (0 + length (cornersOf yards)) boxes;
+      rest = rest;
       boxed = laid;
       begins = λ j h.
           let z : 2 * (0 + j) ≡ 0 + 2 * j = omega arith in
@@ -140,9 +135,24 @@ table-of ns ys xs w t yards is boxes boxes′ keys spare spare′ o before drawn
           ∙ (spread-odd 0 heads (spread 1 drawn before) j
           ∙ (ap (λ (n : ℕ). getD (spread 1 drawn before) n 0) s ∙ spread-at 1 drawn before j (omega (arith, h, many)) (omega (arith, h, room))))));
     } in
-    ap (λ (ws : List ℕ). tableFrom 0 0 (map (entryOfWord boxes′ places) ws)) (o .order)
-    ∙ (table-is boxes′ places (numbersFrom 0 (length bare))
-    ∙ (ap (λ (n : ℕ). tableOf (map (entryOfWord boxes′ places) (numbersFrom 0 n))) count ∙ ap tableOf (entries-from yards boxes′ places 0 yards drawn lies)))
+    ap (λ (ws : List ℕ). tableFrom 0 0 (map (entryOfWord boxes places) ws)) order
+    ∙ (table-is boxes places (numbersFrom 0 (length yards)) ∙ ap tableOf (entries-from yards boxes places 0 yards drawn lies))
+
+-- the yards' boxes and words as they were put in order
+pub table-of : (ns : List ℕ) (ys xs : List ℤ) (w : List ℕ) (t : List Text) (yards : List Yard) → yards ≡ yardsFrom ns ys xs w t
+    → (boxes boxes′ : List ℤ) (keys spare spare′ : List ℕ) → InOrder (yardsFrom ns ys xs [] []) boxes boxes′ keys spare spare′
+    → (before drawn heads begins places : List ℕ) → length drawn ≡ length yards → 2 * length yards ≤ length before
+    → begins ≡ map (λ (y : Yard). startOf (recordsOf yards) (y .values)) yards → places ≡ spread 0 begins (spread 0 heads (spread 1 drawn before))
+    → tableFrom 0 0 (map (entryOfWord boxes′ places) keys) ≡ tableOf (zipWith (entryOf yards) yards drawn)
+table-of ns ys xs w t yards is boxes boxes′ keys spare spare′ o before drawn heads begins places many room eb ep =
+    let bare : List Yard = yardsFrom ns ys xs [] [] in
+    let corners : cornersOf bare ≡ cornersOf yards = corners-alone ns ys xs [] w [] t ∙ ap cornersOf (sym is) in
+    let four : 4 * length bare ≡ 4 * length yards = sym (corners-size bare) ∙ (ap length corners ∙ corners-size yards) in
+    let count : length bare ≡ length yards = omega (arith, four) in
+    let rest : List ℤ = drop (0 + length (cornersOf yards)) boxes in
+    let laid : boxes′ ≡ cornersOf yards ++ rest = o .corners ∙ (ap (sets boxes 0) corners ∙ sets-eq (cornersOf yards) boxes 0 (omega (arith, o .room, four, corners-size yards))) in
+    let order : keys ≡ sortedBy keyOf (map (wordOfYard boxes′) (numbersFrom 0 (length yards))) = o .order ∙ ap (λ (n : ℕ). sortedBy keyOf (map (wordOfYard boxes′) (numbersFrom 0 n))) count in
+    table-over yards boxes′ rest keys (omega (arith, o .few, count)) laid order before drawn heads begins places many room eb ep
 
 -- ---- where the records begin, by the yards
 map-map : {A B C : Type 0} (f : A → B) (g : B → C) (xs : List A) → map g (map f xs) ≡ map (λ (x : A). g (f x)) xs

@@ -9,7 +9,7 @@ use builder::boxes::box_of;
 use builder::yards::next_part;
 use builder::yards::part_end;
 
-fn put_corners(boxes: &mut [i32], at: usize, bounds: Bounds)
+pub fn put_corners(boxes: &mut [i32], at: usize, bounds: Bounds)
     requires { ⌜ at + 4 ≤ length (now boxes) ⌝ }
     ensures { λ _. ⌜ now (boxes .exit) ≡ sets (now (boxes .entry)) at (bounds .south ∷ bounds .west ∷ bounds .north ∷ bounds .east ∷ []) ⌝ }
 {

@@ -27,7 +27,7 @@ fn put_word(list: &mut [u32], place: usize, word: u32) -> usize
 }
 
 // Words, one after another; what does not fit is counted and left out.
-fn put_words(list: &mut [u32], place: usize, words: &[u32]) -> usize
+pub fn put_words(list: &mut [u32], place: usize, words: &[u32]) -> usize
     requires { ⌜ place + length (now words) < 2 ^ 62 ⌝ }
     ensures { λ r. ⌜ Stored (now (list .entry)) place (now (words .entry)) (now (list .exit)) r ⌝ }
 {

@@ -6,20 +6,21 @@ use crate::calls::run;
 use crate::index::index_right;
 use crate::many::recorded_many;
 use crate::many::run_many;
-use crate::record::byte_at;
-use crate::record::long_at;
-use crate::record::same_words;
-use crate::record::size_at;
-use crate::reply::Reply;
-use crate::reply::print_reply;
-use crate::reply::recorded;
-use crate::reply::same_reply;
 use crate::salvaged::run_salvage;
 use crate::write::run_write;
 use crate::yards::Asked;
 use crate::yards::run_build;
 use crate::yards::texts_at;
 use libc::STDOUT_FILENO;
+use rebuild::whole::draft_right;
+use recorded::record::byte_at;
+use recorded::record::long_at;
+use recorded::record::same_words;
+use recorded::record::size_at;
+use recorded::reply::Reply;
+use recorded::reply::print_reply;
+use recorded::reply::recorded;
+use recorded::reply::same_reply;
 
 pub enum Verdict {
     Right,
@@ -260,11 +261,12 @@ fn judge_many(record: &[u8]) -> Verdict {
     )
 }
 
-fn judge_index(record: &[u8]) -> Verdict {
-    if index_right(record) {
+// Of a record whose parts are looked at elsewhere.
+fn judged(right: bool, record: &[u8]) -> Verdict {
+    if right {
         return Verdict::Right;
     }
-    io::write_all(STDOUT_FILENO, b"wrong index: op ");
+    io::write_all(STDOUT_FILENO, b"wrong: op ");
     io::print_decimal(STDOUT_FILENO, byte_at(record, 0) as u64);
     io::write_all(STDOUT_FILENO, b" id ");
     io::print_decimal(STDOUT_FILENO, long_at(record, 1));
@@ -381,7 +383,8 @@ fn judge_build(record: &[u8]) -> Verdict {
 
 pub fn judge(record: &[u8]) -> Verdict {
     match byte_at(record, 0) {
-        13 | 18 => judge_index(record),
+        13 | 18 => judged(index_right(record), record),
+        11 => judged(draft_right(record), record),
         1 | 2 | 3 | 5 | 6 | 7 | 8 | 14 | 15 | 16 | 20 | 21 => judge_file(record),
         4 => judge_write(record),
         9 | 17 => judge_many(record),

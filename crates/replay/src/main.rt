@@ -3,8 +3,6 @@ mod calls;
 mod case;
 mod index;
 mod many;
-mod record;
-mod reply;
 mod salvaged;
 mod write;
 mod yards;
@@ -15,8 +13,8 @@ use case::Verdict;
 use case::judge;
 use libc::STDIN_FILENO;
 use libc::STDOUT_FILENO;
-use record::byte_at;
-use record::size_at;
+use recorded::record::byte_at;
+use recorded::record::size_at;
 
 // How many cases there were of each op, and then in all, wrong and skipped.
 const ALL: usize = 22;
@@ -124,6 +122,7 @@ fn report(tally: &[u64]) {
     print_op(b"many", counted(tally, 17));
     print_op(b"many in three words", counted(tally, 9));
     print_op(b"build", counted(tally, 10));
+    print_op(b"builder", counted(tally, 11));
     print_op(b"salvage", counted(tally, 12));
     print_op(b"local", counted(tally, 20));
     print_op(b"listed", counted(tally, 21));

@@ -5,13 +5,13 @@ ghost use lib.ListN.{length};
 use crate::calls::filled_words;
 use crate::calls::in_four;
 use crate::calls::leave_out;
-use crate::record::byte_at;
-use crate::record::long_at;
-use crate::record::word_at;
-use crate::reply::Reply;
-use crate::reply::spoken;
-use crate::reply::unspoken;
 use numbers::float::bits::of_bits;
+use recorded::record::byte_at;
+use recorded::record::long_at;
+use recorded::record::word_at;
+use recorded::reply::Reply;
+use recorded::reply::spoken;
+use recorded::reply::unspoken;
 use uskelzar::many::uskelzar_lookup_many;
 
 // So many coordinates from a place of the record on.

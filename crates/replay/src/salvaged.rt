@@ -1,7 +1,7 @@
 // Salvage, by the exported form.
-use crate::reply::Reply;
-use crate::reply::spoken;
-use crate::reply::unspoken;
+use recorded::reply::Reply;
+use recorded::reply::spoken;
+use recorded::reply::unspoken;
 use uskelzar::salvaged::uskelzar_salvage;
 
 pub fn run_salvage(file: &[u8], list: &mut [u32], out: &mut [u8]) -> Reply {

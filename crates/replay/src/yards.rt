@@ -3,13 +3,14 @@
 ghost use mathlib.Core.Path.{_≡_};
 ghost use Prim.Native.Nat.{_+_, _*_, _≤_};
 ghost use lib.ListN.{length};
-use crate::record::byte_at;
-use crate::record::word_at;
-use crate::reply::Reply;
-use crate::reply::spoken;
-use crate::reply::unspoken;
-use crate::write::coordinates;
-use crate::write::piece_words;
+use recorded::lists::coordinates;
+use recorded::lists::lengths_at;
+use recorded::lists::piece_words;
+use recorded::record::byte_at;
+use recorded::record::word_at;
+use recorded::reply::Reply;
+use recorded::reply::spoken;
+use recorded::reply::unspoken;
 use uskelzar::yards::uskelzar_build;
 
 // How many there are of each: words of yards, points, words of pieces, texts.
@@ -27,22 +28,6 @@ pub fn texts_at(asked: Asked) -> usize
     ensures { λ r. ⌜ r ≡ 40 + 4 * asked .yards + 4 * asked .lats + 4 * asked .lons + 4 * asked .pieces + 4 * asked .texts ⌝ }
 {
     40 + 4 * asked.yards + 4 * asked.lats + 4 * asked.lons + 4 * asked.pieces + 4 * asked.texts
-}
-
-// So many lengths from a place of the record on.
-fn lengths_at(record: &[u8], at: usize, count: usize) -> [u32; 1024]
-    requires { ⌜ count ≤ 1024 ⌝ }
-    ensures { λ r. ⌜ length r ≡ 1024 ⌝ }
-{
-    let mut list = [0; 1024];
-    let mut i = 0;
-    let mut place = at;
-    while i < count {
-        list[i] = word_at(record, place);
-        i += 1;
-        place = std::num::wrapping_add_usize(place, 4);
-    }
-    list
 }
 
 // Lends lists to work in that are filled, and longer than any record needs.

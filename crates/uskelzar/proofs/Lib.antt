@@ -3,3 +3,4 @@ pub mod Numbered
 pub mod Strict
 pub mod Same
 pub mod SameCivil
+pub mod Drafts

@@ -3,3 +3,4 @@ pub mod Civil
 pub mod Many
 pub mod Salvaged
 pub mod Built
+pub mod Draft

@@ -1,6 +1,7 @@
 // The form in which firmware takes the library: functions of plain names over numbers and slices; include/uskelzar.h has them for C.
 // Each returns 0 where it answers, with the answer's values in `reply`, or a refusal's number, with its cause and detail there.
 pub mod civil;
+pub mod draft;
 pub mod many;
 pub mod salvaged;
 pub mod tiles;

@@ -10,7 +10,7 @@ use build::asked::Asked;
 use build::file::Built;
 use build::file::build;
 
-fn say_built(built: Built) -> Said
+pub(crate) fn say_built(built: Built) -> Said
     ensures { λ r. ⌜ r ≡ saidOf lengthValue (toldBuilt built) ⌝ }
 {
     match built {

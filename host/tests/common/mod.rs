@@ -1,6 +1,7 @@
 //! What several tests use.
 #![allow(dead_code)] // each test uses some of it
 
+pub mod desk;
 pub mod encode;
 pub mod fence;
 pub mod files;

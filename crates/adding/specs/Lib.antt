@@ -1,0 +1,4 @@
+pub mod Offers
+pub mod Puts
+pub mod Joins
+pub mod Adds

@@ -1,0 +1,12 @@
+-- `changing::clear::emptied` meets its contract. Assumes nothing.
+use mathlib.Core.Path.{refl}
+use Rattle.changing.proofs.clear.emptied.Statement.{statement}
+use Rattle.changing.specs.Emptied.{emptiedOf}
+use Rattle.changing.proofs.clear.emptied.Tie as tie
+
+returns : tie.Need-returns
+unfolding emptiedOf
+returns c = refl
+
+pub emptied-spec : {M : Type 1} → statement M
+emptied-spec = tie.close (tie.spec returns)

@@ -1,0 +1,26 @@
+-- `replacing::put::take_back` meets its contract. Assumes nothing.
+use Rattle.replacing.proofs.{Answered.{back-into, back-refused}, put.take_back.Statement.{statement}}
+use borrow.Author.Needs.{needs}
+use Rattle.replacing.proofs.put.take_back.Tie as tie
+
+returns : tie.Need-returns
+returns c = back-into _ _ (c .before .changed .given .1) _ _ _ _ _
+
+returns-2 : tie.Need-returns-2
+returns-2 c =
+    let changed2 = c .before .before .before .before .before .before .before .before .before .before .before .changed2 in
+    let put-in = c .before .before .before .before .before .before .put-in in
+    back-refused _ _ (changed2 .given .1) _ _ _ _ _ _ _ _ (put-in .ensures)
+
+pub take-back-spec : {M : Type 1} → statement M
+take-back-spec =
+    tie.close
+    (tie.spec
+    (λ c. search needs)
+    (λ c. search needs)
+    (λ c κs. search needs)
+    returns
+    (λ c. search needs)
+    (λ c. search needs)
+    (λ c. search needs)
+    returns-2)

@@ -1,0 +1,76 @@
+-- `summed::sums::greatest_of` meets its contract. Assumes nothing.
+use Prim.Native.Nat.{_-_}
+use borrow.Author.Needs.{needs}
+use native.Mathlib.Omega.{arith}
+use mir.{Syntax.{w32}, Val.{toZ}}
+use Rattle.summed.proofs.{Souths.{Seeking, none-greatest, seek-starts, seek-up, seek-on, seek-ends}, sums.greatest_of.Statement.{statement}}
+use Rattle.summed.proofs.sums.greatest_of.Tie as tie
+
+abbrev Inv-loop : tie.InvT-loop
+Inv-loop boxes count greatest₀ yard₀ greatest yard = Seeking boxes count (toZ w32 greatest) yard
+
+abbrev μ-loop : tie.MeasureT-loop
+μ-loop boxes count greatest₀ yard₀ greatest yard = count - yard
+
+returns : tie.Need-returns Inv-loop μ-loop
+returns c = none-greatest _ _ (c .if1 .taken)
+
+shared-slice-copy-out-greatest : tie.Need-shared-slice-copy-out-greatest Inv-loop μ-loop
+shared-slice-copy-out-greatest c = omega (arith, c .if1 .left, c .before .pre .0)
+
+loop-holds : tie.Need-loop-holds Inv-loop μ-loop
+loop-holds c = seek-starts _ _ (c .before .if1 .left) (record { sfits = c .greatest .given })
+
+mul-south : tie.Need-mul-south Inv-loop μ-loop
+mul-south c = search needs
+
+mul-south-2 : tie.Need-mul-south-2 Inv-loop μ-loop
+mul-south-2 c = search needs
+
+shared-slice-copy-out-south : tie.Need-shared-slice-copy-out-south Inv-loop μ-loop
+shared-slice-copy-out-south c = search needs
+
+add-yard : tie.Need-add-yard Inv-loop μ-loop
+add-yard c = search needs
+
+loop-less : tie.Need-loop-less Inv-loop μ-loop
+loop-less c = search needs
+
+loop-again : tie.Need-loop-again Inv-loop μ-loop
+loop-again c =
+    let loop = c .before .before .before .loop in
+    let loop-test = c .before .before .loop-test in
+    let south = c .before .south in
+    seek-up _ _ _ _ (loop .inv) (loop-test .taken) (record { sfits = south .given }) (c .if2 .taken)
+
+loop-less-2 : tie.Need-loop-less-2 Inv-loop μ-loop
+loop-less-2 c = search needs
+
+loop-again-2 : tie.Need-loop-again-2 Inv-loop μ-loop
+loop-again-2 c =
+    let loop = c .before .before .before .loop in
+    let loop-test = c .before .before .loop-test in
+    let south = c .before .south in
+    seek-on _ _ _ _ (loop .inv) (loop-test .taken) (record { sfits = south .given }) (c .if2 .left)
+
+returns-2 : tie.Need-returns-2 Inv-loop μ-loop
+returns-2 c = seek-ends _ _ _ _ (c .before .loop .inv) (c .loop-test .left)
+
+pub greatest-of-spec : {M : Type 1} → statement M
+greatest-of-spec =
+    tie.close
+    (tie.spec
+    Inv-loop
+    μ-loop
+    returns
+    shared-slice-copy-out-greatest
+    loop-holds
+    mul-south
+    mul-south-2
+    shared-slice-copy-out-south
+    add-yard
+    loop-less
+    loop-again
+    loop-less-2
+    loop-again-2
+    returns-2)

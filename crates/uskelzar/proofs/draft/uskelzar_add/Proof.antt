@@ -1,0 +1,29 @@
+-- `uskelzar::draft::uskelzar_add` meets its contract. Assumes nothing.
+use borrow.Author.Needs.{needs}
+use Rattle.uskelzar.proofs.{Drafts.{speaks}, draft.uskelzar_add.Statement.{statement}}
+use Rattle.uskelzar.proofs.draft.uskelzar_add.Tie as tie
+
+returns : tie.Need-returns
+returns c = (speaks (c .before .before .before .before .before .before .before .before .before .before .before .before .before .before .before .before .before .before .before .before .before .before .before .before .before .before .before .before .before .before .before .before .before .before .before .before .before .before .before .before .before .before .state-of .ensures) (c .before .before .before .before .before .before .before .before .before .before .before .before .before .before .before .before .before .before .before .before .before .before .before .before .before .before .before .before .add .ensures .0) (c .speak-changed .ensures), c .before .before .before .before .before .before .before .before .before .before .before .before .before .before .before .before .before .before .before .before .before .before .before .before .before .before .before .before .add .ensures .1)
+
+pub uskelzar-add-spec : {M : Type 1} → statement M
+uskelzar-add-spec =
+    tie.close
+    (tie.spec
+    (λ c κs. search needs)
+    (λ c κs. search needs)
+    (λ c κs. search needs)
+    (λ c. search needs)
+    (λ c. search needs)
+    (λ c. search needs)
+    (λ c. search needs)
+    (λ c. search needs)
+    (λ c. search needs)
+    (λ c. search needs)
+    (λ c. search needs)
+    (λ c. search needs)
+    (λ c. search needs)
+    (λ c. search needs)
+    (λ c. search needs)
+    (λ c. search needs)
+    returns)

@@ -1,0 +1,27 @@
+-- `uskelzar::draft::uskelzar_finish` meets its contract. Assumes nothing.
+use borrow.Author.Needs.{needs}
+use mathlib.Core.Path.{ap, _∙_}
+use Rattle.uskelzar.proofs.{Drafts.{ends}, draft.uskelzar_finish.Statement.{statement}}
+use Rattle.uskelzar.specs.Spoken.{Spoken}
+use Rattle.uskelzar.proofs.draft.uskelzar_finish.Tie as tie
+
+returns : tie.Need-returns
+returns c = (ends (c .before .before .before .before .before .before .before .before .before .before .before .before .before .before .before .before .before .before .before .finish .result) (c .before .before .before .before .before .before .before .before .before .before .before .before .before .before .before .before .before .before .before .before .before .before .before .before .before .before .before .before .state-of .ensures) (record { answers = c .before .before .before .before .before .before .before .before .before .before .before .before .before .before .before .before .before .before .before .finish .ensures .0; broken = c .before .before .before .before .before .before .before .before .before .before .before .before .before .before .before .before .before .before .before .finish .ensures .1 }) (ap (λ (s : Spoken). s .said) (c .speak .ensures) ∙ c .before .before .say-built .ensures), c .before .before .before .before .before .before .before .before .before .before .before .before .before .before .before .before .before .before .before .finish .ensures .2)
+
+pub uskelzar-finish-spec : {M : Type 1} → statement M
+uskelzar-finish-spec =
+    tie.close
+    (tie.spec
+    (λ c κs. search needs)
+    (λ c κs. search needs)
+    (λ c κs. search needs)
+    (λ c κs. search needs)
+    (λ c. search needs)
+    (λ c. search needs)
+    (λ c. search needs)
+    (λ c. search needs)
+    (λ c. search needs)
+    (λ c. search needs)
+    (λ c. search needs)
+    (λ c. search needs)
+    returns)

@@ -1,0 +1,31 @@
+use borrow.Author.Needs.{needs}
+use Rattle.uskelzar.proofs.Drafts.{held-back}
+use Rattle.uskelzar.proofs.draft.words_of.Statement.{statement}
+use Rattle.uskelzar.proofs.draft.words_of.Tie as tie
+use Rattle.uskelzar.proofs.draft.words_of.Reads as reads
+use Rattle.uskelzar.proofs.draft.words_of.Lts as lts
+use Rattle.uskelzar.proofs.draft.greatest_bits.Reads as greatest-bits-reads
+
+greatest-bits-requires : tie.Need-greatest-bits-requires
+greatest-bits-requires c κs = search needs
+
+cast-t3 : tie.Need-cast-t3
+cast-t3 c = search needs
+
+cast-t4 : tie.Need-cast-t4
+cast-t4 c = search needs
+
+cast-t5 : tie.Need-cast-t5
+cast-t5 c = search needs
+
+cast-t6 : tie.Need-cast-t6
+cast-t6 c = search needs
+
+returns : tie.Need-returns
+returns c =
+    let told = c .struct-known4 .given in
+    let bits = c .before .before .before .before .greatest-bits in
+    held-back (c .before .before .before .before .before .args .held) (bits .result) (search needs) (search needs) (search needs) (search needs) (bits .ensures .1) (bits .ensures .0)
+
+pub words-of-spec : {M : Type 1} → statement M
+words-of-spec = tie.close (tie.spec greatest-bits-requires cast-t3 cast-t4 cast-t5 cast-t6 returns)
