@@ -25,7 +25,7 @@
 #include <stdint.h>
 
 /* ---- the release of this header, and of the archive that goes with it */
-#define USKELZAR_RELEASE "0.3.0"
+#define USKELZAR_RELEASE "0.4.0"
 #define USKELZAR_RELEASE_NUMBER 300 /* major * 10,000 + minor * 100 + patch */
 
 #ifdef __cplusplus

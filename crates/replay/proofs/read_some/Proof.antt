@@ -14,9 +14,6 @@ some step got space last least kept came =
     let step-long : length last ≡ step = kept ∙ length-take-le step space (least .1) in
     (omega arith, counts got (last ++ drop step space) (omega (arith, length-append last (drop step space))))
 
-slice-aggregate-read-full : tie.Need-slice-aggregate-read-full
-slice-aggregate-read-full c = sym (length-take-le _ _ (c .before .least .ensures .1))
-
 returns : tie.Need-returns
 returns c =
     let least = c .before .before .before .before .least in
@@ -30,7 +27,7 @@ read-some-spec =
     (tie.spec
     (λ c κs. search needs)
     (λ c. search needs)
-    slice-aggregate-read-full
+    (λ c. sym (length-take-le _ _ (c .before .least .ensures .1)))
     (λ c κs. search needs)
     (λ c. search needs)
     returns)

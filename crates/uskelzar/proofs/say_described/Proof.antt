@@ -16,26 +16,8 @@ described : {simple : Simple} {found : Described} {description : Description} �
 described {found = found} is so =
     ap (λ (d : Description). record { number = 0; words = padded 5 (found .matches ∷ found .mark ∷ descriptionValues d) }) (sym so) ∙ said-given describedValues (ap toldSimple is)
 
-enum-known-simple : tie.Need-enum-known-simple
-enum-known-simple c = search needs
-
-enum-known-simple-2 : tie.Need-enum-known-simple-2
-enum-known-simple-2 c = search needs
-
-say-refused-requires : tie.Need-say-refused-requires
-say-refused-requires c κs = search needs
-
 returns : tie.Need-returns
 returns c = said-refused describedValues (c .say-refused .ensures) (ap toldSimple (c .before .before .simple2 .given .1))
-
-cast-mark : tie.Need-cast-mark
-cast-mark c = search needs
-
-enum-known-description : tie.Need-enum-known-description
-enum-known-description c = search needs
-
-enum-told : tie.Need-enum-told
-enum-told c = search needs
 
 returns-2 : tie.Need-returns-2
 returns-2 c =
@@ -51,12 +33,12 @@ pub say-described-spec : {M : Type 1} → statement M
 say-described-spec =
     tie.close
     (tie.spec
-    enum-known-simple
-    enum-known-simple-2
-    say-refused-requires
+    (λ c. search needs)
+    (λ c. search needs)
+    (λ c κs. search needs)
     returns
-    cast-mark
-    enum-known-description
-    enum-told
+    (λ c. search needs)
+    (λ c. search needs)
+    (λ c. search needs)
     returns-2
     returns-3)

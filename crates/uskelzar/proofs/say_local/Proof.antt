@@ -15,9 +15,6 @@ returns c =
     let time = c .before .before .before .time in
     ap (localWords _ _) (c .before .offset-bits .ensures) ∙ said-given localValues (ap localReply (time .given .1))
 
-returns-2 : tie.Need-returns-2
-returns-2 c = said-given localValues (ap localReply (c .enum-told .given .1))
-
 returns-3 : tie.Need-returns-3
 returns-3 c =
     let time2 = c .before .before .before .time2 in
@@ -35,5 +32,5 @@ say-local-spec =
     (λ c κs. search needs)
     (λ c κs. search needs)
     returns
-    returns-2
+    (λ c. said-given localValues (ap localReply (c .enum-told .given .1)))
     returns-3)

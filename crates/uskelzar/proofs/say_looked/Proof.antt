@@ -8,21 +8,6 @@ use Rattle.uskelzar.proofs.say_looked.Reads as reads
 use Rattle.uskelzar.proofs.say_looked.Lts as lts
 use Rattle.uskelzar.proofs.say_refused.Reads as say-refused-reads
 
-enum-known-looked : tie.Need-enum-known-looked
-enum-known-looked c = search needs
-
-cast-t6 : tie.Need-cast-t6
-cast-t6 c = search needs
-
-cast-t7 : tie.Need-cast-t7
-cast-t7 c = search needs
-
-enum-known-looked-2 : tie.Need-enum-known-looked-2
-enum-known-looked-2 c = search needs
-
-say-refused-requires : tie.Need-say-refused-requires
-say-refused-requires c κs = search needs
-
 returns : tie.Need-returns
 returns c = said-given zonesValues (ap toldLooked (c .before .before .before .looked .given .1))
 
@@ -33,10 +18,10 @@ pub say-looked-spec : {M : Type 1} → statement M
 say-looked-spec =
     tie.close
     (tie.spec
-    enum-known-looked
-    cast-t6
-    cast-t7
-    enum-known-looked-2
-    say-refused-requires
+    (λ c. search needs)
+    (λ c. search needs)
+    (λ c. search needs)
+    (λ c. search needs)
+    (λ c κs. search needs)
     returns
     returns-2)

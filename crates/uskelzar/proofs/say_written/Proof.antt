@@ -10,18 +10,6 @@ use Rattle.uskelzar.proofs.say_written.Lts as lts
 use Rattle.uskelzar.proofs.say_refused.Reads as say-refused-reads
 use Rattle.numbers.proofs.refusal.refuse.Reads as refuse-reads
 
-enum-known-written : tie.Need-enum-known-written
-enum-known-written c = search needs
-
-enum-known-written-2 : tie.Need-enum-known-written-2
-enum-known-written-2 c = search needs
-
-refuse-requires : tie.Need-refuse-requires
-refuse-requires c κs = search needs
-
-say-refused-requires : tie.Need-say-refused-requires
-say-refused-requires c κs = search needs
-
 returns : tie.Need-returns
 returns c = said-given lengthValue (ap (λ (w : Written). told w) (c .before .written .given .1))
 
@@ -32,9 +20,9 @@ pub say-written-spec : {M : Type 1} → statement M
 say-written-spec =
     tie.close
     (tie.spec
-    enum-known-written
-    enum-known-written-2
-    refuse-requires
-    say-refused-requires
+    (λ c. search needs)
+    (λ c. search needs)
+    (λ c κs. search needs)
+    (λ c κs. search needs)
     returns
     returns-2)

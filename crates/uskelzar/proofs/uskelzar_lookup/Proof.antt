@@ -9,25 +9,10 @@ use Rattle.uskelzar.proofs.say_looked.Reads as say-looked-reads
 use Rattle.uskelzar.proofs.speak.Reads as speak-reads
 use Rattle.zones.proofs.lookup.lookup.Reads as lookup-reads
 
-lookup-requires : tie.Need-lookup-requires
-lookup-requires c κs = search needs
-
-say-looked-requires : tie.Need-say-looked-requires
-say-looked-requires c κs = search needs
-
-speak-requires : tie.Need-speak-requires
-speak-requires c κs = search needs
-
-same-length : tie.Need-same-length
-same-length c = search needs
-
-same-length-2 : tie.Need-same-length-2
-same-length-2 c = search needs
-
 returns : tie.Need-returns
 returns c = beside _ (c .speak .ensures) (c .before .before .say-looked .ensures) ∙ ap (foundSpoken zonesValues) (c .before .before .before .before .before .before .before .lookup .ensures)
 
 pub uskelzar-lookup-spec : {M : Type 1} → statement M
 uskelzar-lookup-spec =
     tie.close
-    (tie.spec lookup-requires say-looked-requires speak-requires same-length same-length-2 returns)
+    (tie.spec (λ c κs. search needs) (λ c κs. search needs) (λ c κs. search needs) (λ c. search needs) (λ c. search needs) returns)

@@ -4,25 +4,10 @@ use Rattle.uskelzar.specs.Spoken.{foundSpoken, zonesValues}
 use borrow.Author.Needs.{needs}
 use Rattle.uskelzar.proofs.uskelzar_lookup_strict.Tie as tie
 
-lookup-strict-requires : tie.Need-lookup-strict-requires
-lookup-strict-requires c κs = search needs
-
-say-looked-requires : tie.Need-say-looked-requires
-say-looked-requires c κs = search needs
-
-speak-requires : tie.Need-speak-requires
-speak-requires c κs = search needs
-
-same-length : tie.Need-same-length
-same-length c = search needs
-
-same-length-2 : tie.Need-same-length-2
-same-length-2 c = search needs
-
 returns : tie.Need-returns
 returns c = beside _ (c .speak .ensures) (c .before .before .say-looked .ensures) ∙ ap (foundSpoken zonesValues) (c .before .before .before .before .before .before .before .lookup-strict .ensures)
 
 pub uskelzar-lookup-strict-spec : {M : Type 1} → statement M
 uskelzar-lookup-strict-spec =
     tie.close
-    (tie.spec lookup-strict-requires say-looked-requires speak-requires same-length same-length-2 returns)
+    (tie.spec (λ c κs. search needs) (λ c κs. search needs) (λ c κs. search needs) (λ c. search needs) (λ c. search needs) returns)

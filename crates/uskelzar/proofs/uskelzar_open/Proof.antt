@@ -9,21 +9,9 @@ use Rattle.uskelzar.proofs.say_opened.Reads as say-opened-reads
 use Rattle.uskelzar.proofs.speak.Reads as speak-reads
 use Rattle.header.proofs.opening.open.Reads as open-reads
 
-open-requires : tie.Need-open-requires
-open-requires c κs = search needs
-
-say-opened-requires : tie.Need-say-opened-requires
-say-opened-requires c κs = search needs
-
-speak-requires : tie.Need-speak-requires
-speak-requires c κs = search needs
-
-same-length : tie.Need-same-length
-same-length c = search needs
-
 returns : tie.Need-returns
 returns c = beside _ (c .speak .ensures) (c .before .before .say-opened .ensures) ∙ ap openingSpoken (c .before .before .before .before .before .«open» .ensures)
 
 pub uskelzar-open-spec : {M : Type 1} → statement M
 uskelzar-open-spec =
-    tie.close (tie.spec open-requires say-opened-requires speak-requires same-length returns)
+    tie.close (tie.spec (λ c κs. search needs) (λ c κs. search needs) (λ c κs. search needs) (λ c. search needs) returns)

@@ -4,21 +4,9 @@ use Rattle.uskelzar.specs.Spoken.{openingSpoken}
 use borrow.Author.Needs.{needs}
 use Rattle.uskelzar.proofs.uskelzar_open_strict.Tie as tie
 
-open-strict-requires : tie.Need-open-strict-requires
-open-strict-requires c κs = search needs
-
-say-opened-requires : tie.Need-say-opened-requires
-say-opened-requires c κs = search needs
-
-speak-requires : tie.Need-speak-requires
-speak-requires c κs = search needs
-
-same-length : tie.Need-same-length
-same-length c = search needs
-
 returns : tie.Need-returns
 returns c = beside _ (c .speak .ensures) (c .before .before .say-opened .ensures) ∙ ap openingSpoken (c .before .before .before .before .before .open-strict .ensures)
 
 pub uskelzar-open-strict-spec : {M : Type 1} → statement M
 uskelzar-open-strict-spec =
-    tie.close (tie.spec open-strict-requires say-opened-requires speak-requires same-length returns)
+    tie.close (tie.spec (λ c κs. search needs) (λ c κs. search needs) (λ c κs. search needs) (λ c. search needs) returns)

@@ -9,21 +9,6 @@ use Rattle.uskelzar.proofs.say_described.Reads as say-described-reads
 use Rattle.uskelzar.proofs.speak.Reads as speak-reads
 use Rattle.zones.proofs.simple.simple_lookup.Reads as simple-lookup-reads
 
-simple-lookup-requires : tie.Need-simple-lookup-requires
-simple-lookup-requires c κs = search needs
-
-say-described-requires : tie.Need-say-described-requires
-say-described-requires c κs = search needs
-
-speak-requires : tie.Need-speak-requires
-speak-requires c κs = search needs
-
-same-length : tie.Need-same-length
-same-length c = search needs
-
-same-length-2 : tie.Need-same-length-2
-same-length-2 c = search needs
-
 returns : tie.Need-returns
 returns c = beside _ (c .speak .ensures) (c .before .before .say-described .ensures) ∙ ap (foundSpoken describedValues) (c .before .before .before .before .before .before .before .simple-lookup .ensures)
 
@@ -31,9 +16,9 @@ pub uskelzar-simple-lookup-spec : {M : Type 1} → statement M
 uskelzar-simple-lookup-spec =
     tie.close
     (tie.spec
-    simple-lookup-requires
-    say-described-requires
-    speak-requires
-    same-length
-    same-length-2
+    (λ c κs. search needs)
+    (λ c κs. search needs)
+    (λ c κs. search needs)
+    (λ c. search needs)
+    (λ c. search needs)
     returns)

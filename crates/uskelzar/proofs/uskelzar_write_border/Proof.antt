@@ -9,22 +9,10 @@ use Rattle.writer.proofs.write.write_border_words.Reads as write-border-words-r
 use Rattle.uskelzar.proofs.say_written.Reads as say-written-reads
 use Rattle.uskelzar.proofs.speak.Reads as speak-reads
 
-write-border-words-requires : tie.Need-write-border-words-requires
-write-border-words-requires c κs = search needs
-
-say-written-requires : tie.Need-say-written-requires
-say-written-requires c κs = search needs
-
-speak-requires : tie.Need-speak-requires
-speak-requires c κs = search needs
-
-same-length : tie.Need-same-length
-same-length c = search needs
-
 returns : tie.Need-returns
 returns c = beside _ (c .speak .ensures) (c .before .before .say-written .ensures) ∙ ap writtenSpoken (c .before .before .before .before .before .write-border-words .ensures)
 
 pub uskelzar-write-border-spec : {M : Type 1} → statement M
 uskelzar-write-border-spec =
     tie.close
-    (tie.spec write-border-words-requires say-written-requires speak-requires same-length returns)
+    (tie.spec (λ c κs. search needs) (λ c κs. search needs) (λ c κs. search needs) (λ c. search needs) returns)

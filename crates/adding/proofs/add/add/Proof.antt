@@ -8,12 +8,6 @@ use Rattle.adding.proofs.add.add.Reads as reads
 use Rattle.adding.proofs.add.add.Lts as lts
 use Rattle.adding.proofs.add.add_kept.Reads as add-kept-reads
 
-add-kept-requires : tie.Need-add-kept-requires
-add-kept-requires c κs = search needs
-
-rest-requires : tie.Need-rest-requires
-rest-requires c κs = search needs
-
 same-length : tie.Need-same-length
 same-length c = c .before .before .before .before .before .before .before .before .before .before .before .before .before .before .before .before .before .before .before .before .before .before .before .before .before .before .before .before .before .before .before .before .before .before .before .before .before .before .before .before .before .before .before .before .before .before .before .before .before .boxes .given
 
@@ -60,8 +54,8 @@ pub add-spec : {M : Type 1} → statement M
 add-spec =
     tie.close
     (tie.spec
-    add-kept-requires
-    rest-requires
+    (λ c κs. search needs)
+    (λ c κs. search needs)
     same-length
     same-length-2
     same-length-3

@@ -11,35 +11,17 @@ use Rattle.adding.proofs.checks.refused.Reads as refused-reads
 use Rattle.builder.proofs.borders.check_border.Reads as check-border-reads
 use Rattle.builder.proofs.texts.are_texts.Reads as are-texts-reads
 
-check-border-requires : tie.Need-check-border-requires
-check-border-requires c κs = search needs
-
 enum-told : tie.Need-enum-told
 enum-told c = search needs
-
-enum-known-bordered : tie.Need-enum-known-bordered
-enum-known-bordered c = search needs
 
 returns : tie.Need-returns
 returns c = λ pieces. border-bad _ _ (offeredAs (c .before .before .before .before .before .before .args .lats .now) (c .before .before .before .before .before .before .args .lons .now) pieces (c .before .before .before .before .before .before .args .sizes .now) (c .before .before .before .before .before .before .args .values .now)) (c .before .before .before .check-border .result) (c .before .before .before .check-border .ensures) _ (c .before .bordered .given .1)
 
-refused-requires : tie.Need-refused-requires
-refused-requires c κs = search needs
-
 returns-2 : tie.Need-returns-2
 returns-2 c = λ pieces. many-yards _ _ (offeredAs (c .before .before .before .before .before .before .before .args .lats .now) (c .before .before .before .before .before .before .before .args .lons .now) pieces (c .before .before .before .before .before .before .before .args .sizes .now) (c .before .before .before .before .before .before .before .args .values .now)) (c .before .before .before .before .check-border .result) (c .before .before .before .before .check-border .ensures) (drawn-tag (c .before .before .before .before .check-border .result) (enum-told (c .before .before .before))) (c .before .if1 .taken) _ (c .refused .ensures)
 
-refused-requires-2 : tie.Need-refused-requires-2
-refused-requires-2 c κs = search needs
-
 returns-3 : tie.Need-returns-3
 returns-3 c = λ pieces. other-names _ _ (offeredAs (c .before .before .before .before .before .before .before .before .args .lats .now) (c .before .before .before .before .before .before .before .before .args .lons .now) pieces (c .before .before .before .before .before .before .before .before .args .sizes .now) (c .before .before .before .before .before .before .before .before .args .values .now)) (c .before .before .before .before .before .check-border .result) (c .before .before .before .before .before .check-border .ensures) (drawn-tag (c .before .before .before .before .before .check-border .result) (enum-told (c .before .before .before .before))) (c .before .before .if1 .left) (c .before .if2 .taken) _ (c .refused2 .ensures)
-
-are-texts-requires : tie.Need-are-texts-requires
-are-texts-requires c κs = search needs
-
-refused-requires-3 : tie.Need-refused-requires-3
-refused-requires-3 c κs = search needs
 
 returns-4 : tie.Need-returns-4
 returns-4 c = λ pieces. texts-bad _ _ (offeredAs (c .before .before .before .before .before .before .before .before .before .before .args .lats .now) (c .before .before .before .before .before .before .before .before .before .before .args .lons .now) pieces (c .before .before .before .before .before .before .before .before .before .before .args .sizes .now) (c .before .before .before .before .before .before .before .before .before .before .args .values .now)) (c .before .before .before .before .before .before .before .check-border .result) (c .before .before .before .before .before .before .before .check-border .ensures) (drawn-tag (c .before .before .before .before .before .before .before .check-border .result) (enum-told (c .before .before .before .before .before .before))) (c .before .before .before .before .if1 .left) (c .before .before .before .if2 .left) _ (c .before .before .are-texts .ensures) (c .before .if3 .taken) _ (c .refused3 .ensures)
@@ -51,15 +33,15 @@ pub check-offer-spec : {M : Type 1} → statement M
 check-offer-spec =
     tie.close
     (tie.spec
-    check-border-requires
+    (λ c κs. search needs)
     enum-told
-    enum-known-bordered
+    (λ c. search needs)
     returns
-    refused-requires
+    (λ c κs. search needs)
     returns-2
-    refused-requires-2
+    (λ c κs. search needs)
     returns-3
-    are-texts-requires
-    refused-requires-3
+    (λ c κs. search needs)
+    (λ c κs. search needs)
     returns-4
     returns-5)

@@ -13,20 +13,8 @@ use Rattle.adding.proofs.draw.draw_offer.Lts as lts
 use Rattle.build.proofs.room.data_room.Reads as data-room-reads
 use Rattle.builder.proofs.borders.draw_border.Reads as draw-border-reads
 
-data-room-requires : tie.Need-data-room-requires
-data-room-requires c κs = search needs
-
-data-room-requires-2 : tie.Need-data-room-requires-2
-data-room-requires-2 c κs = search needs
-
-slice-aggregate-draw-border : tie.Need-slice-aggregate-draw-border
-slice-aggregate-draw-border c = sym (length-take-le _ _ (omega arith))
-
 draw-border-requires : tie.Need-draw-border-requires
 draw-border-requires c κs = offer-lends _ _ _ _ _ (c .before .before .before .data-room .ensures) (c .before .before .data-room2 .ensures) (take (c .before .before .before .before .before .before .before .args .size) (c .before .before .before .before .before .before .before .args .bytes .now)) (borderOf (c .before .before .before .before .before .before .before .args .version) (c .before .before .before .before .before .before .before .args .lats .now) (c .before .before .before .before .before .before .before .args .lons .now) (piecesOf (c .before .before .before .before .before .before .before .args .pieces .now)) (take (c .before .before .before .before .before .before .before .args .size) (c .before .before .before .before .before .before .before .args .bytes .now)))
-
-same-length : tie.Need-same-length
-same-length c = search needs
 
 returns : tie.Need-returns
 returns c = offer-draws _ _ _ _ _ _ (c .before .before .before .before .before .before .data-room .ensures) (c .before .before .before .before .before .data-room2 .ensures) _ _ _ _ _ _ (c .before .before .draw-border .ensures)
@@ -35,9 +23,9 @@ pub draw-offer-spec : {M : Type 1} → statement M
 draw-offer-spec =
     tie.close
     (tie.spec
-    data-room-requires
-    data-room-requires-2
-    slice-aggregate-draw-border
+    (λ c κs. search needs)
+    (λ c κs. search needs)
+    (λ c. sym (length-take-le _ _ (omega arith)))
     draw-border-requires
-    same-length
+    (λ c. search needs)
     returns)

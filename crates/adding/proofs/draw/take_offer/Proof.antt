@@ -10,26 +10,11 @@ use Rattle.adding.proofs.draw.take_offer.Lts as lts
 use Rattle.adding.proofs.checks.check_offer.Reads as check-offer-reads
 use Rattle.adding.proofs.draw.draw_offer.Reads as draw-offer-reads
 
-cast-names : tie.Need-cast-names
-cast-names c = search needs
-
-check-offer-requires : tie.Need-check-offer-requires
-check-offer-requires c κs = search needs
-
 enum-told : tie.Need-enum-told
 enum-told c = search needs
 
-enum-known-checked : tie.Need-enum-known-checked
-enum-known-checked c = search needs
-
 returns : tie.Need-returns
 returns c = offer-refused (c .before .before .before .before .before .before .before .before .before .before .args .builder) (offeredAs (c .before .before .before .before .before .before .before .before .before .before .args .lats .now) (c .before .before .before .before .before .before .before .before .before .before .args .lons .now) (c .before .before .before .before .before .before .before .before .before .before .args .pieces .now) (c .before .before .before .before .before .before .before .before .before .before .args .sizes .now) (c .before .before .before .before .before .before .before .before .before .before .args .values .now)) (c .before .before .before .before .before .before .before .before .before .before .args .bytes .now) _ (c .before .before .before .check-offer .result) (c .before .before .before .check-offer .ensures (c .before .before .before .before .before .before .before .before .before .before .args .pieces .now)) _ (c .before .checked .given .1) _
-
-draw-offer-requires : tie.Need-draw-offer-requires
-draw-offer-requires c κs = search needs
-
-same-length : tie.Need-same-length
-same-length c = search needs
 
 returns-2 : tie.Need-returns-2
 returns-2 c = offer-drawn (c .before .before .before .before .before .before .before .before .before .before .before .before .before .args .builder) (offeredAs (c .before .before .before .before .before .before .before .before .before .before .before .before .before .args .lats .now) (c .before .before .before .before .before .before .before .before .before .before .before .before .before .args .lons .now) (c .before .before .before .before .before .before .before .before .before .before .before .before .before .args .pieces .now) (c .before .before .before .before .before .before .before .before .before .before .before .before .before .args .sizes .now) (c .before .before .before .before .before .before .before .before .before .before .before .before .before .args .values .now)) (c .before .before .before .before .before .before .before .before .before .before .before .before .before .args .bytes .now) _ (c .before .before .before .before .before .before .check-offer .result) (c .before .before .before .before .before .before .check-offer .ensures (c .before .before .before .before .before .before .before .before .before .before .before .before .before .args .pieces .now)) (drawn-tag (c .before .before .before .before .before .before .check-offer .result) (enum-told (c .before .before .before .before .before))) _ _ (c .before .before .draw-offer .ensures)
@@ -38,11 +23,11 @@ pub take-offer-spec : {M : Type 1} → statement M
 take-offer-spec =
     tie.close
     (tie.spec
-    cast-names
-    check-offer-requires
+    (λ c. search needs)
+    (λ c κs. search needs)
     enum-told
-    enum-known-checked
+    (λ c. search needs)
     returns
-    draw-offer-requires
-    same-length
+    (λ c κs. search needs)
+    (λ c. search needs)
     returns-2)

@@ -14,30 +14,6 @@ use Rattle.builder.proofs.put.put_bytes.Reads as put-bytes-reads
 use Rattle.entries.proofs.corners.put_corners.Reads as put-corners-reads
 use Rattle.metadata.proofs.kept.put_words.Reads as put-words-reads
 
-cast-names : tie.Need-cast-names
-cast-names c = search needs
-
-box-of-requires : tie.Need-box-of-requires
-box-of-requires c κs = search needs
-
-mul-put-corners : tie.Need-mul-put-corners
-mul-put-corners c = search needs
-
-put-corners-requires : tie.Need-put-corners-requires
-put-corners-requires c κs = search needs
-
-cast-borders : tie.Need-cast-borders
-cast-borders c = search needs
-
-mul-borders : tie.Need-mul-borders
-mul-borders c = search needs
-
-slice-write-borders : tie.Need-slice-write-borders
-slice-write-borders c = search needs
-
-add-put-words : tie.Need-add-put-words
-add-put-words c = search needs
-
 mul-put-words : tie.Need-mul-put-words
 mul-put-words c = omega (arith, lengths-room (c .before .before .before .before .before .before .before .before .before .before .before .before .before .args .builder .names) (c .before .before .before .before .before .before .before .before .before .before .before .before .before .args .builder .yards) (c .before .before .before .before .before .before .before .before .before .before .before .before .before .pre .few-names) (omega (arith, c .before .before .before .before .before .before .before .before .before .before .before .before .before .pre .few-yards)))
 
@@ -47,36 +23,6 @@ add-put-words-2 c = omega (arith, lengths-room (c .before .before .before .befor
 put-words-requires : tie.Need-put-words-requires
 put-words-requires c κs = omega (arith, lengths-room (c .before .before .before .before .before .before .before .before .before .before .before .before .before .args .builder .names) (c .before .before .before .before .before .before .before .before .before .before .before .before .before .args .builder .yards) (c .before .before .before .before .before .before .before .before .before .before .before .before .before .pre .few-names) (omega (arith, c .before .before .before .before .before .before .before .before .before .before .before .before .before .pre .few-yards)), c .before .before .before .before .before .before .before .before .before .before .before .before .before .pre .few-names, c .before .before .before .before .before .before .before .before .before .before .before .before .before .pre .few-sizes)
 
-sub-put-bytes : tie.Need-sub-put-bytes
-sub-put-bytes c = search needs
-
-part-put-bytes-start : tie.Need-part-put-bytes-start
-part-put-bytes-start c = search needs
-
-part-put-bytes-end : tie.Need-part-put-bytes-end
-part-put-bytes-end c = search needs
-
-put-bytes-requires : tie.Need-put-bytes-requires
-put-bytes-requires c κs = search needs
-
-put-bytes-requires-2 : tie.Need-put-bytes-requires-2
-put-bytes-requires-2 c κs = search needs
-
-same-length : tie.Need-same-length
-same-length c = search needs
-
-same-length-2 : tie.Need-same-length-2
-same-length-2 c = search needs
-
-same-length-3 : tie.Need-same-length-3
-same-length-3 c = search needs
-
-same-length-4 : tie.Need-same-length-4
-same-length-4 c = search needs
-
-same-length-5 : tie.Need-same-length-5
-same-length-5 c = search needs
-
 returns : tie.Need-returns
 returns c = record { boxes-are = corners-put _ (c .before .before .before .before .before .before .before .before .before .before .before .before .before .before .before .before .before .before .before .before .before .before .before .before .args .lats .now) (c .before .before .before .before .before .before .before .before .before .before .before .before .before .before .before .before .before .before .before .before .before .before .before .before .args .lons .now) (c .before .before .before .before .before .before .before .before .before .before .before .before .before .before .before .box-of .ensures) (c .before .before .before .before .before .before .before .before .before .before .before .before .before .before .before .before .before .before .before .before .before .before .before .before .args .boxes .now) _ (4 * c .before .before .before .before .before .before .before .before .before .before .before .before .before .before .before .before .before .before .before .before .before .before .before .before .args .builder .yards) (c .before .before .before .before .before .before .before .before .before .before .before .before .before .put-corners .ensures); borders-are = refl; lengths-are = c .before .before .before .before .before .before .before .before .before .before .put-words .ensures .stored; texts-are = put-back (c .before .before .before .before .before .before .before .before .before .before .before .before .before .before .before .before .before .before .before .before .before .before .before .before .args .texts .now) _ (c .before .before .before .before .before .before .before .before .before .before .before .before .before .before .before .before .before .before .before .before .before .before .before .before .args .values .now) (c .before .before .before .before .before .before .before .before .before .before .before .before .before .before .before .before .before .before .before .before .before .before .before .before .args .builder .strings) (c .before .before .before .before .before .before .before .before .before .before .before .before .before .before .before .before .before .before .before .before .before .before .before .before .pre .texts-room) (c .before .before .before .before .before .before .put-bytes .ensures .stored); bytes-are = c .before .before .put-bytes2 .ensures .stored }
 
@@ -84,25 +30,25 @@ pub put-yard-spec : {M : Type 1} → statement M
 put-yard-spec =
     tie.close
     (tie.spec
-    cast-names
-    box-of-requires
-    mul-put-corners
-    put-corners-requires
-    cast-borders
-    mul-borders
-    slice-write-borders
-    add-put-words
+    (λ c. search needs)
+    (λ c κs. search needs)
+    (λ c. search needs)
+    (λ c κs. search needs)
+    (λ c. search needs)
+    (λ c. search needs)
+    (λ c. search needs)
+    (λ c. search needs)
     mul-put-words
     add-put-words-2
     put-words-requires
-    sub-put-bytes
-    part-put-bytes-start
-    part-put-bytes-end
-    put-bytes-requires
-    put-bytes-requires-2
-    same-length
-    same-length-2
-    same-length-3
-    same-length-4
-    same-length-5
+    (λ c. search needs)
+    (λ c. search needs)
+    (λ c. search needs)
+    (λ c κs. search needs)
+    (λ c κs. search needs)
+    (λ c. search needs)
+    (λ c. search needs)
+    (λ c. search needs)
+    (λ c. search needs)
+    (λ c. search needs)
     returns)

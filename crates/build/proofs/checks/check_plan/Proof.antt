@@ -8,29 +8,14 @@ use borrow.Author.{Tests.{not-false}, Needs.{needs}}
 use native.Mathlib.Omega.{arith}
 use Rattle.build.proofs.checks.check_plan.Tie as tie
 
-check-yards-requires : tie.Need-check-yards-requires
-check-yards-requires c κs = search needs
-
 enum-told : tie.Need-enum-told
 enum-told c = search needs
-
-enum-known-bordered : tie.Need-enum-known-bordered
-enum-known-bordered c = search needs
 
 returns : tie.Need-returns
 returns c = λ pieces. border-bad _ _ _ _ _ _ _ _ _ pieces (c .before .before .before .check-yards .result) (c .before .before .before .check-yards .ensures) _ (c .before .bordered .given .1)
 
-are-counted-requires : tie.Need-are-counted-requires
-are-counted-requires c κs = search needs
-
-refused-requires : tie.Need-refused-requires
-refused-requires c κs = search needs
-
 returns-2 : tie.Need-returns-2
 returns-2 c = λ pieces. counts-bad _ _ _ _ _ _ _ _ _ pieces (c .before .before .before .before .before .check-yards .result) (c .before .before .before .before .before .check-yards .ensures) (drawn-tag (c .before .before .before .before .before .check-yards .result) (enum-told (c .before .before .before .before))) _ (c .before .before .are-counted .ensures) (c .before .if1 .taken) _ (c .refused .ensures)
-
-add-all : tie.Need-add-all
-add-all c = search needs
 
 mul-all : tie.Need-mul-all
 mul-all c = omega (arith, lengths-room _ _ (few-names _ _ _ (sym (c .before .are-counted .ensures) ∙ not-false _ (c .if1 .left))) (few-yards _ _ _ (sym (c .before .are-counted .ensures) ∙ not-false _ (c .if1 .left))))
@@ -41,20 +26,8 @@ add-all-2 c = omega (arith, lengths-room _ _ (few-names _ _ _ (sym (c .before .a
 slice-aggregate-are-texts : tie.Need-slice-aggregate-are-texts
 slice-aggregate-are-texts c = sym (length-take-le _ _ (all-lengths _ _ _ (sym (c .before .before .are-counted .ensures) ∙ not-false _ (c .before .if1 .left))))
 
-are-texts-requires : tie.Need-are-texts-requires
-are-texts-requires c κs = search needs
-
-refused-requires-2 : tie.Need-refused-requires-2
-refused-requires-2 c κs = search needs
-
 returns-3 : tie.Need-returns-3
 returns-3 c = λ pieces. texts-bad _ _ _ _ _ _ _ _ _ pieces (c .before .before .before .before .before .before .before .before .check-yards .result) (c .before .before .before .before .before .before .before .before .check-yards .ensures) (drawn-tag (c .before .before .before .before .before .before .before .before .check-yards .result) (enum-told (c .before .before .before .before .before .before .before))) _ (c .before .before .before .before .before .are-counted .ensures) (c .before .before .before .before .if1 .left) _ (c .before .before .are-texts .ensures) (c .before .if2 .taken) _ (c .refused2 .ensures)
-
-is-known-requires : tie.Need-is-known-requires
-is-known-requires c κs = search needs
-
-refused-requires-3 : tie.Need-refused-requires-3
-refused-requires-3 c κs = search needs
 
 returns-4 : tie.Need-returns-4
 returns-4 c = λ pieces. form-bad _ _ _ _ _ _ _ _ _ pieces (c .before .before .before .before .before .before .before .before .before .before .check-yards .result) (c .before .before .before .before .before .before .before .before .before .before .check-yards .ensures) (drawn-tag (c .before .before .before .before .before .before .before .before .before .before .check-yards .result) (enum-told (c .before .before .before .before .before .before .before .before .before))) _ (c .before .before .before .before .before .before .before .are-counted .ensures) (c .before .before .before .before .before .before .if1 .left) _ (c .before .before .before .before .are-texts .ensures) (c .before .before .before .if2 .left) _ (c .before .before .is-known .ensures) (c .before .if3 .taken) _ (c .refused3 .ensures)
@@ -66,21 +39,21 @@ pub check-plan-spec : {M : Type 1} → statement M
 check-plan-spec =
     tie.close
     (tie.spec
-    check-yards-requires
+    (λ c κs. search needs)
     enum-told
-    enum-known-bordered
+    (λ c. search needs)
     returns
-    are-counted-requires
-    refused-requires
+    (λ c κs. search needs)
+    (λ c κs. search needs)
     returns-2
-    add-all
+    (λ c. search needs)
     mul-all
     add-all-2
     slice-aggregate-are-texts
-    are-texts-requires
-    refused-requires-2
+    (λ c κs. search needs)
+    (λ c κs. search needs)
     returns-3
-    is-known-requires
-    refused-requires-3
+    (λ c κs. search needs)
+    (λ c κs. search needs)
     returns-4
     returns-5)

@@ -6,32 +6,14 @@ use native.Mathlib.Omega.{arith}
 use borrow.Author.Needs.{needs}
 use Rattle.build.proofs.file.start.Tie as tie
 
-check-plan-requires : tie.Need-check-plan-requires
-check-plan-requires c κs = search needs
-
 enum-told : tie.Need-enum-told
 enum-told c = search needs
-
-enum-known-checked : tie.Need-enum-known-checked
-enum-known-checked c = search needs
 
 returns : tie.Need-returns
 returns c = start-refused _ _ _ _ _ _ _ (c .before .before .before .before .before .before .before .before .before .before .before .args .pieces .now) _ _ _ _ _ _ _ (c .before .before .before .check-plan .result) (c .before .before .before .check-plan .ensures (c .before .before .before .before .before .before .before .before .before .before .before .args .pieces .now)) _ (c .before .checked .given .1)
 
-data-room-requires : tie.Need-data-room-requires
-data-room-requires c κs = search needs
-
 draw-requires : tie.Need-draw-requires
 draw-requires c κs = (good-some (c .before .before .before .before .before .before .before .before .before .before .before .before .before .before .args .asked .kind) (c .before .before .before .before .before .before .before .before .before .before .before .before .before .before .args .asked .version) (c .before .before .before .before .before .before .before .before .before .before .before .before .before .before .args .asked .precision) _ _ (c .before .before .before .before .before .before .before .before .before .before .before .before .before .before .args .lats .now) (c .before .before .before .before .before .before .before .before .before .before .before .before .before .before .args .lons .now) (c .before .before .before .before .before .before .before .before .before .before .before .before .before .before .args .pieces .now) _ _ (checked-good _ _ _ _ _ _ _ _ _ _ (sym (c .before .before .before .before .before .before .check-plan .ensures (c .before .before .before .before .before .before .before .before .before .before .before .before .before .before .args .pieces .now)) ∙ drawn-tag (c .before .before .before .before .before .before .check-plan .result) (enum-told (c .before .before .before .before .before)))), omega (arith, c .before .before .before .data-room .ensures), omega (arith, c .before .before .before .data-room .ensures), omega (arith, c .before .before .before .data-room .ensures), c .before .before .before .before .before .before .before .before .before .before .before .before .before .before .pre)
-
-same-length : tie.Need-same-length
-same-length c = search needs
-
-same-length-2 : tie.Need-same-length-2
-same-length-2 c = search needs
-
-same-length-3 : tie.Need-same-length-3
-same-length-3 c = search needs
 
 returns-2 : tie.Need-returns-2
 returns-2 c = start-drawn _ _ _ _ _ _ _ (c .before .before .before .before .before .before .before .before .before .before .before .before .before .before .before .before .before .before .before .before .before .args .pieces .now) _ _ (sym (c .before .before .before .before .before .before .before .before .before .before .before .before .before .check-plan .ensures (c .before .before .before .before .before .before .before .before .before .before .before .before .before .before .before .before .before .before .before .before .before .args .pieces .now)) ∙ drawn-tag (c .before .before .before .before .before .before .before .before .before .before .before .before .before .check-plan .result) (enum-told (c .before .before .before .before .before .before .before .before .before .before .before .before))) _ _ _ _ _ _ (c .before .before .before .before .before .before .before .before .before .before .data-room .ensures) _ (c .before .before .before .before .before .before .draw .ensures)
@@ -40,13 +22,13 @@ pub start-spec : {M : Type 1} → statement M
 start-spec =
     tie.close
     (tie.spec
-    check-plan-requires
+    (λ c κs. search needs)
     enum-told
-    enum-known-checked
+    (λ c. search needs)
     returns
-    data-room-requires
+    (λ c κs. search needs)
     draw-requires
-    same-length
-    same-length-2
-    same-length-3
+    (λ c. search needs)
+    (λ c. search needs)
+    (λ c. search needs)
     returns-2)

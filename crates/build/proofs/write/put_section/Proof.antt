@@ -6,14 +6,8 @@ use native.Mathlib.Omega.{arith}
 use borrow.Author.Needs.{needs}
 use Rattle.build.proofs.write.put_section.Tie as tie
 
-put-records-requires : tie.Need-put-records-requires
-put-records-requires c κs = search needs
-
 put-remotes-requires : tie.Need-put-remotes-requires
 put-remotes-requires c κs = (c .before .before .before .before .before .before .before .before .before .pre .0 .many, c .before .before .before .before .before .before .before .before .before .pre .0 .whole, omega (arith, behind-few _ _ _ _ _ (c .before .before .before .before .before .before .before .before .before .pre .0) _ _ _ _ (c .before .before .before .put-records .ensures), c .before .before .before .before .before .before .before .before .before .pre .0 .bound, c .before .before .before .before .before .before .before .before .before .pre .1), c .before .before .before .before .before .before .before .before .before .pre .0 .words-are)
-
-same-length : tie.Need-same-length
-same-length c = search needs
 
 returns : tie.Need-returns
 unfolding sectionFrom
@@ -21,4 +15,4 @@ returns c = stored-then _ _ (c .before .before .before .before .before .before .
 
 pub put-section-spec : {M : Type 1} → statement M
 put-section-spec =
-    tie.close (tie.spec put-records-requires put-remotes-requires same-length returns)
+    tie.close (tie.spec (λ c κs. search needs) put-remotes-requires (λ c. search needs) returns)

@@ -5,17 +5,11 @@ use native.Mathlib.Omega.{arith}
 use borrow.Author.Needs.{needs}
 use Rattle.build.proofs.write.put_sections.Tie as tie
 
-put-table-requires : tie.Need-put-table-requires
-put-table-requires c κs = search needs
-
 put-section-requires : tie.Need-put-section-requires
 put-section-requires c κs = (c .before .before .before .before .before .before .before .before .before .before .before .before .pre .0, omega (arith, table-next (c .before .before .before .before .before .before .before .before .before .before .before .before .args .boxes .now) (c .before .before .before .before .before .before .before .before .before .before .before .before .args .places .now) (c .before .before .before .before .before .before .before .before .before .before .before .before .args .keys .now) (c .before .before .before .before .before .before .before .before .before .before .before .before .pre .2) _ _ _ _ (c .before .before .before .put-table .ensures), c .before .before .before .before .before .before .before .before .before .before .before .before .pre .1))
 
 put-bytes-requires : tie.Need-put-bytes-requires
 put-bytes-requires c κs = omega (arith, section-few _ _ _ _ _ (c .before .before .before .before .before .before .before .before .before .before .before .before .before .before .before .before .pre .0) _ _ _ _ (c .before .before .before .put-section .ensures), table-next (c .before .before .before .before .before .before .before .before .before .before .before .before .before .before .before .before .args .boxes .now) (c .before .before .before .before .before .before .before .before .before .before .before .before .before .before .before .before .args .places .now) (c .before .before .before .before .before .before .before .before .before .before .before .before .before .before .before .before .args .keys .now) (c .before .before .before .before .before .before .before .before .before .before .before .before .before .before .before .before .pre .2) _ _ _ _ (c .before .before .before .before .before .before .before .put-table .ensures), c .before .before .before .before .before .before .before .before .before .before .before .before .before .before .before .before .pre .1, c .before .before .before .before .before .before .before .before .before .before .before .before .before .before .before .before .pre .3)
-
-same-length : tie.Need-same-length
-same-length c = search needs
 
 returns : tie.Need-returns
 returns c = stored-then _ _ (c .before .before .before .before .before .before .before .before .before .before .put-table .ensures) (stored-then _ _ (c .before .before .before .before .before .before .put-section .ensures) (c .before .before .put-bytes .ensures))
@@ -23,4 +17,4 @@ returns c = stored-then _ _ (c .before .before .before .before .before .before .
 pub put-sections-spec : {M : Type 1} → statement M
 put-sections-spec =
     tie.close
-    (tie.spec put-table-requires put-section-requires put-bytes-requires same-length returns)
+    (tie.spec (λ c κs. search needs) put-section-requires put-bytes-requires (λ c. search needs) returns)

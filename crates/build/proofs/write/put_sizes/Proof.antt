@@ -6,17 +6,11 @@ use borrow.Author.Needs.{needs}
 use Rattle.build.proofs.write.put_sizes.Statement.{statement}
 use Rattle.build.proofs.write.put_sizes.Tie as tie
 
-put-varint-requires : tie.Need-put-varint-requires
-put-varint-requires c κs = search needs
-
 put-varint-requires-2 : tie.Need-put-varint-requires-2
 put-varint-requires-2 c κs = omega (arith, stored-few _ (c .before .before .before .put-varint .ensures), c .before .before .before .before .before .before .pre)
 
 put-varint-requires-3 : tie.Need-put-varint-requires-3
 put-varint-requires-3 c κs = omega (arith, stored-few _ (c .before .before .before .before .before .before .before .put-varint .ensures), stored-few _ (c .before .before .before .put-varint2 .ensures), c .before .before .before .before .before .before .before .before .before .before .pre)
-
-same-length : tie.Need-same-length
-same-length c = search needs
 
 returns : tie.Need-returns
 returns c = stored-then _ _ (c .before .before .before .before .before .before .before .before .before .before .put-varint .ensures) (stored-then _ _ (c .before .before .before .before .before .before .put-varint2 .ensures) (c .before .before .put-varint3 .ensures))
@@ -24,4 +18,4 @@ returns c = stored-then _ _ (c .before .before .before .before .before .before .
 pub put-sizes-spec : {M : Type 1} → statement M
 put-sizes-spec =
     tie.close
-    (tie.spec put-varint-requires put-varint-requires-2 put-varint-requires-3 same-length returns)
+    (tie.spec (λ c κs. search needs) put-varint-requires-2 put-varint-requires-3 (λ c. search needs) returns)

@@ -3,27 +3,6 @@ use borrow.Author.Needs.{needs}
 use Rattle.builder.proofs.{Drawing.{check-never, check-says}, borders.check_border.Statement.{statement}}
 use Rattle.builder.proofs.borders.check_border.Tie as tie
 
-slice-aggregate-write-border-words : tie.Need-slice-aggregate-write-border-words
-slice-aggregate-write-border-words c = search needs
-
-slice-aggregate-write-border-words-2 : tie.Need-slice-aggregate-write-border-words-2
-slice-aggregate-write-border-words-2 c = search needs
-
-slice-aggregate-write-border-words-3 : tie.Need-slice-aggregate-write-border-words-3
-slice-aggregate-write-border-words-3 c = search needs
-
-write-border-words-requires : tie.Need-write-border-words-requires
-write-border-words-requires c κs = search needs
-
-enum-known-written : tie.Need-enum-known-written
-enum-known-written c = search needs
-
-enum-known-written-2 : tie.Need-enum-known-written-2
-enum-known-written-2 c = search needs
-
-good-if-requires : tie.Need-good-if-requires
-good-if-requires c κs = search needs
-
 returns : tie.Need-returns
 returns c =
     let write-border-words = c .before .before .before .before .write-border-words in
@@ -40,12 +19,12 @@ pub check-border-spec : {M : Type 1} → statement M
 check-border-spec =
     tie.close
     (tie.spec
-    slice-aggregate-write-border-words
-    slice-aggregate-write-border-words-2
-    slice-aggregate-write-border-words-3
-    write-border-words-requires
-    enum-known-written
-    enum-known-written-2
-    good-if-requires
+    (λ c. search needs)
+    (λ c. search needs)
+    (λ c. search needs)
+    (λ c κs. search needs)
+    (λ c. search needs)
+    (λ c. search needs)
+    (λ c κs. search needs)
     returns
     returns-2)

@@ -4,21 +4,6 @@ use native.Mathlib.Omega.{arith}
 use Rattle.builder.proofs.{Drawing.{border-known, got-of, away-of, cut-off, too-long, draws}, borders.draw_border.Statement.{statement}}
 use Rattle.builder.proofs.borders.draw_border.Tie as tie
 
-write-border-words-requires : tie.Need-write-border-words-requires
-write-border-words-requires c κs = search needs
-
-enum-known-written : tie.Need-enum-known-written
-enum-known-written c = search needs
-
-enum-known-written-2 : tie.Need-enum-known-written-2
-enum-known-written-2 c = search needs
-
-unwritten-requires : tie.Need-unwritten-requires
-unwritten-requires c κs = search needs
-
-same-length : tie.Need-same-length
-same-length c = search needs
-
 returns : tie.Need-returns
 returns c =
     let write-border-words = c .before .before .before .before .before .before .write-border-words in
@@ -26,24 +11,12 @@ returns c =
     let pre = c .before .before .before .before .before .before .before .before .before .before .before .pre in
     away-of _ _ _ _ (write-border-words .ensures) _ _ _ _ _ _ (written2 .given .1) (border-known _ _ _ _ _) (pre) _ (c .unwritten .ensures)
 
-refused-requires : tie.Need-refused-requires
-refused-requires c κs = search needs
-
-same-length-2 : tie.Need-same-length-2
-same-length-2 c = search needs
-
 returns-2 : tie.Need-returns-2
 returns-2 c =
     let write-border-words = c .before .before .before .before .before .before .before .write-border-words in
     let written = c .before .before .before .written in
     let if1 = c .before .if1 in
     cut-off _ _ _ _ _ _ _ _ (got-of _ _ _ _ (write-border-words .ensures) _ (written .given .1)) (if1 .taken) _ (c .refused .ensures)
-
-refused-requires-2 : tie.Need-refused-requires-2
-refused-requires-2 c κs = search needs
-
-same-length-3 : tie.Need-same-length-3
-same-length-3 c = search needs
 
 returns-3 : tie.Need-returns-3
 returns-3 c =
@@ -53,12 +26,6 @@ returns-3 c =
     let if2 = c .before .if2 in
     too-long _ _ _ _ _ _ _ _ (got-of _ _ _ _ (write-border-words .ensures) _ (written .given .1)) (if1 .left) (omega (arith, if2 .taken)) _ (c .refused2 .ensures)
 
-refused-requires-3 : tie.Need-refused-requires-3
-refused-requires-3 c κs = search needs
-
-same-length-4 : tie.Need-same-length-4
-same-length-4 c = search needs
-
 returns-4 : tie.Need-returns-4
 returns-4 c =
     let write-border-words = c .before .before .before .before .before .before .before .before .before .write-border-words in
@@ -67,9 +34,6 @@ returns-4 c =
     let if2 = c .before .before .if2 in
     let if3 = c .before .if3 in
     too-long _ _ _ _ _ _ _ _ (got-of _ _ _ _ (write-border-words .ensures) _ (written .given .1)) (if1 .left) (omega (arith, if2 .left, if3 .taken)) _ (c .refused3 .ensures)
-
-same-length-5 : tie.Need-same-length-5
-same-length-5 c = search needs
 
 returns-5 : tie.Need-returns-5
 returns-5 c =
@@ -83,20 +47,20 @@ pub draw-border-spec : {M : Type 1} → statement M
 draw-border-spec =
     tie.close
     (tie.spec
-    write-border-words-requires
-    enum-known-written
-    enum-known-written-2
-    unwritten-requires
-    same-length
+    (λ c κs. search needs)
+    (λ c. search needs)
+    (λ c. search needs)
+    (λ c κs. search needs)
+    (λ c. search needs)
     returns
-    refused-requires
-    same-length-2
+    (λ c κs. search needs)
+    (λ c. search needs)
     returns-2
-    refused-requires-2
-    same-length-3
+    (λ c κs. search needs)
+    (λ c. search needs)
     returns-3
-    refused-requires-3
-    same-length-4
+    (λ c κs. search needs)
+    (λ c. search needs)
     returns-4
-    same-length-5
+    (λ c. search needs)
     returns-5)

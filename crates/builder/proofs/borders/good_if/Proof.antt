@@ -3,12 +3,6 @@ use borrow.Author.{Needs.{needs}, Tests.{eq-eqb, ne-eqb}}
 use Rattle.builder.proofs.borders.good_if.Statement.{statement}
 use Rattle.builder.proofs.borders.good_if.Tie as tie
 
-returns : tie.Need-returns
-returns c = rw (eq-eqb (c .before .args .number) 24 (c .if1 .taken))
-
-refused-requires : tie.Need-refused-requires
-refused-requires c κs = search needs
-
 returns-2 : tie.Need-returns-2
 returns-2 c =
     let args = c .before .before .args in
@@ -16,4 +10,4 @@ returns-2 c =
     rw (ne-eqb (args .number) 24 (if1 .left)) (c .refused .ensures)
 
 pub good-if-spec : {M : Type 1} → statement M
-good-if-spec = tie.close (tie.spec returns refused-requires returns-2)
+good-if-spec = tie.close (tie.spec (λ c. rw (eq-eqb (c .before .args .number) 24 (c .if1 .taken))) (λ c κs. search needs) returns-2)

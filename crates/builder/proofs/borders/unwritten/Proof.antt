@@ -3,17 +3,11 @@ use borrow.Author.{Needs.{needs}, Tests.{eq-eqb, ne-eqb}}
 use Rattle.builder.proofs.borders.unwritten.Statement.{statement}
 use Rattle.builder.proofs.borders.unwritten.Tie as tie
 
-refused-requires : tie.Need-refused-requires
-refused-requires c κs = search needs
-
 returns : tie.Need-returns
 returns c =
     let args = c .before .before .args in
     let if1 = c .before .if1 in
     rw (ne-eqb (args .number) 24 (if1 .taken)) (c .refused .ensures)
-
-refused-requires-2 : tie.Need-refused-requires-2
-refused-requires-2 c κs = search needs
 
 returns-2 : tie.Need-returns-2
 returns-2 c =
@@ -21,9 +15,6 @@ returns-2 c =
     let if1 = c .before .before .if1 in
     let if2 = c .before .if2 in
     rw (eq-eqb (args .number) 24 (if1 .left), if2 .taken) (c .refused2 .ensures)
-
-refused-requires-3 : tie.Need-refused-requires-3
-refused-requires-3 c κs = search needs
 
 returns-3 : tie.Need-returns-3
 returns-3 c =
@@ -35,4 +26,4 @@ returns-3 c =
 pub unwritten-spec : {M : Type 1} → statement M
 unwritten-spec =
     tie.close
-    (tie.spec refused-requires returns refused-requires-2 returns-2 refused-requires-3 returns-3)
+    (tie.spec (λ c κs. search needs) returns (λ c κs. search needs) returns-2 (λ c κs. search needs) returns-3)

@@ -6,18 +6,6 @@ use Rattle.builder.proofs.boxes.box_of.Statement.{statement}
 use Rattle.builder.specs.Entries.{lowestOf, highestOf}
 use Rattle.builder.proofs.boxes.box_of.Tie as tie
 
-lowest-of-requires : tie.Need-lowest-of-requires
-lowest-of-requires c κs = search needs
-
-lowest-of-requires-2 : tie.Need-lowest-of-requires-2
-lowest-of-requires-2 c κs = search needs
-
-highest-of-requires : tie.Need-highest-of-requires
-highest-of-requires c κs = search needs
-
-highest-of-requires-2 : tie.Need-highest-of-requires-2
-highest-of-requires-2 c κs = search needs
-
 returns : tie.Need-returns
 returns c =
     let lowest-of = c .before .before .before .lowest-of in
@@ -34,8 +22,8 @@ pub box-of-spec : {M : Type 1} → statement M
 box-of-spec =
     tie.close
     (tie.spec
-    lowest-of-requires
-    lowest-of-requires-2
-    highest-of-requires
-    highest-of-requires-2
+    (λ c κs. search needs)
+    (λ c κs. search needs)
+    (λ c κs. search needs)
+    (λ c κs. search needs)
     returns)

@@ -15,29 +15,8 @@ Inv-loop list greatest₀ i₀ greatest i = Choosing greater (highestOf list) li
 abbrev μ-loop : tie.MeasureT-loop
 μ-loop list greatest₀ i₀ greatest i = length list - i
 
-returns : tie.Need-returns Inv-loop μ-loop
-returns c = highest-none _ (c .if1 .taken)
-
-shared-slice-copy-out-greatest : tie.Need-shared-slice-copy-out-greatest Inv-loop μ-loop
-shared-slice-copy-out-greatest c = omega arith
-
 loop-holds : tie.Need-loop-holds Inv-loop μ-loop
 loop-holds c = read-back _ _ _ _ _ (record { sfits = c .greatest .given }) (highest-starts _ (c .before .if1 .left))
-
-mul-greater-of : tie.Need-mul-greater-of Inv-loop μ-loop
-mul-greater-of c = search needs
-
-shared-slice-copy-out-greater-of : tie.Need-shared-slice-copy-out-greater-of Inv-loop μ-loop
-shared-slice-copy-out-greater-of c = search needs
-
-greater-of-requires : tie.Need-greater-of-requires Inv-loop μ-loop
-greater-of-requires c κs = search needs
-
-add-i : tie.Need-add-i Inv-loop μ-loop
-add-i c = search needs
-
-loop-less : tie.Need-loop-less Inv-loop μ-loop
-loop-less c = search needs
 
 loop-again : tie.Need-loop-again Inv-loop μ-loop
 loop-again c =
@@ -46,22 +25,19 @@ loop-again c =
     let greater-of-arg = c .before .greater-of-arg in
     read-back _ _ _ _ _ (sfits-of (c .greater-of .ok)) (choose-goes _ _ _ _ _ (loop .inv) (loop-test .taken) _ (c .greater-of .ensures ∙ ap (greater (toZ w32 (loop .greatest))) (toZ-ofZ (record { sfits = greater-of-arg .given }))))
 
-returns-2 : tie.Need-returns-2 Inv-loop μ-loop
-returns-2 c = choose-ends _ _ _ _ _ (c .before .loop .inv) (c .loop-test .left)
-
 pub highest-of-spec : {M : Type 1} → statement M
 highest-of-spec =
     tie.close
     (tie.spec
     Inv-loop
     μ-loop
-    returns
-    shared-slice-copy-out-greatest
+    (λ c. highest-none _ (c .if1 .taken))
+    (λ c. omega arith)
     loop-holds
-    mul-greater-of
-    shared-slice-copy-out-greater-of
-    greater-of-requires
-    add-i
-    loop-less
+    (λ c. search needs)
+    (λ c. search needs)
+    (λ c κs. search needs)
+    (λ c. search needs)
+    (λ c. search needs)
     loop-again
-    returns-2)
+    (λ c. choose-ends _ _ _ _ _ (c .before .loop .inv) (c .loop-test .left)))

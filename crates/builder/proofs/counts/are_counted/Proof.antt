@@ -20,9 +20,6 @@ returns-3 c =
     let if2 = c .before .if2 in
     counts-names (args .names) (args .yards .now) (args .lengths) (if1 .left) (if2 .left) (c .if3 .taken)
 
-are-numbered-requires : tie.Need-are-numbered-requires
-are-numbered-requires c κs = search needs
-
 returns-4 : tie.Need-returns-4
 returns-4 c =
     let args = c .before .before .before .before .before .before .args in
@@ -55,7 +52,7 @@ are-counted-spec =
     returns
     returns-2
     returns-3
-    are-numbered-requires
+    (λ c κs. search needs)
     returns-4
     are-lengths-requires
     returns-5)

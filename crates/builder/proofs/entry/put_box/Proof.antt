@@ -8,9 +8,6 @@ use Rattle.builder.specs.Entries.{boxBytes}
 use Rattle.numbers.specs.Spelling.{signedForm}
 use Rattle.builder.proofs.entry.put_box.Tie as tie
 
-put-signed-requires : tie.Need-put-signed-requires
-put-signed-requires c κs = search needs
-
 put-signed-requires-2 : tie.Need-put-signed-requires-2
 put-signed-requires-2 c κs =
     let put-signed = c .before .before .before .before .put-signed in
@@ -28,9 +25,6 @@ put-signed-requires-4 c κs =
     let put-signed2 = c .before .before .before .before .before .before .before .before .before .put-signed2 in
     let put-signed3 = c .before .before .before .before .put-signed3 in
     omega (arith, stored-few _ (put-signed .ensures), stored-few _ (put-signed2 .ensures), stored-few _ (put-signed3 .ensures))
-
-same-length : tie.Need-same-length
-same-length c = search needs
 
 returns : tie.Need-returns
 unfolding boxBytes
@@ -56,9 +50,9 @@ pub put-box-spec : {M : Type 1} → statement M
 put-box-spec =
     tie.close
     (tie.spec
-    put-signed-requires
+    (λ c κs. search needs)
     put-signed-requires-2
     put-signed-requires-3
     put-signed-requires-4
-    same-length
+    (λ c. search needs)
     returns)

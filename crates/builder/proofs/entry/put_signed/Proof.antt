@@ -6,15 +6,6 @@ use Rattle.builder.proofs.{Steps.{from-zero, stored-as}, entry.put_sign
 use Rattle.numbers.specs.Spelling.{signedForm}
 use Rattle.builder.proofs.entry.put_signed.Tie as tie
 
-form-of-requires : tie.Need-form-of-requires
-form-of-requires c κs = search needs
-
-put-varint-requires : tie.Need-put-varint-requires
-put-varint-requires c κs = search needs
-
-same-length : tie.Need-same-length
-same-length c = search needs
-
 returns : tie.Need-returns
 returns c =
     let form-of = c .before .before .before .form-of in
@@ -23,4 +14,4 @@ returns c =
     stored-as (form-of .ensures ∙ from-zero _ ∙ ap signedForm (toZ-ofZ (fits .z))) (put-varint .ensures)
 
 pub put-signed-spec : {M : Type 1} → statement M
-put-signed-spec = tie.close (tie.spec form-of-requires put-varint-requires same-length returns)
+put-signed-spec = tie.close (tie.spec (λ c κs. search needs) (λ c κs. search needs) (λ c. search needs) returns)

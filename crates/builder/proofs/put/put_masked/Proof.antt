@@ -13,23 +13,11 @@ Inv-loop out₀ place bytes next₀ i₀ out next i = Putting unmasked out₀ pl
 abbrev μ-loop : tie.MeasureT-loop
 μ-loop out₀ place bytes next₀ i₀ out next i = length bytes - i
 
-loop-holds : tie.Need-loop-holds Inv-loop μ-loop
-loop-holds c = put-starts _ _ _ _
-
-shared-slice-read-put-byte : tie.Need-shared-slice-read-put-byte Inv-loop μ-loop
-shared-slice-read-put-byte c = search needs
-
 put-byte-requires : tie.Need-put-byte-requires Inv-loop μ-loop
 put-byte-requires c κs =
     let loop = c .before .before .before .loop in
     let pre = c .before .before .before .before .before .before .pre in
     omega (arith, loop .inv .next-is, loop .inv .index, pre)
-
-add-i : tie.Need-add-i Inv-loop μ-loop
-add-i c = search needs
-
-loop-less : tie.Need-loop-less Inv-loop μ-loop
-loop-less c = search needs
 
 loop-again : tie.Need-loop-again Inv-loop μ-loop
 loop-again c =
@@ -38,23 +26,17 @@ loop-again c =
     let put-byte = c .before .before .put-byte in
     put-goes _ _ _ _ _ _ _ _ _ (loop .inv) (loop-test .taken) (put-byte .ensures)
 
-same-length : tie.Need-same-length Inv-loop μ-loop
-same-length c = c .before .loop .inv .left .size
-
-returns : tie.Need-returns Inv-loop μ-loop
-returns c = put-ends _ _ _ _ _ _ _ (c .before .loop .inv) (c .loop-test .left)
-
 pub put-masked-spec : {M : Type 1} → statement M
 put-masked-spec =
     tie.close
     (tie.spec
     Inv-loop
     μ-loop
-    loop-holds
-    shared-slice-read-put-byte
+    (λ c. put-starts _ _ _ _)
+    (λ c. search needs)
     put-byte-requires
-    add-i
-    loop-less
+    (λ c. search needs)
+    (λ c. search needs)
     loop-again
-    same-length
-    returns)
+    (λ c. c .before .loop .inv .left .size)
+    (λ c. put-ends _ _ _ _ _ _ _ (c .before .loop .inv) (c .loop-test .left)))

@@ -10,17 +10,11 @@ use Rattle.numbers.{proofs.Spelling.{varint-few}, specs.Spelling.{varintOf}}
 use Rattle.header.specs.Utf8.{unmasked}
 use Rattle.builder.proofs.put.put_text.Tie as tie
 
-put-varint-requires : tie.Need-put-varint-requires
-put-varint-requires c κs = search needs
-
 put-masked-requires : tie.Need-put-masked-requires
 put-masked-requires c κs =
     let put-varint = c .before .before .before .put-varint in
     let args = c .before .before .before .before .before .before .before .args in
     omega (arith, put-varint .ensures .place-after, varint-few (length (args .text .now)))
-
-same-length : tie.Need-same-length
-same-length c = search needs
 
 returns : tie.Need-returns
 unfolding inlined
@@ -31,4 +25,4 @@ returns c =
     stored-then (varintOf (length (args .text .now))) (map unmasked (args .text .now)) (put-varint .ensures) (put-masked .ensures)
 
 pub put-text-spec : {M : Type 1} → statement M
-put-text-spec = tie.close (tie.spec put-varint-requires put-masked-requires same-length returns)
+put-text-spec = tie.close (tie.spec (λ c κs. search needs) put-masked-requires (λ c. search needs) returns)

@@ -19,15 +19,6 @@ loop-holds c =
     let pre = c .before .before .before .before .pre in
     inlines-start (fieldBytes (args .records) (args .words .now)) _ _ _ _ (pre .1) (pre .2)
 
-mul-size : tie.Need-mul-size Inv-loop μ-loop
-mul-size c = search needs
-
-shared-slice-read-size : tie.Need-shared-slice-read-size Inv-loop μ-loop
-shared-slice-read-size c = search needs
-
-cast-size : tie.Need-cast-size Inv-loop μ-loop
-cast-size c = omega (arith, c .shared-slice-known4 .given (c .before .before .loop .i))
-
 add-end : tie.Need-add-end Inv-loop μ-loop
 add-end c =
     let args = c .before .before .before .before .before .before .before .args in
@@ -35,20 +26,11 @@ add-end c =
     let loop-test = c .before .loop-test in
     omega (arith, text-in (fieldBytes (args .records) (args .words .now)) (args .out .now) (args .place) (args .lengths .now) (args .texts .now) (loop .out) (loop .next) (loop .at) (loop .i) (loop .inv) (loop-test .taken))
 
-mul-put-field : tie.Need-mul-put-field Inv-loop μ-loop
-mul-put-field c = search needs
-
 shared-slice-read-put-field : tie.Need-shared-slice-read-put-field Inv-loop μ-loop
 shared-slice-read-put-field c =
     let pre = c .before .before .before .before .before .before .before .before .before .pre in
     let loop-test = c .before .before .before .loop-test in
     omega (arith, pre .0, loop-test .taken)
-
-sub-put-field : tie.Need-sub-put-field Inv-loop μ-loop
-sub-put-field c = omega arith
-
-part-put-field-start : tie.Need-part-put-field-start Inv-loop μ-loop
-part-put-field-start c = omega arith
 
 part-put-field-end : tie.Need-part-put-field-end Inv-loop μ-loop
 part-put-field-end c =
@@ -64,12 +46,6 @@ put-field-requires c κs =
     let loop-test = c .before .before .before .before .loop-test in
     text-room (fieldBytes (args .records) (args .words .now)) (args .out .now) (args .place) (args .lengths .now) (args .texts .now) (loop .out) (loop .next) (loop .at) (loop .i) (loop .inv) (loop-test .taken)
 
-add-i : tie.Need-add-i Inv-loop μ-loop
-add-i c = search needs
-
-loop-less : tie.Need-loop-less Inv-loop μ-loop
-loop-less c = search needs
-
 loop-again : tie.Need-loop-again Inv-loop μ-loop
 loop-again c =
     let args = c .before .before .before .before .before .before .before .before .before .before .before .before .before .args in
@@ -77,9 +53,6 @@ loop-again c =
     let loop-test = c .before .before .before .before .before .before .before .loop-test in
     let put-field = c .before .before .put-field in
     inlines-go (fieldBytes (args .records) (args .words .now)) (args .out .now) (args .place) (args .lengths .now) (args .texts .now) (loop .out) (loop .next) (loop .at) (loop .i) (loop .inv) (loop-test .taken) (λ k t. word-few (args .records) (getD (args .words .now) k 0) t) _ _ (put-field .ensures)
-
-same-length : tie.Need-same-length Inv-loop μ-loop
-same-length c = c .before .loop .inv .left .size
 
 returns : tie.Need-returns Inv-loop μ-loop
 returns c =
@@ -94,18 +67,18 @@ put-records-spec =
     Inv-loop
     μ-loop
     loop-holds
-    mul-size
-    shared-slice-read-size
-    cast-size
+    (λ c. search needs)
+    (λ c. search needs)
+    (λ c. omega (arith, c .shared-slice-known4 .given (c .before .before .loop .i)))
     add-end
-    mul-put-field
+    (λ c. search needs)
     shared-slice-read-put-field
-    sub-put-field
-    part-put-field-start
+    (λ c. omega arith)
+    (λ c. omega arith)
     part-put-field-end
     put-field-requires
-    add-i
-    loop-less
+    (λ c. search needs)
+    (λ c. search needs)
     loop-again
-    same-length
+    (λ c. c .before .loop .inv .left .size)
     returns)

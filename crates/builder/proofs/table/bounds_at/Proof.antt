@@ -7,30 +7,6 @@ use mir.{Facts.{toZ-ofZ}, Syntax.{w32}, Val.{toZ, ofZ}}
 use Rattle.builder.proofs.table.bounds_at.Statement.{statement}
 use Rattle.builder.proofs.table.bounds_at.Tie as tie
 
-mul-at : tie.Need-mul-at
-mul-at c = search needs
-
-number-at-requires : tie.Need-number-at-requires
-number-at-requires c κs = search needs
-
-add-number-at : tie.Need-add-number-at
-add-number-at c = search needs
-
-number-at-requires-2 : tie.Need-number-at-requires-2
-number-at-requires-2 c κs = search needs
-
-add-number-at-2 : tie.Need-add-number-at-2
-add-number-at-2 c = search needs
-
-number-at-requires-3 : tie.Need-number-at-requires-3
-number-at-requires-3 c κs = search needs
-
-add-number-at-3 : tie.Need-add-number-at-3
-add-number-at-3 c = search needs
-
-number-at-requires-4 : tie.Need-number-at-requires-4
-number-at-requires-4 c κs = search needs
-
 returns : tie.Need-returns
 returns c =
     let number-at = c .before .before .before .number-at in
@@ -47,12 +23,12 @@ pub bounds-at-spec : {M : Type 1} → statement M
 bounds-at-spec =
     tie.close
     (tie.spec
-    mul-at
-    number-at-requires
-    add-number-at
-    number-at-requires-2
-    add-number-at-2
-    number-at-requires-3
-    add-number-at-3
-    number-at-requires-4
+    (λ c. search needs)
+    (λ c κs. search needs)
+    (λ c. search needs)
+    (λ c κs. search needs)
+    (λ c. search needs)
+    (λ c κs. search needs)
+    (λ c. search needs)
+    (λ c κs. search needs)
     returns)

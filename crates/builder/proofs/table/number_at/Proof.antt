@@ -5,17 +5,5 @@ use mathlib.Core.Path.{sym}
 use Rattle.builder.proofs.table.number_at.Statement.{statement}
 use Rattle.builder.proofs.table.number_at.Tie as tie
 
-mul-result : tie.Need-mul-result
-mul-result c = search needs
-
-shared-slice-copy-out-result : tie.Need-shared-slice-copy-out-result
-shared-slice-copy-out-result c = search needs
-
-returns : tie.Need-returns
-returns c = search needs
-
-returns-2 : tie.Need-returns-2
-returns-2 c = sym (List·getD-eq-default (c .before .args .list .now) (pos 0) (c .if1 .left))
-
 pub number-at-spec : {M : Type 1} → statement M
-number-at-spec = tie.close (tie.spec mul-result shared-slice-copy-out-result returns returns-2)
+number-at-spec = tie.close (tie.spec (λ c. search needs) (λ c. search needs) (λ c. search needs) (λ c. sym (List·getD-eq-default (c .before .args .list .now) (pos 0) (c .if1 .left))))

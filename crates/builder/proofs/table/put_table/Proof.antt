@@ -12,33 +12,12 @@ Inv-loop out₀ place words boxes places next₀ last₀ i₀ out next last i = 
 abbrev μ-loop : tie.MeasureT-loop
 μ-loop out₀ place words boxes places next₀ last₀ i₀ out next last i = length words - i
 
-loop-holds : tie.Need-loop-holds Inv-loop μ-loop
-loop-holds c = table-starts _ _ _ _ _ (c .before .before .before .pre)
-
-mul-yard : tie.Need-mul-yard Inv-loop μ-loop
-mul-yard c = search needs
-
-shared-slice-read-yard : tie.Need-shared-slice-read-yard Inv-loop μ-loop
-shared-slice-read-yard c = search needs
-
-bounds-at-requires : tie.Need-bounds-at-requires Inv-loop μ-loop
-bounds-at-requires c κs = omega arith
-
-places-at-requires : tie.Need-places-at-requires Inv-loop μ-loop
-places-at-requires c κs = omega arith
-
 put-entry-requires : tie.Need-put-entry-requires Inv-loop μ-loop
 put-entry-requires c κs =
     let args = c .before .before .before .before .before .before .before .before .before .args in
     let loop = c .before .before .before .before .before .loop in
     let loop-test = c .before .before .before .before .loop-test in
     row-room (args .out .now) (args .place) (args .words .now) (args .boxes .now) (args .places .now) (loop .out) (loop .next) (loop .last) (loop .i) (loop .inv) (loop-test .taken)
-
-add-i : tie.Need-add-i Inv-loop μ-loop
-add-i c = search needs
-
-loop-less : tie.Need-loop-less Inv-loop μ-loop
-loop-less c = search needs
 
 loop-again : tie.Need-loop-again Inv-loop μ-loop
 loop-again c =
@@ -50,26 +29,20 @@ loop-again c =
     let put-entry = c .before .before .put-entry in
     table-goes (args .out .now) (args .place) (args .words .now) (args .boxes .now) (args .places .now) (loop .out) (loop .next) (loop .last) (loop .i) (loop .inv) (loop-test .taken) _ _ (bounds-at .ensures) (places-at .ensures) _ _ (put-entry .ensures)
 
-same-length : tie.Need-same-length Inv-loop μ-loop
-same-length c = c .before .loop .inv .left .size
-
-returns : tie.Need-returns Inv-loop μ-loop
-returns c = table-ends _ _ _ _ _ _ _ _ _ (c .before .loop .inv) (c .loop-test .left)
-
 pub put-table-spec : {M : Type 1} → statement M
 put-table-spec =
     tie.close
     (tie.spec
     Inv-loop
     μ-loop
-    loop-holds
-    mul-yard
-    shared-slice-read-yard
-    bounds-at-requires
-    places-at-requires
+    (λ c. table-starts _ _ _ _ _ (c .before .before .before .pre))
+    (λ c. search needs)
+    (λ c. search needs)
+    (λ c κs. omega arith)
+    (λ c κs. omega arith)
     put-entry-requires
-    add-i
-    loop-less
+    (λ c. search needs)
+    (λ c. search needs)
     loop-again
-    same-length
-    returns)
+    (λ c. c .before .loop .inv .left .size)
+    (λ c. table-ends _ _ _ _ _ _ _ _ _ (c .before .loop .inv) (c .loop-test .left)))

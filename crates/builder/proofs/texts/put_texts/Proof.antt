@@ -16,27 +16,12 @@ abbrev μ-loop : tie.MeasureT-loop
 loop-holds : tie.Need-loop-holds Inv-loop μ-loop
 loop-holds c = inlines-start (λ k. inlined) _ _ _ _ (c .before .before .before .pre .0) (c .before .before .before .pre .1)
 
-mul-size : tie.Need-mul-size Inv-loop μ-loop
-mul-size c = search needs
-
-shared-slice-read-size : tie.Need-shared-slice-read-size Inv-loop μ-loop
-shared-slice-read-size c = search needs
-
-cast-size : tie.Need-cast-size Inv-loop μ-loop
-cast-size c = omega (arith, c .shared-slice-known3 .given (c .before .before .loop .i))
-
 add-end : tie.Need-add-end Inv-loop μ-loop
 add-end c =
     let args = c .before .before .before .before .before .before .args in
     let loop = c .before .before .loop in
     let loop-test = c .before .loop-test in
     omega (arith, text-in (λ k. inlined) (args .out .now) (args .place) (args .lengths .now) (args .texts .now) (loop .out) (loop .next) (loop .at) (loop .i) (loop .inv) (loop-test .taken))
-
-sub-put-text : tie.Need-sub-put-text Inv-loop μ-loop
-sub-put-text c = omega arith
-
-part-put-text-start : tie.Need-part-put-text-start Inv-loop μ-loop
-part-put-text-start c = omega arith
 
 part-put-text-end : tie.Need-part-put-text-end Inv-loop μ-loop
 part-put-text-end c =
@@ -52,24 +37,12 @@ put-text-requires c κs =
     let loop-test = c .before .before .before .loop-test in
     text-room (λ k. inlined) (args .out .now) (args .place) (args .lengths .now) (args .texts .now) (loop .out) (loop .next) (loop .at) (loop .i) (loop .inv) (loop-test .taken)
 
-add-i : tie.Need-add-i Inv-loop μ-loop
-add-i c = search needs
-
-loop-less : tie.Need-loop-less Inv-loop μ-loop
-loop-less c = search needs
-
 loop-again : tie.Need-loop-again Inv-loop μ-loop
 loop-again c =
     let loop = c .before .before .before .before .before .before .before .loop in
     let loop-test = c .before .before .before .before .before .before .loop-test in
     let put-text = c .before .before .put-text in
     inlines-go (λ k. inlined) _ _ _ _ _ _ _ _ (loop .inv) (loop-test .taken) (λ k. inlined-few) _ _ (put-text .ensures)
-
-same-length : tie.Need-same-length Inv-loop μ-loop
-same-length c = c .before .loop .inv .left .size
-
-returns : tie.Need-returns Inv-loop μ-loop
-returns c = inline-ends _ _ _ _ _ _ _ _ (c .before .loop .inv) (c .loop-test .left)
 
 pub put-texts-spec : {M : Type 1} → statement M
 put-texts-spec =
@@ -78,16 +51,16 @@ put-texts-spec =
     Inv-loop
     μ-loop
     loop-holds
-    mul-size
-    shared-slice-read-size
-    cast-size
+    (λ c. search needs)
+    (λ c. search needs)
+    (λ c. omega (arith, c .shared-slice-known3 .given (c .before .before .loop .i)))
     add-end
-    sub-put-text
-    part-put-text-start
+    (λ c. omega arith)
+    (λ c. omega arith)
     part-put-text-end
     put-text-requires
-    add-i
-    loop-less
+    (λ c. search needs)
+    (λ c. search needs)
     loop-again
-    same-length
-    returns)
+    (λ c. c .before .loop .inv .left .size)
+    (λ c. inline-ends _ _ _ _ _ _ _ _ (c .before .loop .inv) (c .loop-test .left)))

@@ -5,15 +5,6 @@ use native.Mathlib.Omega.{arith}
 use Rattle.builder.proofs.{Checking.{ends-inside, parts-checked}, yards.check_part.Statement.{statement}}
 use Rattle.builder.proofs.yards.check_part.Tie as tie
 
-part-end-requires : tie.Need-part-end-requires
-part-end-requires c κs = search needs
-
-part-end-requires-2 : tie.Need-part-end-requires-2
-part-end-requires-2 c κs = search needs
-
-mul-check-border : tie.Need-mul-check-border
-mul-check-border c = search needs
-
 sub-check-border : tie.Need-sub-check-border
 sub-check-border c =
     let args = c .before .before .args in
@@ -34,9 +25,6 @@ part-check-border-end c =
     let pre = c .before .before .pre in
     let part-end = c .before .part-end in
     omega (arith, ends-inside (length (args .lats .now)) (args .lat) (args .tall) (pre .0) _ (part-end .ensures) .1)
-
-mul-check-border-2 : tie.Need-mul-check-border-2
-mul-check-border-2 c = search needs
 
 sub-check-border-2 : tie.Need-sub-check-border-2
 sub-check-border-2 c =
@@ -59,9 +47,6 @@ part-check-border-end-2 c =
     let part-end2 = c .before .part-end2 in
     omega (arith, ends-inside (length (args .lons .now)) (args .lon) (args .wide) (pre .1) _ (part-end2 .ensures) .1)
 
-check-border-requires : tie.Need-check-border-requires
-check-border-requires c κs = search needs
-
 returns : tie.Need-returns
 returns c =
     let args = c .before .before .before .before .before .args in
@@ -73,15 +58,15 @@ pub check-part-spec : {M : Type 1} → statement M
 check-part-spec =
     tie.close
     (tie.spec
-    part-end-requires
-    part-end-requires-2
-    mul-check-border
+    (λ c κs. search needs)
+    (λ c κs. search needs)
+    (λ c. search needs)
     sub-check-border
     part-check-border-start
     part-check-border-end
-    mul-check-border-2
+    (λ c. search needs)
     sub-check-border-2
     part-check-border-start-2
     part-check-border-end-2
-    check-border-requires
+    (λ c κs. search needs)
     returns)

@@ -12,30 +12,6 @@ Inv-loop yards lats lons lat₀ lon₀ i₀ lat lon i = Checking yards lats lons
 abbrev μ-loop : tie.MeasureT-loop
 μ-loop yards lats lons lat₀ lon₀ i₀ lat lon i = length yards - i
 
-loop-holds : tie.Need-loop-holds Inv-loop μ-loop
-loop-holds c = check-starts _ _ _
-
-sub-loop : tie.Need-sub-loop Inv-loop μ-loop
-sub-loop c = c .loop .inv .index
-
-mul-tall : tie.Need-mul-tall Inv-loop μ-loop
-mul-tall c = search needs
-
-shared-slice-read-tall : tie.Need-shared-slice-read-tall Inv-loop μ-loop
-shared-slice-read-tall c = search needs
-
-cast-tall : tie.Need-cast-tall Inv-loop μ-loop
-cast-tall c = omega (arith, c .shared-slice-known2 .given (c .before .before .loop .i))
-
-add-wide : tie.Need-add-wide Inv-loop μ-loop
-add-wide c = search needs
-
-mul-wide : tie.Need-mul-wide Inv-loop μ-loop
-mul-wide c = search needs
-
-shared-slice-read-wide : tie.Need-shared-slice-read-wide Inv-loop μ-loop
-shared-slice-read-wide c = search needs
-
 cast-wide : tie.Need-cast-wide Inv-loop μ-loop
 cast-wide c = omega (arith, c .shared-slice-known3 .given (c .before .before .before .loop .i + 1))
 
@@ -44,9 +20,6 @@ check-part-requires c κs = (c .before .before .before .loop .inv .tall, c .befo
 
 enum-told : tie.Need-enum-told Inv-loop μ-loop
 enum-told c = search needs
-
-enum-known-checked : tie.Need-enum-known-checked Inv-loop μ-loop
-enum-known-checked c = search needs
 
 returns : tie.Need-returns Inv-loop μ-loop
 returns c =
@@ -66,12 +39,6 @@ next-part-requires-2 : tie.Need-next-part-requires-2 Inv-loop μ-loop
 next-part-requires-2 c κs =
     let loop = c .before .before .before .before .before .before .before .loop in
     loop .inv .wide
-
-add-i : tie.Need-add-i Inv-loop μ-loop
-add-i c = search needs
-
-loop-less : tie.Need-loop-less Inv-loop μ-loop
-loop-less c = search needs
 
 loop-again : tie.Need-loop-again Inv-loop μ-loop
 loop-again c =
@@ -94,22 +61,22 @@ check-yards-spec =
     (tie.spec
     Inv-loop
     μ-loop
-    loop-holds
-    sub-loop
-    mul-tall
-    shared-slice-read-tall
-    cast-tall
-    add-wide
-    mul-wide
-    shared-slice-read-wide
+    (λ c. check-starts _ _ _)
+    (λ c. c .loop .inv .index)
+    (λ c. search needs)
+    (λ c. search needs)
+    (λ c. omega (arith, c .shared-slice-known2 .given (c .before .before .loop .i)))
+    (λ c. search needs)
+    (λ c. search needs)
+    (λ c. search needs)
     cast-wide
     check-part-requires
     enum-told
-    enum-known-checked
+    (λ c. search needs)
     returns
     next-part-requires
     next-part-requires-2
-    add-i
-    loop-less
+    (λ c. search needs)
+    (λ c. search needs)
     loop-again
     returns-2)

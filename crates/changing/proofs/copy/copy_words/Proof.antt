@@ -14,18 +14,6 @@ Inv-loop list₀ words i₀ list i = (i ≤ length words) × (length words ≤ l
 abbrev μ-loop : tie.MeasureT-loop
 μ-loop list₀ words i₀ list i = length words - i
 
-loop-holds : tie.Need-loop-holds Inv-loop μ-loop
-loop-holds c = (omega arith, c .pre, refl)
-
-mul-list : tie.Need-mul-list Inv-loop μ-loop
-mul-list c = search needs
-
-shared-slice-read-list : tie.Need-shared-slice-read-list Inv-loop μ-loop
-shared-slice-read-list c = omega arith
-
-mul-list-2 : tie.Need-mul-list-2 Inv-loop μ-loop
-mul-list-2 c = search needs
-
 slice-write-list : tie.Need-slice-write-list Inv-loop μ-loop
 slice-write-list c =
     let loop = c .before .before .loop in
@@ -33,12 +21,6 @@ slice-write-list c =
     let loop = loop in
     let args = args in
     omega (arith, ap length (loop .inv .2) ∙ copied-length (args .words .now) (args .list .now) (loop .i) (omega arith) (omega arith))
-
-add-i : tie.Need-add-i Inv-loop μ-loop
-add-i c = omega arith
-
-loop-less : tie.Need-loop-less Inv-loop μ-loop
-loop-less c = omega arith
 
 loop-again : tie.Need-loop-again Inv-loop μ-loop
 loop-again c =
@@ -70,13 +52,13 @@ copy-words-spec =
     (tie.spec
     Inv-loop
     μ-loop
-    loop-holds
-    mul-list
-    shared-slice-read-list
-    mul-list-2
+    (λ c. (omega arith, c .pre, refl))
+    (λ c. search needs)
+    (λ c. omega arith)
+    (λ c. search needs)
     slice-write-list
-    add-i
-    loop-less
+    (λ c. omega arith)
+    (λ c. omega arith)
     loop-again
     same-length
     returns)

@@ -4,12 +4,6 @@ use mathlib.Core.Path.{_∙_}
 use Rattle.changing.proofs.{Dropping.{idle-as}, drop.drop_last.Statement.{statement}}
 use Rattle.changing.proofs.drop.drop_last.Tie as tie
 
-drop-yard-requires : tie.Need-drop-yard-requires
-drop-yard-requires c κs = search needs
-
-rest-work-requires : tie.Need-rest-work-requires
-rest-work-requires c κs = search needs
-
 same-length : tie.Need-same-length
 same-length c =
     let boxes = c .before .before .before .before .before .before .before .before .before .before .before .before .before .before .before .before .before .before .before .before .before .before .before .before .before .before .before .before .before .before .before .before .before .before .before .before .before .before .before .before .before .before .before .before .boxes in
@@ -94,8 +88,8 @@ pub drop-last-spec : {M : Type 1} → statement M
 drop-last-spec =
     tie.close
     (tie.spec
-    drop-yard-requires
-    rest-work-requires
+    (λ c κs. search needs)
+    (λ c κs. search needs)
     same-length
     same-length-2
     same-length-3

@@ -8,33 +8,12 @@ use Rattle.changing.specs.Dropped.{endsOf}
 use Rattle.held.specs.State.{listsAs}
 use Rattle.changing.proofs.drop.drop_yard.Tie as tie
 
-shorten-requires : tie.Need-shorten-requires
-shorten-requires c κs = search needs
-
-enum-known-left : tie.Need-enum-known-left
-enum-known-left c = search needs
-
-enum-known-why : tie.Need-enum-known-why
-enum-known-why c = search needs
-
-same-length : tie.Need-same-length
-same-length c = search needs
-
-same-length-2 : tie.Need-same-length-2
-same-length-2 c = search needs
-
 returns : tie.Need-returns
 returns c =
     let args = c .before .before .before .before .before .before .before .before .before .before .before .before .before .before .before .before .before .args in
     let shorten = c .before .before .before .shorten in
     let why = c .before .why in
     drop-refused _ _ (listsAs (args .boxes .now) (args .borders .now) (args .lengths .now) (args .texts .now) (args .bytes .now)) lent-here _ (shorten .ensures) _ (why .given .1)
-
-cast-names : tie.Need-cast-names
-cast-names c = search needs
-
-add-from : tie.Need-add-from
-add-from c = search needs
 
 mul-to : tie.Need-mul-to
 mul-to c =
@@ -49,15 +28,6 @@ add-to c =
     let shorten = c .before .before .before .before .shorten in
     let left = c .before .before .left in
     omega (arith, product-few _ _ _ _ _ (short-is _ _ (listsAs (args .boxes .now) (args .borders .now) (args .lengths .now) (args .texts .now) (args .bytes .now)) lent-here _ (shorten .ensures) _ (left .given .1)), names-few _ _ _ _ _ (short-is _ _ (listsAs (args .boxes .now) (args .borders .now) (args .lengths .now) (args .texts .now) (args .bytes .now)) lent-here _ (shorten .ensures) _ (left .given .1)))
-
-mul-sum-up : tie.Need-mul-sum-up
-mul-sum-up c = search needs
-
-sub-sum-up : tie.Need-sub-sum-up
-sub-sum-up c = search needs
-
-part-sum-up-start : tie.Need-part-sum-up-start
-part-sum-up-start c = search needs
 
 part-sum-up-end : tie.Need-part-sum-up-end
 part-sum-up-end c =
@@ -94,26 +64,8 @@ sum-up-requires c κs =
     let left = c .before .before .before .before .before .before .before .before .before .before .before .before .before .before .before .left in
     left-summing _ _ _ _ _ (short-is _ _ (listsAs (args .boxes .now) (args .borders .now) (args .lengths .now) (args .texts .now) (args .bytes .now)) lent-here _ (shorten .ensures) _ (left .given .1)) (listsAs (args .boxes .now) (args .borders .now) (args .lengths .now) (args .texts .now) (args .bytes .now)) lent-here _ _ refl refl
 
-enum-known-summed : tie.Need-enum-known-summed
-enum-known-summed c = search needs
-
 enum-told : tie.Need-enum-told
 enum-told c = search needs
-
-refused-requires : tie.Need-refused-requires
-refused-requires c κs = search needs
-
-same-length-3 : tie.Need-same-length-3
-same-length-3 c = search needs
-
-same-length-4 : tie.Need-same-length-4
-same-length-4 c = search needs
-
-same-length-5 : tie.Need-same-length-5
-same-length-5 c = search needs
-
-same-length-6 : tie.Need-same-length-6
-same-length-6 c = search needs
 
 same-length-7 : tie.Need-same-length-7
 same-length-7 c = c .before .before .before .before .before .before .before .before .before .before .before .before .before .before .before .before .starts .given
@@ -126,15 +78,6 @@ same-length-9 c = c .before .before .before .before .before .before .before .bef
 
 same-length-10 : tie.Need-same-length-10
 same-length-10 c = c .before .before .before .before .before .before .before .before .before .before .kept .given
-
-same-length-11 : tie.Need-same-length-11
-same-length-11 c = c .before .before .before .before .before .before .before .before .held .given
-
-same-length-12 : tie.Need-same-length-12
-same-length-12 c = c .before .before .before .before .before .before .words .given
-
-same-length-13 : tie.Need-same-length-13
-same-length-13 c = c .before .before .before .before .places .given
 
 returns-2 : tie.Need-returns-2
 returns-2 c =
@@ -159,9 +102,6 @@ cut-lists-requires c κs =
     let left = c .before .before .before .before .before .before .before .before .before .before .before .before .before .before .before .before .before .before .before .before .before .before .before .before .before .before .before .before .before .before .before .before .before .before .before .before .before .before .left in
     left-inside _ _ _ _ _ (short-is _ _ (listsAs (args .boxes .now) (args .borders .now) (args .lengths .now) (args .texts .now) (args .bytes .now)) lent-here _ (shorten .ensures) _ (left .given .1)) (listsAs (args .boxes .now) (args .borders .now) (args .lengths .now) (args .texts .now) (args .bytes .now)) lent-here
 
-with-sums-requires : tie.Need-with-sums-requires
-with-sums-requires c κs = search needs
-
 same-length-14 : tie.Need-same-length-14
 same-length-14 c =
     let boxes = c .before .before .before .before .before .before .before .before .before .boxes in
@@ -181,9 +121,6 @@ same-length-17 : tie.Need-same-length-17
 same-length-17 c =
     let texts2 = c .before .before .before .before .texts2 in
     texts2 .given
-
-same-length-18 : tie.Need-same-length-18
-same-length-18 c = c .before .before .bytes .given
 
 same-length-19 : tie.Need-same-length-19
 same-length-19 c =
@@ -235,47 +172,47 @@ pub drop-yard-spec : {M : Type 1} → statement M
 drop-yard-spec =
     tie.close
     (tie.spec
-    shorten-requires
-    enum-known-left
-    enum-known-why
-    same-length
-    same-length-2
+    (λ c κs. search needs)
+    (λ c. search needs)
+    (λ c. search needs)
+    (λ c. search needs)
+    (λ c. search needs)
     returns
-    cast-names
-    add-from
+    (λ c. search needs)
+    (λ c. search needs)
     mul-to
     add-to
-    mul-sum-up
-    sub-sum-up
-    part-sum-up-start
+    (λ c. search needs)
+    (λ c. search needs)
+    (λ c. search needs)
     part-sum-up-end
     sub-sum-up-2
     part-sum-up-start-2
     part-sum-up-end-2
     sum-up-requires
-    enum-known-summed
+    (λ c. search needs)
     enum-told
-    refused-requires
-    same-length-3
-    same-length-4
-    same-length-5
-    same-length-6
+    (λ c κs. search needs)
+    (λ c. search needs)
+    (λ c. search needs)
+    (λ c. search needs)
+    (λ c. search needs)
     same-length-7
     same-length-8
     same-length-9
     same-length-10
-    same-length-11
-    same-length-12
-    same-length-13
+    (λ c. c .before .before .before .before .before .before .before .before .held .given)
+    (λ c. c .before .before .before .before .before .before .words .given)
+    (λ c. c .before .before .before .before .places .given)
     returns-2
     mul-t37
     cut-lists-requires
-    with-sums-requires
+    (λ c κs. search needs)
     same-length-14
     same-length-15
     same-length-16
     same-length-17
-    same-length-18
+    (λ c. c .before .before .bytes .given)
     same-length-19
     same-length-20
     same-length-21

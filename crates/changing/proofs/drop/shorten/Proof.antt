@@ -8,21 +8,12 @@ use Rattle.changing.proofs.{Sums.{sum-over-told, sum-within-told}, drop
 use Rattle.changing.specs.Dropped.{shortOf, withSums}
 use Rattle.changing.proofs.drop.shorten.Tie as tie
 
-stands-requires : tie.Need-stands-requires
-stands-requires c κs = search needs
-
-refused-requires : tie.Need-refused-requires
-refused-requires c κs = search needs
-
 returns : tie.Need-returns
 returns c =
     let args = c .before .before .before .before .before .args in
     let stands = c .before .before .stands in
     let if1 = c .before .if1 in
     not-standing _ _ (args .borders .now) (args .lengths .now) _ (stands .ensures) (if1 .taken) _ (c .refused .ensures)
-
-refused-requires-2 : tie.Need-refused-requires-2
-refused-requires-2 c κs = search needs
 
 returns-2 : tie.Need-returns-2
 returns-2 c =
@@ -31,15 +22,6 @@ returns-2 c =
     let if1 = c .before .before .before .if1 in
     let if2 = c .before .if2 in
     no-yard _ _ (args .borders .now) (args .lengths .now) _ (stands .ensures) (if1 .left) (if2 .taken) _ (c .refused2 .ensures)
-
-cast-names : tie.Need-cast-names
-cast-names c = search needs
-
-sub-count : tie.Need-sub-count
-sub-count c = search needs
-
-add-from : tie.Need-add-from
-add-from c = search needs
 
 mul-from : tie.Need-mul-from
 mul-from c =
@@ -77,12 +59,6 @@ mul-sum-within c =
     let pre = c .before .before .before .before .before .before .before .before .pre in
     omega (arith, product-small _ _ (args .borders .now) (args .lengths .now) _ (stands .ensures) (if1 .left) (if2 .left) (pre .0) (pre .1), names-small _ _ (args .borders .now) (args .lengths .now) _ (stands .ensures) (if1 .left) (if2 .left) (pre .0) (pre .1))
 
-sub-sum-within : tie.Need-sub-sum-within
-sub-sum-within c = search needs
-
-part-sum-within-start : tie.Need-part-sum-within-start
-part-sum-within-start c = search needs
-
 part-sum-within-end : tie.Need-part-sum-within-end
 part-sum-within-end c =
     let args = c .before .before .before .before .before .before .before .before .args in
@@ -101,17 +77,8 @@ sub-sum-within-2 c =
     let pre = c .before .before .before .before .before .before .before .before .before .before .pre in
     front-order _ _ (args .borders .now) (args .lengths .now) _ (stands .ensures) (if1 .left) (if2 .left) (pre .0) (pre .1)
 
-sum-within-requires : tie.Need-sum-within-requires
-sum-within-requires c κs = search needs
-
-enum-known-sum : tie.Need-enum-known-sum
-enum-known-sum c = search needs
-
 enum-told : tie.Need-enum-told
 enum-told c = search needs
-
-refused-requires-3 : tie.Need-refused-requires-3
-refused-requires-3 c κs = search needs
 
 returns-3 : tie.Need-returns-3
 returns-3 c =
@@ -146,9 +113,6 @@ cast-bytes c =
     let args = c .before .before .before .before .before .before .before .before .before .before .before .before .before .before .before .args in
     omega (arith, c .shared-slice-known3 .given (args .builder .yards - 1))
 
-refused-requires-4 : tie.Need-refused-requires-4
-refused-requires-4 c κs = search needs
-
 returns-4 : tie.Need-returns-4
 returns-4 c =
     let args = c .before .before .before .before .before .before .before .before .before .before .before .before .before .before .before .before .before .before .args in
@@ -182,9 +146,6 @@ has-space-requires c κs =
     let sum-within = c .before .before .before .before .before .before .before .sum-within in
     let sum = c .before .before .before .before .before .sum in
     (names-small _ _ (args .borders .now) (args .lengths .now) _ (stands .ensures) (if1 .left) (if2 .left) (pre .0) (pre .1), few-left _ _ (args .borders .now) (args .lengths .now) _ (stands .ensures) (if1 .left) (if2 .left) (pre .0) (pre .1), last-order _ _ (args .borders .now) (args .lengths .now) _ (stands .ensures) (if1 .left) (if2 .left) (pre .0) (pre .1) _ (sum-within-told _ _ _ (sum-within .ensures) _ (sum .given .1)))
-
-refused-requires-5 : tie.Need-refused-requires-5
-refused-requires-5 c κs = search needs
 
 returns-5 : tie.Need-returns-5
 returns-5 c =
@@ -221,34 +182,34 @@ pub shorten-spec : {M : Type 1} → statement M
 shorten-spec =
     tie.close
     (tie.spec
-    stands-requires
-    refused-requires
+    (λ c κs. search needs)
+    (λ c κs. search needs)
     returns
-    refused-requires-2
+    (λ c κs. search needs)
     returns-2
-    cast-names
-    sub-count
-    add-from
+    (λ c. search needs)
+    (λ c. search needs)
+    (λ c. search needs)
     mul-from
     add-from-2
     add-to
     mul-sum-within
-    sub-sum-within
-    part-sum-within-start
+    (λ c. search needs)
+    (λ c. search needs)
     part-sum-within-end
     sub-sum-within-2
-    sum-within-requires
-    enum-known-sum
+    (λ c κs. search needs)
+    (λ c. search needs)
     enum-told
-    refused-requires-3
+    (λ c κs. search needs)
     returns-3
     mul-bytes
     shared-slice-read-bytes
     cast-bytes
-    refused-requires-4
+    (λ c κs. search needs)
     returns-4
     sub-strings
     has-space-requires
-    refused-requires-5
+    (λ c κs. search needs)
     returns-5
     returns-6)

@@ -14,11 +14,8 @@ returns-2 c = known-high (c .before .before .args .precision) (c .before .before
 returns-3 : tie.Need-returns-3
 returns-3 c = known-version (c .before .before .before .args .precision) (c .before .before .before .args .version) (isKind (c .before .before .before .args .kind)) (c .before .before .if1 .left) (c .before .if2 .left) (c .if3 .taken)
 
-is-kind-requires : tie.Need-is-kind-requires
-is-kind-requires c κs = search needs
-
 returns-4 : tie.Need-returns-4
 returns-4 c = known-kind (c .before .before .before .before .args .precision) (c .before .before .before .before .args .version) (isKind (c .before .before .before .before .args .kind)) (c .before .before .before .if1 .left) (c .before .before .if2 .left) (c .before .if3 .left) _ (c .is-kind .ensures)
 
 pub is-known-spec : {M : Type 1} → statement M
-is-known-spec = tie.close (tie.spec returns returns-2 returns-3 is-kind-requires returns-4)
+is-known-spec = tie.close (tie.spec returns returns-2 returns-3 (λ c κs. search needs) returns-4)

@@ -21,41 +21,8 @@ abbrev μ-loop : tie.MeasureT-loop
 loop-holds : tie.Need-loop-holds Inv-loop μ-loop
 loop-holds c = (section-starts _ _ _ _ _ _ _ _ _ (c .before .before .before .before .before .pre .0) (c .before .before .before .before .before .pre .1) refl (c .before .before .before .before .before .pre .4), refl)
 
-sub-loop : tie.Need-sub-loop Inv-loop μ-loop
-sub-loop c = c .loop .inv .0 .index
-
-add-next : tie.Need-add-next Inv-loop μ-loop
-add-next c = search needs
-
-mul-tall : tie.Need-mul-tall Inv-loop μ-loop
-mul-tall c = search needs
-
-shared-slice-read-tall : tie.Need-shared-slice-read-tall Inv-loop μ-loop
-shared-slice-read-tall c = search needs
-
-cast-tall : tie.Need-cast-tall Inv-loop μ-loop
-cast-tall c = omega (arith, c .shared-slice-known3 .given (c .before .before .loop .i))
-
-add-wide : tie.Need-add-wide Inv-loop μ-loop
-add-wide c = search needs
-
-mul-wide : tie.Need-mul-wide Inv-loop μ-loop
-mul-wide c = search needs
-
-shared-slice-read-wide : tie.Need-shared-slice-read-wide Inv-loop μ-loop
-shared-slice-read-wide c = search needs
-
 cast-wide : tie.Need-cast-wide Inv-loop μ-loop
 cast-wide c = omega (arith, c .shared-slice-known4 .given (c .before .before .before .loop .i + 1))
-
-add-words : tie.Need-add-words Inv-loop μ-loop
-add-words c = search needs
-
-mul-words : tie.Need-mul-words Inv-loop μ-loop
-mul-words c = search needs
-
-shared-slice-read-words : tie.Need-shared-slice-read-words Inv-loop μ-loop
-shared-slice-read-words c = search needs
 
 cast-words : tie.Need-cast-words Inv-loop μ-loop
 cast-words c = omega (arith, c .shared-slice-known5 .given (c .before .before .before .before .loop .i + 2))
@@ -71,12 +38,6 @@ slice-aggregate-draw-yard c = sym (length-take-le _ _ (omega (arith, c .before .
 
 draw-yard-requires : tie.Need-draw-yard-requires Inv-loop μ-loop
 draw-yard-requires c κs = (c .before .before .before .before .before .before .loop .inv .0 .tall, c .before .before .before .before .before .before .loop .inv .0 .wide, c .before .before .before .before .before .before .loop .inv .0 .deep, omega (arith, c .before .before .before .before .shared-slice-known3 .given (c .before .before .before .before .before .before .loop .i)), omega (arith, c .before .before .before .before .before .before .before .before .before .before .before .before .pre .2, c .before .before .before .before .before .before .loop .inv .1))
-
-enum-known-border : tie.Need-enum-known-border Inv-loop μ-loop
-enum-known-border c = search needs
-
-enum-known-border-2 : tie.Need-enum-known-border-2 Inv-loop μ-loop
-enum-known-border-2 c = search needs
 
 same-length : tie.Need-same-length Inv-loop μ-loop
 same-length c = c .before .before .before .before .before .before .before .before .before .before .before .before .loop .inv .0 .places-size
@@ -96,9 +57,6 @@ add-store c = omega (arith, c .before .before .before .before .before .before .b
 cast-store : tie.Need-cast-store Inv-loop μ-loop
 cast-store c = omega (arith, c .before .before .before .before .before .before .before .before .before .before .before .before .before .loop .inv .0 .full, c .before .before .before .before .before .before .before .before .before .before .before .before .before .before .before .before .before .before .before .pre .3)
 
-store-requires : tie.Need-store-requires Inv-loop μ-loop
-store-requires c κs = search needs
-
 slice-reshare-prefix-put-bytes : tie.Need-slice-reshare-prefix-put-bytes Inv-loop μ-loop
 slice-reshare-prefix-put-bytes c = border-inside _ _ _ _ _ _ _ _ _ _ _ _ _ _ _ (c .before .before .before .before .before .before .before .before .before .before .before .before .before .before .before .before .before .loop .inv .0) (c .before .before .before .before .before .before .before .before .before .before .before .before .before .before .before .before .loop-test .taken) _ _ (c .before .before .before .before .before .before .before .before .before .before .draw-yard .ensures) _ (c .before .before .before .before .before .before .border .given .1)
 
@@ -117,20 +75,8 @@ next-part-requires-2 c κs = c .before .before .before .before .before .before .
 next-part-requires-3 : tie.Need-next-part-requires-3 Inv-loop μ-loop
 next-part-requires-3 c κs = c .before .before .before .before .before .before .before .before .before .before .before .before .before .before .before .before .before .before .before .before .before .before .before .loop .inv .0 .deep
 
-loop-less : tie.Need-loop-less Inv-loop μ-loop
-loop-less c = search needs
-
 loop-again : tie.Need-loop-again Inv-loop μ-loop
 loop-again c = (section-goes _ _ _ _ _ _ _ _ _ _ _ _ _ _ _ (c .before .before .before .before .before .before .before .before .before .before .before .before .before .before .before .before .before .before .before .before .before .before .before .before .loop .inv .0) (c .before .before .before .before .before .before .before .before .before .before .before .before .before .before .before .before .before .before .before .before .before .before .before .loop-test .taken) _ _ (c .before .before .before .before .before .before .before .before .before .before .before .before .before .before .before .before .before .draw-yard .ensures) _ (c .before .before .before .before .before .before .before .before .before .before .before .before .before .border .given .1) _ (c .before .before .before .before .before .before .before .before .before .before .store .ensures) _ _ (c .before .before .before .before .before .put-bytes .ensures) _ _ _ (c .before .before .next-part .ensures) (c .before .next-part2 .ensures) (c .next-part3 .ensures), c .before .before .before .before .before .before .before .before .before .before .before .before .before .before .before .before .before .draw-yard .kept .1 .1 .1 .1 .1 .1 .1 .1 .1 .1 .1 .1 .0 ∙ c .before .before .before .before .before .before .before .before .before .before .before .before .before .before .before .before .before .before .before .before .before .before .before .before .loop .inv .1)
-
-same-length-4 : tie.Need-same-length-4 Inv-loop μ-loop
-same-length-4 c = c .before .loop .inv .0 .places-size
-
-same-length-5 : tie.Need-same-length-5 Inv-loop μ-loop
-same-length-5 c = c .before .loop .inv .0 .size-is
-
-same-length-6 : tie.Need-same-length-6 Inv-loop μ-loop
-same-length-6 c = c .before .loop .inv .1
 
 returns-2 : tie.Need-returns-2 Inv-loop μ-loop
 returns-2 c = section-ends _ _ _ _ _ _ _ _ _ _ _ _ _ _ _ (c .before .loop .inv .0) (c .loop-test .left)
@@ -142,41 +88,41 @@ draw-yards-spec =
     Inv-loop
     μ-loop
     loop-holds
-    sub-loop
-    add-next
-    mul-tall
-    shared-slice-read-tall
-    cast-tall
-    add-wide
-    mul-wide
-    shared-slice-read-wide
+    (λ c. c .loop .inv .0 .index)
+    (λ c. search needs)
+    (λ c. search needs)
+    (λ c. search needs)
+    (λ c. omega (arith, c .shared-slice-known3 .given (c .before .before .loop .i)))
+    (λ c. search needs)
+    (λ c. search needs)
+    (λ c. search needs)
     cast-wide
-    add-words
-    mul-words
-    shared-slice-read-words
+    (λ c. search needs)
+    (λ c. search needs)
+    (λ c. search needs)
     cast-words
     mul-words-2
     slice-reshare-prefix-draw-yard
     slice-aggregate-draw-yard
     draw-yard-requires
-    enum-known-border
-    enum-known-border-2
+    (λ c. search needs)
+    (λ c. search needs)
     same-length
     same-length-2
     same-length-3
     returns
     add-store
     cast-store
-    store-requires
+    (λ c κs. search needs)
     slice-reshare-prefix-put-bytes
     slice-aggregate-put-bytes
     put-bytes-requires
     next-part-requires
     next-part-requires-2
     next-part-requires-3
-    loop-less
+    (λ c. search needs)
     loop-again
-    same-length-4
-    same-length-5
-    same-length-6
+    (λ c. c .before .loop .inv .0 .places-size)
+    (λ c. c .before .loop .inv .0 .size-is)
+    (λ c. c .before .loop .inv .1)
     returns-2)

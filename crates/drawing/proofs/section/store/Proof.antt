@@ -6,20 +6,5 @@ use borrow.Author.Needs.{needs}
 use Rattle.drawing.proofs.section.store.Statement.{statement}
 use Rattle.drawing.proofs.section.store.Tie as tie
 
-mul-list : tie.Need-mul-list
-mul-list c = search needs
-
-slice-write-list : tie.Need-slice-write-list
-slice-write-list c = search needs
-
-same-length : tie.Need-same-length
-same-length c = search needs
-
-returns : tie.Need-returns
-returns c = search needs
-
-returns-2 : tie.Need-returns-2
-returns-2 c = sym (set-out _ _ _ (c .if1 .left))
-
 pub store-spec : {M : Type 1} → statement M
-store-spec = tie.close (tie.spec mul-list slice-write-list same-length returns returns-2)
+store-spec = tie.close (tie.spec (λ c. search needs) (λ c. search needs) (λ c. search needs) (λ c. search needs) (λ c. sym (set-out _ _ _ (c .if1 .left))))

@@ -8,24 +8,6 @@ use native.Mathlib.Omega.{arith}
 use borrow.Author.Needs.{needs}
 use Rattle.drawing.proofs.yard.draw_yard.Tie as tie
 
-part-end-requires : tie.Need-part-end-requires
-part-end-requires c κs = search needs
-
-part-end-requires-2 : tie.Need-part-end-requires-2
-part-end-requires-2 c κs = search needs
-
-next-part-requires : tie.Need-next-part-requires
-next-part-requires c κs = search needs
-
-sub-cut : tie.Need-sub-cut
-sub-cut c = search needs
-
-lent-for-requires : tie.Need-lent-for-requires
-lent-for-requires c κs = search needs
-
-mul-draw-border : tie.Need-mul-draw-border
-mul-draw-border c = search needs
-
 sub-draw-border : tie.Need-sub-draw-border
 sub-draw-border c = ends-inside _ _ _ (c .before .before .before .before .before .before .before .pre .0) _ (c .before .before .before .part-end .ensures) .0
 
@@ -34,9 +16,6 @@ part-draw-border-start c = ends-inside _ _ _ (c .before .before .before .before 
 
 part-draw-border-end : tie.Need-part-draw-border-end
 part-draw-border-end c = ends-inside _ _ _ (c .before .before .before .before .before .before .before .pre .0) _ (c .before .before .before .part-end .ensures) .1
-
-mul-draw-border-2 : tie.Need-mul-draw-border-2
-mul-draw-border-2 c = search needs
 
 sub-draw-border-2 : tie.Need-sub-draw-border-2
 sub-draw-border-2 c = ends-inside _ _ _ (c .before .before .before .before .before .before .before .before .pre .1) _ (c .before .before .before .part-end2 .ensures) .0
@@ -47,9 +26,6 @@ part-draw-border-start-2 c = ends-inside _ _ _ (c .before .before .before .befor
 part-draw-border-end-2 : tie.Need-part-draw-border-end-2
 part-draw-border-end-2 c = ends-inside _ _ _ (c .before .before .before .before .before .before .before .before .pre .1) _ (c .before .before .before .part-end2 .ensures) .1
 
-mul-draw-border-3 : tie.Need-mul-draw-border-3
-mul-draw-border-3 c = search needs
-
 sub-draw-border-3 : tie.Need-sub-draw-border-3
 sub-draw-border-3 c = next-after _ _ _ _ (c .before .before .before .before .before .before .before .before .before .pre .2) (c .before .before .before .next-part .ensures)
 
@@ -59,17 +35,11 @@ part-draw-border-start-3 c = next-after _ _ _ _ (c .before .before .before .befo
 part-draw-border-end-3 : tie.Need-part-draw-border-end-3
 part-draw-border-end-3 c = begins-inside _ _ _ (c .before .before .before .before .before .before .before .before .before .pre .2) _ (c .before .before .before .next-part .ensures)
 
-slice-relend-prefix-draw-border : tie.Need-slice-relend-prefix-draw-border
-slice-relend-prefix-draw-border c = search needs
-
 slice-aggregate-draw-border : tie.Need-slice-aggregate-draw-border
 slice-aggregate-draw-border c = sym (length-take-le _ _ (omega (arith, c .before .before .before .before .lent-for .ensures .is)))
 
 draw-border-requires : tie.Need-draw-border-requires
 draw-border-requires c κs = lends _ _ _ _ _ _ _ _ _ (part-few _ _ _ _ _ (c .before .before .before .before .before .before .before .part-end .ensures)) (c .before .before .before .before .before .before .before .before .before .before .before .pre .4) (c .before .before .before .before .lent-for .ensures)
-
-same-length : tie.Need-same-length
-same-length c = search needs
 
 returns : tie.Need-returns
 returns c = yard-drawn _ _ _ _ _ _ _ _ _ _ _ _ (c .before .before .before .before .before .before .before .before .before .before .before .before .before .before .pre .2) _ _ _ (c .before .before .before .before .before .before .before .before .before .before .part-end .ensures) (c .before .before .before .before .before .before .before .before .before .part-end2 .ensures) (c .before .before .before .before .before .before .before .before .next-part .ensures) _ refl _ _ _ (c .before .before .draw-border .ensures)
@@ -78,25 +48,25 @@ pub draw-yard-spec : {M : Type 1} → statement M
 draw-yard-spec =
     tie.close
     (tie.spec
-    part-end-requires
-    part-end-requires-2
-    next-part-requires
-    sub-cut
-    lent-for-requires
-    mul-draw-border
+    (λ c κs. search needs)
+    (λ c κs. search needs)
+    (λ c κs. search needs)
+    (λ c. search needs)
+    (λ c κs. search needs)
+    (λ c. search needs)
     sub-draw-border
     part-draw-border-start
     part-draw-border-end
-    mul-draw-border-2
+    (λ c. search needs)
     sub-draw-border-2
     part-draw-border-start-2
     part-draw-border-end-2
-    mul-draw-border-3
+    (λ c. search needs)
     sub-draw-border-3
     part-draw-border-start-3
     part-draw-border-end-3
-    slice-relend-prefix-draw-border
+    (λ c. search needs)
     slice-aggregate-draw-border
     draw-border-requires
-    same-length
+    (λ c. search needs)
     returns)

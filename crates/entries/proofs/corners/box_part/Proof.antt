@@ -6,15 +6,6 @@ use Rattle.builder.proofs.Checking.{ends-inside}
 use Rattle.entries.proofs.{Cornered.{part-box}, corners.box_part.Statement.{statement}}
 use Rattle.entries.proofs.corners.box_part.Tie as tie
 
-part-end-requires : tie.Need-part-end-requires
-part-end-requires c κs = search needs
-
-part-end-requires-2 : tie.Need-part-end-requires-2
-part-end-requires-2 c κs = search needs
-
-mul-box-of : tie.Need-mul-box-of
-mul-box-of c = search needs
-
 sub-box-of : tie.Need-sub-box-of
 sub-box-of c =
     let args = c .before .before .args in
@@ -35,9 +26,6 @@ part-box-of-end c =
     let pre = c .before .before .pre in
     let part-end = c .before .part-end in
     omega (arith, ends-inside (length (args .lats .now)) (args .lat) (args .tall) (pre .0) _ (part-end .ensures) .1)
-
-mul-box-of-2 : tie.Need-mul-box-of-2
-mul-box-of-2 c = search needs
 
 sub-box-of-2 : tie.Need-sub-box-of-2
 sub-box-of-2 c =
@@ -60,9 +48,6 @@ part-box-of-end-2 c =
     let part-end2 = c .before .part-end2 in
     omega (arith, ends-inside (length (args .lons .now)) (args .lon) (args .wide) (pre .1) _ (part-end2 .ensures) .1)
 
-box-of-requires : tie.Need-box-of-requires
-box-of-requires c κs = search needs
-
 returns : tie.Need-returns
 returns c =
     let args = c .before .before .before .before .before .args in
@@ -74,15 +59,15 @@ pub box-part-spec : {M : Type 1} → statement M
 box-part-spec =
     tie.close
     (tie.spec
-    part-end-requires
-    part-end-requires-2
-    mul-box-of
+    (λ c κs. search needs)
+    (λ c κs. search needs)
+    (λ c. search needs)
     sub-box-of
     part-box-of-start
     part-box-of-end
-    mul-box-of-2
+    (λ c. search needs)
     sub-box-of-2
     part-box-of-start-2
     part-box-of-end-2
-    box-of-requires
+    (λ c κs. search needs)
     returns)

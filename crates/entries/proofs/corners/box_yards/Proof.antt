@@ -12,33 +12,6 @@ Inv-loop yards lats lons boxes₀ lat₀ lon₀ i₀ boxes lat lon i = Boxing ya
 abbrev μ-loop : tie.MeasureT-loop
 μ-loop yards lats lons boxes₀ lat₀ lon₀ i₀ boxes lat lon i = length yards - i
 
-loop-holds : tie.Need-loop-holds Inv-loop μ-loop
-loop-holds c = box-starts _ _ _ _
-
-sub-loop : tie.Need-sub-loop Inv-loop μ-loop
-sub-loop c = c .loop .inv .index
-
-add-next : tie.Need-add-next Inv-loop μ-loop
-add-next c = search needs
-
-mul-tall : tie.Need-mul-tall Inv-loop μ-loop
-mul-tall c = search needs
-
-shared-slice-read-tall : tie.Need-shared-slice-read-tall Inv-loop μ-loop
-shared-slice-read-tall c = search needs
-
-cast-tall : tie.Need-cast-tall Inv-loop μ-loop
-cast-tall c = omega (arith, c .shared-slice-known2 .given (c .before .before .loop .i))
-
-add-wide : tie.Need-add-wide Inv-loop μ-loop
-add-wide c = search needs
-
-mul-wide : tie.Need-mul-wide Inv-loop μ-loop
-mul-wide c = search needs
-
-shared-slice-read-wide : tie.Need-shared-slice-read-wide Inv-loop μ-loop
-shared-slice-read-wide c = search needs
-
 cast-wide : tie.Need-cast-wide Inv-loop μ-loop
 cast-wide c = omega (arith, c .shared-slice-known3 .given (c .before .before .before .loop .i + 1))
 
@@ -48,23 +21,11 @@ box-part-requires c κs = (c .before .before .before .loop .inv .tall, c .before
 put-corners-requires : tie.Need-put-corners-requires Inv-loop μ-loop
 put-corners-requires c κs = box-room _ _ _ _ _ _ _ _ (c .before .before .before .before .before .loop .inv) (c .before .before .before .before .loop-test .taken) (c .before .before .before .before .before .before .before .pre)
 
-next-part-requires : tie.Need-next-part-requires Inv-loop μ-loop
-next-part-requires c κs = c .before .before .before .before .before .before .before .loop .inv .tall
-
 next-part-requires-2 : tie.Need-next-part-requires-2 Inv-loop μ-loop
 next-part-requires-2 c κs = c .before .before .before .before .before .before .before .before .loop .inv .wide
 
-loop-less : tie.Need-loop-less Inv-loop μ-loop
-loop-less c = search needs
-
 loop-again : tie.Need-loop-again Inv-loop μ-loop
 loop-again c = box-goes _ _ _ _ _ _ _ _ (c .before .before .before .before .before .before .before .before .before .loop .inv) (c .before .before .before .before .before .before .before .before .loop-test .taken) _ (c .before .before .before .before .before .box-part .ensures) _ (c .before .before .before .put-corners .ensures) _ _ (c .before .next-part .ensures) (c .next-part2 .ensures)
-
-same-length : tie.Need-same-length Inv-loop μ-loop
-same-length c = c .before .loop .inv .size-is
-
-returns : tie.Need-returns Inv-loop μ-loop
-returns c = box-ends _ _ _ _ _ _ _ _ (c .before .loop .inv) (c .loop-test .left)
 
 pub box-yards-spec : {M : Type 1} → statement M
 box-yards-spec =
@@ -72,21 +33,21 @@ box-yards-spec =
     (tie.spec
     Inv-loop
     μ-loop
-    loop-holds
-    sub-loop
-    add-next
-    mul-tall
-    shared-slice-read-tall
-    cast-tall
-    add-wide
-    mul-wide
-    shared-slice-read-wide
+    (λ c. box-starts _ _ _ _)
+    (λ c. c .loop .inv .index)
+    (λ c. search needs)
+    (λ c. search needs)
+    (λ c. search needs)
+    (λ c. omega (arith, c .shared-slice-known2 .given (c .before .before .loop .i)))
+    (λ c. search needs)
+    (λ c. search needs)
+    (λ c. search needs)
     cast-wide
     box-part-requires
     put-corners-requires
-    next-part-requires
+    (λ c κs. c .before .before .before .before .before .before .before .loop .inv .tall)
     next-part-requires-2
-    loop-less
+    (λ c. search needs)
     loop-again
-    same-length
-    returns)
+    (λ c. c .before .loop .inv .size-is)
+    (λ c. box-ends _ _ _ _ _ _ _ _ (c .before .loop .inv) (c .loop-test .left)))

@@ -3,9 +3,6 @@ use borrow.Author.Needs.{needs}
 use Rattle.entries.proofs.{Ordering.{words-there, words-room, in-order}, order.order_yards.Statement.{statement}}
 use Rattle.entries.proofs.order.order_yards.Tie as tie
 
-mul-words : tie.Need-mul-words
-mul-words c = search needs
-
 slice-aggregate-box-yards : tie.Need-slice-aggregate-box-yards
 slice-aggregate-box-yards c =
     let pre = c .before .before .before .before .pre in
@@ -15,21 +12,6 @@ box-yards-requires : tie.Need-box-yards-requires
 box-yards-requires c κs =
     let pre = c .before .before .before .before .before .pre in
     words-room _ _ _ (pre .2)
-
-put-yard-words-requires : tie.Need-put-yard-words-requires
-put-yard-words-requires c κs = search needs
-
-sort-requires : tie.Need-sort-requires
-sort-requires c κs = search needs
-
-same-length : tie.Need-same-length
-same-length c = search needs
-
-same-length-2 : tie.Need-same-length-2
-same-length-2 c = search needs
-
-same-length-3 : tie.Need-same-length-3
-same-length-3 c = search needs
 
 returns : tie.Need-returns
 returns c =
@@ -43,12 +25,12 @@ pub order-yards-spec : {M : Type 1} → statement M
 order-yards-spec =
     tie.close
     (tie.spec
-    mul-words
+    (λ c. search needs)
     slice-aggregate-box-yards
     box-yards-requires
-    put-yard-words-requires
-    sort-requires
-    same-length
-    same-length-2
-    same-length-3
+    (λ c κs. search needs)
+    (λ c κs. search needs)
+    (λ c. search needs)
+    (λ c. search needs)
+    (λ c. search needs)
     returns)

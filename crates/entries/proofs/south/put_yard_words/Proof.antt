@@ -16,9 +16,6 @@ Inv-loop boxes keys₀ yard₀ keys yard = Listing (wordOfYard boxes) keys₀ ke
 abbrev μ-loop : tie.MeasureT-loop
 μ-loop boxes keys₀ yard₀ keys yard = length keys₀ - yard
 
-loop-holds : tie.Need-loop-holds Inv-loop μ-loop
-loop-holds c = list-starts _ _
-
 mul-from-south : tie.Need-mul-from-south Inv-loop μ-loop
 mul-from-south c = omega (arith, c .loop-test .taken, c .before .loop .inv .left .size, c .before .before .before .pre .1)
 
@@ -27,9 +24,6 @@ mul-from-south-2 c = omega (arith, c .loop-test .taken, c .before .loop .inv .le
 
 shared-slice-copy-out-from-south : tie.Need-shared-slice-copy-out-from-south Inv-loop μ-loop
 shared-slice-copy-out-from-south c = omega (arith, c .loop-test .taken, c .before .loop .inv .left .size, c .before .before .before .pre .0)
-
-from-south-requires : tie.Need-from-south-requires Inv-loop μ-loop
-from-south-requires c κs = search needs
 
 mul-keys : tie.Need-mul-keys Inv-loop μ-loop
 mul-keys c =
@@ -43,15 +37,6 @@ add-keys c =
     let h : SFits w32 z = record { sfits = c .before .from-south-arg .given } in
     omega (arith, c .before .before .loop-test .taken, c .before .before .before .loop .inv .left .size, c .before .before .before .before .before .pre .1, word-fits z h (c .from-south .result) (c .from-south .ensures ∙ ap fromSouth (toZ-ofZ h)))
 
-mul-keys-2 : tie.Need-mul-keys-2 Inv-loop μ-loop
-mul-keys-2 c = search needs
-
-slice-write-keys : tie.Need-slice-write-keys Inv-loop μ-loop
-slice-write-keys c = search needs
-
-add-yard : tie.Need-add-yard Inv-loop μ-loop
-add-yard c = search needs
-
 loop-less : tie.Need-loop-less Inv-loop μ-loop
 loop-less c = omega (arith, c .before .before .loop-test .taken, c .before .before .before .loop .inv .left .size)
 
@@ -61,29 +46,23 @@ loop-again c =
     let h : SFits w32 z = record { sfits = c .before .from-south-arg .given } in
     list-goes _ _ _ _ (c .before .before .before .loop .inv) (c .before .before .loop-test .taken) _ (yard-word (c .before .before .before .before .before .args .boxes .now) _ _ (omega (arith, c .before .before .loop-test .taken, c .before .before .before .loop .inv .left .size, c .before .before .before .before .before .pre .1)) (c .from-south .ensures ∙ ap fromSouth (toZ-ofZ h)))
 
-same-length : tie.Need-same-length Inv-loop μ-loop
-same-length c = c .before .loop .inv .left .size
-
-returns : tie.Need-returns Inv-loop μ-loop
-returns c = list-ends _ _ _ _ (c .before .loop .inv) (c .loop-test .left)
-
 pub put-yard-words-spec : {M : Type 1} → statement M
 put-yard-words-spec =
     tie.close
     (tie.spec
     Inv-loop
     μ-loop
-    loop-holds
+    (λ c. list-starts _ _)
     mul-from-south
     mul-from-south-2
     shared-slice-copy-out-from-south
-    from-south-requires
+    (λ c κs. search needs)
     mul-keys
     add-keys
-    mul-keys-2
-    slice-write-keys
-    add-yard
+    (λ c. search needs)
+    (λ c. search needs)
+    (λ c. search needs)
     loop-less
     loop-again
-    same-length
-    returns)
+    (λ c. c .before .loop .inv .left .size)
+    (λ c. list-ends _ _ _ _ (c .before .loop .inv) (c .loop-test .left)))

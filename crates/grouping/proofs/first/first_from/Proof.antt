@@ -17,26 +17,11 @@ abbrev μ-loop : tie.MeasureT-loop
 loop-holds : tie.Need-loop-holds Inv-loop μ-loop
 loop-holds c = scan-starts _ _ _ _ (omega (arith, c .before .before .before .pre .2, length-map (c .before .before .before .args .keys .now) itemOf))
 
-mul-item-of : tie.Need-mul-item-of Inv-loop μ-loop
-mul-item-of c = search needs
-
-shared-slice-read-item-of : tie.Need-shared-slice-read-item-of Inv-loop μ-loop
-shared-slice-read-item-of c = search needs
-
-item-of-requires : tie.Need-item-of-requires Inv-loop μ-loop
-item-of-requires c κs = search needs
-
 is-alike-requires : tie.Need-is-alike-requires Inv-loop μ-loop
 is-alike-requires c κs = (c .before .before .before .before .before .before .before .pre .0 .inside, c .before .before .before .before .before .before .before .pre .1, among-item _ _ _ _ (c .before .before .before .before .before .before .before .pre .0) _ (c .before .before .loop-test .taken) _ (c .item-of .ensures))
 
 returns : tie.Need-returns Inv-loop μ-loop
 returns c = found-in _ _ (c .before .before .before .before .before .before .before .before .before .args .keys .now) _ _ (c .before .before .before .before .before .loop .inv) (c .before .before .before .before .loop-test .taken) _ (c .before .before .item-of .ensures) _ (c .before .is-alike .ensures) (c .if1 .taken)
-
-add-i : tie.Need-add-i Inv-loop μ-loop
-add-i c = search needs
-
-loop-less : tie.Need-loop-less Inv-loop μ-loop
-loop-less c = search needs
 
 loop-again : tie.Need-loop-again Inv-loop μ-loop
 loop-again c = goes-in _ _ (c .before .before .before .before .before .before .before .before .before .args .keys .now) _ _ (c .before .before .before .before .before .loop .inv) (c .before .before .before .before .loop-test .taken) _ (c .before .before .item-of .ensures) _ (c .before .is-alike .ensures) (c .if1 .left)
@@ -51,12 +36,12 @@ first-from-spec =
     Inv-loop
     μ-loop
     loop-holds
-    mul-item-of
-    shared-slice-read-item-of
-    item-of-requires
+    (λ c. search needs)
+    (λ c. search needs)
+    (λ c κs. search needs)
     is-alike-requires
     returns
-    add-i
-    loop-less
+    (λ c. search needs)
+    (λ c. search needs)
     loop-again
     returns-2)

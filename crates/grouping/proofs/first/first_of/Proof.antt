@@ -10,9 +10,6 @@ mul-hash-item c = omega (arith, c .before .before .before .pre .0 .many, item-am
 hash-item-requires : tie.Need-hash-item-requires
 hash-item-requires c κs = fewer-inside _ _ _ _ (item-among _ _ _ (c .before .before .before .pre .3)) (c .before .before .before .pre .0)
 
-cast-key : tie.Need-cast-key
-cast-key c = search needs
-
 run-of-requires : tie.Need-run-of-requires
 run-of-requires c κs = keys-rise _ _ _ _ (c .before .before .before .before .pre .1) (c .before .before .before .before .pre .2)
 
@@ -28,7 +25,7 @@ first-of-spec =
     (tie.spec
     mul-hash-item
     hash-item-requires
-    cast-key
+    (λ c. search needs)
     run-of-requires
     first-from-requires
     returns)

@@ -7,9 +7,6 @@ use Rattle.grouping.proofs.first.is_twice.Tie as tie
 hash-item-requires : tie.Need-hash-item-requires
 hash-item-requires c κs = fewer-inside _ _ _ _ (omega (arith, c .before .before .before .pre .3)) (c .before .before .before .pre .0)
 
-cast-key : tie.Need-cast-key
-cast-key c = search needs
-
 run-of-requires : tie.Need-run-of-requires
 run-of-requires c κs = keys-rise _ _ _ _ (c .before .before .before .before .pre .1) (c .before .before .before .before .pre .2)
 
@@ -24,7 +21,7 @@ is-twice-spec =
     tie.close
     (tie.spec
     hash-item-requires
-    cast-key
+    (λ c. search needs)
     run-of-requires
     twice-from-requires
     returns)

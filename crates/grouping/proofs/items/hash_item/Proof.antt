@@ -11,26 +11,11 @@ Inv-loop starts texts at width hash₀ i₀ hash i = ItemHash starts texts at wi
 abbrev μ-loop : tie.MeasureT-loop
 μ-loop starts texts at width hash₀ i₀ hash i = width - i
 
-loop-holds : tie.Need-loop-holds Inv-loop μ-loop
-loop-holds c = item-starts _ _ _ _
-
-add-hash-at : tie.Need-add-hash-at Inv-loop μ-loop
-add-hash-at c = omega (arith, c .before .before .before .before .pre .many, c .loop-test .taken)
-
 hash-at-requires : tie.Need-hash-at-requires Inv-loop μ-loop
 hash-at-requires c κs = fewer-inside _ _ _ _ (omega (arith, c .loop-test .taken)) (c .before .before .before .before .pre)
 
-add-i : tie.Need-add-i Inv-loop μ-loop
-add-i c = search needs
-
-loop-less : tie.Need-loop-less Inv-loop μ-loop
-loop-less c = search needs
-
 loop-again : tie.Need-loop-again Inv-loop μ-loop
 loop-again c = item-goes _ _ _ _ _ _ (c .before .before .loop .inv) (c .before .loop-test .taken) _ (c .hash-at .ensures)
-
-returns : tie.Need-returns Inv-loop μ-loop
-returns c = item-ends _ _ _ _ _ _ (c .before .loop .inv) (c .loop-test .left)
 
 pub hash-item-spec : {M : Type 1} → statement M
 hash-item-spec =
@@ -38,10 +23,10 @@ hash-item-spec =
     (tie.spec
     Inv-loop
     μ-loop
-    loop-holds
-    add-hash-at
+    (λ c. item-starts _ _ _ _)
+    (λ c. omega (arith, c .before .before .before .before .pre .many, c .loop-test .taken))
     hash-at-requires
-    add-i
-    loop-less
+    (λ c. search needs)
+    (λ c. search needs)
     loop-again
-    returns)
+    (λ c. item-ends _ _ _ _ _ _ (c .before .loop .inv) (c .loop-test .left)))

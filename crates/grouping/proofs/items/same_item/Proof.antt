@@ -11,9 +11,6 @@ Inv-loop starts texts a b width i₀ i = ItemSame starts texts a b width i
 abbrev μ-loop : tie.MeasureT-loop
 μ-loop starts texts a b width i₀ i = width - i
 
-loop-holds : tie.Need-loop-holds Inv-loop μ-loop
-loop-holds c = same-starts _ _ _ _ _
-
 add-same-at : tie.Need-add-same-at Inv-loop μ-loop
 add-same-at c = omega (arith, c .before .before .before .before .pre .0 .many, c .loop-test .taken)
 
@@ -26,17 +23,8 @@ same-at-requires c κs = (fewer-inside _ _ _ _ (omega (arith, c .loop-test .take
 returns : tie.Need-returns Inv-loop μ-loop
 returns c = same-differs _ _ _ _ _ _ (c .before .before .before .loop .inv) (c .before .before .loop-test .taken) _ (c .before .same-at .ensures) (c .if1 .taken)
 
-add-i : tie.Need-add-i Inv-loop μ-loop
-add-i c = search needs
-
-loop-less : tie.Need-loop-less Inv-loop μ-loop
-loop-less c = search needs
-
 loop-again : tie.Need-loop-again Inv-loop μ-loop
 loop-again c = same-goes _ _ _ _ _ _ (c .before .before .before .loop .inv) (c .before .before .loop-test .taken) _ (c .before .same-at .ensures) (c .if1 .left)
-
-returns-2 : tie.Need-returns-2 Inv-loop μ-loop
-returns-2 c = same-ends _ _ _ _ _ _ (c .before .loop .inv) (c .loop-test .left)
 
 pub same-item-spec : {M : Type 1} → statement M
 same-item-spec =
@@ -44,12 +32,12 @@ same-item-spec =
     (tie.spec
     Inv-loop
     μ-loop
-    loop-holds
+    (λ c. same-starts _ _ _ _ _)
     add-same-at
     add-same-at-2
     same-at-requires
     returns
-    add-i
-    loop-less
+    (λ c. search needs)
+    (λ c. search needs)
     loop-again
-    returns-2)
+    (λ c. same-ends _ _ _ _ _ _ (c .before .loop .inv) (c .loop-test .left)))

@@ -15,32 +15,11 @@ Inv-loop starts texts width keys₀ item₀ keys item = Listing (keyWord starts 
 abbrev μ-loop : tie.MeasureT-loop
 μ-loop starts texts width keys₀ item₀ keys item = length keys₀ - item
 
-loop-holds : tie.Need-loop-holds Inv-loop μ-loop
-loop-holds c = list-starts _ _
-
 mul-hash-item : tie.Need-mul-hash-item Inv-loop μ-loop
 mul-hash-item c = omega (arith, c .before .before .before .before .before .pre .0 .many, item-among (c .before .loop .item) (length (c .before .before .before .before .before .args .keys .now)) (c .before .before .before .before .before .args .width) (omega (arith, c .loop-test .taken, c .before .loop .inv .left .size)))
 
 hash-item-requires : tie.Need-hash-item-requires Inv-loop μ-loop
 hash-item-requires c κs = fewer-inside _ _ _ _ (item-among _ _ _ (omega (arith, c .loop-test .taken, c .before .loop .inv .left .size))) (c .before .before .before .before .before .pre .0)
-
-cast-keys : tie.Need-cast-keys Inv-loop μ-loop
-cast-keys c = search needs
-
-mul-keys : tie.Need-mul-keys Inv-loop μ-loop
-mul-keys c = search needs
-
-add-keys : tie.Need-add-keys Inv-loop μ-loop
-add-keys c = search needs
-
-mul-keys-2 : tie.Need-mul-keys-2 Inv-loop μ-loop
-mul-keys-2 c = search needs
-
-slice-write-keys : tie.Need-slice-write-keys Inv-loop μ-loop
-slice-write-keys c = search needs
-
-add-item : tie.Need-add-item Inv-loop μ-loop
-add-item c = search needs
 
 loop-less : tie.Need-loop-less Inv-loop μ-loop
 loop-less c = omega (arith, c .before .loop-test .taken, c .before .before .loop .inv .left .size)
@@ -48,28 +27,22 @@ loop-less c = omega (arith, c .before .loop-test .taken, c .before .before .loop
 loop-again : tie.Need-loop-again Inv-loop μ-loop
 loop-again c = list-goes _ _ _ _ (c .before .before .loop .inv) (c .before .loop-test .taken) _ (word-is _ _ _ _ _ (c .hash-item .ensures) (omega (arith, c .before .loop-test .taken, c .before .before .loop .inv .left .size, c .before .before .before .before .before .before .pre .1)))
 
-same-length : tie.Need-same-length Inv-loop μ-loop
-same-length c = c .before .loop .inv .left .size
-
-returns : tie.Need-returns Inv-loop μ-loop
-returns c = list-ends _ _ _ _ (c .before .loop .inv) (c .loop-test .left)
-
 pub put-keys-spec : {M : Type 1} → statement M
 put-keys-spec =
     tie.close
     (tie.spec
     Inv-loop
     μ-loop
-    loop-holds
+    (λ c. list-starts _ _)
     mul-hash-item
     hash-item-requires
-    cast-keys
-    mul-keys
-    add-keys
-    mul-keys-2
-    slice-write-keys
-    add-item
+    (λ c. search needs)
+    (λ c. search needs)
+    (λ c. search needs)
+    (λ c. search needs)
+    (λ c. search needs)
+    (λ c. search needs)
     loop-less
     loop-again
-    same-length
-    returns)
+    (λ c. c .before .loop .inv .left .size)
+    (λ c. list-ends _ _ _ _ (c .before .loop .inv) (c .loop-test .left)))

@@ -7,15 +7,6 @@ use Rattle.grouping.proofs.keys.sort_keys.Tie as tie
 put-keys-requires : tie.Need-put-keys-requires
 put-keys-requires c κs = (c .before .before .before .before .before .pre .0, c .before .before .before .before .before .pre .1)
 
-sort-requires : tie.Need-sort-requires
-sort-requires c κs = search needs
-
-same-length : tie.Need-same-length
-same-length c = search needs
-
-same-length-2 : tie.Need-same-length-2
-same-length-2 c = search needs
-
 returns : tie.Need-returns
 returns c = sorting-is _ _ _ _ _ _ _ _ _ (c .before .before .before .before .before .before .before .before .before .put-keys .ensures) (c .before .before .before .before .before .before .before .before .before .before .before .before .before .before .before .pre .2) (c .before .before .before .before .sort .ensures)
 
@@ -24,7 +15,7 @@ sort-keys-spec =
     tie.close
     (tie.spec
     put-keys-requires
-    sort-requires
-    same-length
-    same-length-2
+    (λ c κs. search needs)
+    (λ c. search needs)
+    (λ c. search needs)
     returns)

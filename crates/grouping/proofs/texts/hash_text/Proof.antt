@@ -12,26 +12,8 @@ Inv-loop seed text hash₀ i₀ hash i = Hashing seed text hash i
 abbrev μ-loop : tie.MeasureT-loop
 μ-loop seed text hash₀ i₀ hash i = length text - i
 
-loop-holds : tie.Need-loop-holds Inv-loop μ-loop
-loop-holds c = hash-starts _ _
-
-shared-slice-read-hash-byte : tie.Need-shared-slice-read-hash-byte Inv-loop μ-loop
-shared-slice-read-hash-byte c = search needs
-
-hash-byte-requires : tie.Need-hash-byte-requires Inv-loop μ-loop
-hash-byte-requires c κs = search needs
-
-add-i : tie.Need-add-i Inv-loop μ-loop
-add-i c = search needs
-
-loop-less : tie.Need-loop-less Inv-loop μ-loop
-loop-less c = search needs
-
 loop-again : tie.Need-loop-again Inv-loop μ-loop
 loop-again c = hash-goes _ _ _ _ (c .before .before .before .loop .inv) (c .before .before .loop-test .taken) _ (c .hash-byte .ensures)
-
-returns : tie.Need-returns Inv-loop μ-loop
-returns c = hash-ends _ _ _ _ (c .before .loop .inv) (c .loop-test .left)
 
 pub hash-text-spec : {M : Type 1} → statement M
 hash-text-spec =
@@ -39,10 +21,10 @@ hash-text-spec =
     (tie.spec
     Inv-loop
     μ-loop
-    loop-holds
-    shared-slice-read-hash-byte
-    hash-byte-requires
-    add-i
-    loop-less
+    (λ c. hash-starts _ _)
+    (λ c. search needs)
+    (λ c κs. search needs)
+    (λ c. search needs)
+    (λ c. search needs)
     loop-again
-    returns)
+    (λ c. hash-ends _ _ _ _ (c .before .loop .inv) (c .loop-test .left)))

@@ -12,32 +12,11 @@ Inv-loop a b i₀ i = Comparing a b i
 abbrev μ-loop : tie.MeasureT-loop
 μ-loop a b i₀ i = length a - i
 
-returns : tie.Need-returns Inv-loop μ-loop
-returns c = other-size _ _ (c .if1 .taken)
-
-loop-holds : tie.Need-loop-holds Inv-loop μ-loop
-loop-holds c = compare-starts _ _ (c .if1 .left)
-
-shared-slice-read-if2 : tie.Need-shared-slice-read-if2 Inv-loop μ-loop
-shared-slice-read-if2 c = search needs
-
-shared-slice-read-if2-2 : tie.Need-shared-slice-read-if2-2 Inv-loop μ-loop
-shared-slice-read-if2-2 c = search needs
-
 returns-2 : tie.Need-returns-2 Inv-loop μ-loop
 returns-2 c = compare-differs _ _ _ (c .before .before .before .before .loop .inv) (c .before .before .before .loop-test .taken) (c .if2 .taken)
 
-add-i : tie.Need-add-i Inv-loop μ-loop
-add-i c = search needs
-
-loop-less : tie.Need-loop-less Inv-loop μ-loop
-loop-less c = search needs
-
 loop-again : tie.Need-loop-again Inv-loop μ-loop
 loop-again c = compare-goes _ _ _ (c .before .before .before .before .loop .inv) (c .before .before .before .loop-test .taken) (c .if2 .left)
-
-returns-3 : tie.Need-returns-3 Inv-loop μ-loop
-returns-3 c = compare-ends _ _ _ (c .before .loop .inv) (c .loop-test .left)
 
 pub same-text-spec : {M : Type 1} → statement M
 same-text-spec =
@@ -45,12 +24,12 @@ same-text-spec =
     (tie.spec
     Inv-loop
     μ-loop
-    returns
-    loop-holds
-    shared-slice-read-if2
-    shared-slice-read-if2-2
+    (λ c. other-size _ _ (c .if1 .taken))
+    (λ c. compare-starts _ _ (c .if1 .left))
+    (λ c. search needs)
+    (λ c. search needs)
     returns-2
-    add-i
-    loop-less
+    (λ c. search needs)
+    (λ c. search needs)
     loop-again
-    returns-3)
+    (λ c. compare-ends _ _ _ (c .before .loop .inv) (c .loop-test .left)))

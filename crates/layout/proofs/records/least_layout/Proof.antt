@@ -11,12 +11,6 @@ Inv-loop inline words records₀ records = Rising inline words records
 abbrev μ-loop : tie.MeasureT-loop
 μ-loop inline words records₀ records = 2 ^ 32 - records
 
-loop-holds : tie.Need-loop-holds Inv-loop μ-loop
-loop-holds c = starts _ _
-
-next-length-requires : tie.Need-next-length-requires Inv-loop μ-loop
-next-length-requires c κs = omega arith
-
 returns : tie.Need-returns Inv-loop μ-loop
 returns c =
     let loop = c .before .before .before .loop in
@@ -46,18 +40,15 @@ loop-again c =
     let next-length = next-length in
     goes-on _ _ _ (loop .inv) _ (next-length .ensures)
 
-returns-2 : tie.Need-returns-2 Inv-loop μ-loop
-returns-2 c = too-long _ _ _ (c .before .loop .inv) (c .loop-test .left)
-
 pub least-layout-spec : {M : Type 1} → statement M
 least-layout-spec =
     tie.close
     (tie.spec
     Inv-loop
     μ-loop
-    loop-holds
-    next-length-requires
+    (λ c. starts _ _)
+    (λ c κs. omega arith)
     returns
     loop-less
     loop-again
-    returns-2)
+    (λ c. too-long _ _ _ (c .before .loop .inv) (c .loop-test .left)))

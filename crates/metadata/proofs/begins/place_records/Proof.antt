@@ -13,9 +13,6 @@ Inv-loop names records count words lengths texts starts places₀ begin₀ field
 abbrev μ-loop : tie.MeasureT-loop
 μ-loop names records count words lengths texts starts places₀ begin₀ field₀ yard₀ places begin field yard = count - yard
 
-loop-holds : tie.Need-loop-holds Inv-loop μ-loop
-loop-holds c = begin-starts _ _ _ _ _ _ _ _ (c .before .before .before .before .before .pre)
-
 add-yard : tie.Need-add-yard Inv-loop μ-loop
 add-yard c = omega (arith, c .loop-test .taken, c .before .before .before .before .before .before .before .pre .few)
 
@@ -27,9 +24,6 @@ mul-first-2 c = omega (arith, c .loop-test .taken, c .before .before .before .be
 
 slice-read-first : tie.Need-slice-read-first Inv-loop μ-loop
 slice-read-first c = here-place _ _ _ _ _ _ _ _ (c .before .before .before .before .before .before .before .before .pre) _ _ _ _ (c .before .before .loop .inv) (c .before .loop-test .taken)
-
-cast-first : tie.Need-cast-first Inv-loop μ-loop
-cast-first c = omega (arith, c .slice-known2 .given (2 * c .before .before .loop .yard))
 
 cast-places : tie.Need-cast-places Inv-loop μ-loop
 cast-places c = omega (arith, begin-small _ _ _ _ _ _ _ _ (c .before .before .before .before .before .before .before .before .before .pre) _ _ _ _ (c .before .before .before .loop .inv) (c .before .before .loop-test .taken) _ refl (c .if1 .taken))
@@ -73,23 +67,11 @@ add-next c = omega (arith, field-room _ _ _ _ _ _ _ _ (c .before .before .before
 mul-record-size : tie.Need-mul-record-size Inv-loop μ-loop
 mul-record-size c = omega (arith, field-room _ _ _ _ _ _ _ _ (c .before .before .before .before .before .before .before .before .before .before .before .pre) _ _ _ _ (c .before .before .before .before .before .loop .inv) (c .before .before .before .before .loop-test .taken) _ refl (c .before .before .if1 .taken))
 
-sub-record-size : tie.Need-sub-record-size Inv-loop μ-loop
-sub-record-size c = omega arith
-
-part-record-size-start : tie.Need-part-record-size-start Inv-loop μ-loop
-part-record-size-start c = omega arith
-
 part-record-size-end : tie.Need-part-record-size-end Inv-loop μ-loop
 part-record-size-end c = field-room _ _ _ _ _ _ _ _ (c .before .before .before .before .before .before .before .before .before .before .before .pre) _ _ _ _ (c .before .before .before .before .before .loop .inv) (c .before .before .before .before .loop-test .taken) _ refl (c .before .before .if1 .taken)
 
 mul-record-size-2 : tie.Need-mul-record-size-2 Inv-loop μ-loop
 mul-record-size-2 c = omega (arith, here-to _ _ _ _ _ _ _ _ (c .before .before .before .before .before .before .before .before .before .before .before .before .pre) _ _ _ _ (c .before .before .before .before .before .before .loop .inv) (c .before .before .before .before .before .loop-test .taken), c .before .before .before .before .before .before .before .before .before .before .before .before .pre .bound)
-
-sub-record-size-2 : tie.Need-sub-record-size-2 Inv-loop μ-loop
-sub-record-size-2 c = omega arith
-
-part-record-size-start-2 : tie.Need-part-record-size-start-2 Inv-loop μ-loop
-part-record-size-start-2 c = omega arith
 
 part-record-size-end-2 : tie.Need-part-record-size-end-2 Inv-loop μ-loop
 part-record-size-end-2 c = here-to _ _ _ _ _ _ _ _ (c .before .before .before .before .before .before .before .before .before .before .before .before .pre) _ _ _ _ (c .before .before .before .before .before .before .loop .inv) (c .before .before .before .before .before .loop-test .taken)
@@ -133,14 +115,8 @@ mul-places-6 c = omega (arith, c .before .before .before .loop-test .taken, c .b
 slice-write-places-2 : tie.Need-slice-write-places-2 Inv-loop μ-loop
 slice-write-places-2 c = here-place _ _ _ _ _ _ _ _ (c .before .before .before .before .before .before .before .before .before .before .pre) _ _ _ _ (c .before .before .before .before .loop .inv) (c .before .before .before .loop-test .taken)
 
-loop-less-2 : tie.Need-loop-less-2 Inv-loop μ-loop
-loop-less-2 c = omega (arith, c .before .before .before .loop-test .taken)
-
 loop-again-2 : tie.Need-loop-again-2 Inv-loop μ-loop
 loop-again-2 c = begin-old _ _ _ _ _ _ _ _ (c .before .before .before .before .before .before .before .before .before .before .pre) _ _ _ _ (c .before .before .before .before .loop .inv) (c .before .before .before .loop-test .taken) _ refl (c .before .if1 .left)
-
-same-length : tie.Need-same-length Inv-loop μ-loop
-same-length c = c .before .loop .inv .size-is
 
 returns : tie.Need-returns Inv-loop μ-loop
 returns c = begin-ends _ _ _ _ _ _ _ _ (c .before .before .before .before .before .before .before .pre) _ _ _ _ (c .before .loop .inv) (c .loop-test .left)
@@ -151,12 +127,12 @@ place-records-spec =
     (tie.spec
     Inv-loop
     μ-loop
-    loop-holds
+    (λ c. begin-starts _ _ _ _ _ _ _ _ (c .before .before .before .before .before .pre))
     add-yard
     mul-first
     mul-first-2
     slice-read-first
-    cast-first
+    (λ c. omega (arith, c .slice-known2 .given (2 * c .before .before .loop .yard)))
     cast-places
     mul-places
     mul-places-2
@@ -171,12 +147,12 @@ place-records-spec =
     cast-end
     add-next
     mul-record-size
-    sub-record-size
-    part-record-size-start
+    (λ c. omega arith)
+    (λ c. omega arith)
     part-record-size-end
     mul-record-size-2
-    sub-record-size-2
-    part-record-size-start-2
+    (λ c. omega arith)
+    (λ c. omega arith)
     part-record-size-end-2
     sub-record-size-3
     part-record-size-start-3
@@ -191,7 +167,7 @@ place-records-spec =
     mul-places-5
     mul-places-6
     slice-write-places-2
-    loop-less-2
+    (λ c. omega (arith, c .before .before .before .loop-test .taken))
     loop-again-2
-    same-length
+    (λ c. c .before .loop .inv .size-is)
     returns)

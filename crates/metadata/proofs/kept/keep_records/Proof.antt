@@ -18,9 +18,6 @@ abbrev μ-loop : tie.MeasureT-loop
 loop-holds : tie.Need-loop-holds Inv-loop μ-loop
 loop-holds c = keep-starts _ _ _ _ _ _ _ (c .before .before .before .before .before .before .before .pre .1) (c .before .before .before .before .before .before .before .pre .2)
 
-add-yard : tie.Need-add-yard Inv-loop μ-loop
-add-yard c = search needs
-
 first-of-requires : tie.Need-first-of-requires Inv-loop μ-loop
 first-of-requires c κs = (lent-inside _ _ _ _ (c .before .before .before .before .before .before .before .before .before .args .keys .now) (c .before .before .before .before .before .before .before .before .before .args .places .now) (c .before .before .before .before .before .before .before .before .before .args .kept .now) (c .before .before .before .before .before .before .before .before .before .args .held .now) (c .before .before .before .before .before .before .before .before .before .pre .0) (c .before .before .before .before .before .before .before .before .before .pre .1) (c .before .before .before .before .before .before .before .before .before .pre .2), c .before .before .before .before .before .before .before .before .before .pre .3, omega (arith, c .before .before .before .before .before .before .before .before .before .pre .4), c .loop-test .taken)
 
@@ -63,12 +60,6 @@ cast-end c = omega (arith, c .shared-slice-known6 .given (c .before .before .bef
 mul-put-words : tie.Need-mul-put-words Inv-loop μ-loop
 mul-put-words c = omega (arith, lent-to _ _ _ _ (c .before .before .before .before .before .before .before .before .before .before .before .before .before .before .args .keys .now) _ _ _ (c .before .before .before .before .before .before .before .before .before .before .before .before .before .before .pre .0) (c .before .before .before .before .before .before .before .before .before .before .before .before .before .before .pre .1) (c .before .before .before .before .before .before .before .before .before .before .before .before .before .before .pre .2) _ _ _ _ _ _ (c .before .before .before .before .before .before .loop .inv) (c .before .before .before .before .before .loop-test .taken), c .before .before .before .before .before .before .before .before .before .before .before .before .before .before .pre .7)
 
-sub-put-words : tie.Need-sub-put-words Inv-loop μ-loop
-sub-put-words c = omega arith
-
-part-put-words-start : tie.Need-part-put-words-start Inv-loop μ-loop
-part-put-words-start c = omega arith
-
 part-put-words-end : tie.Need-part-put-words-end Inv-loop μ-loop
 part-put-words-end c = lent-to _ _ _ _ (c .before .before .before .before .before .before .before .before .before .before .before .before .before .before .args .keys .now) _ _ _ (c .before .before .before .before .before .before .before .before .before .before .before .before .before .before .pre .0) (c .before .before .before .before .before .before .before .before .before .before .before .before .before .before .pre .1) (c .before .before .before .before .before .before .before .before .before .before .before .before .before .before .pre .2) _ _ _ _ _ _ (c .before .before .before .before .before .before .loop .inv) (c .before .before .before .before .before .loop-test .taken)
 
@@ -93,20 +84,8 @@ loop-less c = omega (arith, c .before .before .before .before .before .before .b
 loop-again : tie.Need-loop-again Inv-loop μ-loop
 loop-again c = lent-new _ _ _ _ (c .before .before .before .before .before .before .before .before .before .before .before .before .before .before .before .before .before .before .before .before .before .before .before .args .keys .now) _ _ _ (c .before .before .before .before .before .before .before .before .before .before .before .before .before .before .before .before .before .before .before .before .before .before .before .pre .0) (c .before .before .before .before .before .before .before .before .before .before .before .before .before .before .before .before .before .before .before .before .before .before .before .pre .1) (c .before .before .before .before .before .before .before .before .before .before .before .before .before .before .before .before .before .before .before .before .before .before .before .pre .2) _ _ _ _ _ _ (c .before .before .before .before .before .before .before .before .before .before .before .before .before .before .before .loop .inv) (c .before .before .before .before .before .before .before .before .before .before .before .before .before .before .loop-test .taken) _ (c .before .before .before .before .before .before .before .before .before .before .before .before .before .first-of .ensures) (c .before .before .before .before .before .before .before .before .before .before .before .before .if1 .taken) _ _ (c .before .before .before .before .before .before .before .put-words .ensures) _ _ (c .before .before .put-bytes .ensures)
 
-loop-less-2 : tie.Need-loop-less-2 Inv-loop μ-loop
-loop-less-2 c = omega (arith, c .before .before .loop-test .taken)
-
 loop-again-2 : tie.Need-loop-again-2 Inv-loop μ-loop
 loop-again-2 c = lent-old _ _ _ _ (c .before .before .before .before .before .before .before .before .before .before .before .args .keys .now) _ _ _ (c .before .before .before .before .before .before .before .before .before .before .before .pre .0) (c .before .before .before .before .before .before .before .before .before .before .before .pre .1) (c .before .before .before .before .before .before .before .before .before .before .before .pre .2) _ _ _ _ _ _ (c .before .before .before .loop .inv) (c .before .before .loop-test .taken) _ (c .before .first-of .ensures) (c .if1 .left)
-
-same-length : tie.Need-same-length Inv-loop μ-loop
-same-length c = c .before .loop .inv .places-size
-
-same-length-2 : tie.Need-same-length-2 Inv-loop μ-loop
-same-length-2 c = stored-length (c .before .loop .inv .lengths-are)
-
-same-length-3 : tie.Need-same-length-3 Inv-loop μ-loop
-same-length-3 c = stored-length (c .before .loop .inv .texts-are)
 
 returns : tie.Need-returns Inv-loop μ-loop
 returns c = keep-ends _ _ _ _ _ _ _ (c .before .before .before .before .before .before .before .before .before .pre .1) (c .before .before .before .before .before .before .before .before .before .pre .2) _ _ _ _ _ _ (c .before .loop .inv) (c .loop-test .left)
@@ -118,7 +97,7 @@ keep-records-spec =
     Inv-loop
     μ-loop
     loop-holds
-    add-yard
+    (λ c. search needs)
     first-of-requires
     cast-places
     mul-places
@@ -133,8 +112,8 @@ keep-records-spec =
     shared-slice-read-end
     cast-end
     mul-put-words
-    sub-put-words
-    part-put-words-start
+    (λ c. omega arith)
+    (λ c. omega arith)
     part-put-words-end
     put-words-requires
     sub-put-bytes
@@ -143,9 +122,9 @@ keep-records-spec =
     put-bytes-requires
     loop-less
     loop-again
-    loop-less-2
+    (λ c. omega (arith, c .before .before .loop-test .taken))
     loop-again-2
-    same-length
-    same-length-2
-    same-length-3
+    (λ c. c .before .loop .inv .places-size)
+    (λ c. stored-length (c .before .loop .inv .lengths-are))
+    (λ c. stored-length (c .before .loop .inv .texts-are))
     returns)

@@ -13,32 +13,11 @@ Inv-loop list₀ place words next₀ i₀ list next i = Putting itself list₀ p
 abbrev μ-loop : tie.MeasureT-loop
 μ-loop list₀ place words next₀ i₀ list next i = length words - i
 
-loop-holds : tie.Need-loop-holds Inv-loop μ-loop
-loop-holds c = put-starts _ _ _ _
-
-mul-put-word : tie.Need-mul-put-word Inv-loop μ-loop
-mul-put-word c = search needs
-
-shared-slice-read-put-word : tie.Need-shared-slice-read-put-word Inv-loop μ-loop
-shared-slice-read-put-word c = search needs
-
 put-word-requires : tie.Need-put-word-requires Inv-loop μ-loop
 put-word-requires c κs = omega (arith, c .before .before .before .loop .inv .next-is, c .before .before .before .loop .inv .index, c .before .before .before .before .before .before .pre)
 
-add-i : tie.Need-add-i Inv-loop μ-loop
-add-i c = search needs
-
-loop-less : tie.Need-loop-less Inv-loop μ-loop
-loop-less c = search needs
-
 loop-again : tie.Need-loop-again Inv-loop μ-loop
 loop-again c = put-goes _ _ _ _ _ _ _ _ _ (c .before .before .before .before .before .before .loop .inv) (c .before .before .before .before .before .loop-test .taken) (c .before .before .put-word .ensures)
-
-same-length : tie.Need-same-length Inv-loop μ-loop
-same-length c = c .before .loop .inv .left .size
-
-returns : tie.Need-returns Inv-loop μ-loop
-returns c = put-ends-plain _ _ _ _ _ _ (c .before .loop .inv) (c .loop-test .left)
 
 pub put-words-spec : {M : Type 1} → statement M
 put-words-spec =
@@ -46,12 +25,12 @@ put-words-spec =
     (tie.spec
     Inv-loop
     μ-loop
-    loop-holds
-    mul-put-word
-    shared-slice-read-put-word
+    (λ c. put-starts _ _ _ _)
+    (λ c. search needs)
+    (λ c. search needs)
     put-word-requires
-    add-i
-    loop-less
+    (λ c. search needs)
+    (λ c. search needs)
     loop-again
-    same-length
-    returns)
+    (λ c. c .before .loop .inv .left .size)
+    (λ c. put-ends-plain _ _ _ _ _ _ (c .before .loop .inv) (c .loop-test .left)))

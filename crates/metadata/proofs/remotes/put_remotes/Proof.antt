@@ -18,20 +18,8 @@ abbrev μ-loop : tie.MeasureT-loop
 loop-holds : tie.Need-loop-holds Inv-loop μ-loop
 loop-holds c = place-starts _ _ _ (c .before .before .before .before .pre .1) (c .before .before .before .before .pre .3) _ _ (c .before .before .before .before .pre .2)
 
-mul-size : tie.Need-mul-size Inv-loop μ-loop
-mul-size c = search needs
-
-shared-slice-read-size : tie.Need-shared-slice-read-size Inv-loop μ-loop
-shared-slice-read-size c = search needs
-
-cast-size : tie.Need-cast-size Inv-loop μ-loop
-cast-size c = omega (arith, c .shared-slice-known4 .given (c .before .before .loop .i))
-
 add-at : tie.Need-add-at Inv-loop μ-loop
 add-at c = omega (arith, text-end _ _ _ (c .before .before .before .before .before .before .before .pre .1) (c .before .before .before .before .before .before .before .pre .3) _ _ _ _ _ _ (c .before .before .loop .inv) (c .before .loop-test .taken))
-
-mul-word : tie.Need-mul-word Inv-loop μ-loop
-mul-word c = search needs
 
 shared-slice-read-word : tie.Need-shared-slice-read-word Inv-loop μ-loop
 shared-slice-read-word c = omega (arith, c .before .before .before .before .before .before .before .before .pre .0, c .before .before .loop-test .taken)
@@ -39,20 +27,11 @@ shared-slice-read-word c = omega (arith, c .before .before .before .before .befo
 cast-word : tie.Need-cast-word Inv-loop μ-loop
 cast-word c = omega (arith, c .shared-slice-known5 .given (c .before .before .before .loop .i))
 
-add-i : tie.Need-add-i Inv-loop μ-loop
-add-i c = search needs
-
 sub-if1 : tie.Need-sub-if1 Inv-loop μ-loop
 sub-if1 c = next-behind _ _ _ (c .before .before .before .before .before .before .before .before .pre .1) (c .before .before .before .before .before .before .before .before .pre .3) _ _ _ _ _ _ (c .before .before .before .loop .inv) (c .before .before .loop-test .taken)
 
 add-if1 : tie.Need-add-if1 Inv-loop μ-loop
 add-if1 c = omega (arith, next-small _ _ _ (c .before .before .before .before .before .before .before .before .pre .1) (c .before .before .before .before .before .before .before .before .pre .3) _ _ _ _ _ _ (c .before .before .before .loop .inv) (c .before .before .loop-test .taken))
-
-sub-put-text : tie.Need-sub-put-text Inv-loop μ-loop
-sub-put-text c = omega arith
-
-part-put-text-start : tie.Need-part-put-text-start Inv-loop μ-loop
-part-put-text-start c = omega arith
 
 part-put-text-end : tie.Need-part-put-text-end Inv-loop μ-loop
 part-put-text-end c = text-end _ _ _ (c .before .before .before .before .before .before .before .before .before .before .pre .1) (c .before .before .before .before .before .before .before .before .before .before .pre .3) _ _ _ _ _ _ (c .before .before .before .before .before .loop .inv) (c .before .before .before .before .loop-test .taken)
@@ -60,20 +39,11 @@ part-put-text-end c = text-end _ _ _ (c .before .before .before .before .before 
 put-text-requires : tie.Need-put-text-requires Inv-loop μ-loop
 put-text-requires c κs = text-room _ _ _ (c .before .before .before .before .before .before .before .before .before .before .before .pre .1) (c .before .before .before .before .before .before .before .before .before .before .before .pre .3) _ _ _ _ _ _ (c .before .before .before .before .before .before .loop .inv) (c .before .before .before .before .before .loop-test .taken)
 
-loop-less : tie.Need-loop-less Inv-loop μ-loop
-loop-less c = search needs
-
 loop-again : tie.Need-loop-again Inv-loop μ-loop
 loop-again c = place-new _ _ _ (c .before .before .before .before .before .before .before .before .before .before .before .before .before .before .pre .1) (c .before .before .before .before .before .before .before .before .before .before .before .before .before .before .pre .3) _ _ _ _ _ _ (c .before .before .before .before .before .before .before .before .before .loop .inv) (c .before .before .before .before .before .before .before .before .loop-test .taken) _ refl (c .before .before .before .before .before .if1 .taken) _ _ (c .before .before .put-text .ensures)
 
-loop-less-2 : tie.Need-loop-less-2 Inv-loop μ-loop
-loop-less-2 c = search needs
-
 loop-again-2 : tie.Need-loop-again-2 Inv-loop μ-loop
 loop-again-2 c = place-old _ _ _ (c .before .before .before .before .before .before .before .before .before .pre .1) (c .before .before .before .before .before .before .before .before .before .pre .3) _ _ _ _ _ _ (c .before .before .before .before .loop .inv) (c .before .before .before .loop-test .taken) _ refl (c .if1 .left)
-
-same-length : tie.Need-same-length Inv-loop μ-loop
-same-length c = stored-length (c .before .loop .inv .stored)
 
 returns : tie.Need-returns Inv-loop μ-loop
 returns c = place-ends _ _ _ (c .before .before .before .before .before .before .pre .1) (c .before .before .before .before .before .before .pre .3) _ _ _ _ _ _ (c .before .loop .inv) (c .loop-test .left)
@@ -85,23 +55,23 @@ put-remotes-spec =
     Inv-loop
     μ-loop
     loop-holds
-    mul-size
-    shared-slice-read-size
-    cast-size
+    (λ c. search needs)
+    (λ c. search needs)
+    (λ c. omega (arith, c .shared-slice-known4 .given (c .before .before .loop .i)))
     add-at
-    mul-word
+    (λ c. search needs)
     shared-slice-read-word
     cast-word
-    add-i
+    (λ c. search needs)
     sub-if1
     add-if1
-    sub-put-text
-    part-put-text-start
+    (λ c. omega arith)
+    (λ c. omega arith)
     part-put-text-end
     put-text-requires
-    loop-less
+    (λ c. search needs)
     loop-again
-    loop-less-2
+    (λ c. search needs)
     loop-again-2
-    same-length
+    (λ c. stored-length (c .before .loop .inv .stored))
     returns)

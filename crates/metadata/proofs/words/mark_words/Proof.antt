@@ -25,29 +25,14 @@ mul-words c = omega (arith, words-inside _ _ (c .before .before .before .before 
 slice-write-words : tie.Need-slice-write-words Inv-loop μ-loop
 slice-write-words c = words-inside _ _ (c .before .before .before .before .before .before .before .before .before .pre .0 .whole) _ _ _ _ _ (c .before .before .before .loop .inv) (c .before .before .before .before .before .before .before .before .before .pre .1) (c .before .before .loop-test .taken)
 
-mul-inlined-size : tie.Need-mul-inlined-size Inv-loop μ-loop
-mul-inlined-size c = search needs
-
-shared-slice-read-inlined-size : tie.Need-shared-slice-read-inlined-size Inv-loop μ-loop
-shared-slice-read-inlined-size c = search needs
-
 inlined-size-requires : tie.Need-inlined-size-requires Inv-loop μ-loop
 inlined-size-requires c κs = size-room _ _ (c .before .before .before .before .before .before .before .before .before .before .pre .0 .whole) _ _ _ _ _ (c .before .before .before .before .loop .inv) (c .before .before .before .before .before .before .before .before .before .before .pre .1) (c .before .before .before .loop-test .taken)
 
 with-field-requires : tie.Need-with-field-requires Inv-loop μ-loop
 with-field-requires c κs = (sums-room _ _ (c .before .before .before .before .before .before .before .before .before .before .before .pre .0 .whole) _ _ _ _ _ (c .before .before .before .before .before .loop .inv) (c .before .before .before .before .before .before .before .before .before .before .before .pre .1) (c .before .before .before .before .loop-test .taken) _ (c .inlined-size .ensures), remote-room _ _ (c .before .before .before .before .before .before .before .before .before .before .before .pre .0 .whole) _ _ _ _ _ (c .before .before .before .before .before .loop .inv) (c .before .before .before .before .before .before .before .before .before .before .before .pre .1) (c .before .before .before .before .loop-test .taken))
 
-add-i : tie.Need-add-i Inv-loop μ-loop
-add-i c = search needs
-
-loop-less : tie.Need-loop-less Inv-loop μ-loop
-loop-less c = search needs
-
 loop-again : tie.Need-loop-again Inv-loop μ-loop
 loop-again c = words-go _ _ (c .before .before .before .before .before .before .before .before .before .before .before .before .pre .0 .whole) _ _ _ _ _ (c .before .before .before .before .before .before .loop .inv) (c .before .before .before .before .before .before .before .before .before .before .before .before .pre .1) (c .before .before .before .before .before .loop-test .taken) _ _ _ _ (c .before .before .before .word-of .ensures) (c .before .inlined-size .ensures) (c .with-field .ensures)
-
-same-length : tie.Need-same-length Inv-loop μ-loop
-same-length c = c .before .loop .inv .size-is
 
 returns : tie.Need-returns Inv-loop μ-loop
 returns c = words-end _ _ (c .before .before .before .before .before .before .before .pre .0 .whole) _ _ _ _ _ (c .before .loop .inv) (c .loop-test .left)
@@ -62,12 +47,12 @@ mark-words-spec =
     word-of-requires
     mul-words
     slice-write-words
-    mul-inlined-size
-    shared-slice-read-inlined-size
+    (λ c. search needs)
+    (λ c. search needs)
     inlined-size-requires
     with-field-requires
-    add-i
-    loop-less
+    (λ c. search needs)
+    (λ c. search needs)
     loop-again
-    same-length
+    (λ c. c .before .loop .inv .size-is)
     returns)

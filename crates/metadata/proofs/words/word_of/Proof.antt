@@ -16,20 +16,11 @@ shared-slice-read-result c = old-inside _ _ _ _ (c .before .before .before .befo
 returns : tie.Need-returns
 returns c = old-word _ _ _ _ (c .before .before .before .before .before .before .before .before .pre .0) _ (c .before .before .before .before .before .before .before .before .pre .1) _ (c .before .before .first-of .ensures) _ (c .before .before .before .before .before .before .before .before .pre .2) (c .before .if1 .taken)
 
-mul-if2 : tie.Need-mul-if2
-mul-if2 c = search needs
-
-shared-slice-read-if2 : tie.Need-shared-slice-read-if2
-shared-slice-read-if2 c = search needs
-
 returns-2 : tie.Need-returns-2
 returns-2 c = word-empty _ _ (c .before .before .before .before .before .before .before .before .before .pre .0 .whole) _ (c .before .before .before .before .before .before .before .before .before .pre .1) (c .if2 .taken)
 
 is-twice-requires : tie.Need-is-twice-requires
 is-twice-requires c κs = (marked-inside _ _ _ _ (c .before .before .before .before .before .before .before .before .before .pre .0), c .before .before .before .before .before .before .before .before .before .pre .0 .order, marked-few _ _ _ _ (c .before .before .before .before .before .before .before .before .before .pre .0), omega (arith, c .before .before .before .before .before .before .before .before .before .pre .0 .many, c .before .before .before .before .before .before .before .before .before .pre .1))
-
-add-result : tie.Need-add-result
-add-result c = search needs
 
 returns-3 : tie.Need-returns-3
 returns-3 c = new-word _ _ _ _ (c .before .before .before .before .before .before .before .before .before .before .before .pre .0) _ (c .before .before .before .before .before .before .before .before .before .before .before .pre .1) _ (c .before .before .before .before .before .first-of .ensures) (c .before .before .if2 .left) _ (c .before .is-twice .ensures) (c .if3 .taken) (c .before .before .before .before .if1 .left) _ (c .before .before .before .before .before .before .before .before .before .before .before .pre .3)
@@ -45,10 +36,10 @@ word-of-spec =
     mul-result
     shared-slice-read-result
     returns
-    mul-if2
-    shared-slice-read-if2
+    (λ c. search needs)
+    (λ c. search needs)
     returns-2
     is-twice-requires
-    add-result
+    (λ c. search needs)
     returns-3
     returns-4)

@@ -14,21 +14,6 @@ Inv-loop file encoding place reader₀ reader = endOf (traceOf file encoding rea
 abbrev μ-loop : tie.MeasureT-loop
 μ-loop file encoding place reader₀ reader = left file reader
 
-open-border-requires : tie.Need-open-border-requires Inv-loop μ-loop
-open-border-requires c κs = search needs
-
-loop-holds : tie.Need-loop-holds Inv-loop μ-loop
-loop-holds c = rw (c .open-border .ensures)
-
-next-point-requires : tie.Need-next-point-requires Inv-loop μ-loop
-next-point-requires c κs = search needs
-
-enum-known-n : tie.Need-enum-known-n Inv-loop μ-loop
-enum-known-n c = search needs
-
-ended-requires : tie.Need-ended-requires Inv-loop μ-loop
-ended-requires c κs = search needs
-
 returns : tie.Need-returns Inv-loop μ-loop
 returns c =
     let rest = traceOf (now (c .before .before .before .before .before .before .args .file)) (c .before .before .before .before .before .before .args .encoding) in
@@ -52,11 +37,11 @@ border-end-spec =
     (tie.spec
     Inv-loop
     μ-loop
-    open-border-requires
-    loop-holds
-    next-point-requires
-    enum-known-n
-    ended-requires
+    (λ c κs. search needs)
+    (λ c. rw (c .open-border .ensures))
+    (λ c κs. search needs)
+    (λ c. search needs)
+    (λ c κs. search needs)
     returns
     loop-less
     loop-again)

@@ -11,35 +11,14 @@ Inv-loop file strict place count out₀ at next₀ here₀ left₀ out next here
 abbrev μ-loop : tie.MeasureT-loop
 μ-loop file strict place count out₀ at next₀ here₀ left₀ out next here left = left
 
-loop-holds : tie.Need-loop-holds Inv-loop μ-loop
-loop-holds c = pair-starts _ _ _ _ _
-
-read-pair-requires : tie.Need-read-pair-requires Inv-loop μ-loop
-read-pair-requires c κs = search needs
-
-enum-known-pair : tie.Need-enum-known-pair Inv-loop μ-loop
-enum-known-pair c = search needs
-
-same-length : tie.Need-same-length Inv-loop μ-loop
-same-length c = c .before .before .loop .inv .laid .size
-
 returns : tie.Need-returns Inv-loop μ-loop
 returns c = pair-stops _ _ _ _ _ _ _ _ (c .before .before .loop .inv) _ (c .before .read-pair .ensures) (no-pair (c .before .read-pair .result) (c .match .keys2))
-
-put-move-requires : tie.Need-put-move-requires Inv-loop μ-loop
-put-move-requires c κs = search needs
 
 same-length-2 : tie.Need-same-length-2 Inv-loop μ-loop
 same-length-2 c = c .before .before .before .put-move .ensures .size ∙ c .before .before .before .before .before .before .before .before .before .before .loop .inv .laid .size
 
 returns-2 : tie.Need-returns-2 Inv-loop μ-loop
 returns-2 c = pair-ends _ _ _ _ _ (rw (c .if1 .taken) at (c .before .before .before .before .before .before .before .before .before .before .loop .inv)) (rw (c .before .before .before .before .before .before .before .pair .given .1) at (c .before .before .before .before .before .before .before .before .before .read-pair .ensures)) (c .before .before .before .put-move .ensures)
-
-sub-left : tie.Need-sub-left Inv-loop μ-loop
-sub-left c = search needs
-
-loop-less : tie.Need-loop-less Inv-loop μ-loop
-loop-less c = search needs
 
 loop-again : tie.Need-loop-again Inv-loop μ-loop
 loop-again c = pair-goes _ _ _ _ _ _ (c .if1 .left) (c .before .before .before .before .before .before .before .before .before .before .loop .inv) (rw (c .before .before .before .before .before .before .before .pair .given .1) at (c .before .before .before .before .before .before .before .before .before .read-pair .ensures)) (c .before .before .before .put-move .ensures)
@@ -50,14 +29,14 @@ put-pairs-spec =
     (tie.spec
     Inv-loop
     μ-loop
-    loop-holds
-    read-pair-requires
-    enum-known-pair
-    same-length
+    (λ c. pair-starts _ _ _ _ _)
+    (λ c κs. search needs)
+    (λ c. search needs)
+    (λ c. c .before .before .loop .inv .laid .size)
     returns
-    put-move-requires
+    (λ c κs. search needs)
     same-length-2
     returns-2
-    sub-left
-    loop-less
+    (λ c. search needs)
+    (λ c. search needs)
     loop-again)

@@ -13,29 +13,8 @@ Inv-loop file «data» strict place out₀ at encoding next₀ reader₀ out nex
 abbrev μ-loop : tie.MeasureT-loop
 μ-loop file «data» strict place out₀ at encoding next₀ reader₀ out next reader = left file reader
 
-open-border-requires : tie.Need-open-border-requires Inv-loop μ-loop
-open-border-requires c κs = search needs
-
-loop-holds : tie.Need-loop-holds Inv-loop μ-loop
-loop-holds c = rw (c .open-border .ensures) (steps-start _ _ _ _ _ _)
-
-next-point-requires : tie.Need-next-point-requires Inv-loop μ-loop
-next-point-requires c κs = search needs
-
-enum-known-n : tie.Need-enum-known-n Inv-loop μ-loop
-enum-known-n c = search needs
-
-same-length : tie.Need-same-length Inv-loop μ-loop
-same-length c = c .before .before .loop .inv .laid .size
-
 returns : tie.Need-returns Inv-loop μ-loop
 returns c = steps-stop _ _ _ _ _ _ _ _ _ (c .before .before .loop .inv) (c .before .next-point .result) (c .match .keys2) (c .before .next-point .ensures)
-
-put-number-requires : tie.Need-put-number-requires Inv-loop μ-loop
-put-number-requires c κs = search needs
-
-put-number-requires-2 : tie.Need-put-number-requires-2 Inv-loop μ-loop
-put-number-requires-2 c κs = search needs
 
 same-length-2 : tie.Need-same-length-2 Inv-loop μ-loop
 same-length-2 c = c .before .before .put-number2 .ensures .size ∙ c .before .before .before .before .before .before .put-number .ensures .size ∙ c .before .before .before .before .before .before .before .before .before .before .before .before .before .loop .inv .laid .size
@@ -43,12 +22,6 @@ same-length-2 c = c .before .before .put-number2 .ensures .size ∙ c .before .b
 returns-2 : tie.Need-returns-2 Inv-loop μ-loop
 returns-2 c =
     steps-end _ _ _ _ _ _ _ _ (c .before .before .before .before .before .before .before .before .before .before .before .before .before .loop .inv) (rw (c .before .before .before .before .before .before .before .before .before .before .n .given .1) at (c .before .before .before .before .before .before .before .before .before .before .before .before .next-point .ensures)) (c .before .before .before .before .before .before .before .before .if1 .taken) (c .before .before .before .before .before .before .put-number .ensures) (c .before .before .put-number2 .ensures)
-
-step-number-requires : tie.Need-step-number-requires Inv-loop μ-loop
-step-number-requires c κs = search needs
-
-put-number-requires-3 : tie.Need-put-number-requires-3 Inv-loop μ-loop
-put-number-requires-3 c κs = search needs
 
 loop-less : tie.Need-loop-less Inv-loop μ-loop
 loop-less c =
@@ -65,17 +38,17 @@ put-steps-spec =
     (tie.spec
     Inv-loop
     μ-loop
-    open-border-requires
-    loop-holds
-    next-point-requires
-    enum-known-n
-    same-length
+    (λ c κs. search needs)
+    (λ c. rw (c .open-border .ensures) (steps-start _ _ _ _ _ _))
+    (λ c κs. search needs)
+    (λ c. search needs)
+    (λ c. c .before .before .loop .inv .laid .size)
     returns
-    put-number-requires
-    put-number-requires-2
+    (λ c κs. search needs)
+    (λ c κs. search needs)
     same-length-2
     returns-2
-    step-number-requires
-    put-number-requires-3
+    (λ c κs. search needs)
+    (λ c κs. search needs)
     loop-less
     loop-again)

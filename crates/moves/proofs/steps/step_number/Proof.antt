@@ -5,15 +5,6 @@ use Rattle.writer.specs.Moves.{moveTo}
 use Rattle.moves.proofs.{Forms.{between-forms, still-number, going-number}, steps.step_number.Statement.{statement}}
 use Rattle.moves.proofs.steps.step_number.Tie as tie
 
-form-of-requires : tie.Need-form-of-requires
-form-of-requires c κs = search needs
-
-form-of-requires-2 : tie.Need-form-of-requires-2
-form-of-requires-2 c κs = search needs
-
-interleave-requires : tie.Need-interleave-requires
-interleave-requires c κs = search needs
-
 returns : tie.Need-returns
 unfolding moveTo
 returns c =
@@ -26,9 +17,6 @@ returns c =
     let d : SFits w32 (c .before .before .before .before .before .before .before .before .args .from .lon .0) = search needs in
     let e : SFits w32 (c .before .before .before .before .before .before .before .before .args .to .lon .0) = search needs in
     going-number (moveTo (c .before .before .before .before .before .before .before .before .args .from) (c .before .before .before .before .before .before .before .before .args .to)) (between-forms a b (c .before .before .before .before .before .form-of .ensures)) (between-forms d e (c .before .before .form-of2 .ensures)) (c .interleave .ensures) (λ lat lon. c .before .if1 .taken lat)
-
-interleave-requires-2 : tie.Need-interleave-requires-2
-interleave-requires-2 c κs = search needs
 
 returns-2 : tie.Need-returns-2
 unfolding moveTo
@@ -58,4 +46,4 @@ returns-3 c =
 
 pub step-number-spec : {M : Type 1} → statement M
 step-number-spec =
-    tie.close (tie.spec form-of-requires form-of-requires-2 interleave-requires returns interleave-requires-2 returns-2 returns-3)
+    tie.close (tie.spec (λ c κs. search needs) (λ c κs. search needs) (λ c κs. search needs) returns (λ c κs. search needs) returns-2 returns-3)

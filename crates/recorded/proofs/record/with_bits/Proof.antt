@@ -7,9 +7,6 @@ use Rattle.numbers.proofs.Signed.{complement-fits}
 use Rattle.recorded.proofs.record.with_bits.Statement.{statement}
 use Rattle.recorded.proofs.record.with_bits.Tie as tie
 
-sub-result-2 : tie.Need-sub-result-2
-sub-result-2 c = complement-fits w64 (2 ^ 64 - 1 - c .before .args .bits) (omega arith)
-
 pub with-bits-spec : {M : Type 1} → statement M
 with-bits-spec =
-    tie.close (tie.spec (λ c. search needs) (λ c. search needs) (λ c. search needs) sub-result-2 (λ c. search needs) (λ c. search needs))
+    tie.close (tie.spec (λ c. search needs) (λ c. search needs) (λ c. search needs) (λ c. complement-fits w64 (2 ^ 64 - 1 - c .before .args .bits) (omega arith)) (λ c. search needs) (λ c. search needs))

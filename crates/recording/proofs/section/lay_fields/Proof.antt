@@ -6,9 +6,6 @@ use native.Mathlib.Omega.{arith}
 use Rattle.recording.proofs.{Recording.{fields-inside, fields-marked, fields-short-layout, fields-laid}, section.lay_fields.Statement.{statement}}
 use Rattle.recording.proofs.section.lay_fields.Tie as tie
 
-mark-starts-requires : tie.Need-mark-starts-requires
-mark-starts-requires c κs = search needs
-
 sort-keys-requires : tie.Need-sort-keys-requires
 sort-keys-requires c κs =
     let pre = c .before .before .before .before .before .before .before .before .before .before .before .before .before .pre in
@@ -22,9 +19,6 @@ mark-words-requires c κs =
     let sort-keys = c .before .before .before .before .before .before .before .sort-keys in
     (fields-marked _ _ _ _ _ _ pre _ _ (mark-starts .ensures) (sort-keys .kept .1 .1 .1 .0) (sort-keys .ensures .order), pre .words-room)
 
-slice-reshare-prefix-least-length : tie.Need-slice-reshare-prefix-least-length
-slice-reshare-prefix-least-length c = search needs
-
 slice-aggregate-least-length : tie.Need-slice-aggregate-least-length
 slice-aggregate-least-length c =
     let pre = c .before .before .before .before .before .before .before .before .before .before .before .before .before .before .before .before .before .before .before .before .before .before .before .before .before .pre in
@@ -37,18 +31,6 @@ least-length-requires c κs =
     let mark-words = c .before .before .before .mark-words in
     fields-short-layout _ _ _ _ _ _ pre _ _ _ (mark-words .ensures)
 
-same-length : tie.Need-same-length
-same-length c = search needs
-
-same-length-2 : tie.Need-same-length-2
-same-length-2 c = search needs
-
-same-length-3 : tie.Need-same-length-3
-same-length-3 c = search needs
-
-same-length-4 : tie.Need-same-length-4
-same-length-4 c = search needs
-
 returns : tie.Need-returns
 returns c =
     let pre = c .before .before .before .before .before .before .before .before .before .before .before .before .before .before .before .before .before .before .before .before .before .before .before .before .before .before .pre in
@@ -59,14 +41,14 @@ pub lay-fields-spec : {M : Type 1} → statement M
 lay-fields-spec =
     tie.close
     (tie.spec
-    mark-starts-requires
+    (λ c κs. search needs)
     sort-keys-requires
     mark-words-requires
-    slice-reshare-prefix-least-length
+    (λ c. search needs)
     slice-aggregate-least-length
     least-length-requires
-    same-length
-    same-length-2
-    same-length-3
-    same-length-4
+    (λ c. search needs)
+    (λ c. search needs)
+    (λ c. search needs)
+    (λ c. search needs)
     returns)

@@ -8,19 +8,10 @@ use Rattle.recording.proofs.Recording.{laying-shares, sizes-few, bytes-
 use Rattle.recording.proofs.section.lay_records.Statement.{statement}
 use Rattle.recording.proofs.section.lay_records.Tie as tie
 
-add-all : tie.Need-add-all
-add-all c = search needs
-
-slice-relend-prefix-share-records : tie.Need-slice-relend-prefix-share-records
-slice-relend-prefix-share-records c = search needs
-
 slice-aggregate-share-records : tie.Need-slice-aggregate-share-records
 slice-aggregate-share-records c =
     let pre = c .before .before .before .before .before .before .before .before .before .before .pre in
     sym (length-take-le _ _ (omega (arith, pre .starts-room)))
-
-slice-relend-prefix-share-records-2 : tie.Need-slice-relend-prefix-share-records-2
-slice-relend-prefix-share-records-2 c = search needs
 
 slice-aggregate-share-records-2 : tie.Need-slice-aggregate-share-records-2
 slice-aggregate-share-records-2 c =
@@ -44,17 +35,11 @@ slice-reshare-prefix-lay-fields c =
     let share-records = c .before .before .before .before .before .before .before .before .before .before .before .before .share-records in
     omega (arith, sizes-few _ _ _ _ _ _ _ _ _ _ _ pre _ _ _ _ _ _ _ _ refl refl (keeps-as _ _ _ _ _ _ _ _ _ _ _ _ _ (length-take-le _ _ (pre .keys-count)) (share-records .ensures)), kept-size _ _ _ _ _ _ _ _ _ _ _ pre _ _ _ _ _ _ _ _ refl refl (keeps-as _ _ _ _ _ _ _ _ _ _ _ _ _ (length-take-le _ _ (pre .keys-count)) (share-records .ensures)), pre .kept-room)
 
-slice-aggregate-lay-fields : tie.Need-slice-aggregate-lay-fields
-slice-aggregate-lay-fields c = sym (length-take-le _ _ (slice-reshare-prefix-lay-fields (c .before)))
-
 slice-reshare-prefix-lay-fields-2 : tie.Need-slice-reshare-prefix-lay-fields-2
 slice-reshare-prefix-lay-fields-2 c =
     let pre = c .before .before .before .before .before .before .before .before .before .before .before .before .before .before .before .before .before .before .before .before .before .before .before .before .before .before .before .before .before .pre in
     let share-records = c .before .before .before .before .before .before .before .before .before .before .before .before .before .share-records in
     omega (arith, bytes-few _ _ _ _ _ _ _ _ _ _ _ pre _ _ _ _ _ _ _ _ refl refl (keeps-as _ _ _ _ _ _ _ _ _ _ _ _ _ (length-take-le _ _ (pre .keys-count)) (share-records .ensures)), held-size _ _ _ _ _ _ _ _ _ _ _ pre _ _ _ _ _ _ _ _ refl refl (keeps-as _ _ _ _ _ _ _ _ _ _ _ _ _ (length-take-le _ _ (pre .keys-count)) (share-records .ensures)), pre .held-room)
-
-slice-aggregate-lay-fields-2 : tie.Need-slice-aggregate-lay-fields-2
-slice-aggregate-lay-fields-2 c = sym (length-take-le _ _ (slice-reshare-prefix-lay-fields-2 (c .before)))
 
 slice-relend-prefix-lay-fields : tie.Need-slice-relend-prefix-lay-fields
 slice-relend-prefix-lay-fields c =
@@ -63,18 +48,12 @@ slice-relend-prefix-lay-fields c =
     let pre = c .before .before .before .before .before .before .before .before .before .before .before .before .before .before .before .before .before .before .before .before .before .before .before .before .before .before .before .before .before .before .pre in
     front-reach (args .starts .now) (share-records .last .1 .1 .1 .0) (length (args .lengths .now) + 1) _ (share-records .kept .1 .1 .1 .0) (omega (arith, sizes-few _ _ _ _ _ _ _ _ _ _ _ pre _ _ _ _ _ _ _ _ refl refl (keeps-as _ _ _ _ _ _ _ _ _ _ _ _ _ (length-take-le _ _ (pre .keys-count)) (share-records .ensures)), pre .starts-room))
 
-slice-aggregate-lay-fields-3 : tie.Need-slice-aggregate-lay-fields-3
-slice-aggregate-lay-fields-3 c = sym (length-take-le _ _ (slice-relend-prefix-lay-fields (c .before)))
-
 slice-relend-prefix-lay-fields-2 : tie.Need-slice-relend-prefix-lay-fields-2
 slice-relend-prefix-lay-fields-2 c =
     let args = c .before .before .before .before .before .before .before .before .before .before .before .before .before .before .before .before .before .before .before .before .before .before .before .before .before .before .before .before .before .before .before .args in
     let share-records = c .before .before .before .before .before .before .before .before .before .before .before .before .before .before .before .share-records in
     let pre = c .before .before .before .before .before .before .before .before .before .before .before .before .before .before .before .before .before .before .before .before .before .before .before .before .before .before .before .before .before .before .before .pre in
     front-reach (args .keys .now) (share-records .last .1 .1 .1 .1 .0) (args .count) _ (share-records .kept .1 .1 .1 .1 .0) (omega (arith, sizes-few _ _ _ _ _ _ _ _ _ _ _ pre _ _ _ _ _ _ _ _ refl refl (keeps-as _ _ _ _ _ _ _ _ _ _ _ _ _ (length-take-le _ _ (pre .keys-count)) (share-records .ensures)), pre .keys-room))
-
-slice-aggregate-lay-fields-4 : tie.Need-slice-aggregate-lay-fields-4
-slice-aggregate-lay-fields-4 c = sym (length-take-le _ _ (slice-relend-prefix-lay-fields-2 (c .before)))
 
 lay-fields-requires : tie.Need-lay-fields-requires
 lay-fields-requires c κs =
@@ -90,9 +69,6 @@ slice-relend-prefix-mark-starts c =
     let pre = c .before .before .before .before .before .before .before .before .before .before .before .before .before .before .before .before .before .before .before .before .before .before .before .before .before .before .before .before .before .before .before .before .before .before .before .before .before .before .before .before .before .before .before .pre in
     front-reach ((share-records .last .1 .1 .1 .0) ++ drop (length (args .lengths .now) + 1) (args .starts .now)) (lay-fields .last .1 .1 .0) (share-records .result .lengths + 1) _ (lay-fields .kept .1 .1 .0) (front-reach (args .starts .now) (share-records .last .1 .1 .1 .0) (length (args .lengths .now) + 1) _ (share-records .kept .1 .1 .1 .0) (omega (arith, pre .starts-room)))
 
-slice-aggregate-mark-starts : tie.Need-slice-aggregate-mark-starts
-slice-aggregate-mark-starts c = sym (length-take-le _ _ (slice-relend-prefix-mark-starts (c .before)))
-
 mark-starts-requires : tie.Need-mark-starts-requires
 mark-starts-requires c κs =
     let pre = c .before .before .before .before .before .before .before .before .before .before .before .before .before .before .before .before .before .before .before .before .before .before .before .before .before .before .before .before .before .before .before .before .before .before .before .before .before .before .before .before .before .before .before .before .pre in
@@ -106,9 +82,6 @@ slice-reshare-prefix-place-records c =
     let mark-starts = c .before .before .before .mark-starts in
     let pre = c .before .before .before .before .before .before .before .before .before .before .before .before .before .before .before .before .before .before .before .before .before .before .before .before .before .before .before .before .before .before .before .before .before .before .before .before .before .before .before .before .before .before .before .before .before .before .before .before .pre in
     front-reach ((lay-fields .last .1 .1 .0) ++ drop (share-records .result .lengths + 1) ((share-records .last .1 .1 .1 .0) ++ drop (length (args .lengths .now) + 1) (args .starts .now))) (mark-starts .last .1 .0) (length (args .lengths .now) + 1) _ (mark-starts .kept .1 .0) (front-reach ((share-records .last .1 .1 .1 .0) ++ drop (length (args .lengths .now) + 1) (args .starts .now)) (lay-fields .last .1 .1 .0) (share-records .result .lengths + 1) _ (lay-fields .kept .1 .1 .0) (front-reach (args .starts .now) (share-records .last .1 .1 .1 .0) (length (args .lengths .now) + 1) _ (share-records .kept .1 .1 .1 .0) (omega (arith, pre .starts-room))))
-
-slice-aggregate-place-records : tie.Need-slice-aggregate-place-records
-slice-aggregate-place-records c = sym (length-take-le _ _ (slice-reshare-prefix-place-records (c .before)))
 
 place-records-requires : tie.Need-place-records-requires
 place-records-requires c κs =
@@ -133,21 +106,6 @@ same-length-2 c =
     let lay-fields = c .before .before .before .before .before .before .before .before .before .before .before .before .before .before .before .before .before .before .lay-fields in
     front-same ((share-records .last .1 .1 .1 .1 .0) ++ drop (args .count) (args .keys .now)) (lay-fields .last .1 .1 .1 .0) (share-records .result .lengths) _ (lay-fields .kept .1 .1 .1 .0) (front-same (args .keys .now) (share-records .last .1 .1 .1 .1 .0) (args .count) _ (share-records .kept .1 .1 .1 .1 .0) refl)
 
-same-length-3 : tie.Need-same-length-3
-same-length-3 c = search needs
-
-same-length-4 : tie.Need-same-length-4
-same-length-4 c = search needs
-
-same-length-5 : tie.Need-same-length-5
-same-length-5 c = search needs
-
-same-length-6 : tie.Need-same-length-6
-same-length-6 c = search needs
-
-same-length-7 : tie.Need-same-length-7
-same-length-7 c = search needs
-
 returns : tie.Need-returns
 returns c =
     let pre = c .before .before .before .before .before .before .before .before .before .before .before .before .before .before .before .before .before .before .before .before .before .before .before .before .before .before .before .before .before .before .before .before .before .before .before .before .before .before .before .before .before .before .before .before .before .before .before .before .before .before .before .before .before .pre in
@@ -160,33 +118,33 @@ pub lay-records-spec : {M : Type 1} → statement M
 lay-records-spec =
     tie.close
     (tie.spec
-    add-all
-    slice-relend-prefix-share-records
+    (λ c. search needs)
+    (λ c. search needs)
     slice-aggregate-share-records
-    slice-relend-prefix-share-records-2
+    (λ c. search needs)
     slice-aggregate-share-records-2
     share-records-requires
     add-end
     slice-reshare-prefix-lay-fields
-    slice-aggregate-lay-fields
+    (λ c. sym (length-take-le _ _ (slice-reshare-prefix-lay-fields (c .before))))
     slice-reshare-prefix-lay-fields-2
-    slice-aggregate-lay-fields-2
+    (λ c. sym (length-take-le _ _ (slice-reshare-prefix-lay-fields-2 (c .before))))
     slice-relend-prefix-lay-fields
-    slice-aggregate-lay-fields-3
+    (λ c. sym (length-take-le _ _ (slice-relend-prefix-lay-fields (c .before))))
     slice-relend-prefix-lay-fields-2
-    slice-aggregate-lay-fields-4
+    (λ c. sym (length-take-le _ _ (slice-relend-prefix-lay-fields-2 (c .before))))
     lay-fields-requires
     slice-relend-prefix-mark-starts
-    slice-aggregate-mark-starts
+    (λ c. sym (length-take-le _ _ (slice-relend-prefix-mark-starts (c .before))))
     mark-starts-requires
     slice-reshare-prefix-place-records
-    slice-aggregate-place-records
+    (λ c. sym (length-take-le _ _ (slice-reshare-prefix-place-records (c .before))))
     place-records-requires
     same-length
     same-length-2
-    same-length-3
-    same-length-4
-    same-length-5
-    same-length-6
-    same-length-7
+    (λ c. search needs)
+    (λ c. search needs)
+    (λ c. search needs)
+    (λ c. search needs)
+    (λ c. search needs)
     returns)

@@ -3,12 +3,6 @@ use borrow.Author.Needs.{needs}
 use Rattle.recording.proofs.{Recording.{least-found, least-small, least-there}, section.least_length.Statement.{statement}}
 use Rattle.recording.proofs.section.least_length.Tie as tie
 
-least-layout-requires : tie.Need-least-layout-requires
-least-layout-requires c κs = search needs
-
-enum-known-records : tie.Need-enum-known-records
-enum-known-records c = search needs
-
 cast-result : tie.Need-cast-result
 cast-result c =
     let least-layout = c .before .before .before .least-layout in
@@ -33,4 +27,4 @@ returns-2 c =
 pub least-length-spec : {M : Type 1} → statement M
 least-length-spec =
     tie.close
-    (tie.spec least-layout-requires enum-known-records cast-result enum-told returns returns-2)
+    (tie.spec (λ c κs. search needs) (λ c. search needs) cast-result enum-told returns returns-2)

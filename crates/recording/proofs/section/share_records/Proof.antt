@@ -4,9 +4,6 @@ use native.Mathlib.Omega.{arith}
 use Rattle.recording.proofs.{Recording.{share-inside, share-all, order-own, keeps-as}, section.share_records.Statement.{statement}}
 use Rattle.recording.proofs.section.share_records.Tie as tie
 
-mark-starts-requires : tie.Need-mark-starts-requires
-mark-starts-requires c κs = search needs
-
 sort-keys-requires : tie.Need-sort-keys-requires
 sort-keys-requires c κs =
     let pre = c .before .before .before .before .before .before .before .before .before .before .before .before .before .before .before .pre in
@@ -20,24 +17,6 @@ keep-records-requires c κs =
     let sort-keys = c .before .before .before .before .before .before .before .before .before .sort-keys in
     (mark-starts .ensures, omega (arith, pre .whole), share-all _ _ _ _ _ _ _ pre _ (sort-keys .kept .1 .1 .1 .0), order-own _ _ _ _ _ (sort-keys .kept .1 .1 .1 .0) (sort-keys .ensures .order), omega (arith, pre .few, sort-keys .kept .1 .1 .1 .0), omega (arith, pre .places-room, sort-keys .kept .1 .1 .1 .0), omega (arith, pre .whole, pre .bound), omega (arith, pre .bound))
 
-same-length : tie.Need-same-length
-same-length c = search needs
-
-same-length-2 : tie.Need-same-length-2
-same-length-2 c = search needs
-
-same-length-3 : tie.Need-same-length-3
-same-length-3 c = search needs
-
-same-length-4 : tie.Need-same-length-4
-same-length-4 c = search needs
-
-same-length-5 : tie.Need-same-length-5
-same-length-5 c = search needs
-
-same-length-6 : tie.Need-same-length-6
-same-length-6 c = search needs
-
 returns : tie.Need-returns
 returns c =
     let sort-keys = c .before .before .before .before .before .before .before .before .before .before .before .before .before .before .before .before .sort-keys in
@@ -48,13 +27,13 @@ pub share-records-spec : {M : Type 1} → statement M
 share-records-spec =
     tie.close
     (tie.spec
-    mark-starts-requires
+    (λ c κs. search needs)
     sort-keys-requires
     keep-records-requires
-    same-length
-    same-length-2
-    same-length-3
-    same-length-4
-    same-length-5
-    same-length-6
+    (λ c. search needs)
+    (λ c. search needs)
+    (λ c. search needs)
+    (λ c. search needs)
+    (λ c. search needs)
+    (λ c. search needs)
     returns)

@@ -85,9 +85,6 @@ spot-of-requires c κs =
     let if3 = c .before .before .if3 in
     (omega (arith, pre, (stood (args .builder) (args .rooms) (sym (stands .ensures) ∙ not-false _ (if1 .left))) .own .lengths-all, index-inside (args .builder .names) (args .builder .yards) (args .yard) (args .field) (if2 .left) (if3 .left)), index-few (args .builder .names) (args .builder .yards) (args .yard) (args .field) ((stood (args .builder) (args .rooms) (sym (stands .ensures) ∙ not-false _ (if1 .left))) .few-names) ((stood (args .builder) (args .rooms) (sym (stands .ensures) ∙ not-false _ (if1 .left))) .few-yards) (if2 .left) (if3 .left))
 
-is-within-requires : tie.Need-is-within-requires
-is-within-requires c κs = spot-ordered _ _ _ (c .spot-of .ensures .0)
-
 returns-5 : tie.Need-returns-5
 returns-5 c =
     let args = c .before .before .before .before .before .before .before .before .before .before .before .before .before .before .before .args in
@@ -208,7 +205,7 @@ check-spec =
     add-index-2
     add-index-3
     spot-of-requires
-    is-within-requires
+    (λ c κs. spot-ordered _ _ _ (c .spot-of .ensures .0))
     (λ c κs. search needs)
     returns-5
     (λ c κs. search needs)

@@ -9,9 +9,6 @@ use Rattle.replacing.proofs.check.spot_of.Tie as tie
 slice-aggregate-place-behind : tie.Need-slice-aggregate-place-behind
 slice-aggregate-place-behind c = sym (length-take-le _ _ (omega (arith, c .before .before .pre .0)))
 
-place-behind-requires : tie.Need-place-behind-requires
-place-behind-requires c κs = omega (arith, slice-aggregate-place-behind c, c .before .before .pre .1)
-
 cast-from : tie.Need-cast-from
 cast-from c =
     let args = c .before .before .before .before .args in
@@ -31,4 +28,4 @@ returns c =
 
 pub spot-of-spec : {M : Type 1} → statement M
 spot-of-spec =
-    tie.close (tie.spec slice-aggregate-place-behind place-behind-requires (λ c. search needs) (λ c. search needs) cast-from add-from returns)
+    tie.close (tie.spec slice-aggregate-place-behind (λ c κs. omega (arith, slice-aggregate-place-behind c, c .before .before .pre .1)) (λ c. search needs) (λ c. search needs) cast-from add-from returns)

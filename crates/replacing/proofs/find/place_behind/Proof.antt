@@ -13,23 +13,11 @@ Inv-loop lengths sum₀ i₀ sum i = Summing lengths sum i × (sum ≤ 2 ^ 32 * 
 abbrev μ-loop : tie.MeasureT-loop
 μ-loop lengths sum₀ i₀ sum i = length lengths - i
 
-loop-holds : tie.Need-loop-holds Inv-loop μ-loop
-loop-holds c = (sum-starts _, omega arith)
-
-cast-sum : tie.Need-cast-sum Inv-loop μ-loop
-cast-sum c = omega (arith, c .shared-slice-known .given (c .before .before .loop .i))
-
-add-sum : tie.Need-add-sum Inv-loop μ-loop
-add-sum c = omega (arith, c .shared-slice-known .given (c .before .before .loop .i))
-
 loop-again : tie.Need-loop-again Inv-loop μ-loop
 loop-again c =
     let loop = c .before .before .loop in
     let loop-test = c .before .loop-test in
     (sum-goes _ _ _ (loop .inv .0) (loop-test .taken), omega (arith, c .shared-slice-known .given (loop .i)))
-
-returns : tie.Need-returns Inv-loop μ-loop
-returns c = (sum-ends _ _ _ (c .before .loop .inv .0) (c .loop-test .left), omega arith)
 
 pub place-behind-spec : {M : Type 1} → statement M
 place-behind-spec =
@@ -37,12 +25,12 @@ place-behind-spec =
     (tie.spec
     Inv-loop
     μ-loop
-    loop-holds
+    (λ c. (sum-starts _, omega arith))
     (λ c. search needs)
     (λ c. search needs)
-    cast-sum
-    add-sum
+    (λ c. omega (arith, c .shared-slice-known .given (c .before .before .loop .i)))
+    (λ c. omega (arith, c .shared-slice-known .given (c .before .before .loop .i)))
     (λ c. search needs)
     (λ c. search needs)
     loop-again
-    returns)
+    (λ c. (sum-ends _ _ _ (c .before .loop .inv .0) (c .loop-test .left), omega arith)))

@@ -3,9 +3,6 @@ use Rattle.replacing.proofs.{Answered.{back-into, back-refused}, put.ta
 use borrow.Author.Needs.{needs}
 use Rattle.replacing.proofs.put.take_back.Tie as tie
 
-returns : tie.Need-returns
-returns c = back-into _ _ (c .before .changed .given .1) _ _ _ _ _
-
 returns-2 : tie.Need-returns-2
 returns-2 c =
     let changed2 = c .before .before .before .before .before .before .before .before .before .before .before .changed2 in
@@ -19,7 +16,7 @@ take-back-spec =
     (λ c. search needs)
     (λ c. search needs)
     (λ c κs. search needs)
-    returns
+    (λ c. back-into _ _ (c .before .changed .given .1) _ _ _ _ _)
     (λ c. search needs)
     (λ c. search needs)
     (λ c. search needs)

@@ -12,49 +12,19 @@ Inv-loop «record» at count list₀ i₀ place₀ list i place = (i ≤ count) 
 abbrev μ-loop : tie.MeasureT-loop
 μ-loop «record» at count list₀ i₀ place₀ list i place = count - i
 
-loop-holds : tie.Need-loop-holds Inv-loop μ-loop
-loop-holds c = (omega arith, length-replicate {A = Float} 4097 (ofBits binary32 0))
-
-word-at-requires : tie.Need-word-at-requires Inv-loop μ-loop
-word-at-requires c κs = tt
-
-of-bits-requires : tie.Need-of-bits-requires Inv-loop μ-loop
-of-bits-requires c κs = tt
-
-mul-list : tie.Need-mul-list Inv-loop μ-loop
-mul-list c = omega (arith, c .before .before .loop-test .taken)
-
-array-write-list : tie.Need-array-write-list Inv-loop μ-loop
-array-write-list c = omega (arith, c .before .before .loop-test .taken)
-
-add-i : tie.Need-add-i Inv-loop μ-loop
-add-i c = omega arith
-
-wrapping-add-usize-requires : tie.Need-wrapping-add-usize-requires Inv-loop μ-loop
-wrapping-add-usize-requires c κs = tt
-
-loop-less : tie.Need-loop-less Inv-loop μ-loop
-loop-less c = omega arith
-
-loop-again : tie.Need-loop-again Inv-loop μ-loop
-loop-again c = (omega arith, simp length-set (c .before .before .before .before .loop .inv .1))
-
-returns : tie.Need-returns Inv-loop μ-loop
-returns c = c .before .loop .inv .1
-
 pub fixes-at-spec : {M : Type 1} → statement M
 fixes-at-spec =
     tie.close
     (tie.spec
     Inv-loop
     μ-loop
-    loop-holds
-    word-at-requires
-    of-bits-requires
-    mul-list
-    array-write-list
-    add-i
-    wrapping-add-usize-requires
-    loop-less
-    loop-again
-    returns)
+    (λ c. (omega arith, length-replicate {A = Float} 4097 (ofBits binary32 0)))
+    (λ c κs. tt)
+    (λ c κs. tt)
+    (λ c. omega (arith, c .before .before .loop-test .taken))
+    (λ c. omega (arith, c .before .before .loop-test .taken))
+    (λ c. omega arith)
+    (λ c κs. tt)
+    (λ c. omega arith)
+    (λ c. (omega arith, simp length-set (c .before .before .before .before .loop .inv .1)))
+    (λ c. c .before .loop .inv .1))

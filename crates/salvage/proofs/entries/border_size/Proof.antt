@@ -5,20 +5,8 @@ use Rattle.salvage.proofs.{data.Drawing.{border-drawn}, entries.{Tablin
 use Rattle.salvage.specs.{File.{borderBytes}, Kept.{entryGood}}
 use Rattle.salvage.proofs.entries.border_size.Tie as tie
 
-section-place-requires : tie.Need-section-place-requires
-section-place-requires c κs = search needs
-
-encoding-in-requires : tie.Need-encoding-in-requires
-encoding-in-requires c κs = search needs
-
-slice-aggregate-put-border : tie.Need-slice-aggregate-put-border
-slice-aggregate-put-border c = search needs
-
-put-border-requires : tie.Need-put-border-requires
-put-border-requires c κs = search needs
-
 returns : tie.Need-returns
 returns c = measured-if (entryGood (now (c .before .before .before .before .before .before .args .file)) (c .before .before .before .before .before .before .args .head) (c .before .before .before .before .before .before .args .row)) (borderBytes (now (c .before .before .before .before .before .before .args .file)) (c .before .before .before .before .before .before .args .head) (c .before .before .before .before .before .before .args .row)) _ (λ good. sized-of (border-drawn (now (c .before .before .before .before .before .before .args .file)) (c .before .before .before .before .before .before .args .head) (c .before .before .before .before .before .before .args .row) good (c .before .before .before .encoding-in .ensures) (c .before .before .before .before .section-place .ensures) (c .before .put-border .ensures)))
 
 pub border-size-spec : {M : Type 1} → statement M
-border-size-spec = tie.close (tie.spec section-place-requires encoding-in-requires slice-aggregate-put-border put-border-requires returns)
+border-size-spec = tie.close (tie.spec (λ c κs. search needs) (λ c κs. search needs) (λ c. search needs) (λ c κs. search needs) returns)

@@ -8,33 +8,6 @@ use Rattle.salvage.proofs.entries.{Forming.{capped-four}, put_box.State
 use Rattle.salvage.specs.File.{boxBytes}
 use Rattle.salvage.proofs.entries.put_box.Tie as tie
 
-form-of-requires : tie.Need-form-of-requires
-form-of-requires c κs = search needs
-
-put-number-requires : tie.Need-put-number-requires
-put-number-requires c κs = search needs
-
-form-of-requires-2 : tie.Need-form-of-requires-2
-form-of-requires-2 c κs = search needs
-
-put-number-requires-2 : tie.Need-put-number-requires-2
-put-number-requires-2 c κs = search needs
-
-form-of-requires-3 : tie.Need-form-of-requires-3
-form-of-requires-3 c κs = search needs
-
-put-number-requires-3 : tie.Need-put-number-requires-3
-put-number-requires-3 c κs = search needs
-
-form-of-requires-4 : tie.Need-form-of-requires-4
-form-of-requires-4 c κs = search needs
-
-put-number-requires-4 : tie.Need-put-number-requires-4
-put-number-requires-4 c κs = search needs
-
-same-length : tie.Need-same-length
-same-length c = search needs
-
 returns : tie.Need-returns
 unfolding boxBytes
 returns c =
@@ -52,4 +25,4 @@ returns c =
     (capped-form (c .before .before .before .form-of4 .ensures ∙ from-zero _ ∙ ap signedForm (toZ-ofZ fit4)) (c .before .before .put-number4 .ensures))
 
 pub put-box-spec : {M : Type 1} → statement M
-put-box-spec = tie.close (tie.spec form-of-requires put-number-requires form-of-requires-2 put-number-requires-2 form-of-requires-3 put-number-requires-3 form-of-requires-4 put-number-requires-4 same-length returns)
+put-box-spec = tie.close (tie.spec (λ c κs. search needs) (λ c κs. search needs) (λ c κs. search needs) (λ c κs. search needs) (λ c κs. search needs) (λ c κs. search needs) (λ c κs. search needs) (λ c κs. search needs) (λ c. search needs) returns)

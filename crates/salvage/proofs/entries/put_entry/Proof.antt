@@ -5,24 +5,9 @@ use Rattle.salvage.specs.File.{entryBytes}
 use Rattle.salvage.proofs.entries.put_entry.Statement.{statement}
 use Rattle.salvage.proofs.entries.put_entry.Tie as tie
 
-put-box-requires : tie.Need-put-box-requires
-put-box-requires c κs = search needs
-
-id-form-requires : tie.Need-id-form-requires
-id-form-requires c κs = search needs
-
-put-number-requires : tie.Need-put-number-requires
-put-number-requires c κs = search needs
-
-put-number-requires-2 : tie.Need-put-number-requires-2
-put-number-requires-2 c κs = search needs
-
-same-length : tie.Need-same-length
-same-length c = search needs
-
 returns : tie.Need-returns
 unfolding entryBytes
 returns c = capped-then _ _ (c .before .before .before .before .before .before .before .before .before .before .before .put-box .ensures) (capped-then _ _ (capped-form (c .before .before .before .before .before .before .before .id-form .ensures) (c .before .before .before .before .before .before .put-number .ensures)) (c .before .before .put-number2 .ensures))
 
 pub put-entry-spec : {M : Type 1} → statement M
-put-entry-spec = tie.close (tie.spec put-box-requires id-form-requires put-number-requires put-number-requires-2 same-length returns)
+put-entry-spec = tie.close (tie.spec (λ c κs. search needs) (λ c κs. search needs) (λ c κs. search needs) (λ c κs. search needs) (λ c. search needs) returns)

@@ -11,32 +11,11 @@ Inv-loop file head count place left₀ here₀ left here = fieldsGood file head 
 abbrev μ-loop : tie.MeasureT-loop
 μ-loop file head count place left₀ here₀ left here = left
 
-loop-holds : tie.Need-loop-holds Inv-loop μ-loop
-loop-holds c = refl
-
-field-good-requires : tie.Need-field-good-requires Inv-loop μ-loop
-field-good-requires c κs = search needs
-
-enum-known-next : tie.Need-enum-known-next Inv-loop μ-loop
-enum-known-next c = search needs
-
-enum-known-why : tie.Need-enum-known-why Inv-loop μ-loop
-enum-known-why c = search needs
-
 returns : tie.Need-returns Inv-loop μ-loop
 returns c = fields-stop _ _ _ _ (c .before .before .before .before .loop-test .taken) (rw (c .before .why .given .1) at (c .before .before .before .field-good .ensures)) ∙ c .before .before .before .before .before .loop .inv
-
-sub-left : tie.Need-sub-left Inv-loop μ-loop
-sub-left c = search needs
-
-loop-less : tie.Need-loop-less Inv-loop μ-loop
-loop-less c = search needs
 
 loop-again : tie.Need-loop-again Inv-loop μ-loop
 loop-again c = fields-go _ _ _ _ (c .before .before .before .before .loop-test .taken) (rw (c .before .next .given .1) at (c .before .before .before .field-good .ensures)) ∙ c .before .before .before .before .before .loop .inv
 
-returns-2 : tie.Need-returns-2 Inv-loop μ-loop
-returns-2 c = fields-none _ _ _ _ (c .loop-test .left) ∙ c .before .loop .inv
-
 pub fields-good-spec : {M : Type 1} → statement M
-fields-good-spec = tie.close (tie.spec Inv-loop μ-loop loop-holds field-good-requires enum-known-next enum-known-why returns sub-left loop-less loop-again returns-2)
+fields-good-spec = tie.close (tie.spec Inv-loop μ-loop (λ c. refl) (λ c κs. search needs) (λ c. search needs) (λ c. search needs) returns (λ c. search needs) (λ c. search needs) loop-again (λ c. fields-none _ _ _ _ (c .loop-test .left) ∙ c .before .loop .inv))

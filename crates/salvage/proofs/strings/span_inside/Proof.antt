@@ -7,12 +7,6 @@ use Rattle.header.proofs.Strings.{read-within}
 use Rattle.salvage.proofs.strings.{Placing.{span-stops, span-is, span-far}, span_inside.Statement.{statement}}
 use Rattle.salvage.proofs.strings.span_inside.Tie as tie
 
-read-number-requires : tie.Need-read-number-requires
-read-number-requires c κs = search needs
-
-enum-known-n : tie.Need-enum-known-n
-enum-known-n c = search needs
-
 returns : tie.Need-returns
 returns c = span-stops _ _ _ (c .before .read-number .result) (c .match .keys2) (c .before .read-number .ensures)
 
@@ -24,11 +18,8 @@ returns-2 c =
 add-in-section : tie.Need-add-in-section
 add-in-section c = omega (arith, read-within _ _ _ (rw (c .before .before .before .before .n .given .1) at (c .before .before .before .before .before .before .read-number .ensures)))
 
-in-section-requires : tie.Need-in-section-requires
-in-section-requires c κs = search needs
-
 returns-3 : tie.Need-returns-3
 returns-3 c = c .in-section .ensures ∙ span-is _ _ _ (rw (c .before .before .before .before .before .n .given .1) at (c .before .before .before .before .before .before .before .read-number .ensures))
 
 pub span-inside-spec : {M : Type 1} → statement M
-span-inside-spec = tie.close (tie.spec read-number-requires enum-known-n returns returns-2 add-in-section in-section-requires returns-3)
+span-inside-spec = tie.close (tie.spec (λ c κs. search needs) (λ c. search needs) returns returns-2 add-in-section (λ c κs. search needs) returns-3)

@@ -5,15 +5,6 @@ use Rattle.salvage.specs.Kept.{goodness}
 use Rattle.salvage.proofs.walk.is_good.Statement.{statement}
 use Rattle.salvage.proofs.walk.is_good.Tie as tie
 
-entry-good-requires : tie.Need-entry-good-requires
-entry-good-requires c κs = search needs
-
-enum-told : tie.Need-enum-told
-enum-told c = search needs
-
-enum-told-2 : tie.Need-enum-told-2
-enum-told-2 c = search needs
-
 returns : tie.Need-returns
 returns c = ap goodness (rw (c .enum-told .given .1) at (c .before .before .entry-good .ensures))
 
@@ -21,4 +12,4 @@ returns-2 : tie.Need-returns-2
 returns-2 c = ap goodness (rw (c .enum-told2 .given .1) at (c .before .before .entry-good .ensures))
 
 pub is-good-spec : {M : Type 1} → statement M
-is-good-spec = tie.close (tie.spec entry-good-requires enum-told enum-told-2 returns returns-2)
+is-good-spec = tie.close (tie.spec (λ c κs. search needs) (λ c. search needs) (λ c. search needs) returns returns-2)

@@ -14,35 +14,11 @@ Inv-loop file head end at₀ at = (keptFrom file head at ≡ keptFrom file head 
 abbrev μ-loop : tie.MeasureT-loop
 μ-loop file head end at₀ at = head .sections .metadata - at .place
 
-cast-end : tie.Need-cast-end Inv-loop μ-loop
-cast-end c = search needs
-
-loop-holds : tie.Need-loop-holds Inv-loop μ-loop
-loop-holds c = (refl, le-refl _)
-
-row-at-requires : tie.Need-row-at-requires Inv-loop μ-loop
-row-at-requires c κs = search needs
-
-enum-known-row : tie.Need-enum-known-row Inv-loop μ-loop
-enum-known-row c = search needs
-
-enum-told : tie.Need-enum-told Inv-loop μ-loop
-enum-told c = search needs
-
 returns : tie.Need-returns Inv-loop μ-loop
 returns c = sym (c .before .before .before .before .before .loop .inv .0) ∙ kept-failed _ _ _ (c .before .before .before .if1 .taken) (rw (c .enum-told .given .1) at (c .before .before .row-at .ensures))
 
-enum-told-2 : tie.Need-enum-told-2 Inv-loop μ-loop
-enum-told-2 c = search needs
-
 returns-2 : tie.Need-returns-2 Inv-loop μ-loop
 returns-2 c = sym (c .before .before .before .before .before .loop .inv .0) ∙ kept-refused _ _ _ (c .before .before .before .if1 .taken) (rw (c .enum-told2 .given .1) at (c .before .before .row-at .ensures))
-
-after-requires : tie.Need-after-requires Inv-loop μ-loop
-after-requires c κs = search needs
-
-is-good-requires : tie.Need-is-good-requires Inv-loop μ-loop
-is-good-requires c κs = search needs
 
 returns-3 : tie.Need-returns-3 Inv-loop μ-loop
 returns-3 c = led-from _ _ (c .before .before .before .before .before .before .before .before .before .loop .inv .0) (c .before .before .before .before .before .before .before .before .before .loop .inv .1) (kept-here _ _ _ (c .before .before .before .before .before .before .before .if1 .taken) (rw (c .before .before .before .before .row .given .1) at (c .before .before .before .before .before .before .row-at .ensures)) (c .before .is-good .ensures) (c .if2 .taken))
@@ -56,8 +32,5 @@ loop-again c = (
   omega (arith, walk-less (now (c .before .before .before .before .before .before .before .before .before .before .before .before .args .file)) (c .before .before .before .before .before .before .before .before .before .before .before .before .args .head) (c .before .before .before .before .before .before .before .before .before .loop .at) (c .before .before .before .before .before .before .before .if1 .taken) (rw (c .before .before .before .before .row .given .1) at (c .before .before .before .before .before .before .row-at .ensures)) (c .before .before .after .ensures), c .before .before .before .before .before .before .before .before .before .loop .inv .1),
 )
 
-returns-4 : tie.Need-returns-4 Inv-loop μ-loop
-returns-4 c = sym (c .before .before .loop .inv .0) ∙ kept-end _ _ _ (c .if1 .left)
-
 pub next-kept-spec : {M : Type 1} → statement M
-next-kept-spec = tie.close (tie.spec Inv-loop μ-loop cast-end loop-holds row-at-requires enum-known-row enum-told returns enum-told-2 returns-2 after-requires is-good-requires returns-3 loop-less loop-again returns-4)
+next-kept-spec = tie.close (tie.spec Inv-loop μ-loop (λ c. search needs) (λ c. (refl, le-refl _)) (λ c κs. search needs) (λ c. search needs) (λ c. search needs) returns (λ c. search needs) returns-2 (λ c κs. search needs) (λ c κs. search needs) returns-3 loop-less loop-again (λ c. sym (c .before .before .loop .inv .0) ∙ kept-end _ _ _ (c .if1 .left)))

@@ -42,27 +42,6 @@ order-boxes-requires c κs =
     let spare = c .before .before .before .before .before .before .before .before .before .before .before .spare in
     order-room _ _ _ _ _ (length-take-le _ _ (under _ _ _ (reached _ _ _ _ _ _ (pre .summing) .keys-count) (keys .given))) (pre .summing .few) (reached _ _ _ _ _ _ (pre .summing) .boxes) (reached _ _ _ _ _ _ (pre .summing) .spare-count) (spare .given)
 
-same-length : tie.Need-same-length
-same-length c = search needs
-
-same-length-2 : tie.Need-same-length-2
-same-length-2 c = search needs
-
-same-length-3 : tie.Need-same-length-3
-same-length-3 c = search needs
-
-same-length-4 : tie.Need-same-length-4
-same-length-4 c = search needs
-
-same-length-5 : tie.Need-same-length-5
-same-length-5 c = search needs
-
-same-length-6 : tie.Need-same-length-6
-same-length-6 c = search needs
-
-same-length-7 : tie.Need-same-length-7
-same-length-7 c = search needs
-
 returns : tie.Need-returns
 returns c =
     let order-boxes = c .before .before .before .before .order-boxes in
@@ -82,11 +61,11 @@ lay-out-spec =
     slice-relend-prefix-order-boxes
     slice-aggregate-order-boxes
     order-boxes-requires
-    same-length
-    same-length-2
-    same-length-3
-    same-length-4
-    same-length-5
-    same-length-6
-    same-length-7
+    (λ c. search needs)
+    (λ c. search needs)
+    (λ c. search needs)
+    (λ c. search needs)
+    (λ c. search needs)
+    (λ c. search needs)
+    (λ c. search needs)
     returns)

@@ -4,18 +4,6 @@ use Rattle.summed.proofs.Spreads.{words-sorted}
 use Rattle.summed.proofs.arrange.order_boxes.Statement.{statement}
 use Rattle.summed.proofs.arrange.order_boxes.Tie as tie
 
-put-yard-words-requires : tie.Need-put-yard-words-requires
-put-yard-words-requires c κs = search needs
-
-sort-requires : tie.Need-sort-requires
-sort-requires c κs = search needs
-
-same-length : tie.Need-same-length
-same-length c = search needs
-
-same-length-2 : tie.Need-same-length-2
-same-length-2 c = search needs
-
 returns : tie.Need-returns
 returns c =
     let pre = c .before .before .before .before .before .before .before .before .before .before .before .before .before .pre in
@@ -25,4 +13,4 @@ returns c =
 
 pub order-boxes-spec : {M : Type 1} → statement M
 order-boxes-spec =
-    tie.close (tie.spec put-yard-words-requires sort-requires same-length same-length-2 returns)
+    tie.close (tie.spec (λ c κs. search needs) (λ c κs. search needs) (λ c. search needs) (λ c. search needs) returns)

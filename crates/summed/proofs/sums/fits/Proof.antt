@@ -6,32 +6,11 @@ use Rattle.summed.proofs.Fitting.{long-head, long-table, long-metadata,
 use Rattle.summed.proofs.sums.fits.Statement.{statement}
 use Rattle.summed.proofs.sums.fits.Tie as tie
 
-returns : tie.Need-returns
-returns c = long-head _ _ _ _ _ (c .if1 .taken)
-
-returns-2 : tie.Need-returns-2
-returns-2 c = long-table _ _ _ _ _ (c .if2 .taken)
-
-returns-3 : tie.Need-returns-3
-returns-3 c = long-metadata _ _ _ _ _ (c .if3 .taken)
-
-returns-4 : tie.Need-returns-4
-returns-4 c = long-bytes _ _ _ _ _ (c .if4 .taken)
-
-size-of-varint-requires : tie.Need-size-of-varint-requires
-size-of-varint-requires c κs = search needs
-
-size-of-varint-requires-2 : tie.Need-size-of-varint-requires-2
-size-of-varint-requires-2 c κs = search needs
-
 add-sizes : tie.Need-add-sizes
 add-sizes c =
     let args = c .before .before .before .before .before .before .args in
     let size-of-varint = c .before .size-of-varint in
     omega (arith, varint-few (args .table), varint-few (args .metadata), varint-few (args .bytes), size-of-varint .ensures, c .size-of-varint2 .ensures)
-
-size-of-varint-requires-3 : tie.Need-size-of-varint-requires-3
-size-of-varint-requires-3 c κs = search needs
 
 add-sizes-2 : tie.Need-add-sizes-2
 add-sizes-2 c =
@@ -84,9 +63,6 @@ add-result-4 c =
     let if4 = c .before .before .before .if4 in
     omega (arith, varint-few (args .table), varint-few (args .metadata), varint-few (args .bytes), size-of-varint .ensures, size-of-varint2 .ensures, c .size-of-varint3 .ensures, if1 .left, if2 .left, if3 .left, if4 .left)
 
-up-to-requires : tie.Need-up-to-requires
-up-to-requires c κs = search needs
-
 returns-5 : tie.Need-returns-5
 returns-5 c =
     let size-of-varint = c .before .before .before .size-of-varint in
@@ -98,18 +74,18 @@ pub fits-spec : {M : Type 1} → statement M
 fits-spec =
     tie.close
     (tie.spec
-    returns
-    returns-2
-    returns-3
-    returns-4
-    size-of-varint-requires
-    size-of-varint-requires-2
+    (λ c. long-head _ _ _ _ _ (c .if1 .taken))
+    (λ c. long-table _ _ _ _ _ (c .if2 .taken))
+    (λ c. long-metadata _ _ _ _ _ (c .if3 .taken))
+    (λ c. long-bytes _ _ _ _ _ (c .if4 .taken))
+    (λ c κs. search needs)
+    (λ c κs. search needs)
     add-sizes
-    size-of-varint-requires-3
+    (λ c κs. search needs)
     add-sizes-2
     add-result
     add-result-2
     add-result-3
     add-result-4
-    up-to-requires
+    (λ c κs. search needs)
     returns-5)

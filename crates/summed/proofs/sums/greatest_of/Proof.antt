@@ -12,39 +12,12 @@ Inv-loop boxes count greatest₀ yard₀ greatest yard = Seeking boxes count (to
 abbrev μ-loop : tie.MeasureT-loop
 μ-loop boxes count greatest₀ yard₀ greatest yard = count - yard
 
-returns : tie.Need-returns Inv-loop μ-loop
-returns c = none-greatest _ _ (c .if1 .taken)
-
-shared-slice-copy-out-greatest : tie.Need-shared-slice-copy-out-greatest Inv-loop μ-loop
-shared-slice-copy-out-greatest c = omega (arith, c .if1 .left, c .before .pre .0)
-
-loop-holds : tie.Need-loop-holds Inv-loop μ-loop
-loop-holds c = seek-starts _ _ (c .before .if1 .left) (record { sfits = c .greatest .given })
-
-mul-south : tie.Need-mul-south Inv-loop μ-loop
-mul-south c = search needs
-
-mul-south-2 : tie.Need-mul-south-2 Inv-loop μ-loop
-mul-south-2 c = search needs
-
-shared-slice-copy-out-south : tie.Need-shared-slice-copy-out-south Inv-loop μ-loop
-shared-slice-copy-out-south c = search needs
-
-add-yard : tie.Need-add-yard Inv-loop μ-loop
-add-yard c = search needs
-
-loop-less : tie.Need-loop-less Inv-loop μ-loop
-loop-less c = search needs
-
 loop-again : tie.Need-loop-again Inv-loop μ-loop
 loop-again c =
     let loop = c .before .before .before .loop in
     let loop-test = c .before .before .loop-test in
     let south = c .before .south in
     seek-up _ _ _ _ (loop .inv) (loop-test .taken) (record { sfits = south .given }) (c .if2 .taken)
-
-loop-less-2 : tie.Need-loop-less-2 Inv-loop μ-loop
-loop-less-2 c = search needs
 
 loop-again-2 : tie.Need-loop-again-2 Inv-loop μ-loop
 loop-again-2 c =
@@ -53,24 +26,21 @@ loop-again-2 c =
     let south = c .before .south in
     seek-on _ _ _ _ (loop .inv) (loop-test .taken) (record { sfits = south .given }) (c .if2 .left)
 
-returns-2 : tie.Need-returns-2 Inv-loop μ-loop
-returns-2 c = seek-ends _ _ _ _ (c .before .loop .inv) (c .loop-test .left)
-
 pub greatest-of-spec : {M : Type 1} → statement M
 greatest-of-spec =
     tie.close
     (tie.spec
     Inv-loop
     μ-loop
-    returns
-    shared-slice-copy-out-greatest
-    loop-holds
-    mul-south
-    mul-south-2
-    shared-slice-copy-out-south
-    add-yard
-    loop-less
+    (λ c. none-greatest _ _ (c .if1 .taken))
+    (λ c. omega (arith, c .if1 .left, c .before .pre .0))
+    (λ c. seek-starts _ _ (c .before .if1 .left) (record { sfits = c .greatest .given }))
+    (λ c. search needs)
+    (λ c. search needs)
+    (λ c. search needs)
+    (λ c. search needs)
+    (λ c. search needs)
     loop-again
-    loop-less-2
+    (λ c. search needs)
     loop-again-2
-    returns-2)
+    (λ c. seek-ends _ _ _ _ (c .before .loop .inv) (c .loop-test .left)))

@@ -13,29 +13,11 @@ Inv-loop lengths sum left₀ i₀ left i = Taking lengths sum left i
 abbrev μ-loop : tie.MeasureT-loop
 μ-loop lengths sum left₀ i₀ left i = length lengths - i
 
-loop-holds : tie.Need-loop-holds Inv-loop μ-loop
-loop-holds c = take-starts _ _
-
-mul-length : tie.Need-mul-length Inv-loop μ-loop
-mul-length c = search needs
-
-shared-slice-read-length : tie.Need-shared-slice-read-length Inv-loop μ-loop
-shared-slice-read-length c = search needs
-
-cast-length : tie.Need-cast-length Inv-loop μ-loop
-cast-length c = omega (arith, c .shared-slice-known .given (c .before .before .loop .i))
-
 returns : tie.Need-returns Inv-loop μ-loop
 returns c =
     let loop = c .before .before .before .loop in
     let loop-test = c .before .before .loop-test in
     take-stops _ _ _ _ (loop .inv) (loop-test .taken) (c .if1 .taken)
-
-add-i : tie.Need-add-i Inv-loop μ-loop
-add-i c = search needs
-
-loop-less : tie.Need-loop-less Inv-loop μ-loop
-loop-less c = search needs
 
 loop-again : tie.Need-loop-again Inv-loop μ-loop
 loop-again c =
@@ -43,21 +25,18 @@ loop-again c =
     let loop-test = c .before .before .loop-test in
     take-goes _ _ _ _ (loop .inv) (loop-test .taken) (c .if1 .left)
 
-returns-2 : tie.Need-returns-2 Inv-loop μ-loop
-returns-2 c = take-ends _ _ _ _ (c .before .loop .inv) (c .loop-test .left)
-
 pub is-sum-spec : {M : Type 1} → statement M
 is-sum-spec =
     tie.close
     (tie.spec
     Inv-loop
     μ-loop
-    loop-holds
-    mul-length
-    shared-slice-read-length
-    cast-length
+    (λ c. take-starts _ _)
+    (λ c. search needs)
+    (λ c. search needs)
+    (λ c. omega (arith, c .shared-slice-known .given (c .before .before .loop .i)))
     returns
-    add-i
-    loop-less
+    (λ c. search needs)
+    (λ c. search needs)
     loop-again
-    returns-2)
+    (λ c. take-ends _ _ _ _ (c .before .loop .inv) (c .loop-test .left)))

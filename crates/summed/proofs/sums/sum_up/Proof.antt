@@ -12,9 +12,6 @@ returns c =
     let pre = c .before .before .before .before .before .before .before .before .before .before .before .pre in
     λ yards drawn s. never-long _ _ _ _ _ _ _ _ s (pre .named) (c .if1 .taken)
 
-is-sum-requires : tie.Need-is-sum-requires
-is-sum-requires c κs = search needs
-
 returns-2 : tie.Need-returns-2
 returns-2 c = λ yards drawn s. never-other _ _ _ _ _ _ _ _ s _ (c .before .is-sum .ensures) (c .if2 .taken)
 
@@ -43,40 +40,10 @@ table-size-requires c κs =
     let pre = c .before .before .before .before .before .before .before .before .before .before .before .before .before .before .before .before .before .before .before .before .before .before .before .before .before .before .before .before .before .before .before .before .before .before .before .before .before .pre in
     front-most _ _ _ (pre .few)
 
-cast-t37 : tie.Need-cast-t37
-cast-t37 c = search needs
-
-cast-t38 : tie.Need-cast-t38
-cast-t38 c = search needs
-
-add-t39 : tie.Need-add-t39
-add-t39 c = search needs
-
 greatest-of-requires : tie.Need-greatest-of-requires
 greatest-of-requires c κs =
     let pre = c .before .before .before .before .before .before .before .before .before .before .before .before .before .before .before .before .before .before .before .before .before .before .before .before .before .before .before .before .before .before .before .before .before .before .before .before .before .before .before .before .pre in
     (reached _ _ _ _ _ _ (pre) .boxes, pre .few)
-
-same-length : tie.Need-same-length
-same-length c = search needs
-
-same-length-2 : tie.Need-same-length-2
-same-length-2 c = search needs
-
-same-length-3 : tie.Need-same-length-3
-same-length-3 c = search needs
-
-same-length-4 : tie.Need-same-length-4
-same-length-4 c = search needs
-
-same-length-5 : tie.Need-same-length-5
-same-length-5 c = search needs
-
-same-length-6 : tie.Need-same-length-6
-same-length-6 c = search needs
-
-same-length-7 : tie.Need-same-length-7
-same-length-7 c = search needs
 
 returns-3 : tie.Need-returns-3
 returns-3 c =
@@ -90,21 +57,21 @@ sum-up-spec =
     tie.close
     (tie.spec
     returns
-    is-sum-requires
+    (λ c κs. search needs)
     returns-2
     lay-out-requires
     slice-reshare-prefix-table-size
     slice-aggregate-table-size
     table-size-requires
-    cast-t37
-    cast-t38
-    add-t39
+    (λ c. search needs)
+    (λ c. search needs)
+    (λ c. search needs)
     greatest-of-requires
-    same-length
-    same-length-2
-    same-length-3
-    same-length-4
-    same-length-5
-    same-length-6
-    same-length-7
+    (λ c. search needs)
+    (λ c. search needs)
+    (λ c. search needs)
+    (λ c. search needs)
+    (λ c. search needs)
+    (λ c. search needs)
+    (λ c. search needs)
     returns-3)

@@ -5,15 +5,6 @@ use native.Mathlib.Omega.{arith}
 use Rattle.table.proofs.hits.put_hit.Statement.{statement}
 use Rattle.table.proofs.hits.put_hit.Tie as tie
 
-slice-write-hits-2 : tie.Need-slice-write-hits-2
-slice-write-hits-2 c = simp length-set (omega arith)
-
-slice-write-hits-3 : tie.Need-slice-write-hits-3
-slice-write-hits-3 c = simp length-set (omega arith)
-
-slice-write-hits-4 : tie.Need-slice-write-hits-4
-slice-write-hits-4 c = simp length-set (omega arith)
-
 pub put-hit-spec : {M : Type 1} → statement M
 put-hit-spec =
     tie.close
@@ -23,12 +14,12 @@ put-hit-spec =
     (λ c. omega arith)
     (λ c. omega arith)
     (λ c. omega arith)
-    slice-write-hits-2
+    (λ c. simp length-set (omega arith))
     (λ c. omega arith)
     (λ c. omega arith)
-    slice-write-hits-3
+    (λ c. simp length-set (omega arith))
     (λ c. omega arith)
     (λ c. omega arith)
-    slice-write-hits-4
+    (λ c. simp length-set (omega arith))
     (λ c. search needs)
     (λ c. search needs))

@@ -20,15 +20,9 @@ loop-holds : tie.Need-loop-holds Inv-loop μ-loop
 unfolding searchedListed
 loop-holds c = starts _ _ _ _ (c .before .before .before .before .before .before .pre) refl
 
-same-length : tie.Need-same-length Inv-loop μ-loop
-same-length c = kept-length (c .before .before .before .before .before .loop .inv)
-
 returns : tie.Need-returns Inv-loop μ-loop
 returns c =
     rw (c .plain .ensures) (no-record (judgeIn (c .before .before .before .before .before .before .before .before .before .before .before .before .args .file .now) (c .before .before .before .before .before .before .before .before .before .before .before .before .args .head) (c .before .before .before .before .before .before .before .before .before .before .before .before .args .fix) (c .before .before .before .before .before .before .before .before .before .before .before .before .args .asked)) (c .before .before .before .before .before .before .before .before .before .before .before .before .args .fix) (c .before .before .before .before .before .before .before .before .before .before .before .before .args .records .now) (c .before .before .before .before .before .before .before .before .before .before .before .before .args .numbers .now) _ _ (c .before .before .before .before .before .loop .inv) (c .before .before .before .before .loop-test .taken) (c .before .before .wide .ensures .0) _ (c .before .if1 .taken))
-
-on-record-requires : tie.Need-on-record-requires Inv-loop μ-loop
-on-record-requires c κs = (c .if1 .left, c .before .wide .ensures .1)
 
 loop-less : tie.Need-loop-less Inv-loop μ-loop
 loop-less c = omega (arith, c .before .before .before .before .before .before .before .loop-test .taken)
@@ -75,9 +69,6 @@ returns-4 : tie.Need-returns-4 Inv-loop μ-loop
 returns-4 c =
     rw (c .plain3 .ensures) (denies (judgeIn (c .before .before .before .before .before .before .before .before .before .before .before .before .before .before .before .before .args .file .now) (c .before .before .before .before .before .before .before .before .before .before .before .before .before .before .before .before .args .head) (c .before .before .before .before .before .before .before .before .before .before .before .before .before .before .before .before .args .fix) (c .before .before .before .before .before .before .before .before .before .before .before .before .before .before .before .before .args .asked)) (c .before .before .before .before .before .before .before .before .before .before .before .before .before .before .before .before .args .fix) (c .before .before .before .before .before .before .before .before .before .before .before .before .before .before .before .before .args .records .now) (c .before .before .before .before .before .before .before .before .before .before .before .before .before .before .before .before .args .numbers .now) _ _ (c .before .before .before .before .before .before .before .before .before .loop .inv) (c .before .before .before .before .before .before .before .before .loop-test .taken) (c .before .before .before .before .before .before .wide .ensures .0) (c .before .before .before .before .before .if1 .left) _ (sym (c .before .before .turn4 .given .1) ∙ c .before .before .before .before .on-record .ensures))
 
-same-length-5 : tie.Need-same-length-5 Inv-loop μ-loop
-same-length-5 c = kept-length (c .before .before .loop .inv)
-
 returns-5 : tie.Need-returns-5 Inv-loop μ-loop
 returns-5 c = rw (c .end-with2 .ensures) (all-done (judgeIn (c .before .before .before .before .before .before .before .before .before .args .file .now) (c .before .before .before .before .before .before .before .before .before .args .head) (c .before .before .before .before .before .before .before .before .before .args .fix) (c .before .before .before .before .before .before .before .before .before .args .asked)) (c .before .before .before .before .before .before .before .before .before .args .fix) (c .before .before .before .before .before .before .before .before .before .args .records .now) (c .before .before .before .before .before .before .before .before .before .args .numbers .now) _ _ (c .before .before .loop .inv) (c .before .loop-test .left))
 
@@ -94,9 +85,9 @@ search-listed-spec =
     (λ c κs. tt)
     (λ c. search needs)
     (λ c κs. tt)
-    same-length
+    (λ c. kept-length (c .before .before .before .before .before .loop .inv))
     returns
-    on-record-requires
+    (λ c κs. (c .if1 .left, c .before .wide .ensures .1))
     (λ c. omega arith)
     loop-less
     loop-again
@@ -117,5 +108,5 @@ search-listed-spec =
     same-length-4
     returns-4
     (λ c κs. tt)
-    same-length-5
+    (λ c. kept-length (c .before .before .loop .inv))
     returns-5)

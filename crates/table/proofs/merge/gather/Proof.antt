@@ -57,9 +57,6 @@ loop-again c =
       c .before .before .before .before .before .before .before .before .before .before .before .loop .inv .1,
     )
 
-loop-less-2 : tie.Need-loop-less-2 Inv-loop μ-loop
-loop-less-2 c = omega (arith, c .before .before .before .before .loop-test .taken)
-
 loop-again-2 : tie.Need-loop-again-2 Inv-loop μ-loop
 loop-again-2 c =
     let loop = c .before .before .before .before .before .loop in
@@ -92,7 +89,7 @@ gather-spec =
     put-hit-requires
     loop-less
     loop-again
-    loop-less-2
+    (λ c. omega (arith, c .before .before .before .before .loop-test .taken))
     loop-again-2
     same-length
     returns)

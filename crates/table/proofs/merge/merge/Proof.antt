@@ -80,9 +80,6 @@ loop-again-2 c = (
   c .before .before .before .before .before .before .before .before .before .before .before .loop .inv .1,
 )
 
-loop-less-3 : tie.Need-loop-less-3 Inv-loop μ-loop
-loop-less-3 c = omega (arith, c .before .before .before .before .loop-test .taken)
-
 loop-again-3 : tie.Need-loop-again-3 Inv-loop μ-loop
 loop-again-3 c =
     let loop = c .before .before .before .before .before .loop in
@@ -90,9 +87,6 @@ loop-again-3 c =
     let room = c .before .before .before .before .before .before .room in
     let hit-at = c .before .before .hit-at in
     (skips (loop .inv .0) (omega (arith, loop .inv .1, loop-test .taken, room .ensures)) (hit-at .result) (hit-at .ensures) (c .if1 .left), loop .inv .1)
-
-same-length : tie.Need-same-length Inv-loop μ-loop
-same-length c = omega (arith, merging-length (c .before .loop .inv .0), c .before .loop .inv .1)
 
 returns : tie.Need-returns Inv-loop μ-loop
 returns c =
@@ -118,7 +112,7 @@ merge-spec =
     loop-again
     loop-less-2
     loop-again-2
-    loop-less-3
+    (λ c. omega (arith, c .before .before .before .before .loop-test .taken))
     loop-again-3
-    same-length
+    (λ c. omega (arith, merging-length (c .before .loop .inv .0), c .before .loop .inv .1))
     returns)

@@ -6,47 +6,11 @@ use Rattle.border.specs.Box.{between}
 use Rattle.table.proofs.pass.{Passing.{untrue, below-missed, lons-missed}, may_hold.Statement.{statement}}
 use Rattle.table.proofs.pass.may_hold.Tie as tie
 
-lat-below-requires : tie.Need-lat-below-requires
-lat-below-requires c κs = search needs
-
 returns : tie.Need-returns
 returns c =
     let args = c .before .before .before .args in
     let lat-below = c .before .lat-below in
     λ e. below-missed (args .bounds) (args .fix) (sym (lat-below .ensures) ∙ c .if1 .taken)
-
-short-at-requires : tie.Need-short-at-requires
-short-at-requires c κs = search needs
-
-enum-known-first : tie.Need-enum-known-first
-enum-known-first c = search needs
-
-enum-told : tie.Need-enum-told
-enum-told c = search needs
-
-returns-2 : tie.Need-returns-2
-returns-2 c = λ e. untrue e
-
-short-at-requires-2 : tie.Need-short-at-requires-2
-short-at-requires-2 c κs = search needs
-
-enum-known-second : tie.Need-enum-known-second
-enum-known-second c = search needs
-
-enum-told-2 : tie.Need-enum-told-2
-enum-told-2 c = search needs
-
-returns-3 : tie.Need-returns-3
-returns-3 c = λ e. untrue e
-
-signed-requires : tie.Need-signed-requires
-signed-requires c κs = search needs
-
-signed-requires-2 : tie.Need-signed-requires-2
-signed-requires-2 c κs = search needs
-
-lon-between-requires : tie.Need-lon-between-requires
-lon-between-requires c κs = search needs
 
 returns-4 : tie.Need-returns-4
 returns-4 c =
@@ -66,17 +30,17 @@ pub may-hold-spec : {M : Type 1} → statement M
 may-hold-spec =
     tie.close
     (tie.spec
-    lat-below-requires
+    (λ c κs. search needs)
     returns
-    short-at-requires
-    enum-known-first
-    enum-told
-    returns-2
-    short-at-requires-2
-    enum-known-second
-    enum-told-2
-    returns-3
-    signed-requires
-    signed-requires-2
-    lon-between-requires
+    (λ c κs. search needs)
+    (λ c. search needs)
+    (λ c. search needs)
+    (λ c. λ e. untrue e)
+    (λ c κs. search needs)
+    (λ c. search needs)
+    (λ c. search needs)
+    (λ c. λ e. untrue e)
+    (λ c κs. search needs)
+    (λ c κs. search needs)
+    (λ c κs. search needs)
     returns-4)

@@ -17,9 +17,6 @@ returns c = five-cut _ _ (five (c .before .before)) _ (c .before .if1 .taken) (c
 returns-2 : tie.Need-returns-2
 returns-2 c = five-held _ _ (five (c .before .before)) _ (c .before .if1 .taken) (c .if2 .left)
 
-returns-3 : tie.Need-returns-3
-returns-3 c = five-plain _ _ (five (c .before)) _ (c .if1 .left)
-
 pub past-five-spec : {M : Type 1} → statement M
 past-five-spec =
     tie.close
@@ -31,4 +28,4 @@ past-five-spec =
     (λ c κs. search needs)
     returns
     returns-2
-    returns-3)
+    (λ c. five-plain _ _ (five (c .before)) _ (c .if1 .left)))

@@ -16,12 +16,6 @@ Inv-loop file strict end fix from place₀ place = (from ≤ end) × (restFrom (
 abbrev μ-loop : tie.MeasureT-loop
 μ-loop file strict end fix from place₀ place = end - place
 
-returns : tie.Need-returns Inv-loop μ-loop
-returns c = simp (lt-ltb _ _ (c .if1 .taken))
-
-loop-holds : tie.Need-loop-holds Inv-loop μ-loop
-loop-holds c = (c .before .if1 .left, sym (c .skip-over .ensures .same _))
-
 returns-2 : tie.Need-returns-2 Inv-loop μ-loop
 returns-2 c =
     simp (le-ltb _ _ (c .before .before .before .loop .inv .0)) (sym (unread _ _ _ _ _ (c .before .before .loop-test .taken) (c .before .read-number .result) (c .before .read-number .ensures) (c .match .keys2)) ∙ c .before .before .before .loop .inv .1)
@@ -59,9 +53,9 @@ rest-mark-spec =
     (tie.spec
     Inv-loop
     μ-loop
-    returns
+    (λ c. simp (lt-ltb _ _ (c .if1 .taken)))
     (λ c κs. search needs)
-    loop-holds
+    (λ c. (c .before .if1 .left, sym (c .skip-over .ensures .same _)))
     (λ c κs. search needs)
     (λ c. search needs)
     returns-2

@@ -11,9 +11,6 @@ returns c =
     let holds = c .before .before .before .holds in
     c .judged .ensures ∙ ap (judgedTurn _) (judge .ensures) ∙ held _ _ _ _ (sym (holds .ensures) ∙ if1 .taken)
 
-returns-2 : tie.Need-returns-2
-returns-2 c = not-held _ _ _ _ (sym (c .before .holds .ensures) ∙ c .if1 .left)
-
 pub on-row-spec : {M : Type 1} → statement M
 on-row-spec =
     tie.close
@@ -22,4 +19,4 @@ on-row-spec =
     (λ c κs. tt)
     (λ c κs. tt)
     returns
-    returns-2)
+    (λ c. not-held _ _ _ _ (sym (c .before .holds .ensures) ∙ c .if1 .left)))

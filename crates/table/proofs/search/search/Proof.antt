@@ -207,9 +207,6 @@ returns-6 c =
     let on-row = c .before .before .before .before .on-row in
     rw (c .plain3 .ensures) (refuses _ _ _ _ (loop .inv) (at-row _ (reading-grows _ _) _ (if1 .taken) (row-read _ _ (sym (ap toldEntered (entry .given .1)) ∙ entry-at .ensures) (row-of .ensures)) (after .ensures)) (ap (λ (r : Row). isAbove (r .bounds) (args .fix)) (row-of .ensures) ∙ sym (is-above .ensures) ∙ if2 .left) _ (sym (turn4 .given .1) ∙ on-row .ensures))
 
-same-length-7 : tie.Need-same-length-7 Inv-loop μ-loop
-same-length-7 c = kept-length _ _ _ _ (c .before .before .before .loop .inv)
-
 returns-7 : tie.Need-returns-7 Inv-loop μ-loop
 returns-7 c =
     let loop = c .before .before .before .loop in
@@ -267,5 +264,5 @@ search-spec =
     same-length-6
     returns-6
     (λ c κs. tt)
-    same-length-7
+    (λ c. kept-length _ _ _ _ (c .before .before .before .loop .inv))
     returns-7)

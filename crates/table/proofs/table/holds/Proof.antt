@@ -6,8 +6,5 @@ use Rattle.table.proofs.table.holds.Tie as tie
 returns : tie.Need-returns
 returns c = the-second _ _ _ (sym (c .before .before .lat-between .ensures) ∙ c .before .if1 .taken) (c .lon-between .ensures)
 
-returns-2 : tie.Need-returns-2
-returns-2 c = not-first _ _ (sym (c .before .lat-between .ensures) ∙ c .if1 .left)
-
 pub holds-spec : {M : Type 1} → statement M
-holds-spec = tie.close (tie.spec (λ c κs. tt) (λ c κs. tt) returns returns-2)
+holds-spec = tie.close (tie.spec (λ c κs. tt) (λ c κs. tt) returns (λ c. not-first _ _ (sym (c .before .lat-between .ensures) ∙ c .if1 .left)))

@@ -3,10 +3,7 @@ use borrow.Author.Needs.{needs}
 use Rattle.table.proofs.table.stopped.Statement.{statement}
 use Rattle.table.proofs.table.stopped.Tie as tie
 
-returns : tie.Need-returns-3
-returns c = rw (c .before .answer .given .1)
-
 pub stopped-spec : {M : Type 1} → statement M
 stopped-spec =
     tie.close
-    (tie.spec (λ c. search needs) (λ c. search needs) (λ c. search needs) (λ c. search needs) (λ c. search needs) returns)
+    (tie.spec (λ c. search needs) (λ c. search needs) (λ c. search needs) (λ c. search needs) (λ c. search needs) (λ c. rw (c .before .answer .given .1)))

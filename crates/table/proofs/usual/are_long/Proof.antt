@@ -6,9 +6,6 @@ use Rattle.border.proofs.Signs.{differ}
 use Rattle.table.proofs.usual.are_long.Statement.{statement}
 use Rattle.table.proofs.usual.are_long.Tie as tie
 
-returns : tie.Need-returns
-returns c = λ t. differ t
-
 returns-2 : tie.Need-returns-2
 returns-2 c =
     let first = c .before .before .before .before .before .before .goes-on .ensures (not-false _ (c .before .before .before .before .before .if1 .left)) in
@@ -16,21 +13,15 @@ returns-2 c =
     let more = c .before .before .before .others-go-on .ensures (c .if3 .taken) in
     λ t. record { south-on = first; south-ends = end; on = more; end = c .before .before .others-end .ensures t }
 
-returns-3 : tie.Need-returns-3
-returns-3 c = λ t. differ (sym (c .if3 .left) ∙ t)
-
-returns-4 : tie.Need-returns-4
-returns-4 c = λ t. differ (sym (c .if2 .left) ∙ t)
-
 pub are-long-spec : {M : Type 1} → statement M
 are-long-spec =
     tie.close
     (tie.spec
     (λ c κs. search needs)
-    returns
+    (λ c. λ t. differ t)
     (λ c κs. search needs)
     (λ c κs. search needs)
     (λ c κs. search needs)
     returns-2
-    returns-3
-    returns-4)
+    (λ c. λ t. differ (sym (c .if3 .left) ∙ t))
+    (λ c. λ t. differ (sym (c .if2 .left) ∙ t)))

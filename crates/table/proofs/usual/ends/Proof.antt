@@ -3,9 +3,6 @@ use borrow.Author.Needs.{needs}
 use Rattle.table.proofs.usual.{Usual.{ended}, ends.Statement.{statement}}
 use Rattle.table.proofs.usual.ends.Tie as tie
 
-returns : tie.Need-returns
-returns c = λ t. ended _ _ (c .wide .ensures .0) t
-
 pub ends-spec : {M : Type 1} → statement M
 ends-spec =
     tie.close
@@ -13,4 +10,4 @@ ends-spec =
     (λ c. search needs)
     (λ c. search needs)
     (λ c κs. search needs)
-    returns)
+    (λ c. λ t. ended _ _ (c .wide .ensures .0) t))

@@ -6,9 +6,6 @@ use mathlib.Core.Path.{sym, _∙_}
 use Rattle.table.proofs.usual.{Usual.{seen-over}, is_over.Statement.{statement}}
 use Rattle.table.proofs.usual.is_over.Tie as tie
 
-returns : tie.Need-returns
-returns c = λ t. differ t
-
 returns-2 : tie.Need-returns-2
 returns-2 c =
     let args = c .before .before .before .before .before .args in
@@ -19,7 +16,7 @@ is-over-spec =
     tie.close
     (tie.spec
     (λ c κs. search needs)
-    returns
+    (λ c. λ t. differ t)
     (λ c κs. search needs)
     (λ c κs. search needs)
     returns-2)

@@ -6,12 +6,6 @@ use mathlib.Core.Path.{sym, _∙_}
 use Rattle.table.proofs.usual.{Usual.{seen-under}, is_under.Statement.{statement}}
 use Rattle.table.proofs.usual.is_under.Tie as tie
 
-returns : tie.Need-returns
-returns c = λ t. differ t
-
-returns-2 : tie.Need-returns-2
-returns-2 c = λ t. differ t
-
 returns-3 : tie.Need-returns-3
 returns-3 c =
     let args = c .before .before .before .before .before .before .before .before .args in
@@ -24,10 +18,10 @@ is-under-spec =
     tie.close
     (tie.spec
     (λ c κs. search needs)
-    returns
+    (λ c. λ t. differ t)
     (λ c κs. search needs)
     (λ c κs. search needs)
-    returns-2
+    (λ c. λ t. differ t)
     (λ c. search needs)
     (λ c κs. search needs)
     (λ c κs. search needs)

@@ -7,9 +7,6 @@ use Rattle.uskelzar.proofs.draft.greatest_bits.Reads as reads
 use Rattle.uskelzar.proofs.draft.greatest_bits.Lts as lts
 use Rattle.tzif.proofs.local.offset_bits.Reads as offset-bits-reads
 
-offset-bits-requires : tie.Need-offset-bits-requires
-offset-bits-requires c κs = search needs
-
 returns : tie.Need-returns
 returns c =
     let told = c .before .struct-told .given in
@@ -17,4 +14,4 @@ returns c =
     (c .offset-bits .ensures ∙ ap (ofZ w32) (toZ-ofZ w32 _ fits), fits)
 
 pub greatest-bits-spec : {M : Type 1} → statement M
-greatest-bits-spec = tie.close (tie.spec offset-bits-requires returns)
+greatest-bits-spec = tie.close (tie.spec (λ c κs. search needs) returns)

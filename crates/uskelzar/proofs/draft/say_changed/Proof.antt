@@ -11,18 +11,6 @@ use Rattle.uskelzar.proofs.draft.say_changed.Lts as lts
 use Rattle.uskelzar.proofs.draft.greatest_bits.Reads as greatest-bits-reads
 use Rattle.uskelzar.proofs.say_refused.Reads as say-refused-reads
 
-enum-known-changed : tie.Need-enum-known-changed
-enum-known-changed c = search needs
-
-greatest-bits-requires : tie.Need-greatest-bits-requires
-greatest-bits-requires c κs = search needs
-
-enum-known-changed-2 : tie.Need-enum-known-changed-2
-enum-known-changed-2 c = search needs
-
-say-refused-requires : tie.Need-say-refused-requires
-say-refused-requires c κs = search needs
-
 abbrev saying : Held → ℕ → Said
 saying held bits = record { number = 0; words = held .table ∷ held .metadata ∷ held .bytes ∷ held .yards ∷ bits ∷ [] }
 
@@ -41,9 +29,9 @@ pub say-changed-spec : {M : Type 1} → statement M
 say-changed-spec =
     tie.close
     (tie.spec
-    enum-known-changed
-    greatest-bits-requires
-    enum-known-changed-2
-    say-refused-requires
+    (λ c. search needs)
+    (λ c κs. search needs)
+    (λ c. search needs)
+    (λ c κs. search needs)
     returns
     returns-2)

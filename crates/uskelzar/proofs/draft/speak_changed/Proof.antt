@@ -9,17 +9,8 @@ use Rattle.uskelzar.proofs.draft.keep.Reads as keep-reads
 use Rattle.uskelzar.proofs.draft.say_changed.Reads as say-changed-reads
 use Rattle.uskelzar.proofs.speak.Reads as speak-reads
 
-keep-requires : tie.Need-keep-requires
-keep-requires c κs = search needs
-
-say-changed-requires : tie.Need-say-changed-requires
-say-changed-requires c κs = search needs
-
-speak-requires : tie.Need-speak-requires
-speak-requires c κs = search needs
-
 returns : tie.Need-returns
 returns c = record { said = ap (λ (s : Spoken). s .said) (c .speak .ensures) ∙ c .before .before .say-changed .ensures; kept = c .before .before .before .keep .ensures }
 
 pub speak-changed-spec : {M : Type 1} → statement M
-speak-changed-spec = tie.close (tie.spec keep-requires say-changed-requires speak-requires returns)
+speak-changed-spec = tie.close (tie.spec (λ c κs. search needs) (λ c κs. search needs) (λ c κs. search needs) returns)

@@ -6,21 +6,6 @@ use Rattle.uskelzar.proofs.draft.words_of.Reads as reads
 use Rattle.uskelzar.proofs.draft.words_of.Lts as lts
 use Rattle.uskelzar.proofs.draft.greatest_bits.Reads as greatest-bits-reads
 
-greatest-bits-requires : tie.Need-greatest-bits-requires
-greatest-bits-requires c κs = search needs
-
-cast-t3 : tie.Need-cast-t3
-cast-t3 c = search needs
-
-cast-t4 : tie.Need-cast-t4
-cast-t4 c = search needs
-
-cast-t5 : tie.Need-cast-t5
-cast-t5 c = search needs
-
-cast-t6 : tie.Need-cast-t6
-cast-t6 c = search needs
-
 returns : tie.Need-returns
 returns c =
     let told = c .struct-known4 .given in
@@ -28,4 +13,4 @@ returns c =
     held-back (c .before .before .before .before .before .args .held) (bits .result) (search needs) (search needs) (search needs) (search needs) (bits .ensures .1) (bits .ensures .0)
 
 pub words-of-spec : {M : Type 1} → statement M
-words-of-spec = tie.close (tie.spec greatest-bits-requires cast-t3 cast-t4 cast-t5 cast-t6 returns)
+words-of-spec = tie.close (tie.spec (λ c κs. search needs) (λ c. search needs) (λ c. search needs) (λ c. search needs) (λ c. search needs) returns)

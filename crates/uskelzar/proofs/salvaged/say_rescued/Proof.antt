@@ -6,11 +6,8 @@ use Rattle.uskelzar.proofs.{Saying.{said-given, said-refused}, salvaged
 use Rattle.uskelzar.specs.Salvaged.{countsValues}
 use Rattle.uskelzar.proofs.salvaged.say_rescued.Tie as tie
 
-returns : tie.Need-returns
-returns c = said-given countsValues (ap toldRescued (c .before .rescued .given .1))
-
 returns-2 : tie.Need-returns-2
 returns-2 c = said-refused countsValues (c .say-refused .ensures) (ap toldRescued (c .before .before .rescued2 .given .1))
 
 pub say-rescued-spec : {M : Type 1} → statement M
-say-rescued-spec = tie.close (tie.spec (λ c. search needs) (λ c. search needs) (λ c κs. search needs) returns returns-2)
+say-rescued-spec = tie.close (tie.spec (λ c. search needs) (λ c. search needs) (λ c κs. search needs) (λ c. said-given countsValues (ap toldRescued (c .before .rescued .given .1))) returns-2)

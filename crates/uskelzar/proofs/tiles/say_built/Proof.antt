@@ -6,9 +6,6 @@ use Rattle.uskelzar.proofs.{Saying.{said-given, said-refused}, tiles.sa
 use Rattle.uskelzar.specs.Spoken.{lengthValue}
 use Rattle.uskelzar.proofs.tiles.say_built.Tie as tie
 
-returns : tie.Need-returns
-returns c = said-given lengthValue (ap toldBuilt (c .before .built .given .1))
-
 returns-2 : tie.Need-returns-2
 returns-2 c = said-refused lengthValue (c .say-refused .ensures) (ap toldBuilt (c .before .before .built2 .given .1))
 
@@ -19,5 +16,5 @@ say-built-spec =
     (λ c. search needs)
     (λ c. search needs)
     (λ c κs. tt)
-    returns
+    (λ c. said-given lengthValue (ap toldBuilt (c .before .built .given .1)))
     returns-2)

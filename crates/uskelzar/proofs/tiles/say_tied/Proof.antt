@@ -6,9 +6,6 @@ use Rattle.uskelzar.proofs.{Saying.{said-given, said-refused}, tiles.sa
 use Rattle.uskelzar.specs.Spoken.{noValues}
 use Rattle.uskelzar.proofs.tiles.say_tied.Tie as tie
 
-returns : tie.Need-returns
-returns c = said-given noValues (ap toldTied (c .enum-told .given .1))
-
 returns-2 : tie.Need-returns-2
 returns-2 c = said-refused noValues (c .say-refused .ensures) (ap toldTied (c .before .before .tied .given .1))
 
@@ -19,5 +16,5 @@ say-tied-spec =
     (λ c. search needs)
     (λ c. search needs)
     (λ c κs. search needs)
-    returns
+    (λ c. said-given noValues (ap toldTied (c .enum-told .given .1)))
     returns-2)

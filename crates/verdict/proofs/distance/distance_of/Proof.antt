@@ -4,21 +4,6 @@ use Rattle.verdict.proofs.distance.distance_of.Statement.{statement}
 use Rattle.verdict.specs.Distance.{distanceOf}
 use Rattle.verdict.proofs.distance.distance_of.Tie as tie
 
-edge-between-requires : tie.Need-edge-between-requires
-edge-between-requires c κs = search needs
-
-closest-requires : tie.Need-closest-requires
-closest-requires c κs = search needs
-
-holds-cut-requires : tie.Need-holds-cut-requires
-holds-cut-requires c κs = search needs
-
-to-segment-requires : tie.Need-to-segment-requires
-to-segment-requires c κs = search needs
-
-to-vertex-requires : tie.Need-to-vertex-requires
-to-vertex-requires c κs = search needs
-
 returns : tie.Need-returns
 unfolding distanceOf
 returns c =
@@ -47,10 +32,10 @@ pub distance-of-spec : {M : Type 1} → statement M
 distance-of-spec =
     tie.close
     (tie.spec
-    edge-between-requires
-    closest-requires
-    holds-cut-requires
-    to-segment-requires
-    to-vertex-requires
+    (λ c κs. search needs)
+    (λ c κs. search needs)
+    (λ c κs. search needs)
+    (λ c κs. search needs)
+    (λ c κs. search needs)
     returns
     returns-2)

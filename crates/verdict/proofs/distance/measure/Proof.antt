@@ -8,15 +8,6 @@ use Rattle.verdict.proofs.distance.measure.Statement.{statement}
 use Rattle.verdict.specs.Distance.{measured}
 use Rattle.verdict.proofs.distance.measure.Tie as tie
 
-distance-of-requires : tie.Need-distance-of-requires
-distance-of-requires c κs = search needs
-
-enum-known-new : tie.Need-enum-known-new
-enum-known-new c = search needs
-
-enum-told : tie.Need-enum-told
-enum-told c = search needs
-
 returns : tie.Need-returns
 unfolding measured
 returns c =
@@ -45,4 +36,4 @@ returns-3 c =
 
 pub measure-spec : {M : Type 1} → statement M
 measure-spec =
-    tie.close (tie.spec distance-of-requires enum-known-new enum-told returns returns-2 returns-3)
+    tie.close (tie.spec (λ c κs. search needs) (λ c. search needs) (λ c. search needs) returns returns-2 returns-3)

@@ -6,17 +6,11 @@ use native.Mathlib.Omega.{arith}
 use Rattle.verdict.proofs.{Squares.{square-not-negative, square-size}, distance.square.Statement.{statement}}
 use Rattle.verdict.proofs.distance.square.Tie as tie
 
-mul-result : tie.Need-mul-result
-mul-result c = search needs
-
 cast-result : tie.Need-cast-result
 cast-result c =
     let z = c .args .difference in
     let whole : SFits w64 (z *ℤ z) = record { sfits = c .pre } in
     rw (toZ-ofZ {w = w64} (c .fits .difference), toZ-ofZ {w = w64} whole) (square-not-negative z, record { fits = omega (arith, square-size z) })
 
-returns : tie.Need-returns
-returns c = search needs
-
 pub square-spec : {M : Type 1} → statement M
-square-spec = tie.close (tie.spec mul-result cast-result returns)
+square-spec = tie.close (tie.spec (λ c. search needs) cast-result (λ c. search needs))

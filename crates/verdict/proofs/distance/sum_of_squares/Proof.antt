@@ -5,18 +5,6 @@ use mir.{Facts.{toZ-ofZ}, Syntax.{w64}}
 use Rattle.verdict.proofs.{Squares.{fourfold}, distance.sum_of_squares.Statement.{statement}}
 use Rattle.verdict.proofs.distance.sum_of_squares.Tie as tie
 
-square-requires : tie.Need-square-requires
-square-requires c κs = search needs
-
-square-requires-2 : tie.Need-square-requires-2
-square-requires-2 c κs = search needs
-
-mul-wrapping-add-u64 : tie.Need-mul-wrapping-add-u64
-mul-wrapping-add-u64 c = search needs
-
-wrapping-add-u64-requires : tie.Need-wrapping-add-u64-requires
-wrapping-add-u64-requires c κs = search needs
-
 returns : tie.Need-returns
 returns c =
     let fits = c .before .before .before .fits in
@@ -30,8 +18,8 @@ pub sum-of-squares-spec : {M : Type 1} → statement M
 sum-of-squares-spec =
     tie.close
     (tie.spec
-    square-requires
-    square-requires-2
-    mul-wrapping-add-u64
-    wrapping-add-u64-requires
+    (λ c κs. search needs)
+    (λ c κs. search needs)
+    (λ c. search needs)
+    (λ c κs. search needs)
     returns)

@@ -8,12 +8,6 @@ use Rattle.verdict.specs.{Distance.{squared, toSegment}, Step.{found}}
 use Rattle.numbers.specs.Float.{cut64, _⊟_}
 use Rattle.verdict.proofs.distance.to_segment.Tie as tie
 
-apart-requires : tie.Need-apart-requires
-apart-requires c κs = search needs
-
-squarable-requires : tie.Need-squarable-requires
-squarable-requires c κs = search needs
-
 returns : tie.Need-returns
 unfolding squared toSegment
 returns c =
@@ -24,12 +18,6 @@ returns c =
     let p : toZ w64 (ofZ w64 (apart .result)) ≡ apart .result = search needs in
     let q = rw (p, apart .ensures) at (squarable .ensures) in
     rw (checked-over 63 (lat *ℤ lat) q (not-true _ (c .if1 .taken)))
-
-apart-requires-2 : tie.Need-apart-requires-2
-apart-requires-2 c κs = search needs
-
-squarable-requires-2 : tie.Need-squarable-requires-2
-squarable-requires-2 c κs = search needs
 
 returns-2 : tie.Need-returns-2
 unfolding squared toSegment
@@ -77,11 +65,11 @@ pub to-segment-spec : {M : Type 1} → statement M
 to-segment-spec =
     tie.close
     (tie.spec
-    apart-requires
-    squarable-requires
+    (λ c κs. search needs)
+    (λ c κs. search needs)
     returns
-    apart-requires-2
-    squarable-requires-2
+    (λ c κs. search needs)
+    (λ c κs. search needs)
     returns-2
     sum-of-squares-requires
     returns-3)

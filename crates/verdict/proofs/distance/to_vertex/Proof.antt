@@ -27,9 +27,6 @@ sub-lat c =
     let y : SFits w32 (a .fix .lat .0) = search needs in
     rw (widened x, widened y) (difference-fits x y)
 
-fits-i32-requires : tie.Need-fits-i32-requires
-fits-i32-requires c κs = search needs
-
 returns : tie.Need-returns
 unfolding toVertex
 returns c =
@@ -58,9 +55,6 @@ sub-lon c =
     let u : SFits w32 (a .to .lon .0) = search needs in
     let v : SFits w32 (a .fix .lon .0) = search needs in
     rw (widened u, widened v) (difference-fits u v)
-
-fits-i32-requires-2 : tie.Need-fits-i32-requires-2
-fits-i32-requires-2 c κs = search needs
 
 returns-2 : tie.Need-returns-2
 unfolding toVertex
@@ -118,12 +112,12 @@ to-vertex-spec =
     cast-lat
     cast-lat-2
     sub-lat
-    fits-i32-requires
+    (λ c κs. search needs)
     returns
     cast-lon
     cast-lon-2
     sub-lon
-    fits-i32-requires-2
+    (λ c κs. search needs)
     returns-2
     sum-of-squares-requires
     returns-3)

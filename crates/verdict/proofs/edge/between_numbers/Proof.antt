@@ -5,12 +5,6 @@ use Rattle.verdict.proofs.edge.between_numbers.Statement.{statement}
 use Rattle.verdict.specs.Edge.{between}
 use Rattle.verdict.proofs.edge.between_numbers.Tie as tie
 
-rising-requires : tie.Need-rising-requires
-rising-requires c κs = search needs
-
-rising-requires-2 : tie.Need-rising-requires-2
-rising-requires-2 c κs = search needs
-
 returns : tie.Need-returns
 unfolding between
 returns c =
@@ -29,4 +23,4 @@ returns-2 c =
     rw (← e, if1 .left) (rw (toZ-ofZ {w = w32} (f .one), toZ-ofZ {w = w32} (f .x), toZ-ofZ {w = w32} (f .other)) at (c .rising2 .ensures))
 
 pub between-numbers-spec : {M : Type 1} → statement M
-between-numbers-spec = tie.close (tie.spec rising-requires rising-requires-2 returns returns-2)
+between-numbers-spec = tie.close (tie.spec (λ c κs. search needs) (λ c κs. search needs) returns returns-2)

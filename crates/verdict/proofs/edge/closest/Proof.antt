@@ -5,24 +5,6 @@ use Rattle.verdict.proofs.edge.closest.Statement.{statement}
 use Rattle.verdict.specs.Edge.{closestOn}
 use Rattle.verdict.proofs.edge.closest.Tie as tie
 
-enum-known-edge : tie.Need-enum-known-edge
-enum-known-edge c = search needs
-
-foot-requires : tie.Need-foot-requires
-foot-requires c κs = search needs
-
-enum-known-edge-2 : tie.Need-enum-known-edge-2
-enum-known-edge-2 c = search needs
-
-of-i32-requires : tie.Need-of-i32-requires
-of-i32-requires c κs = search needs
-
-enum-known-edge-3 : tie.Need-enum-known-edge-3
-enum-known-edge-3 c = search needs
-
-of-i32-requires-2 : tie.Need-of-i32-requires-2
-of-i32-requires-2 c κs = search needs
-
 returns : tie.Need-returns
 returns c =
     rw (c .before .before .edge .given .1) (c .foot .ensures)
@@ -41,12 +23,12 @@ pub closest-spec : {M : Type 1} → statement M
 closest-spec =
     tie.close
     (tie.spec
-    enum-known-edge
-    foot-requires
-    enum-known-edge-2
-    of-i32-requires
-    enum-known-edge-3
-    of-i32-requires-2
+    (λ c. search needs)
+    (λ c κs. search needs)
+    (λ c. search needs)
+    (λ c κs. search needs)
+    (λ c. search needs)
+    (λ c κs. search needs)
     returns
     returns-2
     returns-3)

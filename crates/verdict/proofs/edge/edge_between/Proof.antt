@@ -24,9 +24,6 @@ returns-2 c =
     let v : SFits w32 (a .from .lat .0) = search needs in
     rw (differ-read x y (if1 .left), same-read u v (c .if2 .taken))
 
-slope-between-requires : tie.Need-slope-between-requires
-slope-between-requires c κs = search needs
-
 returns-3 : tie.Need-returns-3
 unfolding edgeOf
 returns-3 c =
@@ -41,4 +38,4 @@ returns-3 c =
     rw (differ-read x y (if1 .left), differ-read u v (if2 .left), c .slope-between .ensures, pre .0, pre .1)
 
 pub edge-between-spec : {M : Type 1} → statement M
-edge-between-spec = tie.close (tie.spec returns returns-2 slope-between-requires returns-3)
+edge-between-spec = tie.close (tie.spec returns returns-2 (λ c κs. search needs) returns-3)

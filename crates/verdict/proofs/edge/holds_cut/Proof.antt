@@ -6,18 +6,6 @@ use Rattle.verdict.proofs.edge.holds_cut.Statement.{statement}
 use Rattle.verdict.specs.Edge.{inBox}
 use Rattle.verdict.proofs.edge.holds_cut.Tie as tie
 
-to-i32-requires : tie.Need-to-i32-requires
-to-i32-requires c κs = search needs
-
-lat-between-requires : tie.Need-lat-between-requires
-lat-between-requires c κs = search needs
-
-to-i32-requires-2 : tie.Need-to-i32-requires-2
-to-i32-requires-2 c κs = search needs
-
-lon-between-requires : tie.Need-lon-between-requires
-lon-between-requires c κs = search needs
-
 returns : tie.Need-returns
 unfolding inBox
 returns c =
@@ -44,9 +32,9 @@ pub holds-cut-spec : {M : Type 1} → statement M
 holds-cut-spec =
     tie.close
     (tie.spec
-    to-i32-requires
-    lat-between-requires
-    to-i32-requires-2
-    lon-between-requires
+    (λ c κs. search needs)
+    (λ c κs. search needs)
+    (λ c κs. search needs)
+    (λ c κs. search needs)
     returns
     returns-2)

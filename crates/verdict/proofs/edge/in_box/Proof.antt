@@ -4,12 +4,6 @@ use Rattle.verdict.proofs.edge.in_box.Statement.{statement}
 use Rattle.verdict.specs.Edge.{inBox}
 use Rattle.verdict.proofs.edge.in_box.Tie as tie
 
-lat-between-requires : tie.Need-lat-between-requires
-lat-between-requires c κs = search needs
-
-lon-between-requires : tie.Need-lon-between-requires
-lon-between-requires c κs = search needs
-
 returns : tie.Need-returns
 unfolding inBox
 returns c =
@@ -23,4 +17,4 @@ returns-2 c =
     rw (← c .before .lat-between .ensures, c .if1 .left)
 
 pub in-box-spec : {M : Type 1} → statement M
-in-box-spec = tie.close (tie.spec lat-between-requires lon-between-requires returns returns-2)
+in-box-spec = tie.close (tie.spec (λ c κs. search needs) (λ c κs. search needs) returns returns-2)

@@ -4,12 +4,6 @@ use Rattle.verdict.proofs.edge.seen_from.Statement.{statement}
 use Rattle.verdict.specs.Kept.{seenFrom}
 use Rattle.verdict.proofs.edge.seen_from.Tie as tie
 
-quadrant-of-requires : tie.Need-quadrant-of-requires
-quadrant-of-requires c κs = search needs
-
-spot-of-requires : tie.Need-spot-of-requires
-spot-of-requires c κs = search needs
-
 returns : tie.Need-returns
 unfolding seenFrom
 returns c =
@@ -25,4 +19,4 @@ returns-2 c =
     rw (c .if1 .left, quadrant-of .ensures, pre)
 
 pub seen-from-spec : {M : Type 1} → statement M
-seen-from-spec = tie.close (tie.spec quadrant-of-requires spot-of-requires returns returns-2)
+seen-from-spec = tie.close (tie.spec (λ c κs. search needs) (λ c κs. search needs) returns returns-2)

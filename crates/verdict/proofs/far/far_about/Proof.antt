@@ -3,19 +3,10 @@ use borrow.Author.Needs.{needs}
 use Rattle.verdict.proofs.{FarFields.{held-about}, far.far_about.Statement.{statement}}
 use Rattle.verdict.proofs.far.far_about.Tie as tie
 
-far-span-requires : tie.Need-far-span-requires
-far-span-requires c κs = search needs
-
-far-span-requires-2 : tie.Need-far-span-requires-2
-far-span-requires-2 c κs = search needs
-
-held-requires : tie.Need-held-requires
-held-requires c κs = search needs
-
 returns : tie.Need-returns
 returns c =
     let a = c .before .before .before .args in
     held-about (a .at .lat) (a .lat) (a .at .lon) (a .lon) (a .«from») _ (c .before .before .far-span .ensures) (c .before .far-span2 .ensures) (c .held .result) (c .held .ensures)
 
 pub far-about-spec : {M : Type 1} → statement M
-far-about-spec = tie.close (tie.spec far-span-requires far-span-requires-2 held-requires returns)
+far-about-spec = tie.close (tie.spec (λ c κs. search needs) (λ c κs. search needs) (λ c κs. search needs) returns)

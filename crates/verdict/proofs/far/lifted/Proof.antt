@@ -4,12 +4,6 @@ use native.Mathlib.Omega.{arith}
 use Rattle.verdict.proofs.{FarFields.{lifting}, far.lifted.Statement.{statement}}
 use Rattle.verdict.proofs.far.lifted.Tie as tie
 
-returns : tie.Need-returns
-returns c = (omega arith, λ h. absurd (omega (arith, h)))
-
-returns-2 : tie.Need-returns-2
-returns-2 c = (omega arith, λ h. absurd (omega (arith, h)))
-
 add-result : tie.Need-add-result
 add-result c =
     let x = toZ-ofZ {w = w32} (c .before .before .fits .x) in
@@ -28,4 +22,4 @@ returns-3 c =
     rw (x, toZ-ofZ {w = w32} (up .fits)) (omega (arith, up .most), λ h. up .back)
 
 pub lifted-spec : {M : Type 1} → statement M
-lifted-spec = tie.close (tie.spec returns returns-2 add-result cast-result returns-3)
+lifted-spec = tie.close (tie.spec (λ c. (omega arith, λ h. absurd (omega (arith, h)))) (λ c. (omega arith, λ h. absurd (omega (arith, h)))) add-result cast-result returns-3)

@@ -5,19 +5,10 @@ use Rattle.verdict.proofs.{FarFields.{opens-far, opens-near}, far.open_
 use Rattle.verdict.specs.Gliding.{Opens}
 use Rattle.verdict.proofs.far.open_field.Tie as tie
 
-far-field-requires : tie.Need-far-field-requires
-far-field-requires c κs = search needs
-
 returns : tie.Need-returns
 returns c =
     let a = c .before .before .args in
     subst (λ (t : Bool). Opens (a .fix) t (a .tally) (a .p) (c .far-field .result)) (sym (c .before .if1 .taken)) (opens-far (a .fix) (a .tally) (a .p) (c .far-field .result) (c .far-field .ensures))
-
-field-of-requires : tie.Need-field-of-requires
-field-of-requires c κs = search needs
-
-held-requires : tie.Need-held-requires
-held-requires c κs = search needs
 
 returns-2 : tie.Need-returns-2
 returns-2 c =
@@ -25,4 +16,4 @@ returns-2 c =
     subst (λ (t : Bool). Opens (a .fix) t (a .tally) (a .p) (c .held .result)) (sym (c .before .before .if1 .left)) (opens-near (a .fix) (a .tally) (a .p) _ (c .before .field-of .ensures) (c .held .result) (c .held .ensures))
 
 pub open-field-spec : {M : Type 1} → statement M
-open-field-spec = tie.close (tie.spec far-field-requires returns field-of-requires held-requires returns-2)
+open-field-spec = tie.close (tie.spec (λ c κs. search needs) returns (λ c κs. search needs) (λ c κs. search needs) returns-2)

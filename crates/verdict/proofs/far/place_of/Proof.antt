@@ -4,12 +4,6 @@ use mir.{Facts.{toZ-ofZ}, Syntax.{w32}, Val.{SFits}}
 use Rattle.verdict.proofs.far.place_of.Statement.{statement}
 use Rattle.verdict.proofs.far.place_of.Tie as tie
 
-lifted-requires : tie.Need-lifted-requires
-lifted-requires c κs = search needs
-
-lifted-requires-2 : tie.Need-lifted-requires-2
-lifted-requires-2 c κs = search needs
-
 returns : tie.Need-returns
 returns c =
     let lat : SFits w32 (c .before .before .before .before .args .p .lat .0) = search needs in
@@ -17,4 +11,4 @@ returns c =
     (rw (toZ-ofZ {w = w32} lat) at (c .before .before .lifted .ensures), rw (toZ-ofZ {w = w32} lon) at (c .lifted2 .ensures))
 
 pub place-of-spec : {M : Type 1} → statement M
-place-of-spec = tie.close (tie.spec lifted-requires lifted-requires-2 returns)
+place-of-spec = tie.close (tie.spec (λ c κs. search needs) (λ c κs. search needs) returns)

@@ -6,14 +6,8 @@ use native.Mathlib.Omega.{arith}
 use Rattle.verdict.proofs.{FarFields.{low-fits}, far.span.Statement.{statement}}
 use Rattle.verdict.proofs.far.span.Tie as tie
 
-cast-t3 : tie.Need-cast-t3
-cast-t3 c = search needs
-
 sub-t4 : tie.Need-sub-t4
 sub-t4 c = let z = toZ-pos w32 {n = c .args .low} (omega (arith, c .pre .0)) in rw z (low-fits (c .args .low) (c .pre .0))
-
-cast-t5 : tie.Need-cast-t5
-cast-t5 c = search needs
 
 sub-t6 : tie.Need-sub-t6
 sub-t6 c = let z = toZ-pos w32 {n = c .args .high} (omega (arith, c .pre .1)) in rw z (low-fits (c .args .high) (c .pre .1))
@@ -25,4 +19,4 @@ returns c =
     (rw (l, toZ-ofZ {w = w32} (low-fits (c .args .low) (c .pre .0))) refl, rw (h, toZ-ofZ {w = w32} (low-fits (c .args .high) (c .pre .1))) refl)
 
 pub span-spec : {M : Type 1} → statement M
-span-spec = tie.close (tie.spec cast-t3 sub-t4 cast-t5 sub-t6 returns)
+span-spec = tie.close (tie.spec (λ c. search needs) sub-t4 (λ c. search needs) sub-t6 returns)

@@ -4,12 +4,6 @@ use mir.{Facts.{toZ-ofZ}, Syntax.{w32}, Val.{SFits}}
 use Rattle.verdict.proofs.{Gliding.{aside-of}, field.field_of.Statement.{statement}}
 use Rattle.verdict.proofs.field.field_of.Tie as tie
 
-side-of-requires : tie.Need-side-of-requires
-side-of-requires c κs = search needs
-
-side-of-requires-2 : tie.Need-side-of-requires-2
-side-of-requires-2 c κs = search needs
-
 returns : tie.Need-returns
 returns c =
     let a = c .before .before .before .before .before .before .args in
@@ -18,4 +12,4 @@ returns c =
     aside-of (a .fix) _ (rw (toZ-ofZ {w = w32} lat) at (c .before .before .before .side-of .ensures)) (rw (toZ-ofZ {w = w32} lon) at (c .side-of2 .ensures))
 
 pub field-of-spec : {M : Type 1} → statement M
-field-of-spec = tie.close (tie.spec side-of-requires side-of-requires-2 returns)
+field-of-spec = tie.close (tie.spec (λ c κs. search needs) (λ c κs. search needs) returns)

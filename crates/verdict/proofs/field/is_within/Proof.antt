@@ -11,16 +11,10 @@ cast-lies-in c =
     let lat : SFits w32 (c .before .before .args .p .lat .0) = search needs in
     widens lat
 
-lies-in-requires : tie.Need-lies-in-requires
-lies-in-requires c κs = search needs
-
 cast-lies-in-2 : tie.Need-cast-lies-in-2
 cast-lies-in-2 c =
     let lon : SFits w32 (c .before .before .before .before .before .before .args .p .lon .0) = search needs in
     widens lon
-
-lies-in-requires-2 : tie.Need-lies-in-requires-2
-lies-in-requires-2 c κs = search needs
 
 returns : tie.Need-returns
 unfolding within
@@ -40,4 +34,4 @@ returns-2 c =
     rw (← first, c .if1 .left)
 
 pub is-within-spec : {M : Type 1} → statement M
-is-within-spec = tie.close (tie.spec cast-lies-in lies-in-requires cast-lies-in-2 lies-in-requires-2 returns returns-2)
+is-within-spec = tie.close (tie.spec cast-lies-in (λ c κs. search needs) cast-lies-in-2 (λ c κs. search needs) returns returns-2)

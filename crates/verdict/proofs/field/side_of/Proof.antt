@@ -3,11 +3,5 @@ use mir.{Facts.{toZ-ofZ}, Syntax.{w32}}
 use Rattle.verdict.proofs.{Gliding.{beside-above, beside-below}, field.side_of.Statement.{statement}}
 use Rattle.verdict.proofs.field.side_of.Tie as tie
 
-returns : tie.Need-returns
-returns c = rw (toZ-ofZ {w = w32} (c .before .fits .x)) (beside-above _ _)
-
-returns-2 : tie.Need-returns-2
-returns-2 c = rw (toZ-ofZ {w = w32} (c .before .fits .x)) (beside-below _ _)
-
 pub side-of-spec : {M : Type 1} → statement M
-side-of-spec = tie.close (tie.spec returns returns-2)
+side-of-spec = tie.close (tie.spec (λ c. rw (toZ-ofZ {w = w32} (c .before .fits .x)) (beside-above _ _)) (λ c. rw (toZ-ofZ {w = w32} (c .before .fits .x)) (beside-below _ _)))

@@ -11,47 +11,8 @@ Inv-loop file field start end place₀ point₀ place point = GlidesBack file fi
 abbrev μ-loop : tie.MeasureT-loop
 μ-loop file field start end place₀ point₀ place point = place
 
-loop-holds : tie.Need-loop-holds Inv-loop μ-loop
-loop-holds c = back-stays _ _ _ _ _
-
-read-backward-requires : tie.Need-read-backward-requires Inv-loop μ-loop
-read-backward-requires c κs = search needs
-
-enum-known-n : tie.Need-enum-known-n Inv-loop μ-loop
-enum-known-n c = search needs
-
-returns : tie.Need-returns Inv-loop μ-loop
-returns c = c .before .before .loop .inv
-
-returns-2 : tie.Need-returns-2 Inv-loop μ-loop
-returns-2 c = c .before .before .before .before .before .before .loop .inv
-
-returns-3 : tie.Need-returns-3 Inv-loop μ-loop
-returns-3 c = c .before .before .before .before .before .before .before .before .loop .inv
-
-decode-point-requires : tie.Need-decode-point-requires Inv-loop μ-loop
-decode-point-requires c κs = search needs
-
-negate-requires : tie.Need-negate-requires Inv-loop μ-loop
-negate-requires c κs = search needs
-
-enum-known-by : tie.Need-enum-known-by Inv-loop μ-loop
-enum-known-by c = search needs
-
-enum-told : tie.Need-enum-told Inv-loop μ-loop
-enum-told c = search needs
-
 returns-4 : tie.Need-returns-4 Inv-loop μ-loop
 returns-4 c = c .before .before .before .before .before .before .before .before .before .before .before .before .loop .inv
-
-lead-requires : tie.Need-lead-requires Inv-loop μ-loop
-lead-requires c κs = search needs
-
-enum-known-to : tie.Need-enum-known-to Inv-loop μ-loop
-enum-known-to c = search needs
-
-enum-told-2 : tie.Need-enum-told-2 Inv-loop μ-loop
-enum-told-2 c = search needs
 
 returns-5 : tie.Need-returns-5 Inv-loop μ-loop
 returns-5 c = c .before .before .before .before .before .before .before .before .before .before .before .before .before .before .before .before .loop .inv
@@ -88,20 +49,20 @@ glide-back-spec =
     (tie.spec
     Inv-loop
     μ-loop
-    loop-holds
-    read-backward-requires
-    enum-known-n
-    returns
-    returns-2
-    returns-3
-    decode-point-requires
-    negate-requires
-    enum-known-by
-    enum-told
+    (λ c. back-stays _ _ _ _ _)
+    (λ c κs. search needs)
+    (λ c. search needs)
+    (λ c. c .before .before .loop .inv)
+    (λ c. c .before .before .before .before .before .before .loop .inv)
+    (λ c. c .before .before .before .before .before .before .before .before .loop .inv)
+    (λ c κs. search needs)
+    (λ c κs. search needs)
+    (λ c. search needs)
+    (λ c. search needs)
     returns-4
-    lead-requires
-    enum-known-to
-    enum-told-2
+    (λ c κs. search needs)
+    (λ c. search needs)
+    (λ c. search needs)
     returns-5
     loop-less
     loop-again)

@@ -6,18 +6,6 @@ use Rattle.border.specs.{Encoding.{encodedBy}, declared.reader.Version.the-vari
 use Rattle.verdict.specs.Gliding.{stays}
 use Rattle.verdict.proofs.glide.glide_counted.Tie as tie
 
-enum-told : tie.Need-enum-told
-enum-told c = search needs
-
-returns : tie.Need-returns
-returns c = stays
-
-glide-plain-requires : tie.Need-glide-plain-requires
-glide-plain-requires c κs = search needs
-
-stand-requires : tie.Need-stand-requires
-stand-requires c κs = search needs
-
 returns-2 : tie.Need-returns-2
 returns-2 c =
     let a = c .before .before .before .before .before .before .before .args in
@@ -28,4 +16,4 @@ returns-2 c =
     (c .before .before .glide-plain .ensures .plainly (a .encoding .«data») (s .first)))
 
 pub glide-counted-spec : {M : Type 1} → statement M
-glide-counted-spec = tie.close (tie.spec enum-told returns glide-plain-requires stand-requires returns-2)
+glide-counted-spec = tie.close (tie.spec (λ c. search needs) (λ c. stays) (λ c κs. search needs) (λ c κs. search needs) returns-2)

@@ -13,33 +13,6 @@ Inv-loop file strict field start place₀ point₀ place point = GlidesForth fil
 abbrev μ-loop : tie.MeasureT-loop
 μ-loop file strict field start place₀ point₀ place point = length file - place
 
-loop-holds : tie.Need-loop-holds Inv-loop μ-loop
-loop-holds c = forth-stays _ _ _ _ _
-
-read-number-requires : tie.Need-read-number-requires Inv-loop μ-loop
-read-number-requires c κs = search needs
-
-enum-known-n : tie.Need-enum-known-n Inv-loop μ-loop
-enum-known-n c = search needs
-
-returns : tie.Need-returns Inv-loop μ-loop
-returns c = c .before .before .loop .inv
-
-returns-2 : tie.Need-returns-2 Inv-loop μ-loop
-returns-2 c = c .before .before .before .before .before .before .loop .inv
-
-decode-point-requires : tie.Need-decode-point-requires Inv-loop μ-loop
-decode-point-requires c κs = search needs
-
-lead-requires : tie.Need-lead-requires Inv-loop μ-loop
-lead-requires c κs = search needs
-
-enum-known-to : tie.Need-enum-known-to Inv-loop μ-loop
-enum-known-to c = search needs
-
-enum-told : tie.Need-enum-told Inv-loop μ-loop
-enum-told c = search needs
-
 returns-3 : tie.Need-returns-3 Inv-loop μ-loop
 returns-3 c = c .before .before .before .before .before .before .before .before .before .before .loop .inv
 
@@ -70,15 +43,15 @@ glide-forth-spec =
     (tie.spec
     Inv-loop
     μ-loop
-    loop-holds
-    read-number-requires
-    enum-known-n
-    returns
-    returns-2
-    decode-point-requires
-    lead-requires
-    enum-known-to
-    enum-told
+    (λ c. forth-stays _ _ _ _ _)
+    (λ c κs. search needs)
+    (λ c. search needs)
+    (λ c. c .before .before .loop .inv)
+    (λ c. c .before .before .before .before .before .before .loop .inv)
+    (λ c κs. search needs)
+    (λ c κs. search needs)
+    (λ c. search needs)
+    (λ c. search needs)
     returns-3
     loop-less
     loop-again)

@@ -6,27 +6,6 @@ use Rattle.border.specs.{Encoding.{encodedBy}, declared.reader.Version.the-vari
 use Rattle.verdict.specs.Gliding.{stays}
 use Rattle.verdict.proofs.glide.glide_packed.Tie as tie
 
-enum-told : tie.Need-enum-told
-enum-told c = search needs
-
-glide-forth-requires : tie.Need-glide-forth-requires
-glide-forth-requires c κs = search needs
-
-stand-requires : tie.Need-stand-requires
-stand-requires c κs = search needs
-
-enum-known-run : tie.Need-enum-known-run
-enum-known-run c = search needs
-
-glide-back-requires : tie.Need-glide-back-requires
-glide-back-requires c κs = search needs
-
-stand-requires-2 : tie.Need-stand-requires-2
-stand-requires-2 c κs = search needs
-
-enum-told-2 : tie.Need-enum-told-2
-enum-told-2 c = search needs
-
 returns : tie.Need-returns
 returns c =
     let a = c .before .before .before .before .before .before .before .args in
@@ -47,10 +26,7 @@ returns-2 c =
     (from-standing s (pre .0) (pre .1) (c .before .before .before .before .run .given .1) (now (a .file)) (encodedBy (a .encoding .strict) Packed (a .encoding .«data»)) (a .field) _
     (glide-back .ensures .back (a .encoding .strict) (a .encoding .«data») (s .place) (s .moves) (s .first)))
 
-returns-3 : tie.Need-returns-3
-returns-3 c = stays
-
 pub glide-packed-spec : {M : Type 1} → statement M
 glide-packed-spec =
     tie.close
-    (tie.spec enum-told glide-forth-requires stand-requires enum-known-run glide-back-requires stand-requires-2 enum-told-2 returns returns-2 returns-3)
+    (tie.spec (λ c. search needs) (λ c κs. search needs) (λ c κs. search needs) (λ c. search needs) (λ c κs. search needs) (λ c κs. search needs) (λ c. search needs) returns returns-2 (λ c. stays))

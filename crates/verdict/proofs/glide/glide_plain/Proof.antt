@@ -14,65 +14,14 @@ Inv-loop file strict field start count place₀ moves₀ point₀ place moves po
 abbrev μ-loop : tie.MeasureT-loop
 μ-loop file strict field start count place₀ moves₀ point₀ place moves point = moves
 
-loop-holds : tie.Need-loop-holds Inv-loop μ-loop
-loop-holds c = plain-stays _ _ _ _ _ _
-
-read-number-requires : tie.Need-read-number-requires Inv-loop μ-loop
-read-number-requires c κs = search needs
-
-enum-known-n : tie.Need-enum-known-n Inv-loop μ-loop
-enum-known-n c = search needs
-
-counted-at-requires : tie.Need-counted-at-requires Inv-loop μ-loop
-counted-at-requires c κs = search needs
-
-returns : tie.Need-returns Inv-loop μ-loop
-returns c = rw (c .counted-at .ensures) (c .before .before .before .before .loop .inv)
-
-read-number-requires-2 : tie.Need-read-number-requires-2 Inv-loop μ-loop
-read-number-requires-2 c κs = search needs
-
-enum-known-m : tie.Need-enum-known-m Inv-loop μ-loop
-enum-known-m c = search needs
-
-counted-at-requires-2 : tie.Need-counted-at-requires-2 Inv-loop μ-loop
-counted-at-requires-2 c κs = search needs
-
 returns-2 : tie.Need-returns-2 Inv-loop μ-loop
 returns-2 c = rw (c .counted-at2 .ensures) (c .before .before .before .before .before .before .before .before .loop .inv)
-
-signed-requires : tie.Need-signed-requires Inv-loop μ-loop
-signed-requires c κs = search needs
-
-signed-requires-2 : tie.Need-signed-requires-2 Inv-loop μ-loop
-signed-requires-2 c κs = search needs
-
-is-still-requires : tie.Need-is-still-requires Inv-loop μ-loop
-is-still-requires c κs = search needs
-
-counted-at-requires-3 : tie.Need-counted-at-requires-3 Inv-loop μ-loop
-counted-at-requires-3 c κs = search needs
 
 returns-3 : tie.Need-returns-3 Inv-loop μ-loop
 returns-3 c = rw (c .counted-at3 .ensures) (c .before .before .before .before .before .before .before .before .before .before .before .before .before .before .loop .inv)
 
-lead-requires : tie.Need-lead-requires Inv-loop μ-loop
-lead-requires c κs = search needs
-
-enum-known-to : tie.Need-enum-known-to Inv-loop μ-loop
-enum-known-to c = search needs
-
-enum-told : tie.Need-enum-told Inv-loop μ-loop
-enum-told c = search needs
-
-counted-at-requires-4 : tie.Need-counted-at-requires-4 Inv-loop μ-loop
-counted-at-requires-4 c κs = search needs
-
 returns-4 : tie.Need-returns-4 Inv-loop μ-loop
 returns-4 c = rw (c .counted-at4 .ensures) (c .before .before .before .before .before .before .before .before .before .before .before .before .before .before .before .before .before .loop .inv)
-
-sub-moves : tie.Need-sub-moves Inv-loop μ-loop
-sub-moves c = search needs
 
 loop-less : tie.Need-loop-less Inv-loop μ-loop
 loop-less c = omega (arith, c .before .before .before .before .before .before .before .before .before .before .before .before .before .before .before .before .loop-test .taken)
@@ -98,39 +47,33 @@ loop-again c =
     let led = rw (to .given .1, north, east) at (lead .ensures) in
     plain-on (now (a .file)) (a .strict) (a .field) (loop .inv) lat lon (c .before .before .before .before .before .before .before .before .before .before .before .before .before .before .before .before .loop-test .taken) stirs (led .0) (led .1)
 
-counted-at-requires-5 : tie.Need-counted-at-requires-5 Inv-loop μ-loop
-counted-at-requires-5 c κs = search needs
-
-returns-5 : tie.Need-returns-5 Inv-loop μ-loop
-returns-5 c = rw (c .counted-at5 .ensures) (c .before .before .loop .inv)
-
 pub glide-plain-spec : {M : Type 1} → statement M
 glide-plain-spec =
     tie.close
     (tie.spec
     Inv-loop
     μ-loop
-    loop-holds
-    read-number-requires
-    enum-known-n
-    counted-at-requires
-    returns
-    read-number-requires-2
-    enum-known-m
-    counted-at-requires-2
+    (λ c. plain-stays _ _ _ _ _ _)
+    (λ c κs. search needs)
+    (λ c. search needs)
+    (λ c κs. search needs)
+    (λ c. rw (c .counted-at .ensures) (c .before .before .before .before .loop .inv))
+    (λ c κs. search needs)
+    (λ c. search needs)
+    (λ c κs. search needs)
     returns-2
-    signed-requires
-    signed-requires-2
-    is-still-requires
-    counted-at-requires-3
+    (λ c κs. search needs)
+    (λ c κs. search needs)
+    (λ c κs. search needs)
+    (λ c κs. search needs)
     returns-3
-    lead-requires
-    enum-known-to
-    enum-told
-    counted-at-requires-4
+    (λ c κs. search needs)
+    (λ c. search needs)
+    (λ c. search needs)
+    (λ c κs. search needs)
     returns-4
-    sub-moves
+    (λ c. search needs)
     loop-less
     loop-again
-    counted-at-requires-5
-    returns-5)
+    (λ c κs. search needs)
+    (λ c. rw (c .counted-at5 .ensures) (c .before .before .loop .inv)))

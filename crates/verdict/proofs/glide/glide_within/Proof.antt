@@ -4,18 +4,6 @@ use denote.Ref.{now}
 use Rattle.verdict.proofs.{Gliding.{of-version}, glide.glide_within.Statement.{statement}}
 use Rattle.verdict.proofs.glide.glide_within.Tie as tie
 
-enum-told : tie.Need-enum-told
-enum-told c = search needs
-
-glide-packed-requires : tie.Need-glide-packed-requires
-glide-packed-requires c κs = search needs
-
-enum-told-2 : tie.Need-enum-told-2
-enum-told-2 c = search needs
-
-glide-counted-requires : tie.Need-glide-counted-requires
-glide-counted-requires c κs = search needs
-
 returns : tie.Need-returns
 returns c =
     let a = c .before .before .before .before .args in
@@ -27,4 +15,4 @@ returns-2 c =
     of-version (now (a .file)) (a .encoding) (a .field) (a .reader) _ (c .before .enum-told2 .given .1) (c .glide-counted .ensures)
 
 pub glide-within-spec : {M : Type 1} → statement M
-glide-within-spec = tie.close (tie.spec enum-told glide-packed-requires enum-told-2 glide-counted-requires returns returns-2)
+glide-within-spec = tie.close (tie.spec (λ c. search needs) (λ c κs. search needs) (λ c. search needs) (λ c κs. search needs) returns returns-2)

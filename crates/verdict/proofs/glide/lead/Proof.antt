@@ -24,12 +24,6 @@ add-lat c =
     let y : SFits w32 (a .by .lat) = search needs in
     rw (widened x, widened y) (sum-fits x y)
 
-lies-in-requires : tie.Need-lies-in-requires
-lies-in-requires c κs = search needs
-
-returns : tie.Need-returns
-returns c = search needs
-
 cast-lon : tie.Need-cast-lon
 cast-lon c =
     let u : SFits w32 (c .before .before .before .before .before .before .before .before .args .p .lon .0) = search needs in
@@ -46,12 +40,6 @@ add-lon c =
     let u : SFits w32 (a .p .lon .0) = search needs in
     let v : SFits w32 (a .by .lon) = search needs in
     rw (widened u, widened v) (sum-fits u v)
-
-lies-in-requires-2 : tie.Need-lies-in-requires-2
-lies-in-requires-2 c κs = search needs
-
-returns-2 : tie.Need-returns-2
-returns-2 c = search needs
 
 cast-t10 : tie.Need-cast-t10
 cast-t10 c =
@@ -87,4 +75,4 @@ returns-3 c =
 pub lead-spec : {M : Type 1} → statement M
 lead-spec =
     tie.close
-    (tie.spec cast-lat cast-lat-2 add-lat lies-in-requires returns cast-lon cast-lon-2 add-lon lies-in-requires-2 returns-2 cast-t10 cast-t12 returns-3)
+    (tie.spec cast-lat cast-lat-2 add-lat (λ c κs. search needs) (λ c. search needs) cast-lon cast-lon-2 add-lon (λ c κs. search needs) (λ c. search needs) cast-t10 cast-t12 returns-3)

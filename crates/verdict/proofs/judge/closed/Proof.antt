@@ -38,9 +38,6 @@ returns-3 c =
     let w : SFits w32 (args .tally .winding) = search needs in
     rw (differ-read w minus-four (if1 .left), differ-read w four (if2 .left), same-read w zero (c .if3 .taken))
 
-on-border-requires : tie.Need-on-border-requires
-on-border-requires c κs = search needs
-
 returns-4 : tie.Need-returns-4
 unfolding closedAt
 returns-4 c =
@@ -52,4 +49,4 @@ returns-4 c =
     rw (differ-read w minus-four (if1 .left), differ-read w four (if2 .left), differ-read w zero (if3 .left)) (c .on-border .ensures)
 
 pub closed-spec : {M : Type 1} → statement M
-closed-spec = tie.close (tie.spec returns returns-2 returns-3 on-border-requires returns-4)
+closed-spec = tie.close (tie.spec returns returns-2 returns-3 (λ c κs. search needs) returns-4)

@@ -3,21 +3,6 @@ use borrow.Author.Needs.{needs}
 use Rattle.verdict.proofs.judge.ended.Statement.{statement}
 use Rattle.verdict.proofs.judge.ended.Tie as tie
 
-enum-told : tie.Need-enum-told
-enum-told c = search needs
-
-closed-requires : tie.Need-closed-requires
-closed-requires c κs = search needs
-
-enum-known-next : tie.Need-enum-known-next
-enum-known-next c = search needs
-
-enum-told-2 : tie.Need-enum-told-2
-enum-told-2 c = search needs
-
-enum-told-3 : tie.Need-enum-told-3
-enum-told-3 c = search needs
-
 returns : tie.Need-returns
 returns c =
     rw (c .before .enum-told .given .1) (c .closed .ensures)
@@ -38,11 +23,11 @@ pub ended-spec : {M : Type 1} → statement M
 ended-spec =
     tie.close
     (tie.spec
-    enum-told
-    closed-requires
-    enum-known-next
-    enum-told-2
-    enum-told-3
+    (λ c. search needs)
+    (λ c κs. search needs)
+    (λ c. search needs)
+    (λ c. search needs)
+    (λ c. search needs)
     returns
     returns-2
     returns-3

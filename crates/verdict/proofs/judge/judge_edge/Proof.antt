@@ -8,9 +8,6 @@ wound-requires : tie.Need-wound-requires
 wound-requires c κs =
     (c .pre .fixed, quadrant-kept _ _ (c .pre .left), quadrant-kept _ _ (c .pre .reached))
 
-enum-known-turned : tie.Need-enum-known-turned
-enum-known-turned c = search needs
-
 returns : tie.Need-returns
 unfolding along
 returns c =
@@ -39,4 +36,4 @@ returns-3 c =
 pub judge-edge-spec : {M : Type 1} → statement M
 judge-edge-spec =
     tie.close
-    (tie.spec wound-requires enum-known-turned returns measure-requires returns-2 returns-3)
+    (tie.spec wound-requires (λ c. search needs) returns measure-requires returns-2 returns-3)

@@ -4,16 +4,10 @@ use Rattle.verdict.proofs.judge.judge_point.Statement.{statement}
 use Rattle.verdict.specs.Verdict.{along, passing}
 use Rattle.verdict.proofs.judge.judge_point.Tie as tie
 
-same-point-requires : tie.Need-same-point-requires
-same-point-requires c κs = search needs
-
 returns : tie.Need-returns
 unfolding passing
 returns c =
     rw (← c .before .same-point .ensures, c .if1 .taken)
-
-judge-edge-requires : tie.Need-judge-edge-requires
-judge-edge-requires c κs = search needs
 
 returns-2 : tie.Need-returns-2
 unfolding passing
@@ -32,4 +26,4 @@ returns-3 c =
 
 pub judge-point-spec : {M : Type 1} → statement M
 judge-point-spec =
-    tie.close (tie.spec same-point-requires returns judge-edge-requires returns-2 returns-3)
+    tie.close (tie.spec (λ c κs. search needs) returns (λ c κs. search needs) returns-2 returns-3)

@@ -23,27 +23,6 @@ abbrev μ-loop : tie.MeasureT-loop
 μ-loop file encoding place asked least fix at reader₀ begun₀ last₀ tally₀ reader begun last tally =
     points (traceOf file encoding reader)
 
-spot-of-requires : tie.Need-spot-of-requires Inv-loop μ-loop
-spot-of-requires c κs = search needs
-
-open-border-requires : tie.Need-open-border-requires Inv-loop μ-loop
-open-border-requires c κs = search needs
-
-seen-from-requires : tie.Need-seen-from-requires Inv-loop μ-loop
-seen-from-requires c κs = c .before .spot-of .ensures
-
-loop-holds : tie.Need-loop-holds Inv-loop μ-loop
-loop-holds c = (rw (c .before .open-border .ensures), seen-again _ _ _ (c .seen-from .ensures))
-
-next-point-requires : tie.Need-next-point-requires Inv-loop μ-loop
-next-point-requires c κs = search needs
-
-enum-known-next : tie.Need-enum-known-next Inv-loop μ-loop
-enum-known-next c = search needs
-
-ended-requires : tie.Need-ended-requires Inv-loop μ-loop
-ended-requires c κs = search needs
-
 returns : tie.Need-returns Inv-loop μ-loop
 unfolding judgedAt
 returns c =
@@ -71,12 +50,6 @@ judge-point-requires c κs =
     let spot-of = c .before .before .before .before .before .before .before .before .spot-of in
     let loop = c .before .before .before .before .before .loop in
     record { fixed = spot-of .ensures; left = loop .inv .1; reached = seen-again _ _ _ (c .seen-from2 .ensures) }
-
-enum-known-passed : tie.Need-enum-known-passed Inv-loop μ-loop
-enum-known-passed c = search needs
-
-stopped-requires : tie.Need-stopped-requires Inv-loop μ-loop
-stopped-requires c κs = search needs
 
 -- the step that was taken, followed by the rest of the border
 stepped : (c : tie.After-judge-point Inv-loop μ-loop) →
@@ -111,15 +84,6 @@ returns-2 c =
     let match2 = c .before .match2 in
     c .stopped .ensures ∙ decides (judge-point .result) _ _ _ (match2 .keys2) ∙ stepped (c .before .before)
 
-open-field-requires : tie.Need-open-field-requires Inv-loop μ-loop
-open-field-requires c κs = search needs
-
-enum-told : tie.Need-enum-told Inv-loop μ-loop
-enum-told c = search needs
-
-enum-known-field : tie.Need-enum-known-field Inv-loop μ-loop
-enum-known-field c = search needs
-
 loop-less : tie.Need-loop-less Inv-loop μ-loop
 loop-less c =
     let a = c .before .before .before .before .before .before .before .before .before .before .before .before .before .before .before .before .before .args in
@@ -131,9 +95,6 @@ loop-again : tie.Need-loop-again Inv-loop μ-loop
 unfolding thenOn
 loop-again c =
     (rw (c .before .before .before .before .passed .given .1) at (stepped (c .before .before .before .before .before .before)), seen-again _ _ _ (c .before .before .before .before .before .before .before .seen-from2 .ensures))
-
-glide-on-requires : tie.Need-glide-on-requires Inv-loop μ-loop
-glide-on-requires c κs = search needs
 
 seen-from-requires-3 : tie.Need-seen-from-requires-3 Inv-loop μ-loop
 seen-from-requires-3 c κs = c .before .before .before .before .before .before .before .before .before .before .before .before .before .before .before .before .before .spot-of .ensures
@@ -165,25 +126,25 @@ point-in-polygon-spec =
     (tie.spec
     Inv-loop
     μ-loop
-    spot-of-requires
-    open-border-requires
-    seen-from-requires
-    loop-holds
-    next-point-requires
-    enum-known-next
-    ended-requires
+    (λ c κs. search needs)
+    (λ c κs. search needs)
+    (λ c κs. c .before .spot-of .ensures)
+    (λ c. (rw (c .before .open-border .ensures), seen-again _ _ _ (c .seen-from .ensures)))
+    (λ c κs. search needs)
+    (λ c. search needs)
+    (λ c κs. search needs)
     returns
     seen-from-requires-2
     judge-point-requires
-    enum-known-passed
-    stopped-requires
+    (λ c. search needs)
+    (λ c κs. search needs)
     returns-2
-    open-field-requires
-    enum-told
+    (λ c κs. search needs)
+    (λ c. search needs)
     loop-less
     loop-again
-    enum-known-field
-    glide-on-requires
+    (λ c. search needs)
+    (λ c κs. search needs)
     seen-from-requires-3
     loop-less-2
     loop-again-2)

@@ -6,30 +6,9 @@ use Rattle.verdict.proofs.winding.{Cases.{straight-across}, cross.State
 use Rattle.verdict.specs.Winding.{acrossBy}
 use Rattle.verdict.proofs.winding.cross.Tie as tie
 
-enum-known-edge : tie.Need-enum-known-edge
-enum-known-edge c = search needs
-
 returns : tie.Need-returns
 returns c =
     straight-across _ (c .before .args .edge) _ _ (c .match .keys2)
-
-crossing-of-requires : tie.Need-crossing-of-requires
-crossing-of-requires c κs = search needs
-
-turn-at-requires : tie.Need-turn-at-requires
-turn-at-requires c κs = search needs
-
-enum-known-by : tie.Need-enum-known-by
-enum-known-by c = search needs
-
-turn-requires : tie.Need-turn-requires
-turn-requires c κs = search needs
-
-enum-told : tie.Need-enum-told
-enum-told c = search needs
-
-enum-told-2 : tie.Need-enum-told-2
-enum-told-2 c = search needs
 
 returns-2 : tie.Need-returns-2
 unfolding acrossBy
@@ -62,14 +41,14 @@ pub cross-spec : {M : Type 1} → statement M
 cross-spec =
     tie.close
     (tie.spec
-    enum-known-edge
+    (λ c. search needs)
     returns
-    crossing-of-requires
-    turn-at-requires
-    enum-known-by
-    turn-requires
-    enum-told
-    enum-told-2
+    (λ c κs. search needs)
+    (λ c κs. search needs)
+    (λ c. search needs)
+    (λ c κs. search needs)
+    (λ c. search needs)
+    (λ c. search needs)
     returns-2
     returns-3
     returns-4)

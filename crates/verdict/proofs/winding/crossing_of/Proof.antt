@@ -6,9 +6,6 @@ use Rattle.verdict.proofs.winding.crossing_of.Statement.{statement}
 use Rattle.verdict.specs.Winding.{crossingOf}
 use Rattle.verdict.proofs.winding.crossing_of.Tie as tie
 
-to-i32-requires : tie.Need-to-i32-requires
-to-i32-requires c κs = search needs
-
 returns : tie.Need-returns
 unfolding crossingOf
 returns c =
@@ -17,4 +14,4 @@ returns c =
     rw (p, c .to-i32 .ensures, pre)
 
 pub crossing-of-spec : {M : Type 1} → statement M
-crossing-of-spec = tie.close (tie.spec to-i32-requires returns)
+crossing-of-spec = tie.close (tie.spec (λ c κs. search needs) returns)

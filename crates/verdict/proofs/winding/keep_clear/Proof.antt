@@ -4,12 +4,6 @@ use Rattle.verdict.proofs.winding.keep_clear.Statement.{statement}
 use Rattle.verdict.specs.Winding.{clearOf}
 use Rattle.verdict.proofs.winding.keep_clear.Tie as tie
 
-is-straight-requires : tie.Need-is-straight-requires
-is-straight-requires c κs = search needs
-
-in-box-requires : tie.Need-in-box-requires
-in-box-requires c κs = search needs
-
 returns : tie.Need-returns
 unfolding clearOf
 returns c =
@@ -33,4 +27,4 @@ returns-3 c =
 
 pub keep-clear-spec : {M : Type 1} → statement M
 keep-clear-spec =
-    tie.close (tie.spec is-straight-requires in-box-requires returns returns-2 returns-3)
+    tie.close (tie.spec (λ c κs. search needs) (λ c κs. search needs) returns returns-2 returns-3)

@@ -4,16 +4,10 @@ use Rattle.verdict.proofs.winding.quarter.Statement.{statement}
 use Rattle.verdict.specs.Winding.{quarterBy}
 use Rattle.verdict.proofs.winding.quarter.Tie as tie
 
-turn-requires : tie.Need-turn-requires
-turn-requires c κs = search needs
-
 returns : tie.Need-returns
 unfolding quarterBy
 returns c =
     rw (eq-eqb _ _ (c .before .if1 .taken)) (c .turn .ensures)
-
-turn-requires-2 : tie.Need-turn-requires-2
-turn-requires-2 c κs = search needs
 
 returns-2 : tie.Need-returns-2
 unfolding quarterBy
@@ -28,4 +22,4 @@ returns-3 c =
     rw (ne-eqb _ _ (c .before .if1 .left), ne-eqb _ _ (c .if2 .left))
 
 pub quarter-spec : {M : Type 1} → statement M
-quarter-spec = tie.close (tie.spec turn-requires returns turn-requires-2 returns-2 returns-3)
+quarter-spec = tie.close (tie.spec (λ c κs. search needs) returns (λ c κs. search needs) returns-2 returns-3)

@@ -29,9 +29,6 @@ add-sum c =
     let w : SFits w32 (args .tally .winding) = search needs in
     rw (widened w, widened b) (sum-fits w b)
 
-fits-i32-requires : tie.Need-fits-i32-requires
-fits-i32-requires c κs = search needs
-
 cast-t8 : tie.Need-cast-t8
 cast-t8 c =
     let fits = c .before .before .before .before .fits in
@@ -75,4 +72,4 @@ returns-2 c =
 
 pub turn-spec : {M : Type 1} → statement M
 turn-spec =
-    tie.close (tie.spec cast-sum cast-sum-2 add-sum fits-i32-requires cast-t8 returns returns-2)
+    tie.close (tie.spec cast-sum cast-sum-2 add-sum (λ c κs. search needs) cast-t8 returns returns-2)

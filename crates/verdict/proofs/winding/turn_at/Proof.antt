@@ -28,9 +28,6 @@ sub-left c =
     let x : SFits w32 (args .fix .0) = search needs in
     rw (widened x) (difference-fits x one)
 
-fits-i32-requires : tie.Need-fits-i32-requires
-fits-i32-requires c κs = search needs
-
 returns : tie.Need-returns
 unfolding turnAt
 returns c =
@@ -40,9 +37,6 @@ returns c =
     let y : SFits w32 (a .crossing .0) = search needs in
     let left = rw (exact-difference x one) at (fits-i32 .ensures) in
     rw (checked-over 31 (a .fix .0 -ℤ pos 1) left (not-true _ (c .if1 .taken)))
-
-half-turn-requires : tie.Need-half-turn-requires
-half-turn-requires c κs = search needs
 
 returns-2 : tie.Need-returns-2
 unfolding turnAt
@@ -69,9 +63,6 @@ add-right c =
     let x : SFits w32 (args .fix .0) = search needs in
     rw (widened x) (sum-fits x one)
 
-fits-i32-requires-2 : tie.Need-fits-i32-requires-2
-fits-i32-requires-2 c κs = search needs
-
 returns-3 : tie.Need-returns-3
 unfolding turnAt
 returns-3 c =
@@ -85,9 +76,6 @@ returns-3 c =
     let left = rw (exact-difference x one) at (fits-i32 .ensures) in
     let right = rw (exact-sum x one) at (fits-i322 .ensures) in
     rw (checked-found 31 (a .fix .0 -ℤ pos 1) left (not-false _ (if1 .left)), rw (widened y, exact-difference x one) at (if2 .left), checked-over 31 (a .fix .0 +ℤ pos 1) right (not-true _ (c .if3 .taken)))
-
-half-turn-requires-2 : tie.Need-half-turn-requires-2
-half-turn-requires-2 c κs = search needs
 
 returns-4 : tie.Need-returns-4
 unfolding turnAt
@@ -128,14 +116,14 @@ turn-at-spec =
     cast-met
     cast-left
     sub-left
-    fits-i32-requires
+    (λ c κs. search needs)
     returns
-    half-turn-requires
+    (λ c κs. search needs)
     returns-2
     cast-right
     add-right
-    fits-i32-requires-2
+    (λ c κs. search needs)
     returns-3
-    half-turn-requires-2
+    (λ c κs. search needs)
     returns-4
     returns-5)

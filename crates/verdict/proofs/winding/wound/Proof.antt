@@ -7,9 +7,6 @@ use Rattle.verdict.proofs.{Kept.{quadrant-small}, winding.{Cases.{stays
 use Rattle.verdict.specs.Winding.{quarterBy, woundBy}
 use Rattle.verdict.proofs.winding.wound.Tie as tie
 
-keep-clear-requires : tie.Need-keep-clear-requires
-keep-clear-requires c κs = search needs
-
 returns : tie.Need-returns
 unfolding woundBy quarterBy
 returns c =
@@ -33,18 +30,6 @@ sub-quarters c =
     let p = pre in
     omega (arith, p .1, quadrant-small (a .fix) (a .from .point))
 
-spot-of-requires : tie.Need-spot-of-requires
-spot-of-requires c κs = search needs
-
-spot-of-requires-2 : tie.Need-spot-of-requires-2
-spot-of-requires-2 c κs = search needs
-
-edge-between-requires : tie.Need-edge-between-requires
-edge-between-requires c κs = search needs
-
-cross-requires : tie.Need-cross-requires
-cross-requires c κs = search needs
-
 returns-2 : tie.Need-returns-2
 unfolding woundBy
 returns-2 c =
@@ -53,12 +38,6 @@ returns-2 c =
     let edge-between = c .before .edge-between in
     rw (← pre .1, ← pre .2, eq-eqb _ _ (if2 .taken)) (rw (edge-between .ensures) at (c .cross .ensures))
 
-quarter-requires : tie.Need-quarter-requires
-quarter-requires c κs = search needs
-
-enum-known-turned : tie.Need-enum-known-turned
-enum-known-turned c = search needs
-
 returns-3 : tie.Need-returns-3
 unfolding woundBy
 returns-3 c =
@@ -66,9 +45,6 @@ returns-3 c =
     let if2 = c .before .before .if2 in
     let quarter = c .before .quarter in
     rw (← pre .1, ← pre .2, ne-eqb _ _ (if2 .left), ← quarter .ensures) (stays (quarter .result) _ (c .match .keys2))
-
-keep-clear-requires-2 : tie.Need-keep-clear-requires-2
-keep-clear-requires-2 c κs = search needs
 
 returns-4 : tie.Need-returns-4
 unfolding woundBy
@@ -83,17 +59,17 @@ pub wound-spec : {M : Type 1} → statement M
 wound-spec =
     tie.close
     (tie.spec
-    keep-clear-requires
+    (λ c κs. search needs)
     returns
     add-quarters
     sub-quarters
-    spot-of-requires
-    spot-of-requires-2
-    edge-between-requires
-    cross-requires
+    (λ c κs. search needs)
+    (λ c κs. search needs)
+    (λ c κs. search needs)
+    (λ c κs. search needs)
     returns-2
-    quarter-requires
-    enum-known-turned
+    (λ c κs. search needs)
+    (λ c. search needs)
     returns-3
-    keep-clear-requires-2
+    (λ c κs. search needs)
     returns-4)
