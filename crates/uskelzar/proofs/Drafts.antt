@@ -2,7 +2,7 @@
 use Prim.Native.Nat.{ℕ, _*_, _/_, _%_, _^_, _<_}
 use borrow.Author.Tests.{eq-eqb}
 use lib.{IntN.{ℤ, pos, negsuc}, ListN.{getD}}
-use mathlib.Core.{List.{List, [], _∷_}, Path.{_≡_, refl, sym, ap, subst, _∙_}}
+use mathlib.Core.{List.{List, [], _∷_}, Path.{_≡_, sym, ap, subst, _∙_}}
 use mir.{Syntax.{w32}, Val.{SFits, ofZ}}
 use native.Mathlib.Omega.{arith}
 use Rattle.build.specs.{Whole.{toldBuilt}, declared.file.Built.{Built}}

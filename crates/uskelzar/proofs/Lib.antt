@@ -8,3 +8,4 @@ pub mod NumberedCalls
 pub mod NumberedDrafts
 pub mod SameCalls
 pub mod SameDrafts
+pub mod WorkedDraft

@@ -1,5 +1,5 @@
 -- Which numbers each call of a builder can be refused with. Assumes nothing.
-use Prim.Native.Nat.{ℕ, _-_, _≤_, _^_, min}
+use Prim.Native.Nat.{ℕ, _≤_, _^_, min}
 use borrow.Author.Tests.{le-leb}
 use lib.{Dec.{ltb, leb, eqb}, IntN.{ℤ}, ListN.{length, take, drop}}
 use mathlib.Core.{Bool.{Bool, true, false, not, _&&_}, List.{List, [], _∷_, _++_}, Path.{_≡_, refl, sym, ap, subst, _∙_}}
@@ -9,7 +9,7 @@ use Rattle.header.specs.Header.{isKind}
 use Rattle.numbers.{proofs.{Refusals.{Listed, either}, Replies.{NumberedReply, answers, refuses, then-reply, and-then, demands, number-of}}, specs.{Answer.{if_then_else_}, Reply.{Reply, given, refused, refusal, plain, demand, _>>_}, declared.{point.RawPoint.{RawPoint}, refusal.Refusal.{Refusal}}}}
 use Rattle.writer.specs.{Moves.{movesOf, isMove}, Pieces.{goodPieces}, Writer.{every, sized, near, checks, plainBorder, packedBorder, borderOf}, declared.write.Piece.{Piece}}
 use Rattle.held.proofs.Redrawn.{data-few}
-use Rattle.held.specs.{Builder.{Builder, Offered, holding, yardOf, summed, fitting, begin, add, dropLast, replace, finish}, Sound.{Sound}, Space.{Space}, Totals.{dataOf, fileSize}}
+use Rattle.held.specs.{Builder.{Builder, Offered, holding, yardOf, fitting, begin, add, dropLast, replace, finish}, Sound.{Sound}, Space.{Space}, Totals.{dataOf, fileSize}}
 
 abbrev pub beginNumbers : List ℕ
 beginNumbers = 25 ∷ 26 ∷ 27 ∷ 28 ∷ []

@@ -8,7 +8,7 @@ use Rattle.build.specs.{Whole.{toldBuilt}, declared.file.Built.{Built}}
 use Rattle.builder.specs.{File.{Replied, fitted}, Yards.{Text, Plan}}
 use Rattle.changing.specs.{Begun.{Begins}, Dropped.{Drops, leftSpace}, Emptied.{Clears}}
 use Rattle.drawing.proofs.Lending.{never-given}
-use Rattle.held.specs.{Builder.{Builder, Offered, add, begin, clear, dropLast, finish, replace}, Space.{Space, standing}, State.{Answers, Holds, Lists, heldAs}, declared.{room.Rooms.{Rooms}, state.{Changed.{Changed}, Held.{Held}}}}
+use Rattle.held.specs.{Builder.{Builder, Offered, add, begin, clear, dropLast, finish, replace}, Space.{Space}, State.{Answers, Holds, Lists, heldAs}, declared.{room.Rooms.{Rooms}, state.{Changed.{Changed}, Held.{Held}}}}
 use Rattle.held.specs.declared.state.Changed.the-variants as C
 use Rattle.numbers.{proofs.Refusals.{Listed, oneOf}, specs.{Reply.{Reply, given, refused, plain}, declared.refusal.Refusal.{Refusal}}}
 use Rattle.replacing.specs.Replaced.{Replaces}

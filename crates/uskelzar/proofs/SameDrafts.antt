@@ -9,7 +9,7 @@ use Rattle.held.specs.{Builder.{Offered}, Space.{Space}, State.{Lists}, declare
 use Rattle.held.specs.declared.state.Changed.the-variants as C
 use Rattle.replacing.specs.Replaced.{Replaces}
 use Rattle.uskelzar.proofs.SameCalls.{Told, same-added, same-begun, same-cleared, same-dropped, same-finished, same-replaced}
-use Rattle.uskelzar.specs.{Draft.{Ends, Files, Kept, Speaks, Spoke, heldOf, toldChanged, totalsValues}, Spoken.{lengthValue, saidOf}, declared.Said.{Said}}
+use Rattle.uskelzar.specs.{Draft.{Ends, Files, Kept, Speaks, heldOf, toldChanged, totalsValues}, Spoken.{lengthValue, saidOf}, declared.Said.{Said}}
 
 -- two calls that make the same of a builder
 same-kept : (before after after′ : List ℕ) (changed : Changed) → Kept before after changed → Kept before after′ changed → after ≡ after′
