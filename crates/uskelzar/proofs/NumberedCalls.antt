@@ -11,6 +11,7 @@ use Rattle.writer.specs.{Moves.{movesOf, isMove}, Pieces.{goodPieces}, Writer.{
 use Rattle.held.proofs.Redrawn.{data-few}
 use Rattle.held.specs.{Builder.{Builder, Offered, holding, yardOf, fitting, begin, add, dropLast, replace, finish}, Sound.{Sound}, Space.{Space}, Totals.{dataOf, fileSize}}
 
+-- the numbers that document 02 gives to each
 abbrev pub beginNumbers : List ℕ
 beginNumbers = 25 ∷ 26 ∷ 27 ∷ 28 ∷ []
 

@@ -2,7 +2,6 @@
 use Prim.Native.Nat.{ℕ}
 use lib.IntN.{pos}
 use mathlib.Core.{Bool.{false}, List.{List}, Logic.{_⊎_, inl, inr}, Path.{_≡_, sym, ap, subst, _∙_}}
-use native.Mathlib.Omega.{arith}
 use Rattle.adding.specs.Adds.{Adds}
 use Rattle.adding.specs.Adds as Adding
 use Rattle.build.specs.{Whole.{toldBuilt}, declared.file.Built.{Built}}
@@ -10,6 +9,7 @@ use Rattle.build.specs.declared.file.Built.the-variants as W
 use Rattle.builder.specs.{File.{Replied}, Yards.{Text, Plan}}
 use Rattle.changing.proofs.Cuts.{lists-same}
 use Rattle.changing.specs.{Begun.{Begins, blank}, Dropped.{Drops, leftSpace}, Emptied.{Clears}}
+use Rattle.drawing.proofs.Lending.{never-given}
 use Rattle.held.{proofs.Fronts.{front-one}, specs.{Builder.{Builder, Offered, add, begin, clear, dropLast, finish, replace}, Space.{Space, standing}, State.{Answers, Holds, Idle, Lists, SameRooms}, declared.{room.Rooms.{Rooms}, state.{Changed.{Changed}, Held.{Held}}}}}
 use Rattle.held.specs.declared.state.Changed.the-variants as C
 use Rattle.numbers.specs.{Reply.{Reply, given, refused, plain}, declared.refusal.Refusal.{Refusal}}
@@ -64,7 +64,7 @@ module _ (reply : Reply Builder) (before left after after′ : Lists) where
   stays-one why why′ (is, same) (is′, same′) = (cc, same ∙ sym same′)
 
 never-both : {A : Type 0} {reply : Reply Builder} {b : Builder} {why : Refusal} → reply ≡ given b → reply ≡ refused why → A
-never-both is is′ = let z : _≡_ {A = ℕ} 0 1 = cc in absurd (omega arith)
+never-both is is′ = absurd (never-given _ _ (sym is′ ∙ is))
 
 -- Two replies that are as the definition has it are equal, with every list.
 pub same-answer : (reply : Reply Builder) (before after after′ : Lists) (r r′ : Changed) → Answers reply before after r → Answers reply before after′ r′ → (r ≡ r′) × (after ≡ after′)
@@ -116,8 +116,8 @@ same-begun plan room space before after after′ (C.Refused why) (C.Refused why�
 -- ---- the end
 told-one : (r r′ : Built) → toldBuilt r ≡ toldBuilt r′ → r ≡ r′
 told-one (W.Length n) (W.Length n′) e = cc
-told-one (W.Length n) (W.Refused why) e = let z : _≡_ {A = ℕ} 0 1 = cc in absurd (omega arith)
-told-one (W.Refused why) (W.Length n) e = let z : _≡_ {A = ℕ} 0 1 = cc in absurd (omega arith)
+told-one (W.Length n) (W.Refused why) e = absurd (never-given why n (sym e))
+told-one (W.Refused why) (W.Length n) e = absurd (never-given why n e)
 told-one (W.Refused why) (W.Refused why′) e = cc
 
 pub same-end : (reply : Reply (List ℕ)) (room : ℕ) (out out′ : List ℕ) (r r′ : Built) → Finishes reply room out r → Finishes reply room out′ r′ → (r ≡ r′) × (out ≡ out′)
@@ -132,5 +132,13 @@ same-finished held rooms lists (inr broken) f f′ = (f .broken broken .0 ∙ sy
 module _ {starts keys spare kept held words places out starts₁ keys₁ spare₁ kept₁ held₁ words₁ places₁ out₁ starts₂ keys₂ spare₂ kept₂ held₂ words₂ places₂ out₂ : List ℕ} where
   pub same-idle : Idle starts keys spare kept held words places out starts₁ keys₁ spare₁ kept₁ held₁ words₁ places₁ out₁ → Idle starts keys spare kept held words places out starts₂ keys₂ spare₂ kept₂ held₂ words₂ places₂ out₂
       → (starts₁ ≡ starts₂) × (keys₁ ≡ keys₂) × (spare₁ ≡ spare₂) × (kept₁ ≡ kept₂) × (held₁ ≡ held₂) × (words₁ ≡ words₂) × (places₁ ≡ places₂) × (out₁ ≡ out₂)
-  same-idle a b =
-      (a .starts-zero ∙ sym (b .starts-zero), a .keys-zero ∙ sym (b .keys-zero), a .spare-zero ∙ sym (b .spare-zero), a .kept-zero ∙ sym (b .kept-zero), a .held-zero ∙ sym (b .held-zero), a .words-zero ∙ sym (b .words-zero), a .places-zero ∙ sym (b .places-zero), a .out-zero ∙ sym (b .out-zero))
+  same-idle a b = (
+    a .starts-zero ∙ sym (b .starts-zero),
+    a .keys-zero ∙ sym (b .keys-zero),
+    a .spare-zero ∙ sym (b .spare-zero),
+    a .kept-zero ∙ sym (b .kept-zero),
+    a .held-zero ∙ sym (b .held-zero),
+    a .words-zero ∙ sym (b .words-zero),
+    a .places-zero ∙ sym (b .places-zero),
+    a .out-zero ∙ sym (b .out-zero),
+  )
