@@ -2,14 +2,14 @@
 use Prim.Native.Nat.{ℕ, _*_, _/_, _%_, _^_, _<_}
 use borrow.Author.Tests.{eq-eqb}
 use lib.{IntN.{ℤ, pos, negsuc}, ListN.{getD}}
-use mathlib.Core.{List.{List, [], _∷_}, Path.{_≡_, refl, sym, ap, subst, _∙_}}
+use mathlib.Core.{List.{List, [], _∷_}, Path.{_≡_, sym, ap, subst, _∙_}}
 use mir.{Syntax.{w32}, Val.{SFits, ofZ}}
 use native.Mathlib.Omega.{arith}
 use Rattle.build.specs.{Whole.{toldBuilt}, declared.file.Built.{Built}}
 use Rattle.held.specs.declared.state.{Held.{Held}, Changed.{Changed}}
 use Rattle.index.proofs.Numbering.{read-back}
 use Rattle.numbers.specs.{Point.{readI32, signedOf}, declared.refusal.Refusal.{Refusal}}
-use Rattle.uskelzar.specs.{Draft.{heldOf, Kept, Spoke, Speaks, Ends}, Spoken.{lengthValue, saidOf}}
+use Rattle.uskelzar.specs.{Draft.{heldOf, wordsOf, Kept, Spoke, Speaks, Ends}, Spoken.{lengthValue, saidOf}}
 use Rattle.held.specs.declared.state.Changed.the-variants as C
 
 -- half of twice the bits
@@ -52,28 +52,38 @@ bits-low : (z : ℤ) → SFits w32 z → ofZ w32 z < 2 ^ 32
 bits-low (pos n) h = omega (arith, h .sfits)
 bits-low (negsuc n) h = omega (arith, h .sfits)
 
-module _ (held : Held) (bits : ℕ) where
-  pub held-back : held .kind < 2 ^ 8 → held .version < 2 ^ 8 → held .precision < 2 ^ 8 → held .names < 2 ^ 32 → SFits w32 (held .greatest) → bits ≡ ofZ w32 (held .greatest)
-      → heldOf (held .kind ∷ held .version ∷ held .precision ∷ held .names ∷ held .room ∷ held .head ∷ held .front ∷ held .strings ∷ held .table ∷ held .metadata ∷ held .bytes ∷ held .yards ∷ bits ∷ []) ≡ held
-  unfolding heldOf
-  held-back k v p n g is =
-      let kind : held .kind % 2 ^ 8 ≡ held .kind = omega (arith, k) in
-      let version : held .version % 2 ^ 8 ≡ held .version = omega (arith, v) in
-      let precision : held .precision % 2 ^ 8 ≡ held .precision = omega (arith, p) in
-      let names : held .names % 2 ^ 32 ≡ held .names = omega (arith, n) in
-      let whole : bits % 2 ^ 32 ≡ bits = omega (arith, is, bits-low (held .greatest) g) in
-      let greatest : readI32 (bits % 2 ^ 32) ≡ held .greatest = ap readI32 (whole ∙ is) ∙ read-back (held .greatest) g in
+-- numbers of their widths are read back from their words
+module _ (held : Held) (kind-low : held .kind < 2 ^ 8) (version-low : held .version < 2 ^ 8) (precision-low : held .precision < 2 ^ 8) (names-low : held .names < 2 ^ 32) (fits : SFits w32 (held .greatest)) where
+  pub words-back : heldOf (wordsOf held) ≡ held
+  unfolding heldOf wordsOf
+  words-back =
+      let bits : ℕ = ofZ w32 (held .greatest) in
+      let kind : held .kind % 2 ^ 8 ≡ held .kind = omega (arith, kind-low) in
+      let version : held .version % 2 ^ 8 ≡ held .version = omega (arith, version-low) in
+      let precision : held .precision % 2 ^ 8 ≡ held .precision = omega (arith, precision-low) in
+      let names : held .names % 2 ^ 32 ≡ held .names = omega (arith, names-low) in
+      let whole : bits % 2 ^ 32 ≡ bits = omega (arith, bits-low (held .greatest) fits) in
+      let greatest : readI32 (bits % 2 ^ 32) ≡ held .greatest = ap readI32 whole ∙ read-back (held .greatest) fits in
       ap (λ (x : ℕ). rebuilt held x (held .version % 2 ^ 8) (held .precision % 2 ^ 8) (held .names % 2 ^ 32) (readI32 (bits % 2 ^ 32))) kind
       ∙ (ap (λ (x : ℕ). rebuilt held (held .kind) x (held .precision % 2 ^ 8) (held .names % 2 ^ 32) (readI32 (bits % 2 ^ 32))) version
       ∙ (ap (λ (x : ℕ). rebuilt held (held .kind) (held .version) x (held .names % 2 ^ 32) (readI32 (bits % 2 ^ 32))) precision
       ∙ (ap (λ (x : ℕ). rebuilt held (held .kind) (held .version) (held .precision) x (readI32 (bits % 2 ^ 32))) names
       ∙ ap (λ (x : ℤ). rebuilt held (held .kind) (held .version) (held .precision) (held .names) x) greatest)))
 
+  -- as they are made of the greatest's bits
+  abbrev made : ℕ → List ℕ
+  made bits =
+      held .kind ∷ held .version ∷ held .precision ∷ held .names ∷ held .room ∷ held .head ∷ held .front ∷ held .strings ∷ held .table ∷ held .metadata ∷ held .bytes ∷ held .yards ∷ bits ∷ []
+
+  pub words-made : (bits : ℕ) → bits ≡ ofZ w32 (held .greatest) → (made bits ≡ wordsOf held) × (heldOf (made bits) ≡ held)
+  unfolding wordsOf
+  words-made bits is = let same : made bits ≡ wordsOf held = ap made is in (same, ap heldOf same ∙ words-back)
+
 -- ---- a changed builder is kept, a refused one as it was
 module _ (before after : List ℕ) {changed : Changed} where
-  pub kept-into : {held : Held} → changed ≡ C.Into held → heldOf after ≡ held → Kept before after changed
+  pub kept-into : {held : Held} → changed ≡ C.Into held → (after ≡ wordsOf held) × (heldOf after ≡ held) → Kept before after changed
   unfolding Kept
-  kept-into is back = subst (Kept before after) (sym is) back
+  kept-into is words = subst (Kept before after) (sym is) words
 
   pub kept-refused : {why : Refusal} → changed ≡ C.Refused why → after ≡ before → Kept before after changed
   unfolding Kept

@@ -4,3 +4,8 @@ pub mod Strict
 pub mod Same
 pub mod SameCivil
 pub mod Drafts
+pub mod NumberedCalls
+pub mod NumberedDrafts
+pub mod SameCalls
+pub mod SameDrafts
+pub mod WorkedDraft

@@ -29,12 +29,12 @@ abbrev pub Answered : {A : Type 0} → Reply A → Type 0
 Answered {A} reply = (answer : A) × (reply ≡ given answer)
 
 -- a number of a list without 0 is not 0
-never-zero : (numbers : List ℕ) → (Listed numbers 0 → false ≡ true) → (n : ℕ) → Listed numbers n → n ≡ 0 → ⊥
+pub never-zero : (numbers : List ℕ) → (Listed numbers 0 → false ≡ true) → (n : ℕ) → Listed numbers n → n ≡ 0 → ⊥
 never-zero numbers without n listed is = let no-zero = without (subst (Listed numbers) is listed) in let z : _≡_ {A = ℕ} 0 1 = cc in omega arith
 
 -- where no refusal has the number 0, that number is said for an answer alone
 module _ {A : Type 0} (values : A → List ℕ) where
-  zero-said : (reply : Reply A) → ((why : Refusal) → reply ≡ refused why → why .number ≡ 0 → ⊥) → (saidOf values reply .number ≡ 0) ↔ Answered reply
+  pub zero-said : (reply : Reply A) → ((why : Refusal) → reply ≡ refused why → why .number ≡ 0 → ⊥) → (saidOf values reply .number ≡ 0) ↔ Answered reply
   unfolding saidOf
   zero-said (given a) never = ((λ zero. (a, refl)), (λ answered. refl))
   zero-said (refused why) never = ((λ zero. absurd (never why refl zero)), (λ answered. cc))

@@ -30,6 +30,24 @@ heldOf words =
       greatest = readI32 (getD words 12 0 % 2 ^ 32);
     }
 
+-- the words that a builder's numbers are kept in: no other bit is set
+unfoldable pub wordsOf : Held → List ℕ
+wordsOf held =
+    held .kind
+    ∷ held .version
+    ∷ held .precision
+    ∷ held .names
+    ∷ held .room
+    ∷ held .head
+    ∷ held .front
+    ∷ held .strings
+    ∷ held .table
+    ∷ held .metadata
+    ∷ held .bytes
+    ∷ held .yards
+    ∷ ofZ w32 (held .greatest)
+    ∷ []
+
 -- the totals: the sizes of the three sections, how many yards there are, the 32 bits of their greatest lower latitude
 abbrev pub totalsValues : Held → List ℕ
 totalsValues held = held .table ∷ held .metadata ∷ held .bytes ∷ held .yards ∷ ofZ w32 (held .greatest) ∷ []
@@ -38,9 +56,9 @@ unfoldable pub toldChanged : Changed → Reply Held
 toldChanged (C.Into held) = given held
 toldChanged (C.Refused why) = refused why
 
--- the words of a state are those of the changed builder, or what they were
+-- the words of a state are those of the changed builder and read back as it, or they are what they were
 unfoldable pub Kept : List ℕ → List ℕ → Changed → Type 0
-Kept before after (C.Into held) = heldOf after ≡ held
+Kept before after (C.Into held) = (after ≡ wordsOf held) × (heldOf after ≡ held)
 Kept before after (C.Refused why) = after ≡ before
 
 -- what a call says and leaves in the state

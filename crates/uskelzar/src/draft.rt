@@ -7,7 +7,7 @@ ghost use Rattle.changing.specs.{Begun.{Begins, firstPlan, frontSpace}, Emptied
 ghost use Rattle.held.specs.{Space.{roomsOf}, State.{Idle, listsAs}};
 ghost use Rattle.numbers.specs.Lists.{zeros};
 ghost use Rattle.replacing.specs.Replaced.{Replaces};
-ghost use Rattle.uskelzar.specs.{Spoken.{saidOf}, Draft.{heldOf, totalsValues, toldChanged, Kept, Spoke, Speaks, Files, Ends}};
+ghost use Rattle.uskelzar.specs.{Spoken.{saidOf}, Draft.{heldOf, wordsOf, totalsValues, toldChanged, Kept, Spoke, Speaks, Files, Ends}};
 use crate::Said;
 use crate::say_refused;
 use crate::speak;
@@ -61,7 +61,7 @@ fn greatest_bits(held: Held) -> u64
 }
 
 fn words_of(held: Held) -> [u64; 13]
-    ensures { λ r. ⌜ heldOf r ≡ held ⌝ }
+    ensures { λ r. ⌜ (r ≡ wordsOf held) × (heldOf r ≡ held) ⌝ }
 {
     let bits = greatest_bits(held);
     [

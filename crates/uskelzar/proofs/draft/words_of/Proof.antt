@@ -1,5 +1,5 @@
 use borrow.Author.Needs.{needs}
-use Rattle.uskelzar.proofs.Drafts.{held-back}
+use Rattle.uskelzar.proofs.Drafts.{words-made}
 use Rattle.uskelzar.proofs.draft.words_of.Statement.{statement}
 use Rattle.uskelzar.proofs.draft.words_of.Tie as tie
 use Rattle.uskelzar.proofs.draft.words_of.Reads as reads
@@ -10,7 +10,7 @@ returns : tie.Need-returns
 returns c =
     let told = c .struct-known4 .given in
     let bits = c .before .before .before .before .greatest-bits in
-    held-back (c .before .before .before .before .before .args .held) (bits .result) (search needs) (search needs) (search needs) (search needs) (bits .ensures .1) (bits .ensures .0)
+    words-made (c .before .before .before .before .before .args .held) (search needs) (search needs) (search needs) (search needs) (bits .ensures .1) (bits .result) (bits .ensures .0)
 
 pub words-of-spec : {M : Type 1} → statement M
 words-of-spec = tie.close (tie.spec (λ c κs. search needs) (λ c. search needs) (λ c. search needs) (λ c. search needs) (λ c. search needs) returns)

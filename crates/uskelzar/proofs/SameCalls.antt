@@ -1,0 +1,144 @@
+-- What the promises of a builder's calls fix: two replies that one permits are equal, with every list. Assumes nothing.
+use Prim.Native.Nat.{ℕ}
+use lib.IntN.{pos}
+use mathlib.Core.{Bool.{false}, List.{List}, Logic.{_⊎_, inl, inr}, Path.{_≡_, sym, ap, subst, _∙_}}
+use Rattle.adding.specs.Adds.{Adds}
+use Rattle.adding.specs.Adds as Adding
+use Rattle.build.specs.{Whole.{toldBuilt}, declared.file.Built.{Built}}
+use Rattle.build.specs.declared.file.Built.the-variants as W
+use Rattle.builder.specs.{File.{Replied}, Yards.{Text, Plan}}
+use Rattle.changing.proofs.Cuts.{lists-same}
+use Rattle.changing.specs.{Begun.{Begins, blank}, Dropped.{Drops, leftSpace}, Emptied.{Clears}}
+use Rattle.drawing.proofs.Lending.{never-given}
+use Rattle.held.{proofs.Fronts.{front-one}, specs.{Builder.{Builder, Offered, add, begin, clear, dropLast, finish, replace}, Space.{Space, standing}, State.{Answers, Holds, Idle, Lists, SameRooms}, declared.{room.Rooms.{Rooms}, state.{Changed.{Changed}, Held.{Held}}}}}
+use Rattle.held.specs.declared.state.Changed.the-variants as C
+use Rattle.numbers.specs.{Reply.{Reply, given, refused, plain}, declared.refusal.Refusal.{Refusal}}
+use Rattle.replacing.specs.Replaced.{Replaces}
+use Rattle.replacing.specs.Replaced as Replacing
+use Rattle.summed.specs.Ends.{Finishes, spaceOf}
+use Rattle.uskelzar.specs.Draft.{Files}
+
+-- One builder lies in one way in lists of given lengths.
+module _ {b : Builder} {held held′ : Held} {lists lists′ : Lists} where
+  pub held-one : Holds b held lists → Holds b held′ lists′ → SameRooms lists lists′ → (held ≡ held′) × (lists ≡ lists′)
+  held-one h h′ rooms =
+      let l = h .lies in
+      let l′ = h′ .lies in (
+        h .is ∙ sym (h′ .is),
+        lists-same (lists .boxes) (lists′ .boxes) (lists .borders) (lists′ .borders) (lists .lengths) (lists′ .lengths) (lists .texts) (lists′ .texts) (lists .bytes) (lists′ .bytes)
+            (front-one (pos 0) (l′ .boxes-are) (l .boxes-are) (sym (rooms .boxes)))
+            (front-one 0 (l′ .borders-are) (l .borders-are) (sym (rooms .borders)))
+            (front-one 0 (l′ .lengths-are) (l .lengths-are) (sym (rooms .lengths)))
+            (front-one 0 (l′ .texts-are) (l .texts-are) (sym (rooms .texts)))
+            (front-one 0 (l′ .bytes-are) (l .bytes-are) (sym (rooms .bytes))),
+      )
+
+-- two sets of lists that have the lengths of a third
+both-same : {before after after′ : Lists} → SameRooms before after → SameRooms before after′ → SameRooms after after′
+both-same s s′ =
+    record {
+      boxes = s′ .boxes ∙ sym (s .boxes);
+      borders = s′ .borders ∙ sym (s .borders);
+      lengths = s′ .lengths ∙ sym (s .lengths);
+      texts = s′ .texts ∙ sym (s .texts);
+      bytes = s′ .bytes ∙ sym (s .bytes);
+    }
+
+-- ---- for any reply of the definition
+-- its builder, in these numbers and lists
+abbrev Becomes : Reply Builder → Lists → Lists → Held → Type 0
+Becomes reply before after held = (b : Builder) × ((reply ≡ given b) × (Holds b held after × SameRooms before after))
+
+-- or it is refused, and the lists are left so
+abbrev Stays : Reply Builder → Lists → Lists → Refusal → Type 0
+Stays reply left after why = (reply ≡ refused why) × (after ≡ left)
+
+module _ (reply : Reply Builder) (before left after after′ : Lists) where
+  into-one : (held held′ : Held) → Becomes reply before after held → Becomes reply before after′ held′ → (C.Into held ≡ C.Into held′) × (after ≡ after′)
+  into-one held held′ (b, (is, (holds, rooms))) (b′, (is′, (holds′, rooms′))) =
+      let same : b′ ≡ b = cc in
+      let one = held-one holds (subst (λ (x : Builder). Holds x held′ after′) same holds′) (both-same rooms rooms′) in
+      (ap C.Into (one .0), one .1)
+
+  stays-one : (why why′ : Refusal) → Stays reply left after why → Stays reply left after′ why′ → (C.Refused why ≡ C.Refused why′) × (after ≡ after′)
+  stays-one why why′ (is, same) (is′, same′) = (cc, same ∙ sym same′)
+
+never-both : {A : Type 0} {reply : Reply Builder} {b : Builder} {why : Refusal} → reply ≡ given b → reply ≡ refused why → A
+never-both is is′ = absurd (never-given _ _ (sym is′ ∙ is))
+
+-- Two replies that are as the definition has it are equal, with every list.
+pub same-answer : (reply : Reply Builder) (before after after′ : Lists) (r r′ : Changed) → Answers reply before after r → Answers reply before after′ r′ → (r ≡ r′) × (after ≡ after′)
+unfolding Answers
+same-answer reply before after after′ (C.Into held) (C.Into held′) a a′ = into-one reply before before after after′ held held′ a a′
+same-answer reply before after after′ (C.Into held) (C.Refused why) a a′ = never-both (a .1 .0) (a′ .0)
+same-answer reply before after after′ (C.Refused why) (C.Into held) a a′ = never-both (a′ .1 .0) (a .0)
+same-answer reply before after after′ (C.Refused why) (C.Refused why′) a a′ = stays-one reply before before after after′ why why′ a a′
+
+-- ---- what a promise speaks of: a builder that the state holds, or numbers that do not fit the lists
+abbrev pub Told : Held → Rooms → Lists → Type 0
+Told held rooms lists = ((b : Builder) × Holds b held lists) ⊎ (standing held rooms ≡ false)
+
+-- every call but the first and the last
+module _ (reply : Builder → Reply Builder) (number : ℕ) (held : Held) (rooms : Rooms) (before : Lists) where
+  abbrev Answering : Lists → Changed → Type 0
+  Answering after r = (b : Builder) → Holds b held before → Answers (reply b) before after r
+
+  abbrev Refusing : Lists → Changed → Type 0
+  Refusing after r = standing held rooms ≡ false → (r ≡ C.Refused (plain number)) × (after ≡ before)
+
+  pub same-changed : {after after′ : Lists} {r r′ : Changed} → Told held rooms before → Answering after r → Refusing after r → Answering after′ r′ → Refusing after′ r′ → (r ≡ r′) × (after ≡ after′)
+  same-changed {after} {after′} {r} {r′} (inl (b, holds)) a n a′ n′ = same-answer (reply b) before after after′ r r′ (a b holds) (a′ b holds)
+  same-changed (inr broken) a n a′ n′ = (n broken .0 ∙ sym (n′ broken .0), n broken .1 ∙ sym (n′ broken .1))
+
+-- ---- for each call
+module _ (held : Held) (rooms : Rooms) (before : Lists) (told : Told held rooms before) {after after′ : Lists} {r r′ : Changed} where
+  pub same-added : {o : Offered} {out : ℕ} → Adds held o rooms out before after r → Adds held o rooms out before after′ r′ → (r ≡ r′) × (after ≡ after′)
+  same-added {o} {out} a a′ = same-changed (λ b. add b o (Adding.spaceFor held rooms o out)) 28 held rooms before told (a .answers) (a .stands-not) (a′ .answers) (a′ .stands-not)
+
+  pub same-dropped : Drops held rooms before after r → Drops held rooms before after′ r′ → (r ≡ r′) × (after ≡ after′)
+  same-dropped a a′ = same-changed (λ b. dropLast b (leftSpace held rooms (before .lengths))) 29 held rooms before told (a .answers) (a .broken) (a′ .answers) (a′ .broken)
+
+  pub same-replaced : {out yard field : ℕ} {text : Text} → Replaces held rooms out yard field text before after r → Replaces held rooms out yard field text before after′ r′ → (r ≡ r′) × (after ≡ after′)
+  same-replaced {out} {yard} {field} {text} a a′ =
+      same-changed (λ b. replace b yard field text (Replacing.spaceFor rooms out (b .plan) yard field text)) 28 held rooms before told (a .answers) (a .fallen) (a′ .answers) (a′ .fallen)
+
+  pub same-cleared : Clears held rooms before after r → Clears held rooms before after′ r′ → (r ≡ r′) × (after ≡ after′)
+  same-cleared a a′ = same-changed (λ b. given (clear b)) 28 held rooms before told (a .answers) (a .broken) (a′ .answers) (a′ .broken)
+
+-- what is begun asks for no state
+pub same-begun : (plan : Plan) (room : ℕ) (space : Space) (before after after′ : Lists) (r r′ : Changed) → Begins plan room space before after r → Begins plan room space before after′ r′ → (r ≡ r′) × (after ≡ after′)
+unfolding Begins
+same-begun plan room space before after after′ (C.Into held) (C.Into held′) a a′ = into-one (begin plan room space) before (blank before) after after′ held held′ a a′
+same-begun plan room space before after after′ (C.Into held) (C.Refused why) a a′ = never-both (a .1 .0) (a′ .0)
+same-begun plan room space before after after′ (C.Refused why) (C.Into held) a a′ = never-both (a′ .1 .0) (a .0)
+same-begun plan room space before after after′ (C.Refused why) (C.Refused why′) a a′ = stays-one (begin plan room space) before (blank before) after after′ why why′ a a′
+
+-- ---- the end
+told-one : (r r′ : Built) → toldBuilt r ≡ toldBuilt r′ → r ≡ r′
+told-one (W.Length n) (W.Length n′) e = cc
+told-one (W.Length n) (W.Refused why) e = absurd (never-given why n (sym e))
+told-one (W.Refused why) (W.Length n) e = absurd (never-given why n e)
+told-one (W.Refused why) (W.Refused why′) e = cc
+
+pub same-end : (reply : Reply (List ℕ)) (room : ℕ) (out out′ : List ℕ) (r r′ : Built) → Finishes reply room out r → Finishes reply room out′ r′ → (r ≡ r′) × (out ≡ out′)
+unfolding Finishes
+same-end reply room out out′ r r′ f f′ = let e = f ∙ sym f′ in (told-one r r′ (ap (λ (x : Replied). x .reply) e), ap (λ (x : Replied). x .out) e)
+
+pub same-finished : (held : Held) (rooms : Rooms) (lists : Lists) → Told held rooms lists → {room : ℕ} {out out′ : List ℕ} {r r′ : Built} → Files held rooms lists room out r → Files held rooms lists room out′ r′ → (r ≡ r′) × (out ≡ out′)
+same-finished held rooms lists (inl (b, holds)) {room} {out} {out′} {r} {r′} f f′ = same-end (finish b room (spaceOf held rooms)) room out out′ r r′ (f .answers b holds) (f′ .answers b holds)
+same-finished held rooms lists (inr broken) f f′ = (f .broken broken .0 ∙ sym (f′ .broken broken .0), f .broken broken .1 ∙ sym (f′ .broken broken .1))
+
+-- ---- the lists that were worked in
+module _ {starts keys spare kept held words places out starts₁ keys₁ spare₁ kept₁ held₁ words₁ places₁ out₁ starts₂ keys₂ spare₂ kept₂ held₂ words₂ places₂ out₂ : List ℕ} where
+  pub same-idle : Idle starts keys spare kept held words places out starts₁ keys₁ spare₁ kept₁ held₁ words₁ places₁ out₁ → Idle starts keys spare kept held words places out starts₂ keys₂ spare₂ kept₂ held₂ words₂ places₂ out₂
+      → (starts₁ ≡ starts₂) × (keys₁ ≡ keys₂) × (spare₁ ≡ spare₂) × (kept₁ ≡ kept₂) × (held₁ ≡ held₂) × (words₁ ≡ words₂) × (places₁ ≡ places₂) × (out₁ ≡ out₂)
+  same-idle a b = (
+    a .starts-zero ∙ sym (b .starts-zero),
+    a .keys-zero ∙ sym (b .keys-zero),
+    a .spare-zero ∙ sym (b .spare-zero),
+    a .kept-zero ∙ sym (b .kept-zero),
+    a .held-zero ∙ sym (b .held-zero),
+    a .words-zero ∙ sym (b .words-zero),
+    a .places-zero ∙ sym (b .places-zero),
+    a .out-zero ∙ sym (b .out-zero),
+  )
