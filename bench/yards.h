@@ -39,6 +39,6 @@ static size_t put_values(size_t i, int alike, uint32_t *lengths, uint8_t *bytes,
     char name[MOST_VALUE], use[MOST_VALUE];
     const char *const text[NAMES] = {name, use, "Asia/Pontianak"};
     sprintf(name, "Yard %u", alike ? 1u : (unsigned)i);
-    sprintf(use, "use %u", alike ? 1u : (unsigned)i % 7);
+    sprintf(use, "use %u", alike ? 1u : (unsigned)i % 4);
     return put_texts(text, NAMES, lengths, bytes, at);
 }

@@ -12,7 +12,8 @@
  *              reply[0], its detail in reply[1], and zeros in the other three words (of many fixes, the index in reply[2]).
  * Lent buffers are written whole on every call, whatever they held before: the answer at the front and zeros behind it; on
  *              a refusal zeros alone. No call leaves half an answer, or anything of an earlier one. Only a builder's state and
- *              its five lists, which uskelzar_begin writes whole, are kept from call to call, and a refused call leaves them.
+ *              its five lists, which uskelzar_begin writes whole, and its four notes, which uskelzar_add writes, are kept from
+ *              call to call, and a refused call leaves them. Of what uskelzar_add is lent to work in, some may stay as it was.
  * It never     allocates, keeps a pointer or anything of its own between calls, touches anything but its arguments, reads or writes a
  *              file, stops the program, or runs without end. It calls nothing but memset and memcpy; threads may call it
  *              at the same time.
@@ -25,8 +26,8 @@
 #include <stdint.h>
 
 /* ---- the release of this header, and of the archive that goes with it */
-#define USKELZAR_RELEASE "0.4.0"
-#define USKELZAR_RELEASE_NUMBER 300 /* major * 10,000 + minor * 100 + patch */
+#define USKELZAR_RELEASE "0.5.0"
+#define USKELZAR_RELEASE_NUMBER 500 /* major * 10,000 + minor * 100 + patch */
 
 #ifdef __cplusplus
 extern "C" {
@@ -221,7 +222,7 @@ enum {
 #define USKELZAR_BUILD_BYTES(out_length) (out_length)
 
 /* ---- the state of a builder that holds yards: so many words, which mean nothing to anyone else */
-enum { USKELZAR_STATE_WORDS = 13 };
+enum { USKELZAR_STATE_WORDS = 14 };
 
 /* ---- how long its own lists must be, in elements: for so many yards and names, so many bytes of all texts (names, notice and values) and so many of data. They may
  * be longer, and as long as the most that is ever to be held; the same lists are lent to each call. */
@@ -230,6 +231,11 @@ enum { USKELZAR_STATE_WORDS = 13 };
 #define USKELZAR_HELD_LENGTHS(yards, names) ((size_t)(names) + 1 + USKELZAR_BUILD_FIELDS(yards, names))
 #define USKELZAR_HELD_TEXTS(text_bytes) (text_bytes)
 #define USKELZAR_HELD_BYTES(data_bytes) (data_bytes)
+/* ---- and its notes, of uskelzar_add alone: for the yards held after the call. They may be longer too. */
+#define USKELZAR_NOTE_MARKS(yards, names) (USKELZAR_BUILD_FIELDS(yards, names) + 1)
+#define USKELZAR_NOTE_CHAINS(yards, names) (4096 + USKELZAR_BUILD_FIELDS(yards, names))
+#define USKELZAR_NOTE_GROUPS(yards) (4096 + (size_t)(yards))
+#define USKELZAR_NOTE_BEGINS(yards) ((size_t)(yards))
 /* The lists to work in are USKELZAR_BUILD_STARTS to USKELZAR_BUILD_PLACES, for the yards held after the call; `out` of add is as long as the data with the new border, and of
  * replace as long as all texts were. So of data never over n bytes, n bytes of `bytes` and `out` are enough. */
 
@@ -369,8 +375,8 @@ uint8_t uskelzar_build(uint8_t type, uint8_t version, uint8_t precision, uint32_
  * state:   the builder's numbers. uskelzar_begin writes them; lend them to each later call as they are. uskelzar_finish only reads them.
  * boxes to bytes: the builder's own lists, in which it holds its yards. uskelzar_begin writes them whole, whatever they held; lend the same five to each later call, and write to
  *          none between the calls. How long each must be: USKELZAR_HELD_.. above. Behind what is held they are zero.
- * starts to places, and `out` of add and replace: lists to work in, whatever they hold; zeros afterwards. A list that is too short is 28, last.
- * A refused call changes neither state nor lists. Numbers that no call has made with these lists are refused 28 where they do not fit the lists (a drop: 29), and else answered
+ * starts to places, and `out` of add and replace: lists to work in, whatever they hold; zeros afterwards, but see uskelzar_add. A list that is too short is 28, last.
+ * A refused call changes neither state nor lists nor notes. Numbers that no call has made with these lists are refused 28 where they do not fit the lists (a drop: 29), and else answered
  * with some totals or other; nothing outside the lists is touched.
  *
  * Begins a builder for files of at most `room` bytes.
@@ -387,6 +393,14 @@ uint8_t uskelzar_begin(uint64_t state[USKELZAR_STATE_WORDS], uint8_t type, uint8
 /* Adds a yard, behind those that are held.
  * lats, lons, pieces: its border, as for uskelzar_build; a piece's `start` counts from the data's first byte, the zero byte, and may lie in any border that is held.
  * sizes, values: how many bytes each of its values has, and their bytes.
+ * marks to begins: the builder's notes, with which an add does not sum all yards afresh: it costs what its own yard does, and a look at the box of each held one. However long the lists are
+ *          does not matter then. Lend the same four to each add of one builder, as the last add left them, and write to none between the calls; what they hold before the first does not
+ *          matter, and no other call takes them. How long each must be: USKELZAR_NOTE_.. above. With words that no add has left there the totals may be wrong until a call sums afresh, and
+ *          the file is then not promised; nothing outside the lists is touched. The yards are summed afresh, and noted anew, by the first add, by the first behind any other change of the
+ *          builder, and where a new record has a value that stands in exactly one other place of the records, or twice in it, or makes their words longer.
+ * starts to places: zero afterwards, or all as they were lent: lent zero, they are zero.
+ * out:     no more of it is used than a border of so many points can take, its first 170 * points + 400 bytes (of over 65,536 points, those of so many): they are zero afterwards, the rest
+ *          is as it was.
  * Answers: the totals with it.
  * Refuses: 19, 20, 21, 22, each over the whole border; 25 for a 4,097th yard, or more or fewer sizes than names; 26; 23 (detail: the piece's index); 28 for the data against
  *          the builder's room, `bytes`, `out` and 1 GiB, then for the whole file against its room and 1 GiB, and for every other list. So it is refused as uskelzar_build would
@@ -395,11 +409,12 @@ uint8_t uskelzar_add(uint64_t state[USKELZAR_STATE_WORDS], const int32_t *lats, 
                      size_t lons_length, const uint32_t *pieces, size_t pieces_length, const uint32_t *sizes,
                      size_t sizes_length, const uint8_t *values, size_t values_length, int32_t *boxes, size_t boxes_length,
                      uint32_t *borders, size_t borders_length, uint32_t *lengths, size_t lengths_length, uint8_t *texts,
-                     size_t texts_length, uint8_t *bytes, size_t bytes_length, uint32_t *starts, size_t starts_length,
-                     uint64_t *keys, size_t keys_length, uint64_t *spare, size_t spare_length, uint32_t *kept,
-                     size_t kept_length, uint8_t *held, size_t held_length, uint32_t *words, size_t words_length,
-                     uint32_t *places, size_t places_length, uint8_t *out, size_t out_length,
-                     uint64_t reply[USKELZAR_REPLY_WORDS]);
+                     size_t texts_length, uint8_t *bytes, size_t bytes_length, uint32_t *marks, size_t marks_length,
+                     uint32_t *chains, size_t chains_length, uint32_t *groups, size_t groups_length, uint32_t *begins,
+                     size_t begins_length, uint32_t *starts, size_t starts_length, uint64_t *keys, size_t keys_length,
+                     uint64_t *spare, size_t spare_length, uint32_t *kept, size_t kept_length, uint8_t *held,
+                     size_t held_length, uint32_t *words, size_t words_length, uint32_t *places, size_t places_length,
+                     uint8_t *out, size_t out_length, uint64_t reply[USKELZAR_REPLY_WORDS]);
 
 /* Takes the yard away that was added last.
  * Answers: the totals without it. A text that two records shared may now stand in one alone, so metadata and file can be longer than before, and longer than the builder's room: then

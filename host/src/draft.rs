@@ -1,7 +1,7 @@
 //! Files in the making that hold their yards.
 
 use crate::desk::{widen, Desk};
-use crate::raw::{self, Holding, Lengths, Offer, Reply, Start, State};
+use crate::raw::{self, Holding, Lengths, NoteLengths, Notes, Offer, Reply, Start, State, STATE_WORDS};
 use crate::refusal::Refusal;
 use crate::{most_bytes, word, words_of, Piece};
 
@@ -50,6 +50,10 @@ pub struct Draft {
     lengths: Vec<u32>,
     texts: Vec<u8>,
     bytes: Vec<u8>,
+    marks: Vec<u32>,
+    chains: Vec<u32>,
+    groups: Vec<u32>,
+    begins: Vec<u32>,
     desk: Desk,
     out: Vec<u8>,
 }
@@ -57,8 +61,8 @@ pub struct Draft {
 /// A builder's numbers and lists, and what it works in, apart from each other.
 macro_rules! parts {
     ($draft:expr) => {{
-        let Draft { state, boxes, borders, lengths, texts, bytes, desk, out, .. } = $draft;
-        (state, Holding { boxes, borders, lengths, texts, bytes }, desk.lend(), out)
+        let Draft { state, boxes, borders, lengths, texts, bytes, marks, chains, groups, begins, desk, out, .. } = $draft;
+        (state, Holding { boxes, borders, lengths, texts, bytes }, Notes { marks, chains, groups, begins }, desk.lend(), out)
     }};
 }
 
@@ -67,13 +71,17 @@ impl Draft {
         let mut draft = Draft {
             names: start.names as usize,
             room: start.room,
-            state: [0; 13],
+            state: [0; STATE_WORDS],
             totals: Totals::default(),
             boxes: vec![],
             borders: vec![],
             lengths: vec![0; start.lengths.len()],
             texts: vec![0; start.texts.len()],
             bytes: vec![0],
+            marks: vec![],
+            chains: vec![],
+            groups: vec![],
+            begins: vec![],
             desk: Desk::default(),
             out: vec![],
         };
@@ -110,15 +118,15 @@ impl Draft {
         let texts: Vec<u8> = values().flat_map(str::bytes).collect();
         self.widen(1, texts.len(), most_bytes(lats.len()));
         let offer = Offer { lats, lons, pieces, lengths: &lengths, texts: &texts };
-        let (state, holding, work, out) = parts!(self);
-        self.totals = Totals::of(raw::add(&offer, state, holding, work, out)?);
+        let (state, holding, notes, work, out) = parts!(self);
+        self.totals = Totals::of(raw::add(&offer, state, holding, notes, work, out)?);
         Ok(self.totals)
     }
 
     /// Without the yard that was added last. Refused 29 where there is none, and nothing else: with a yard less a file can be longer, and then it may not fit.
     pub fn drop_last(&mut self) -> Result<Totals, Refusal> {
         self.widen(0, 0, 0);
-        let (state, holding, work, _) = parts!(self);
+        let (state, holding, _, work, _) = parts!(self);
         self.totals = Totals::of(raw::drop_last(state, holding, work)?);
         Ok(self.totals)
     }
@@ -127,7 +135,7 @@ impl Draft {
     pub fn replace(&mut self, yard: usize, field: usize, value: &str) -> Result<Totals, Refusal> {
         self.widen(0, value.len(), 0);
         let place = (word(yard), word(field));
-        let (state, holding, work, out) = parts!(self);
+        let (state, holding, _, work, out) = parts!(self);
         self.totals = Totals::of(raw::replace(place, value.as_bytes(), state, holding, work, out)?);
         Ok(self.totals)
     }
@@ -143,7 +151,7 @@ impl Draft {
     pub fn finish(&mut self) -> Result<Vec<u8>, Refusal> {
         self.widen(0, 0, 0);
         let mut file = vec![0; self.most_bytes().min(self.room)];
-        let (state, holding, work, _) = parts!(self);
+        let (state, holding, _, work, _) = parts!(self);
         let [length, ..] = raw::finish(state, &holding, work, &mut file)?;
         file.truncate(length as usize);
         Ok(file)
@@ -165,6 +173,11 @@ impl Draft {
         widen(&mut self.lengths, self.names + 1 + self.names * count);
         widen(&mut self.texts, strings);
         widen(&mut self.bytes, self.totals.data + data);
+        let notes = NoteLengths::of(count, self.names);
+        widen(&mut self.marks, notes.marks);
+        widen(&mut self.chains, notes.chains);
+        widen(&mut self.groups, notes.groups);
+        widen(&mut self.begins, notes.begins);
         widen(&mut self.out, self.bytes.len().max(strings));
         self.desk.widen(Lengths::of(count, self.names, strings));
     }

@@ -24,7 +24,9 @@ pub const MOST_YARDS: usize = 4096;
 pub const MOST_NAMES: usize = 255;
 
 /// The numbers of a builder that holds yards: the library's own, handed on from call to call.
-pub type State = [u64; 13];
+pub type State = [u64; STATE_WORDS];
+#[allow(missing_docs)]
+pub const STATE_WORDS: usize = 14;
 
 mod library {
     extern "C" {
@@ -198,7 +200,7 @@ mod library {
             reply: *mut [u64; 5],
         ) -> u8;
         pub fn uskelzar_begin(
-            state: *mut [u64; 13],
+            state: *mut [u64; 14],
             kind: u8,
             version: u8,
             precision: u8,
@@ -221,7 +223,7 @@ mod library {
             reply: *mut [u64; 5],
         ) -> u8;
         pub fn uskelzar_add(
-            state: *mut [u64; 13],
+            state: *mut [u64; 14],
             lats: *const i32,
             lats_length: usize,
             lons: *const i32,
@@ -242,6 +244,14 @@ mod library {
             texts_length: usize,
             bytes: *mut u8,
             bytes_length: usize,
+            marks: *mut u32,
+            marks_length: usize,
+            chains: *mut u32,
+            chains_length: usize,
+            groups: *mut u32,
+            groups_length: usize,
+            begins: *mut u32,
+            begins_length: usize,
             starts: *mut u32,
             starts_length: usize,
             keys: *mut u64,
@@ -261,7 +271,7 @@ mod library {
             reply: *mut [u64; 5],
         ) -> u8;
         pub fn uskelzar_drop_last(
-            state: *mut [u64; 13],
+            state: *mut [u64; 14],
             boxes: *mut i32,
             boxes_length: usize,
             borders: *mut u32,
@@ -289,7 +299,7 @@ mod library {
             reply: *mut [u64; 5],
         ) -> u8;
         pub fn uskelzar_replace(
-            state: *mut [u64; 13],
+            state: *mut [u64; 14],
             yard: u32,
             field: u32,
             text: *const u8,
@@ -323,7 +333,7 @@ mod library {
             reply: *mut [u64; 5],
         ) -> u8;
         pub fn uskelzar_clear(
-            state: *mut [u64; 13],
+            state: *mut [u64; 14],
             boxes: *mut i32,
             boxes_length: usize,
             borders: *mut u32,
@@ -337,7 +347,7 @@ mod library {
             reply: *mut [u64; 5],
         ) -> u8;
         pub fn uskelzar_finish(
-            state: *const [u64; 13],
+            state: *const [u64; 14],
             boxes: *const i32,
             boxes_length: usize,
             borders: *const u32,
@@ -677,7 +687,7 @@ pub struct Plan<'a> {
     pub texts: &'a [u8],
 }
 
-/// The lists that a builder works in. They may hold anything, and are zero afterwards; include/uskelzar.h says what each must be for.
+/// The lists that a builder works in. They may hold anything, and are zero afterwards ([`add`] may leave them untouched); include/uskelzar.h says what each must be for.
 #[derive(Debug)]
 #[allow(missing_docs)] // `Lengths` says how long each is
 pub struct Work<'a> {
@@ -781,6 +791,39 @@ pub struct Holding<'a> {
     pub bytes: &'a mut [u8],
 }
 
+/// What a builder notes beside its yards, so that an add does not sum all of them afresh: of adds alone. Lend the same four lists to each, as the last one
+/// left them; what they hold before the first does not matter. With others its totals may be wrong, and nothing outside the lists is touched.
+#[derive(Debug)]
+#[allow(missing_docs)] // `NoteLengths` says how long each is
+pub struct Notes<'a> {
+    pub marks: &'a mut [u32],
+    pub chains: &'a mut [u32],
+    pub groups: &'a mut [u32],
+    pub begins: &'a mut [u32],
+}
+
+/// How long the notes must be; longer ones are as good.
+#[derive(Clone, Copy, Debug, Eq, PartialEq)]
+#[allow(missing_docs)] // the names are those of `Notes`
+pub struct NoteLengths {
+    pub marks: usize,
+    pub chains: usize,
+    pub groups: usize,
+    pub begins: usize,
+}
+
+impl NoteLengths {
+    /// For so many yards and names.
+    pub fn of(yards: usize, names: usize) -> NoteLengths {
+        NoteLengths {
+            marks: yards * names + 1,
+            chains: 4096 + yards * names,
+            groups: 4096 + yards,
+            begins: yards,
+        }
+    }
+}
+
 /// The totals of an empty builder; on a refusal its state and lists are zero. Every call of a builder answers with table, metadata and data size, the number
 /// of yards and the greatest lower latitude's bits; the later ones, refused, leave state and lists as they are.
 pub fn begin(start: &Start, state: &mut State, holding: Holding) -> Result<Reply, Refusal> {
@@ -794,13 +837,15 @@ pub fn begin(start: &Start, state: &mut State, holding: Holding) -> Result<Reply
     })
 }
 
-/// The totals with a yard more. `out` is worked in and zero afterwards: as long as the data with this yard's border.
-pub fn add(offer: &Offer, state: &mut State, holding: Holding, work: Work, out: &mut [u8]) -> Result<Reply, Refusal> {
+/// The totals with a yard more. `out` is worked in: as long as the data with this yard's border; as much of it as a border of so many points can take is zero afterwards, and the rest
+/// as it was. The lists of `work` are zero afterwards, or all as they were.
+pub fn add(offer: &Offer, state: &mut State, holding: Holding, notes: Notes, work: Work, out: &mut [u8]) -> Result<Reply, Refusal> {
     answered(|reply| {
         lending!(uskelzar_add(
             state;
             offer.lats, offer.lons, offer.pieces, offer.lengths, offer.texts;
             holding.boxes, holding.borders, holding.lengths, holding.texts, holding.bytes,
+            notes.marks, notes.chains, notes.groups, notes.begins,
             work.starts, work.keys, work.spare, work.kept, work.held, work.words, work.places, out;
             reply
         ))

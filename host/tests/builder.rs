@@ -2,7 +2,7 @@
 
 mod common;
 
-use common::desk::{is_zero, FencedDesk, EACH_LENGTH};
+use common::desk::{is_zero, FencedDesk, Left, EACH_LENGTH};
 use common::fence::{Edge, Fence, EDGES};
 use common::files::{LAT_STEP, LON_STEP};
 use uskelzar::raw::{self, Lengths, Plan, Reply};
@@ -99,11 +99,11 @@ impl Desk {
         let boxes: &mut [i32] = g.lend(rooms.boxes, edge);
         let bytes: &mut [u8] = h.lend(rooms.bytes, edge);
         let out: &mut [u8] = i.lend(room, edge);
-        let (reply, zero) = self.1.work(rooms.work, edge, |work| raw::build(&plan, work, boxes, bytes, out));
+        let (reply, left) = self.1.work(rooms.work, edge, |work| raw::build(&plan, work, boxes, bytes, out));
         let outcome = Outcome {
             reply,
             out: out.to_vec(),
-            worked: zero && is_zero(boxes) && is_zero(bytes),
+            worked: left == Left::Zero && is_zero(boxes) && is_zero(bytes),
         };
         let sizes = [
             4 * lists.yards.len(),

@@ -70,3 +70,11 @@ fn one_width_of_a_hit() {
     let code = text("crates/table/src/hits.rt");
     assert_eq!(behind(&code, "pub const WIDTH: usize =").trim_end_matches(';'), raw::HIT_WORDS.to_string());
 }
+
+#[test]
+fn one_width_of_a_state() {
+    let header = text("include/uskelzar.h");
+    assert_eq!(behind(&header, "enum { USKELZAR_STATE_WORDS ="), raw::STATE_WORDS.to_string());
+    let code = text("crates/uskelzar/src/draft.rt");
+    assert_eq!(behind(&code, "fn state_of(words: [u64;").trim_end_matches("])"), raw::STATE_WORDS.to_string());
+}

@@ -1,20 +1,20 @@
 -- An add, from what its steps say. Assumes nothing.
 use Prim.Native.Nat.{ℕ, _+_, _-_, _*_, _^_, _≤_, _<_, min}
 use borrow.Author.Tests.{leb-true, not-false, not-true, lt-leb}
-use lib.{Dec.{ltb, leb, eqb}, IntN.{ℤ}, ListN.{length, take, length-append, length-take}, Seq.{length-take-le}}
+use lib.{Dec.{ltb, leb, eqb}, IntN.{ℤ}, ListN.{length, take, drop, length-append, length-take}, Seq.{length-take-le, take-at, drop-at}}
 use mathlib.Core.{Bool.{Bool, true, false, not, _&&_}, List.{List, [], _++_}, Path.{_≡_, refl, sym, ap, subst, _∙_}}
-use native.Mathlib.{Nat.{mul-suc}, Omega.{arith}}
-use Rattle.build.{proofs.{Planned.{both}, Slices.{texts-few}}, specs.Room.{enough, workOf}}
-use Rattle.builder.specs.{Borders.{withBorder}, File.{areTexts, isText, upTo}, Yards.{cutBy, sumOf}, declared.borders.Border.{Border}}
+use native.Mathlib.Omega.{arith}
+use Rattle.builder.specs.{Borders.{withBorder}, File.{areTexts, upTo}, Yards.{sumOf}, declared.borders.Border.{Border}}
 use Rattle.builder.specs.declared.borders.Border.the-variants as B
-use Rattle.drawing.proofs.Sections.{appended-fits}
+use Rattle.growing.specs.{Joins.{Renoted}, Notes.{Notes, NotedBy}, declared.grow.Added.{Added}}
 use Rattle.held.proofs.{Fronts.{front-take}, Standing.{held-names, held-yards, held-bytes, holds-standing}}
-use Rattle.held.specs.{Builder.{Builder, Offered, yardOf, joined, summed, fitting, add}, Space.{Space, ownEnough, longEnough, standing}, State.{Lists, Holds, Answers, Idle}, Totals.{dataOf}, declared.{room.Rooms.{Rooms}, state.{Held.{Held}, Changed.{Changed}}}}
+use Rattle.held.specs.{Builder.{Builder, Offered, yardOf, joined, summed, fitting, add}, Space.{Space, longEnough, standing}, State.{Lists, Holds, Answers}, Totals.{dataOf}, declared.{room.Rooms.{Rooms}, state.{Held.{Held}, Changed.{Changed}}}}
 use Rattle.held.specs.declared.state.Changed.the-variants as C
+use Rattle.joining.specs.Joins.{Joining, Joins}
 use Rattle.numbers.specs.{Lists.{zeros}, Reply.{Reply, given, refused, plain, demand, _>>_}, declared.refusal.Refusal.{Refusal}}
-use Rattle.writer.specs.{Pieces.{piecesOf}, Writer.{checks, every, borderOf}}
-use Rattle.adding.proofs.Joining.{Fine, fine}
-use Rattle.adding.specs.{Adds.{Adds, Few, spaceFor}, Joins.{Joining, Joins, Measuring}, Offers.{offeredAs, offerGood, borderBehind, dataWith, Offers}, Puts.{Placed}}
+use Rattle.offered.specs.Offers.{offeredAs, offerGood, borderBehind, dataWith, Offers}
+use Rattle.writer.specs.Writer.{checks}
+use Rattle.adding.specs.{Adds.{Adds, spaceFor, notesEnough}, declared.room.NoteRooms.{NoteRooms}}
 
 -- ---- the steps of an add
 grouped : {A : Type 0} (c : Reply (Unit {0})) (x y : Bool) (rest : Reply A) → (c >> (demand x (plain 25) >> (demand y (plain 26) >> rest))) ≡ ((c >> (demand x (plain 25) >> demand y (plain 26))) >> rest)
@@ -80,23 +80,34 @@ module _ (b : Builder) (held : Held) (before : Lists) (h : Holds b held before) 
       unfolding Answers
       full-here e = (add-last ∙ no-lists space (summed (joined (b .plan) o) (b .room)) e, refl)
 
+pub as-changed : (r : Added) (x y : Changed) (noted : ℕ) → r ≡ record { changed = x; noted = noted } → x ≡ y → r ≡ record { changed = y; noted = noted }
+as-changed r x y noted e is = e ∙ ap (λ (z : Changed). record { changed = z; noted = noted }) is
+
 -- ---- the ways out
-module _ (held : Held) (lats lons : List ℤ) (pieces sizes values : List ℕ) (rooms : Rooms) (out : ℕ) (before : Lists) (bytes-are : rooms .bytes ≡ length (before .bytes)) where
+module _ (held : Held) (noted : ℕ) (lats lons : List ℤ) (pieces sizes values : List ℕ) (rooms : Rooms) (lent : NoteRooms) (out : ℕ) (before : Lists) (notes : Notes) (bytes-are : rooms .bytes ≡ length (before .bytes)) where
   abbrev o : Offered
   o = offeredAs lats lons pieces sizes values
 
   abbrev space : Space
-  space = spaceFor held rooms o out
+  space = spaceFor held rooms lent o out
 
   room-here : space .bytes ≡ min (length (before .bytes)) out
   room-here = ap (λ (n : ℕ). min n out) bytes-are
 
+  -- a refusal changes nothing
+  abbrev same : Refusal → Added
+  same why = record { changed = C.Refused why; noted = noted }
+
+  nothing-noted : (names : ℕ) (why : Refusal) (b : Builder) → Renoted names (joined (b .plan) o .yards) noted notes (same why .noted) notes (same why .changed)
+  unfolding Renoted
+  nothing-noted names why b = (refl, refl)
+
   -- its numbers do not fit its lists
   pub stands-not-adds : rooms .boxes ≡ length (before .boxes) → rooms .borders ≡ length (before .borders) → rooms .lengths ≡ length (before .lengths) → rooms .texts ≡ length (before .texts)
-      → (t : Bool) → t ≡ standing held rooms → not t ≡ true → (r : Changed) → r ≡ C.Refused (plain 28) → Adds held o rooms out before before r
+      → (t : Bool) → t ≡ standing held rooms → not t ≡ true → (r : Added) → r ≡ same (plain 28) → Adds held noted o rooms lent out before before notes notes r
   stands-not-adds boxes borders lengths texts t e n r is =
       let low : standing held rooms ≡ false = sym e ∙ not-true t n in
-      record { answers = λ b h. absurd (never-both (standing held rooms) (holds-standing b held before h rooms boxes borders lengths texts bytes-are) low); stands-not = λ f. (is, refl) }
+      record { answers = λ b h right. absurd (never-both (standing held rooms) (holds-standing b held before h rooms boxes borders lengths texts bytes-are) low); stands-not = λ f. (is, (refl, refl)) }
 
   module _ (t : Bool) (e : t ≡ standing held rooms) (n : not t ≡ false) where
     pub stood : standing held rooms ≡ true
@@ -105,11 +116,16 @@ module _ (held : Held) (lats lons : List ℤ) (pieces sizes values : List ℕ) (
     not-low : {A : Type 0} → standing held rooms ≡ false → A
     not-low f = absurd (never-both (standing held rooms) stood f)
 
-    pub refused-adds : (after : List ℕ) (r : Border) → Offers held o (before .bytes) out after r → (why : Refusal) → r ≡ B.Refused why → Adds held o rooms out before before (C.Refused why)
+    -- a refusal with its reason
+    refused-as : (why : Refusal) → ((b : Builder) → Holds b held before → Answers (add b o space) before before (C.Refused why)) → (r : Added) → r ≡ same why → Adds held noted o rooms lent out before before notes notes r
+    refused-as why answers r is =
+        subst (Adds held noted o rooms lent out before before notes notes) (sym is) (record { answers = λ b h right. (answers b h, nothing-noted (held .names) why b); stands-not = λ f. not-low f })
+
+    pub refused-adds : (after : List ℕ) (r : Border) → Offers held o (before .bytes) out after r → (why : Refusal) → r ≡ B.Refused why → (s : Added) → s ≡ same why → Adds held noted o rooms lent out before before notes notes s
     unfolding Offers
     refused-adds after r offers why is =
         let bad : Offers held o (before .bytes) out after (B.Refused why) = subst (Offers held o (before .bytes) out after) is offers in
-        record { answers = λ b h. refused-here b held before h o out space room-here why bad; stands-not = λ f. not-low f }
+        refused-as why (λ b h. refused-here b held before h o out space room-here why bad)
 
     module _ (after : List ℕ) (r : Border) (offers : Offers held o (before .bytes) out after r) (size : ℕ) (is : r ≡ B.Drawn size) where
       unfoldable offered : Type 0
@@ -127,57 +143,29 @@ module _ (held : Held) (lats lons : List ℤ) (pieces sizes values : List ℕ) (
       unfolding offered
       drawn-here = drew .1 .0
 
-      pub size-inside : size ≤ length after
-      unfolding offered
-      size-inside = drew .1 .1
+      module _ (sum : ℕ) (sum-is : sum ≡ sumOf sizes) (u : Bool) (long-is : u ≡ (longEnough rooms (held .names) (held .yards + 1) (held .front) (held .strings + sum) && notesEnough lent (held .names) (held .yards + 1))) where
+        asked : u ≡ space .lists
+        asked = long-is ∙ ap (λ (n : ℕ). longEnough rooms (held .names) (held .yards + 1) (held .front) (held .strings + n) && notesEnough lent (held .names) (held .yards + 1)) sum-is
 
-      pub full-adds : (t : Bool) → t ≡ space .lists → not t ≡ true → (r : Changed) → r ≡ C.Refused (plain 28) → Adds held o rooms out before before r
-      full-adds t e n r is =
-          let low : space .lists ≡ false = sym e ∙ not-true t n in
-          record {
-            answers = λ b h. subst (Answers (add b o space) before before) (sym is) (full-here b held before h o out space room-here (take (held .bytes) (before .bytes) ++ take size after) good-here drawn-here low);
-            stands-not = λ f. not-low f;
-          }
+        pub full-adds : not u ≡ true → (s : Added) → s ≡ same (plain 28) → Adds held noted o rooms lent out before before notes notes s
+        full-adds low-is =
+            let low : space .lists ≡ false = sym asked ∙ not-true u low-is in
+            refused-as (plain 28) (λ b h. full-here b held before h o out space room-here (take (held .bytes) (before .bytes) ++ take size after) good-here drawn-here low)
 
-      pub joined-adds : space .lists ≡ true → (again : Lists) (r : Changed) → Joins held lats lons sizes (take (sumOf sizes) values) (take size after) before again r → Adds held o rooms out before again r
-      unfolding Joins
-      joined-adds long again r joins =
-          record {
-            answers =
-                λ b h. subst (λ (x : Reply Builder). Answers x before again r) (sym (add-last b held before h o out space room-here (take (held .bytes) (before .bytes) ++ take size after) good-here drawn-here))
-                (joins b pieces values space refl long
-                (record {
-                  holds = h;
-                  good = good-here;
-                  wide = wide b held before h o out;
-                  narrow = omega arith;
-                  drawn = sym (data-as b held before h o out) ∙ (drawn-here ∙ ap (λ (l : List ℕ). given (l ++ take size after)) (data-here b held before h o out));
-                }));
-            stands-not = λ f. not-low f;
-          }
-
-      -- ---- what `sum_of`, `has_place` and `join` ask for
-      fine-here : Fine (held .yards) (held .names) o
-      fine-here = fine (held .yards) (held .names) o good-here
-
-      module _ (sum : ℕ) (sum-is : sum ≡ sumOf sizes) where
-        pub joined-adds-as : space .lists ≡ true → (again : Lists) (r : Changed) → Joins held lats lons sizes (take sum values) (take size after) before again r → Adds held o rooms out before again r
-        joined-adds-as long again r joins = joined-adds long again r (subst (λ (n : ℕ). Joins held lats lons sizes (take n values) (take size after) before again r) sum-is joins)
-
-        pub full-adds-as : (t : Bool) → t ≡ longEnough rooms (held .names) (held .yards + 1) (held .front) (held .strings + sum) → not t ≡ true → (r : Changed) → r ≡ C.Refused (plain 28) → Adds held o rooms out before before r
-        full-adds-as t e = full-adds t (e ∙ ap (λ (n : ℕ). longEnough rooms (held .names) (held .yards + 1) (held .front) (held .strings + n)) sum-is)
-
--- ---- the lists to work in, from where they were lent
-pub idle-as : (a b c d e f g h a₁ b₁ c₁ d₁ e₁ f₁ g₁ h₁ a₂ b₂ c₂ d₂ e₂ f₂ g₂ h₂ : List ℕ) → length a₁ ≡ length a → length b₁ ≡ length b → length c₁ ≡ length c → length d₁ ≡ length d → length e₁ ≡ length e → length f₁ ≡ length f → length g₁ ≡ length g → length h₁ ≡ length h
-    → Idle a₁ b₁ c₁ d₁ e₁ f₁ g₁ h₁ a₂ b₂ c₂ d₂ e₂ f₂ g₂ h₂ → Idle a b c d e f g h a₂ b₂ c₂ d₂ e₂ f₂ g₂ h₂
-idle-as a b c d e f g h a₁ b₁ c₁ d₁ e₁ f₁ g₁ h₁ a₂ b₂ c₂ d₂ e₂ f₂ g₂ h₂ ea eb ec ed ee ef eg eh idle =
-    record {
-      starts-zero = idle .starts-zero ∙ ap zeros ea;
-      keys-zero = idle .keys-zero ∙ ap zeros eb;
-      spare-zero = idle .spare-zero ∙ ap zeros ec;
-      kept-zero = idle .kept-zero ∙ ap zeros ed;
-      held-zero = idle .held-zero ∙ ap zeros ee;
-      words-zero = idle .words-zero ∙ ap zeros ef;
-      places-zero = idle .places-zero ∙ ap zeros eg;
-      out-zero = idle .out-zero ∙ ap zeros eh;
-    }
+        pub joined-adds : not u ≡ false → (again : Lists) (notes′ : Notes) (s : Added) → Joins held noted lats lons sizes (take sum values) (take size after) before again notes notes′ s → Adds held noted o rooms lent out before again notes notes′ s
+        unfolding Joins
+        joined-adds long-too again notes′ s joins =
+            let long : space .lists ≡ true = sym asked ∙ not-false u long-too in
+            record {
+              answers = λ b h right.
+                  let both = joins b pieces values space (ap (λ (n : ℕ). take n values) sum-is) long
+                  (record {
+                    holds = h;
+                    good = good-here;
+                    wide = wide b held before h o out;
+                    narrow = omega arith;
+                    drawn = sym (data-as b held before h o out) ∙ (drawn-here ∙ ap (λ (l : List ℕ). given (l ++ take size after)) (data-here b held before h o out));
+                  }) right in
+                  (subst (λ (x : Reply Builder). Answers x before again (s .changed)) (sym (add-last b held before h o out space room-here (take (held .bytes) (before .bytes) ++ take size after) good-here drawn-here)) (both .0), both .1);
+              stands-not = λ f. not-low f;
+            }

@@ -1,4 +1,1 @@
-pub mod Offers
-pub mod Puts
-pub mod Joins
 pub mod Adds

@@ -1,32 +1,33 @@
 // A yard more in a builder.
-ghost use mathlib.Core.{Path.{_≡_}};
-ghost use Prim.Native.Nat.{_+_, _≤_};
-ghost use lib.ListN.{length};
-ghost use Rattle.held.specs.{Space.{longEnough, roomsOf}, State.{Idle, listsAs}};
-ghost use Rattle.adding.specs.{Adds.{Adds, Few}, Offers.{offeredAs}};
-use crate::draw::take_offer;
-use crate::join::join;
-use crate::join::no_room;
+ghost use mathlib.Core.{List.{_++_}, Path.{_≡_}};
+ghost use Prim.Native.Nat.{_+_, _≤_, min};
+ghost use lib.ListN.{length, drop};
+ghost use Rattle.drawing.specs.Section.{LentFor};
+ghost use Rattle.growing.specs.Notes.{notesAs};
+ghost use Rattle.held.specs.{Space.{roomsOf}, State.{listsAs}};
+ghost use Rattle.joining.specs.Joins.{Rests};
+ghost use Rattle.numbers.specs.Lists.{zeros};
+ghost use Rattle.offered.specs.Offers.{offeredAs};
+ghost use Rattle.adding.specs.Adds.{Adds, noteRooms, usedOut};
+use crate::room::NoteRooms;
+use crate::room::has_place;
 use build::room::sum_of;
 use builder::borders::Border;
+use growing::grow::Added;
+use growing::grow::no_room;
+use header::field::zero;
 use held::room::Rooms;
-use held::room::has_space;
 use held::room::stands;
 use held::state::Changed;
 use held::state::Held;
-use summed::rest::rest;
+use joining::join::join;
+use offered::draw::lent_to;
+use offered::draw::take_offer;
 
-// Every list is long enough for one yard more, with so many bytes of values.
-fn has_place(builder: Held, rooms: Rooms, sum: usize) -> bool
-    requires { ⌜ Few builder (rooms .texts) ⌝ }
-    ensures { λ r. ⌜ r ≡ longEnough rooms (builder .names) (builder .yards + 1) (builder .front) (builder .strings + sum) ⌝ }
+fn refused(changed: Changed, noted: usize) -> Added
+    ensures { λ r. ⌜ r ≡ record { changed = changed; noted = noted } ⌝ }
 {
-    if rooms.texts - builder.strings < sum {
-        return false;
-    }
-    let names = builder.names as usize;
-    let strings = builder.strings + sum;
-    has_space(rooms, names, builder.yards + 1, builder.front, strings)
+    Added { changed, noted }
 }
 
 // Where a part of a list ends.
@@ -37,9 +38,18 @@ fn end_of(start: usize, size: usize, most: usize) -> usize
     start + size
 }
 
-// With nothing zeroed afterwards.
+// The front of a list goes.
+fn clear_front(out: &mut [u8], size: usize)
+    requires { ⌜ size ≤ length (now out) ⌝ }
+    ensures { λ _. ⌜ now (out .exit) ≡ zeros size ++ drop size (now (out .entry)) ⌝ }
+{
+    zero(&mut out[..size]);
+}
+
+// The border is drawn in what is lent of an output of this length.
 fn add_kept(
     builder: Held,
+    noted: usize,
     lats: &[i32],
     lons: &[i32],
     pieces: &[u32],
@@ -50,6 +60,10 @@ fn add_kept(
     lengths: &mut [u32],
     texts: &mut [u8],
     bytes: &mut [u8],
+    marks: &mut [u32],
+    chains: &mut [u32],
+    groups: &mut [u32],
+    begins: &mut [u32],
     starts: &mut [u32],
     keys: &mut [u64],
     spare: &mut [u64],
@@ -57,11 +71,15 @@ fn add_kept(
     held: &mut [u8],
     words: &mut [u32],
     places: &mut [u32],
+    wide: usize,
     out: &mut [u8],
-) -> Changed
-    ensures { λ r. ⌜ Adds builder (offeredAs (now (lats .entry)) (now (lons .entry)) (now (pieces .entry)) (now (sizes .entry)) (now (values .entry)))
+) -> Added
+    requires { ⌜ LentFor (min (length (now lats)) 65536) wide (length (now out)) ⌝ }
+    ensures { λ r. ⌜ Adds builder noted (offeredAs (now (lats .entry)) (now (lons .entry)) (now (pieces .entry)) (now (sizes .entry)) (now (values .entry)))
         (roomsOf (length (now (boxes .entry))) (length (now (borders .entry))) (length (now (lengths .entry))) (length (now (texts .entry))) (length (now (bytes .entry))) (length (now (starts .entry))) (length (now (keys .entry))) (length (now (spare .entry))) (length (now (kept .entry))) (length (now (held .entry))) (length (now (words .entry))) (length (now (places .entry))))
-        (length (now (out .entry))) (listsAs (now (boxes .entry)) (now (borders .entry)) (now (lengths .entry)) (now (texts .entry)) (now (bytes .entry))) (listsAs (now (boxes .exit)) (now (borders .exit)) (now (lengths .exit)) (now (texts .exit)) (now (bytes .exit))) r ⌝ }
+        (noteRooms (length (now (marks .entry))) (length (now (chains .entry))) (length (now (groups .entry))) (length (now (begins .entry)))) wide (listsAs (now (boxes .entry)) (now (borders .entry)) (now (lengths .entry)) (now (texts .entry)) (now (bytes .entry))) (listsAs (now (boxes .exit)) (now (borders .exit)) (now (lengths .exit)) (now (texts .exit)) (now (bytes .exit)))
+        (notesAs (now (marks .entry)) (now (chains .entry)) (now (groups .entry)) (now (begins .entry))) (notesAs (now (marks .exit)) (now (chains .exit)) (now (groups .exit)) (now (begins .exit))) r
+        × Rests (now (starts .entry)) (now (keys .entry)) (now (spare .entry)) (now (kept .entry)) (now (held .entry)) (now (words .entry)) (now (places .entry)) (now (starts .exit)) (now (keys .exit)) (now (spare .exit)) (now (kept .exit)) (now (held .exit)) (now (words .exit)) (now (places .exit)) ⌝ }
 {
     let rooms = Rooms {
         boxes: boxes.len(),
@@ -77,21 +95,28 @@ fn add_kept(
         words: words.len(),
         places: places.len(),
     };
+    let lent = NoteRooms {
+        marks: marks.len(),
+        chains: chains.len(),
+        groups: groups.len(),
+        begins: begins.len(),
+    };
     if !stands(builder, rooms) {
-        return no_room();
+        return refused(no_room(), noted);
     }
-    let offered = take_offer(builder, lats, lons, pieces, sizes, values, bytes, out);
+    let offered = take_offer(builder, lats, lons, pieces, sizes, values, bytes, wide, out);
     let size = match offered {
         Border::Drawn(size) => size,
-        Border::Refused(why) => return Changed::Refused(why),
+        Border::Refused(why) => return refused(Changed::Refused(why), noted),
     };
     let sum = sum_of(sizes);
-    if !has_place(builder, rooms, sum) {
-        return no_room();
+    if !has_place(builder, rooms, lent, sum) {
+        return refused(no_room(), noted);
     }
     let strings = end_of(builder.strings, sum, texts.len());
     join(
         builder,
+        noted,
         strings,
         lats,
         lons,
@@ -103,6 +128,10 @@ fn add_kept(
         lengths,
         texts,
         bytes,
+        marks,
+        chains,
+        groups,
+        begins,
         starts,
         keys,
         spare,
@@ -113,9 +142,10 @@ fn add_kept(
     )
 }
 
-// A yard joins the builder, or is refused: 19 to 22, 25, 26, 23, 28. The lists to work in and the output are zero then; a refusal changes no other list.
+// A yard joins the builder, or is refused: 19 to 22, 25, 26, 23, 28. A refusal changes no list of the builder or its notes. The lists to work in are as they were, or zero; of the output only what a border can take is used, and zero then.
 pub fn add(
     builder: Held,
+    noted: usize,
     lats: &[i32],
     lons: &[i32],
     pieces: &[u32],
@@ -126,6 +156,10 @@ pub fn add(
     lengths: &mut [u32],
     texts: &mut [u8],
     bytes: &mut [u8],
+    marks: &mut [u32],
+    chains: &mut [u32],
+    groups: &mut [u32],
+    begins: &mut [u32],
     starts: &mut [u32],
     keys: &mut [u64],
     spare: &mut [u64],
@@ -134,15 +168,19 @@ pub fn add(
     words: &mut [u32],
     places: &mut [u32],
     out: &mut [u8],
-) -> Changed
-    ensures { λ r. ⌜ Adds builder (offeredAs (now (lats .entry)) (now (lons .entry)) (now (pieces .entry)) (now (sizes .entry)) (now (values .entry)))
+) -> Added
+    ensures { λ r. ⌜ Adds builder noted (offeredAs (now (lats .entry)) (now (lons .entry)) (now (pieces .entry)) (now (sizes .entry)) (now (values .entry)))
         (roomsOf (length (now (boxes .entry))) (length (now (borders .entry))) (length (now (lengths .entry))) (length (now (texts .entry))) (length (now (bytes .entry))) (length (now (starts .entry))) (length (now (keys .entry))) (length (now (spare .entry))) (length (now (kept .entry))) (length (now (held .entry))) (length (now (words .entry))) (length (now (places .entry))))
-        (length (now (out .entry))) (listsAs (now (boxes .entry)) (now (borders .entry)) (now (lengths .entry)) (now (texts .entry)) (now (bytes .entry))) (listsAs (now (boxes .exit)) (now (borders .exit)) (now (lengths .exit)) (now (texts .exit)) (now (bytes .exit))) r
-        × Idle (now (starts .entry)) (now (keys .entry)) (now (spare .entry)) (now (kept .entry)) (now (held .entry)) (now (words .entry)) (now (places .entry)) (now (out .entry))
-        (now (starts .exit)) (now (keys .exit)) (now (spare .exit)) (now (kept .exit)) (now (held .exit)) (now (words .exit)) (now (places .exit)) (now (out .exit)) ⌝ }
+        (noteRooms (length (now (marks .entry))) (length (now (chains .entry))) (length (now (groups .entry))) (length (now (begins .entry)))) (length (now (out .entry))) (listsAs (now (boxes .entry)) (now (borders .entry)) (now (lengths .entry)) (now (texts .entry)) (now (bytes .entry))) (listsAs (now (boxes .exit)) (now (borders .exit)) (now (lengths .exit)) (now (texts .exit)) (now (bytes .exit)))
+        (notesAs (now (marks .entry)) (now (chains .entry)) (now (groups .entry)) (now (begins .entry))) (notesAs (now (marks .exit)) (now (chains .exit)) (now (groups .exit)) (now (begins .exit))) r
+        × Rests (now (starts .entry)) (now (keys .entry)) (now (spare .entry)) (now (kept .entry)) (now (held .entry)) (now (words .entry)) (now (places .entry)) (now (starts .exit)) (now (keys .exit)) (now (spare .exit)) (now (kept .exit)) (now (held .exit)) (now (words .exit)) (now (places .exit))
+        × (now (out .exit) ≡ usedOut (length (now (lats .entry))) (now (out .entry))) ⌝ }
 {
-    let changed = add_kept(
+    let wide = out.len();
+    let lent = lent_to(lats.len(), wide);
+    let added = add_kept(
         builder,
+        noted,
         lats,
         lons,
         pieces,
@@ -153,6 +191,10 @@ pub fn add(
         lengths,
         texts,
         bytes,
+        marks,
+        chains,
+        groups,
+        begins,
         starts,
         keys,
         spare,
@@ -160,8 +202,9 @@ pub fn add(
         held,
         words,
         places,
-        out,
+        wide,
+        &mut out[..lent],
     );
-    rest(starts, keys, spare, kept, held, words, places, out);
-    changed
+    clear_front(out, lent);
+    added
 }

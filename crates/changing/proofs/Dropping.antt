@@ -14,7 +14,7 @@ use Rattle.held.specs.{Builder.{Builder, dropLast, holding, summed}, Space.{lon
 use Rattle.held.specs.declared.state.Changed.the-variants as C
 use Rattle.metadata.{proofs.Shared.{flat-more, map-more}, specs.Kept.{joined}}
 use Rattle.numbers.specs.{Lists.{zeros}, Reply.{Reply, given, plain, demand, _>>_}, declared.refusal.Refusal.{Refusal}}
-use Rattle.summed.specs.{Sums.{Summing, sumsOf}, declared.sums.{Summed.{Summed}, Sums.{Sums}}}
+use Rattle.summed.specs.{Sums.{Summing, SumsUp, sumsOf}, declared.sums.{Summed.{Summed}, Sums.{Sums}}}
 use Rattle.summed.proofs.sums.Summed as K
 use Rattle.summed.specs.declared.sums.Summed.the-variants as S
 use Rattle.writer.specs.Writer.{every}
@@ -217,6 +217,9 @@ module _ (b : Builder) (builder : Held) (rooms : Rooms) (before : Lists) (h : Ho
   abbrev totals : Totals
   totals = totalsFor (take n (plan .yards)) (drawnTo (dataOf plan) n)
 
+  abbrev left-sums : Sums
+  left-sums = sumsOf (take n (plan .yards)) (drawnTo (dataOf plan) n)
+
   totals-bytes : totals .bytes ≡ held .bytes
   unfolding totalsFor
   totals-bytes = sym (bytes-are ∙ bytes-end plan (b .room) (h .sound) n less)
@@ -264,19 +267,19 @@ module _ (builder : Held) (rooms : Rooms) (before : Lists) (l : Lent rooms befor
     unfolding Shortens
     short-is = subst (Shortens builder rooms (before .borders) (before .lengths)) is c
 
-    abbrev Summed-of : Summed → ℕ → ℕ → Type 0
-    Summed-of summed from to =
+    abbrev Summed-of : Summed → List ℕ → ℕ → ℕ → Type 0
+    Summed-of summed places from to =
         (yards : List Yard) (drawn : Drawn) → Stands yards drawn (held .names) (held .yards) (before .boxes) (before .borders) (take (to - from) (drop from (before .lengths))) (take (held .strings - held .front) (drop (held .front) (before .texts)))
-        → summed ≡ S.Sums (sumsOf (totalsFor yards drawn))
+        → SumsUp yards drawn places summed
 
-    module _ (summed′ : Summed) (from to : ℕ) (ef : from ≡ held .names + 1) (et : to ≡ from + held .names * held .yards) (sums : Summed-of summed′ from to) where
-      told-sums : (b : Builder) (h : Holds b builder before) → summed′ ≡ S.Sums (sumsOf (totals b builder rooms before h held short-is))
-      told-sums b h = sums _ _ (left-stands b builder rooms before h held short-is from to ef et)
+    module _ (summed′ : Summed) {places : List ℕ} (from to : ℕ) (ef : from ≡ held .names + 1) (et : to ≡ from + held .names * held .yards) (sums : Summed-of summed′ places from to) where
+      told-sums : (b : Builder) (h : Holds b builder before) → summed′ ≡ S.Sums (left-sums b builder rooms before h held short-is)
+      told-sums b h = sums _ _ (left-stands b builder rooms before h held short-is from to ef et) .sums
 
       pub drop-broken : (tagged : (x : Sums) → summed′ ≡ S.Sums x → ⊥) → (q : Changed) → q ≡ C.Refused (plain 28) → Drops builder rooms before before q
       drop-broken none q e =
           record {
-            answers = λ b h. absurd (none (sumsOf (totals b builder rooms before h held short-is)) (told-sums b h));
+            answers = λ b h. absurd (none (left-sums b builder rooms before h held short-is) (told-sums b h));
             broken = λ f. absurd (false≢true (sym f ∙ short-is .stands));
           }
 
@@ -284,8 +287,8 @@ module _ (builder : Held) (rooms : Rooms) (before : Lists) (l : Lent rooms befor
         drop-holds : (b : Builder) (h : Holds b builder before) → Holds (summed (holding (b .plan) (take (length (b .plan .yards) - 1) (b .plan .yards))) (b .room)) next after
         drop-holds b h =
             let t : Totals = totals b builder rooms before h held short-is in
-            let both : S.Sums x ≡ S.Sums (sumsOf t) = sym given-sums ∙ told-sums b h in
-            let same : x ≡ sumsOf t = cc in
+            let both : S.Sums x ≡ S.Sums (left-sums b builder rooms before h held short-is) = sym given-sums ∙ told-sums b h in
+            let same : x ≡ left-sums b builder rooms before h held short-is = cc in
             let is : next ≡ withSums held (t .table) (t .metadata) (t .greatest) = numbers ∙ ap (λ (y : Sums). withSums held (y .table) (y .metadata) (y .greatest)) same in
             subst (λ (y : Held). Holds (summed (holding (b .plan) (take (length (b .plan .yards) - 1) (b .plan .yards))) (b .room)) y after) (sym is)
             (subst (Holds (summed (holding (b .plan) (take (length (b .plan .yards) - 1) (b .plan .yards))) (b .room)) (withSums held (t .table) (t .metadata) (t .greatest))) (sym cut) (left-holds b builder rooms before h held short-is))

@@ -9,7 +9,7 @@ use builder::yards::next_part;
 use builder::yards::part_end;
 
 // No more of the output than a border of so many points can take: all that is lent is zeroed first.
-fn lent_for(points: usize, room: usize) -> usize
+pub fn lent_for(points: usize, room: usize) -> usize
     requires { ⌜ points < 2 ^ 32 ⌝ }
     ensures { λ r. ⌜ LentFor points room r ⌝ }
 {

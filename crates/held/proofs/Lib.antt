@@ -4,6 +4,7 @@ pub mod Fronts
 pub mod Everyone
 pub mod Redrawn
 pub mod Standing
+pub mod Valued
 pub mod Stood
 pub mod Sums
 pub mod Kept
@@ -15,3 +16,7 @@ pub mod Ends
 pub mod Keeps
 pub mod Freed
 pub mod WorkedBuilder
+pub mod Longer
+pub mod Sure
+pub mod Begins
+pub mod Inserted

@@ -8,7 +8,7 @@ use uskelzar::draft::uskelzar_finish;
 use uskelzar::draft::uskelzar_replace;
 
 // What a call said. The totals stand in a record behind a refusal too, where they are those of the state.
-pub fn told(number: u8, words: [u64; 5], state: [u64; 13]) -> Reply {
+pub fn told(number: u8, words: [u64; 5], state: [u64; 14]) -> Reply {
     let reply = spoken(number, words);
     if number == 0 {
         return reply;
@@ -28,12 +28,16 @@ pub(crate) fn add_yard(
     pieces: &[u32],
     sizes: &[u32],
     values: &[u8],
-    state: &mut [u64; 13],
+    state: &mut [u64; 14],
     boxes: &mut [i32],
     borders: &mut [u32],
     lengths: &mut [u32],
     texts: &mut [u8],
     bytes: &mut [u8],
+    marks: &mut [u32],
+    chains: &mut [u32],
+    groups: &mut [u32],
+    begins: &mut [u32],
 ) -> Reply {
     let mut starts = [0xAAAA_AAAA; 1025];
     let mut keys = [0xAAAA_AAAA_AAAA_AAAA; 1024];
@@ -56,6 +60,10 @@ pub(crate) fn add_yard(
         lengths,
         texts,
         bytes,
+        marks,
+        chains,
+        groups,
+        begins,
         &mut starts,
         &mut keys,
         &mut spare,
@@ -70,7 +78,7 @@ pub(crate) fn add_yard(
 }
 
 pub(crate) fn drop_yard(
-    state: &mut [u64; 13],
+    state: &mut [u64; 14],
     boxes: &mut [i32],
     borders: &mut [u32],
     lengths: &mut [u32],
@@ -108,7 +116,7 @@ pub(crate) fn replace_value(
     yard: u32,
     field: u32,
     text: &[u8],
-    state: &mut [u64; 13],
+    state: &mut [u64; 14],
     boxes: &mut [i32],
     borders: &mut [u32],
     lengths: &mut [u32],
@@ -148,7 +156,7 @@ pub(crate) fn replace_value(
 }
 
 pub(crate) fn end(
-    state: &[u64; 13],
+    state: &[u64; 14],
     boxes: &[i32],
     borders: &[u32],
     lengths: &[u32],

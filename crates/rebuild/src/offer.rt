@@ -60,12 +60,16 @@ fn add_cut(
     pieces: &[u32],
     sizes: &[u32],
     values: &[u8],
-    state: &mut [u64; 13],
+    state: &mut [u64; 14],
     boxes: &mut [i32],
     borders: &mut [u32],
     lengths: &mut [u32],
     texts: &mut [u8],
     bytes: &mut [u8],
+    marks: &mut [u32],
+    chains: &mut [u32],
+    groups: &mut [u32],
+    begins: &mut [u32],
 ) -> Reply {
     let a = offer.lats;
     let b = offer.lons;
@@ -95,6 +99,10 @@ fn add_cut(
         lengths,
         texts,
         bytes,
+        marks,
+        chains,
+        groups,
+        begins,
     )
 }
 
@@ -104,12 +112,16 @@ fn add_lists(
     at: usize,
     offer: Offer,
     values: &[u8],
-    state: &mut [u64; 13],
+    state: &mut [u64; 14],
     boxes: &mut [i32],
     borders: &mut [u32],
     lengths: &mut [u32],
     texts: &mut [u8],
     bytes: &mut [u8],
+    marks: &mut [u32],
+    chains: &mut [u32],
+    groups: &mut [u32],
+    begins: &mut [u32],
 ) -> Reply
     requires { ⌜ (offer .lats ≤ 1024) × (offer .lons ≤ 1024) × (offer .pieces ≤ 160) × (offer .values ≤ 1024) ⌝ }
 {
@@ -134,6 +146,10 @@ fn add_lists(
         lengths,
         texts,
         bytes,
+        marks,
+        chains,
+        groups,
+        begins,
     )
 }
 
@@ -141,12 +157,16 @@ fn add_lists(
 pub(crate) fn add_at(
     record: &[u8],
     at: usize,
-    state: &mut [u64; 13],
+    state: &mut [u64; 14],
     boxes: &mut [i32],
     borders: &mut [u32],
     lengths: &mut [u32],
     texts: &mut [u8],
     bytes: &mut [u8],
+    marks: &mut [u32],
+    chains: &mut [u32],
+    groups: &mut [u32],
+    begins: &mut [u32],
 ) -> Reply {
     let offer = offered_at(record, at);
     if 1024 < offer.lats {
@@ -180,6 +200,10 @@ pub(crate) fn add_at(
         lengths,
         texts,
         bytes,
+        marks,
+        chains,
+        groups,
+        begins,
     )
 }
 
@@ -187,7 +211,7 @@ pub(crate) fn add_at(
 pub(crate) fn replace_at(
     record: &[u8],
     at: usize,
-    state: &mut [u64; 13],
+    state: &mut [u64; 14],
     boxes: &mut [i32],
     borders: &mut [u32],
     lengths: &mut [u32],

@@ -40,7 +40,7 @@ fn reply_at(record: &[u8], at: usize) -> usize {
 }
 
 fn clear_all(
-    state: &mut [u64; 13],
+    state: &mut [u64; 14],
     boxes: &mut [i32],
     borders: &mut [u32],
     lengths: &mut [u32],
@@ -55,15 +55,32 @@ fn clear_all(
 fn run_step(
     record: &[u8],
     at: usize,
-    state: &mut [u64; 13],
+    state: &mut [u64; 14],
     boxes: &mut [i32],
     borders: &mut [u32],
     lengths: &mut [u32],
     texts: &mut [u8],
     bytes: &mut [u8],
+    marks: &mut [u32],
+    chains: &mut [u32],
+    groups: &mut [u32],
+    begins: &mut [u32],
 ) -> Reply {
     match byte_at(record, at) {
-        ADD => add_at(record, at, state, boxes, borders, lengths, texts, bytes),
+        ADD => add_at(
+            record,
+            at,
+            state,
+            boxes,
+            borders,
+            lengths,
+            texts,
+            bytes,
+            marks,
+            chains,
+            groups,
+            begins,
+        ),
         DROP => drop_yard(state, boxes, borders, lengths, texts, bytes),
         REPLACE => replace_at(record, at, state, boxes, borders, lengths, texts, bytes),
         CLEAR => clear_all(state, boxes, borders, lengths, texts, bytes),
@@ -85,19 +102,36 @@ pub(crate) fn run_steps(
     record: &[u8],
     from: usize,
     count: usize,
-    state: &mut [u64; 13],
+    state: &mut [u64; 14],
     boxes: &mut [i32],
     borders: &mut [u32],
     lengths: &mut [u32],
     texts: &mut [u8],
     bytes: &mut [u8],
+    marks: &mut [u32],
+    chains: &mut [u32],
+    groups: &mut [u32],
+    begins: &mut [u32],
 ) -> usize {
     let mut i = 0;
     let mut at = from;
     while i < count {
         i += 1;
         let reply = reply_at(record, at);
-        let got = run_step(record, at, state, boxes, borders, lengths, texts, bytes);
+        let got = run_step(
+            record,
+            at,
+            state,
+            boxes,
+            borders,
+            lengths,
+            texts,
+            bytes,
+            marks,
+            chains,
+            groups,
+            begins,
+        );
         if !is_recorded(got, record, reply) {
             return 0;
         }

@@ -18,7 +18,7 @@ fn begin_with(
     record: &[u8],
     sizes: &[u32],
     strings: &[u8],
-    state: &mut [u64; 13],
+    state: &mut [u64; 14],
     boxes: &mut [i32],
     borders: &mut [u32],
     lengths: &mut [u32],
@@ -51,7 +51,7 @@ fn begin_cut(
     sizes: &[u32],
     count: usize,
     strings: &[u8],
-    state: &mut [u64; 13],
+    state: &mut [u64; 14],
     boxes: &mut [i32],
     borders: &mut [u32],
     lengths: &mut [u32],
@@ -78,7 +78,7 @@ fn begin_cut(
 fn end_right(
     record: &[u8],
     at: usize,
-    state: &[u64; 13],
+    state: &[u64; 14],
     boxes: &[i32],
     borders: &[u32],
     lengths: &[u32],
@@ -101,7 +101,7 @@ fn end_right(
 fn end_cut(
     record: &[u8],
     at: usize,
-    state: &[u64; 13],
+    state: &[u64; 14],
     boxes: &[i32],
     borders: &[u32],
     lengths: &[u32],
@@ -126,12 +126,44 @@ fn end_cut(
     )
 }
 
+// The steps from a place on, with notes that hold anything; where they end, or 0.
+fn run_noted(
+    record: &[u8],
+    from: usize,
+    state: &mut [u64; 14],
+    boxes: &mut [i32],
+    borders: &mut [u32],
+    lengths: &mut [u32],
+    texts: &mut [u8],
+    bytes: &mut [u8],
+) -> usize {
+    let mut marks = [0xAAAA_AAAA; 1025];
+    let mut chains = [0xAAAA_AAAA; 5120];
+    let mut groups = [0xAAAA_AAAA; 4136];
+    let mut begins = [0xAAAA_AAAA; 40];
+    run_steps(
+        record,
+        from,
+        size_at(record, 24),
+        state,
+        boxes,
+        borders,
+        lengths,
+        texts,
+        bytes,
+        &mut marks,
+        &mut chains,
+        &mut groups,
+        &mut begins,
+    )
+}
+
 // From the reply to begin on. A record whose begin is refused has no steps, and the same refusal at its end.
 fn run_from(
     record: &[u8],
     got: Reply,
     at: usize,
-    state: &mut [u64; 13],
+    state: &mut [u64; 14],
     boxes: &mut [i32],
     borders: &mut [u32],
     lengths: &mut [u32],
@@ -145,17 +177,7 @@ fn run_from(
     if got.outcome != 0 {
         return is_recorded(got, record, first);
     }
-    let last = run_steps(
-        record,
-        first,
-        size_at(record, 24),
-        state,
-        boxes,
-        borders,
-        lengths,
-        texts,
-        bytes,
-    );
+    let last = run_noted(record, first, state, boxes, borders, lengths, texts, bytes);
     if last == 0 {
         return false;
     }
@@ -188,7 +210,7 @@ fn run_lists(
     if 1024 < count {
         return false;
     }
-    let mut state = [0xAAAA_AAAA_AAAA_AAAA; 13];
+    let mut state = [0xAAAA_AAAA_AAAA_AAAA; 14];
     let sizes = lengths_at(record, 28, count);
     let got = begin_cut(
         record,

@@ -29,7 +29,7 @@ spread-again i (n ∷ ns) (m ∷ ms) list e =
     ap (spread (i + 2) ns) (set-before (i + 2) i ms (set list i m) n (omega arith))
     ∙ (spread-again (i + 2) ns ms (set (set list i m) i n) (omega (arith, e)) ∙ ap (spread (i + 2) ns) (set-set list i m n))
 
-numbered-at : (f : ℕ → ℕ) (i n j : ℕ) → j < n → getD (map f (numbersFrom i n)) j 0 ≡ f (i + j)
+pub numbered-at : (f : ℕ → ℕ) (i n j : ℕ) → j < n → getD (map f (numbersFrom i n)) j 0 ≡ f (i + j)
 unfolding numbersFrom
 numbered-at f i zero j h = absurd (omega arith)
 numbered-at f i (suc n) zero h = let e : i ≡ i + 0 = omega arith in ap f e

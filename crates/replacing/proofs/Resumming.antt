@@ -9,7 +9,7 @@ use Rattle.builder.specs.{Borders.{Drawn}, File.{upTo}, Yards.{Yard}}
 use Rattle.held.specs.{State.{Stands}, Totals.{fileSize, totalsFor}, declared.state.{Changed.{Changed}, Held.{Held}}}
 use Rattle.held.specs.declared.state.Changed.the-variants as C
 use Rattle.numbers.specs.{Reply.{plain}, declared.refusal.Refusal.{Refusal}}
-use Rattle.summed.specs.{Sums.{Summing, sized, sumsOf}, declared.sums.{Sums.{Sums}, Summed.{Summed}}}
+use Rattle.summed.specs.{Sums.{Summing, SumsUp, sized, sumsOf}, declared.sums.{Sums.{Sums}, Summed.{Summed}}}
 use Rattle.summed.proofs.sums.Summed as K
 use Rattle.summed.specs.declared.sums.Summed.the-variants as S
 use Rattle.replacing.proofs.Renewed.{resum-fits, resum-long}
@@ -42,17 +42,17 @@ broken-tag : (s : Summed) → tagOf (declared K.enum) s ≡ 1 → (sums : Sums) 
 broken-tag (S.Sums t) tag sums e = omega (arith, tag)
 broken-tag S.Broken tag sums e = let z : _≡_ {A = ℕ} 0 1 = cc in omega arith
 
-module _ (held : Held) (strings : ℕ) (boxes : List ℤ) (borders lengths texts : List ℕ) (s : Summed)
+module _ (held : Held) (strings : ℕ) (boxes : List ℤ) (borders lengths texts : List ℕ) (s : Summed) {places : List ℕ}
     (sums : (yards : List Yard) (drawn : Drawn)
     → Stands yards drawn (held .names) (held .yards) boxes borders (take (held .names + 1 + held .names * held .yards - (held .names + 1)) (drop (held .names + 1) lengths)) (take (strings - held .front) (drop (held .front) texts))
-    → s ≡ S.Sums (sumsOf (totalsFor yards drawn))) where
+    → SumsUp yards drawn places s) where
   pub resums-broken : tagOf (declared K.enum) s ≡ 1 → (r : Changed) → Resums held strings boxes borders lengths texts r
   unfolding Resums
-  resums-broken tag r = λ yards drawn stands. absurd (broken-tag s tag (sumsOf (totalsFor yards drawn)) (sums yards drawn stands))
+  resums-broken tag r = λ yards drawn stands. absurd (broken-tag s tag (sumsOf yards drawn) (sums yards drawn stands .sums))
 
   pub resums-settled : (t : Sums) → s ≡ S.Sums t → (r : Changed) → r ≡ resummed held strings (t .table) (t .metadata) (t .greatest) → Resums held strings boxes borders lengths texts r
   unfolding Resums
   resums-settled t is r e =
       λ yards drawn stands.
-      let same : t ≡ sumsOf (totalsFor yards drawn) = let there = sums yards drawn stands in cc in
+      let same : t ≡ sumsOf yards drawn = let there = sums yards drawn stands .sums in cc in
       e ∙ ap (λ (x : Sums). resummed held strings (x .table) (x .metadata) (x .greatest)) same

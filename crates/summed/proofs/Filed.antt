@@ -7,11 +7,11 @@ use Rattle.builder.specs.{Entries.{entryOfWord, tableFrom, tableOf}, File.{asse
 use Rattle.build.proofs.Filing.{Reach, laid-section, reaches}
 use Rattle.build.specs.{Puts.{Headed, SectionIn, sectionFrom}, Room.{enough}, declared.room.Work.{Work}}
 use Rattle.drawing.specs.Section.{spread}
-use Rattle.held.proofs.{Fronts.{front-take}, Standing.{held-bytes, holds-stands}}
+use Rattle.held.proofs.{Fronts.{front-take}, Standing.{held-bytes, holds-stands}, Valued.{held-values}}
 use Rattle.held.specs.{Builder.{Builder}, State.{Holds, Lists, frontOf}, Totals.{dataOf}, declared.state.Held.{Held}}
 use Rattle.metadata.proofs.Begun.{cut-join}
 use Rattle.recording.proofs.Written.{recorded-section}
-use Rattle.summed.proofs.{Afresh.{held-table, held-values}, Reached.{arranging-laying}, Wholes.{front-lengths, front-sum, front-texts, strings-small, values-sum}}
+use Rattle.summed.proofs.{Afresh.{held-table}, Reached.{arranging-laying}, Wholes.{front-lengths, front-sum, front-texts, strings-small, values-sum}}
 use Rattle.summed.specs.{Ends.{Putting}, Sums.{Arranged, Arranging}}
 
 module _ (held : Held) (lengths texts : List ℕ) (borders bytes : ℕ) (work : Work) (p : Putting held lengths (length texts) borders bytes work) where

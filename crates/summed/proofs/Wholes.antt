@@ -7,12 +7,12 @@ use native.Mathlib.Omega.{arith}
 use Rattle.writer.specs.Writer.{every}
 use Rattle.builder.specs.{File.{isText}, Yards.{Text, Plan, cutBy, sumOf}}
 use Rattle.build.proofs.{Planned.{both}, Slices.{texts-few}}
-use Rattle.held.proofs.{Everyone.{every-more}, Fronts.{front-of-more}}
+use Rattle.held.proofs.{Everyone.{every-more}, Fronts.{front-of-more}, Valued.{held-whole}}
 use Rattle.held.proofs.Standing.{few-names, front-first, front-many, held-front, held-names, holds-stands, lengths-split, names-few, readable-parts, strings-inside, texts-split}
 use Rattle.held.specs.{Builder.{Builder}, State.{Front, Holds, Lists, frontOf, valuesOf}, Totals.{dataOf}, declared.state.Held.{Held}}
 use Rattle.metadata.{proofs.Begun.{cut-join}, specs.Kept.{joined}}
 use Rattle.recording.proofs.Fewer.{joined-sum}
-use Rattle.summed.proofs.Afresh.{held-small, held-whole}
+use Rattle.summed.proofs.Afresh.{held-small}
 use Rattle.summed.specs.Ends.{Texts, textsWhole}
 
 module _ (held : Held) (lengths : List ℕ) where

@@ -2,14 +2,15 @@
 use Prim.Native.Nat.{ℕ, _*_, _^_, _≤_}
 use lib.{IntN.{ℤ, pos}, ListN.{length, take, getD}}
 use mathlib.Core.{Bool.{true}, List.{List, map}, Path.{_≡_}}
-use Rattle.builder.specs.{Entries.{wordOfYard}, Yards.{sumOf}}
+use Rattle.builder.specs.{Borders.{Drawn}, Entries.{wordOfYard}, Metadata.{fieldsOf, layoutOf, recordsOf, startOf}, Yards.{Yard, sumOf}}
 use Rattle.build.specs.{Room.{enough}, declared.room.Work.{Work}}
 use Rattle.drawing.specs.Section.{spread}
 use Rattle.grouping.specs.Keys.{numbersFrom}
-use Rattle.held.specs.Totals.{Totals}
+use Rattle.held.specs.Totals.{Totals, totalsFor}
 use Rattle.layout.specs.Order.{keyOf, sortedBy}
 use Rattle.recording.specs.Recorded.{Recorded}
-use Rattle.summed.specs.declared.sums.Sums.{Sums}
+use Rattle.summed.specs.declared.sums.{Sums.{Sums}, Summed.{Summed}}
+use Rattle.summed.specs.declared.sums.Summed.the-variants as S
 
 -- so many names and yards, lengths, borders and bytes of texts, and lists that are long enough for them
 pub record Summing (names count lengths borders texts : ℕ) (work : Work) : Type 0 where
@@ -34,9 +35,20 @@ pub record Arranged (names count : ℕ) (boxes : List ℤ) (borders lengths text
 unfoldable pub southsOf : List ℤ → ℕ → List ℤ
 southsOf boxes count = map (λ yard. getD boxes (4 * yard) (pos 0)) (numbersFrom 0 count)
 
--- of the totals those that a change afar can move
-abbrev pub sumsOf : Totals → Sums
-sumsOf t = record { table = t .table; metadata = t .metadata; greatest = t .greatest }
+-- of the totals those that a change afar can move, and the length of the records
+abbrev pub sumsOf : List Yard → Drawn → Sums
+sumsOf yards drawn =
+    let t = totalsFor yards drawn in
+    record { table = t .table; metadata = t .metadata; greatest = t .greatest; records = layoutOf (fieldsOf (recordsOf yards)) }
+
+-- where the record of each yard begins
+abbrev pub beginsOf : List Yard → List ℕ
+beginsOf yards = map (λ y. startOf (recordsOf yards) (y .values)) yards
+
+-- the sums of some yards; where their records begin stands at every second place of a list
+pub record SumsUp (yards : List Yard) (drawn : Drawn) (places : List ℕ) (r : Summed) : Type 0 where
+  pub sums : r ≡ S.Sums (sumsOf yards drawn)
+  pub begins : map (λ yard. getD places (2 * yard) 0) (numbersFrom 0 (length yards)) ≡ beginsOf yards
 
 -- totals with these sizes
 abbrev pub sized : ℕ → ℕ → ℕ → Totals

@@ -4,18 +4,19 @@ ghost use Prim.Native.Nat.{_*_, _≤_};
 ghost use lib.{Dec.{eqb, leb}, ListN.{length}};
 ghost use Rattle.builder.specs.{Borders.{Drawn}, Entries.{highestOf}, File.{upTo}, Yards.{Yard, sumOf}};
 ghost use Rattle.build.specs.Room.{workOf};
-ghost use Rattle.held.specs.{State.{Stands}, Totals.{totalsFor, fileSize}};
-ghost use Rattle.summed.specs.Sums.{Summing, southsOf, sumsOf, sized};
+ghost use Rattle.held.specs.{State.{Stands}, Totals.{fileSize}};
+ghost use Rattle.summed.specs.Sums.{Summing, SumsUp, southsOf, sized};
 use crate::arrange::lay_out;
 use build::room::up_to;
 use build::write::table_size;
 use layout::records::size_of_varint;
 
-// The bytes of the table and of the metadata, and the greatest lower latitude.
+// The bytes of the table and of the metadata, the greatest lower latitude, and the bytes of the records.
 pub struct Sums {
     pub table: usize,
     pub metadata: usize,
     pub greatest: i32,
+    pub records: u32,
 }
 
 pub enum Summed {
@@ -45,7 +46,7 @@ fn greatest_of(boxes: &[i32], count: usize) -> i32
 }
 
 // The lengths sum up to this. Taken away from it one by one, so that no sum is too large.
-pub(crate) fn is_sum(lengths: &[u32], sum: usize) -> bool
+pub fn is_sum(lengths: &[u32], sum: usize) -> bool
     ensures { λ r. ⌜ r ≡ eqb (sumOf (now (lengths .entry))) sum ⌝ }
 {
     let mut left = sum;
@@ -77,7 +78,7 @@ pub fn sum_up(
     places: &mut [u32],
 ) -> Summed
     requires { ⌜ Summing names count (length (now lengths)) (length (now borders)) (length (now texts)) (workOf (length (now starts)) (length (now keys)) (length (now spare)) (length (now kept)) (length (now held)) (length (now words)) (length (now places)) (length (now boxes))) ⌝ }
-    ensures { λ r. ⌜ ((yards : List Yard) (drawn : Drawn) → Stands yards drawn names count (now (boxes .entry)) (now (borders .entry)) (now (lengths .entry)) (now (texts .entry)) → r ≡ Summed.Sums (sumsOf (totalsFor yards drawn))) ⌝ }
+    ensures { λ r. ⌜ ((yards : List Yard) (drawn : Drawn) → Stands yards drawn names count (now (boxes .entry)) (now (borders .entry)) (now (lengths .entry)) (now (texts .entry)) → SumsUp yards drawn (now (places .exit)) r) ⌝ }
 {
     // So many texts of 255 bytes are shorter.
     if 0x2000_0000 < texts.len() {
@@ -105,6 +106,7 @@ pub fn sum_up(
         table: table_size(&keys[..count], boxes, places),
         metadata: section.records as usize + section.remote as usize,
         greatest: greatest_of(boxes, count),
+        records: section.records,
     };
     Summed::Sums(sums)
 }

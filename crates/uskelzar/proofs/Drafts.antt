@@ -1,4 +1,4 @@
--- A builder's numbers in thirteen words, and back; and how a change of it goes over to C. Assumes nothing.
+-- A builder's numbers in fourteen words, and back; and how a change of it goes over to C. Assumes nothing.
 use Prim.Native.Nat.{ℕ, _*_, _/_, _%_, _^_, _<_}
 use borrow.Author.Tests.{eq-eqb}
 use lib.{IntN.{ℤ, pos, negsuc}, ListN.{getD}}
@@ -6,10 +6,11 @@ use mathlib.Core.{List.{List, [], _∷_}, Path.{_≡_, sym, ap, subst, _∙_}}
 use mir.{Syntax.{w32}, Val.{SFits, ofZ}}
 use native.Mathlib.Omega.{arith}
 use Rattle.build.specs.{Whole.{toldBuilt}, declared.file.Built.{Built}}
+use Rattle.growing.specs.declared.grow.Added.{Added}
 use Rattle.held.specs.declared.state.{Held.{Held}, Changed.{Changed}}
 use Rattle.index.proofs.Numbering.{read-back}
 use Rattle.numbers.specs.{Point.{readI32, signedOf}, declared.refusal.Refusal.{Refusal}}
-use Rattle.uskelzar.specs.{Draft.{heldOf, wordsOf, Kept, Spoke, Speaks, Ends}, Spoken.{lengthValue, saidOf}}
+use Rattle.uskelzar.specs.{Draft.{heldOf, notedIn, wordsOf, Kept, Spoke, Speaks, SpeaksNoted, Ends}, Spoken.{lengthValue, saidOf}}
 use Rattle.held.specs.declared.state.Changed.the-variants as C
 
 -- half of twice the bits
@@ -53,8 +54,8 @@ bits-low (pos n) h = omega (arith, h .sfits)
 bits-low (negsuc n) h = omega (arith, h .sfits)
 
 -- numbers of their widths are read back from their words
-module _ (held : Held) (kind-low : held .kind < 2 ^ 8) (version-low : held .version < 2 ^ 8) (precision-low : held .precision < 2 ^ 8) (names-low : held .names < 2 ^ 32) (fits : SFits w32 (held .greatest)) where
-  pub words-back : heldOf (wordsOf held) ≡ held
+module _ (held : Held) (noted : ℕ) (kind-low : held .kind < 2 ^ 8) (version-low : held .version < 2 ^ 8) (precision-low : held .precision < 2 ^ 8) (names-low : held .names < 2 ^ 32) (fits : SFits w32 (held .greatest)) where
+  pub words-back : heldOf (wordsOf held noted) ≡ held
   unfolding heldOf wordsOf
   words-back =
       let bits : ℕ = ofZ w32 (held .greatest) in
@@ -73,26 +74,32 @@ module _ (held : Held) (kind-low : held .kind < 2 ^ 8) (version-low : held .vers
   -- as they are made of the greatest's bits
   abbrev made : ℕ → List ℕ
   made bits =
-      held .kind ∷ held .version ∷ held .precision ∷ held .names ∷ held .room ∷ held .head ∷ held .front ∷ held .strings ∷ held .table ∷ held .metadata ∷ held .bytes ∷ held .yards ∷ bits ∷ []
+      held .kind ∷ held .version ∷ held .precision ∷ held .names ∷ held .room ∷ held .head ∷ held .front ∷ held .strings ∷ held .table ∷ held .metadata ∷ held .bytes ∷ held .yards ∷ bits ∷ noted ∷ []
 
-  pub words-made : (bits : ℕ) → bits ≡ ofZ w32 (held .greatest) → (made bits ≡ wordsOf held) × (heldOf (made bits) ≡ held)
+  pub words-made : (bits : ℕ) → bits ≡ ofZ w32 (held .greatest) → (made bits ≡ wordsOf held noted) × (heldOf (made bits) ≡ held)
   unfolding wordsOf
-  words-made bits is = let same : made bits ≡ wordsOf held = ap made is in (same, ap heldOf same ∙ words-back)
+  words-made bits is = let same : made bits ≡ wordsOf held noted = ap made is in (same, ap heldOf same ∙ words-back)
 
 -- ---- a changed builder is kept, a refused one as it was
-module _ (before after : List ℕ) {changed : Changed} where
-  pub kept-into : {held : Held} → changed ≡ C.Into held → (after ≡ wordsOf held) × (heldOf after ≡ held) → Kept before after changed
+module _ (noted : ℕ) (before after : List ℕ) {changed : Changed} where
+  pub kept-into : {held : Held} → changed ≡ C.Into held → (after ≡ wordsOf held noted) × (heldOf after ≡ held) → Kept noted before after changed
   unfolding Kept
-  kept-into is words = subst (Kept before after) (sym is) words
+  kept-into is words = subst (Kept noted before after) (sym is) words
 
-  pub kept-refused : {why : Refusal} → changed ≡ C.Refused why → after ≡ before → Kept before after changed
+  pub kept-refused : {why : Refusal} → changed ≡ C.Refused why → after ≡ before → Kept noted before after changed
   unfolding Kept
-  kept-refused is same = subst (Kept before after) (sym is) same
+  kept-refused is same = subst (Kept noted before after) (sym is) same
 
 -- what a call was promised of the builder that it took from the words of its state
 module _ {Promised : Held → Changed → Type 0} {before after said : List ℕ} {number : ℕ} {held : Held} {changed : Changed} where
-  pub speaks : held ≡ heldOf before → Promised held changed → Spoke changed before after number said → Speaks Promised before after number said
+  pub speaks : held ≡ heldOf before → Promised held changed → Spoke changed 0 before after number said → Speaks Promised before after number said
   speaks is promised spoke = record { changed = changed; promised = subst (λ (h : Held). Promised h changed) is promised; spoke = spoke }
+
+-- the same of an add
+module _ {Promised : Held → ℕ → Added → Type 0} {before after said : List ℕ} {number noted : ℕ} {held : Held} {added : Added} where
+  pub speaks-noted : held ≡ heldOf before → noted ≡ notedIn before → Promised held noted added → Spoke (added .changed) (added .noted) before after number said → SpeaksNoted Promised before after number said
+  speaks-noted is note promised spoke =
+      record { added = added; promised = subst (λ (n : ℕ). Promised (heldOf before) n added) note (subst (λ (h : Held). Promised h noted added) is promised); spoke = spoke }
 
 -- the same of the end
 module _ {Promised : Held → Built → Type 0} {state said : List ℕ} {number : ℕ} {held : Held} (built : Built) where

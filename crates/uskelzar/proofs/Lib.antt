@@ -4,6 +4,7 @@ pub mod Strict
 pub mod Same
 pub mod SameCivil
 pub mod Drafts
+pub mod NotedDrafts
 pub mod NumberedCalls
 pub mod NumberedDrafts
 pub mod SameCalls

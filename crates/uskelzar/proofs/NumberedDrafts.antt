@@ -2,12 +2,13 @@
 use Prim.Native.Nat.{ℕ}
 use lib.{Dec.{eqb}, ListN.{length}}
 use mathlib.Core.{Bool.{Bool, true, false, _||_}, List.{List, [], _∷_}, Logic.{_↔_, inl, inr}, Path.{_≡_, refl, sym, ap, subst, _∙_}}
-use Rattle.adding.specs.Adds.{Adds}
+use Rattle.adding.specs.{Adds.{Adds}, declared.room.NoteRooms.{NoteRooms}}
 use Rattle.adding.specs.Adds as Adding
 use Rattle.build.specs.{Whole.{toldBuilt}, declared.file.Built.{Built}}
 use Rattle.builder.specs.{File.{Replied, fitted}, Yards.{Text, Plan}}
 use Rattle.changing.specs.{Begun.{Begins}, Dropped.{Drops, leftSpace}, Emptied.{Clears}}
 use Rattle.drawing.proofs.Lending.{never-given}
+use Rattle.growing.specs.{Notes.{Notes, NotedBy}, declared.grow.Added.{Added}}
 use Rattle.held.specs.{Builder.{Builder, Offered, add, begin, clear, dropLast, finish, replace}, Space.{Space}, State.{Answers, Holds, Lists, heldAs}, declared.{room.Rooms.{Rooms}, state.{Changed.{Changed}, Held.{Held}}}}
 use Rattle.held.specs.declared.state.Changed.the-variants as C
 use Rattle.numbers.{proofs.Refusals.{Listed, oneOf}, specs.{Reply.{Reply, given, refused, plain}, declared.refusal.Refusal.{Refusal}}}
@@ -16,8 +17,8 @@ use Rattle.replacing.specs.Replaced as Replacing
 use Rattle.summed.specs.Ends.{Finishes, spaceOf}
 use Rattle.uskelzar.proofs.Numbered.{Answered, never-zero, zero-said}
 use Rattle.uskelzar.proofs.NumberedCalls.{addNumbers, add-refusals, beginNumbers, begin-refusals, dropNumbers, drop-refusals, finishNumbers, finish-refusals, replaceNumbers, replace-refusals}
-use Rattle.uskelzar.proofs.SameCalls.{Told}
-use Rattle.uskelzar.specs.{Draft.{Ends, Files, Speaks, heldOf, toldChanged, totalsValues}, Spoken.{lengthValue, saidOf}, declared.Said.{Said}}
+use Rattle.uskelzar.proofs.SameCalls.{Told, ToldNoted}
+use Rattle.uskelzar.specs.{Draft.{Ends, Files, Speaks, SpeaksNoted, heldOf, notedIn, toldChanged, totalsValues}, Spoken.{lengthValue, saidOf}, declared.Said.{Said}}
 
 -- ---- what is said of a reply
 -- a builder's totals, a file's length
@@ -78,19 +79,24 @@ broken-few numbers n listed is said =
     subst (λ (x : Said). Listed (0 ∷ numbers) (x .number)) (sym (said ∙ ap (λ (r : Changed). saidOf totalsValues (toldChanged r)) is)) listed
 
 -- `uskelzar_add`
-module _ (held : List ℕ) (o : Offered) (rooms : Rooms) (out : ℕ) (before after : Lists) {state words : List ℕ} {number : ℕ} (s : Speaks (λ h. Adds h o rooms out before after) held state number words) where
+module _ (held : List ℕ) (o : Offered) (rooms : Rooms) (lent : NoteRooms) (out : ℕ) (before after : Lists) (notes notes′ : Notes) {state words : List ℕ} {number : ℕ}
+    (s : SpeaksNoted (λ h noted. Adds h noted o rooms lent out before after notes notes′) held state number words) where
   abbrev added : Builder → Reply Builder
-  added b = add b o (Adding.spaceFor (heldOf held) rooms o out)
+  added b = add b o (Adding.spaceFor (heldOf held) rooms lent o out)
 
-  pub add-said : (b : Builder) → Holds b (heldOf held) before → saying number words ≡ saidOf builderValues (add b o (Adding.spaceFor (heldOf held) rooms o out))
-  add-said b holds = s .spoke .said ∙ answers-say (added b) before after (s .changed) (s .promised .answers b holds)
+  -- the notes are those of the builder's yards, or nothing is noted
+  abbrev Right : Builder → Type 0
+  Right b = NotedBy (heldOf held .names) (b .plan .yards) (notedIn held) notes
 
-  pub add-zero : (b : Builder) → Holds b (heldOf held) before → (number ≡ 0) ↔ Answered (add b o (Adding.spaceFor (heldOf held) rooms o out))
-  add-zero b holds = zero-of builderValues addNumbers (λ z. z) (added b) (add-refusals b (holds .sound) o (Adding.spaceFor (heldOf held) rooms o out)) (add-said b holds)
+  pub add-said : (b : Builder) → Holds b (heldOf held) before → Right b → saying number words ≡ saidOf builderValues (add b o (Adding.spaceFor (heldOf held) rooms lent o out))
+  add-said b holds right = s .spoke .said ∙ answers-say (added b) before after (s .added .changed) (s .promised .answers b holds right .0)
 
-  pub add-numbers : Told (heldOf held) rooms before → Listed (0 ∷ addNumbers) number
-  add-numbers (inl (b, holds)) = few-of builderValues addNumbers (λ z. z) (added b) (add-refusals b (holds .sound) o (Adding.spaceFor (heldOf held) rooms o out)) (add-said b holds)
-  add-numbers (inr broken) = broken-few addNumbers 28 refl (s .promised .stands-not broken .0) (s .spoke .said)
+  pub add-zero : (b : Builder) → Holds b (heldOf held) before → Right b → (number ≡ 0) ↔ Answered (add b o (Adding.spaceFor (heldOf held) rooms lent o out))
+  add-zero b holds right = zero-of builderValues addNumbers (λ z. z) (added b) (add-refusals b (holds .sound) o (Adding.spaceFor (heldOf held) rooms lent o out)) (add-said b holds right)
+
+  pub add-numbers : ToldNoted (heldOf held) (notedIn held) rooms before notes → Listed (0 ∷ addNumbers) number
+  add-numbers (inl (b, (holds, right))) = few-of builderValues addNumbers (λ z. z) (added b) (add-refusals b (holds .sound) o (Adding.spaceFor (heldOf held) rooms lent o out)) (add-said b holds right)
+  add-numbers (inr broken) = broken-few addNumbers 28 refl (ap (λ (r : Added). r .changed) (s .promised .stands-not broken .0)) (s .spoke .said)
 
 -- `uskelzar_drop_last`
 module _ (held : List ℕ) (rooms : Rooms) (before after : Lists) {state words : List ℕ} {number : ℕ} (s : Speaks (λ h. Drops h rooms before after) held state number words) where

@@ -1,16 +1,18 @@
 -- What the promises of a builder's calls fix: two replies that one permits are equal, with every list. Assumes nothing.
 use Prim.Native.Nat.{ℕ}
-use lib.IntN.{pos}
+use lib.{IntN.{pos}, ListN.{length}}
 use mathlib.Core.{Bool.{false}, List.{List}, Logic.{_⊎_, inl, inr}, Path.{_≡_, sym, ap, subst, _∙_}}
-use Rattle.adding.specs.Adds.{Adds}
+use Rattle.adding.specs.{Adds.{Adds}, declared.room.NoteRooms.{NoteRooms}}
 use Rattle.adding.specs.Adds as Adding
 use Rattle.build.specs.{Whole.{toldBuilt}, declared.file.Built.{Built}}
 use Rattle.build.specs.declared.file.Built.the-variants as W
-use Rattle.builder.specs.{File.{Replied}, Yards.{Text, Plan}}
+use Rattle.builder.specs.{File.{Replied}, Yards.{Text, Plan, Yard}}
 use Rattle.changing.proofs.Cuts.{lists-same}
 use Rattle.changing.specs.{Begun.{Begins, blank}, Dropped.{Drops, leftSpace}, Emptied.{Clears}}
+use Rattle.chains.proofs.Entering.{chained-one}
 use Rattle.drawing.proofs.Lending.{never-given}
-use Rattle.held.{proofs.Fronts.{front-one}, specs.{Builder.{Builder, Offered, add, begin, clear, dropLast, finish, replace}, Space.{Space, standing}, State.{Answers, Holds, Idle, Lists, SameRooms}, declared.{room.Rooms.{Rooms}, state.{Changed.{Changed}, Held.{Held}}}}}
+use Rattle.growing.specs.{Joins.{Renoted}, Notes.{Notes, Noted, NotedBy, notesAs}, declared.grow.Added.{Added}}
+use Rattle.held.{proofs.Fronts.{front-one}, specs.{Builder.{Builder, Offered, add, begin, clear, dropLast, finish, joined, replace}, Space.{Space, standing}, State.{Answers, Holds, Idle, Lists, SameRooms}, declared.{room.Rooms.{Rooms}, state.{Changed.{Changed}, Held.{Held}}}}}
 use Rattle.held.specs.declared.state.Changed.the-variants as C
 use Rattle.numbers.specs.{Reply.{Reply, given, refused, plain}, declared.refusal.Refusal.{Refusal}}
 use Rattle.replacing.specs.Replaced.{Replaces}
@@ -90,11 +92,66 @@ module _ (reply : Builder → Reply Builder) (number : ℕ) (held : Held) (rooms
   same-changed {after} {after′} {r} {r′} (inl (b, holds)) a n a′ n′ = same-answer (reply b) before after after′ r r′ (a b holds) (a′ b holds)
   same-changed (inr broken) a n a′ n′ = (n broken .0 ∙ sym (n′ broken .0), n broken .1 ∙ sym (n′ broken .1))
 
--- ---- for each call
-module _ (held : Held) (rooms : Rooms) (before : Lists) (told : Told held rooms before) {after after′ : Lists} {r r′ : Changed} where
-  pub same-added : {o : Offered} {out : ℕ} → Adds held o rooms out before after r → Adds held o rooms out before after′ r′ → (r ≡ r′) × (after ≡ after′)
-  same-added {o} {out} a a′ = same-changed (λ b. add b o (Adding.spaceFor held rooms o out)) 28 held rooms before told (a .answers) (a .stands-not) (a′ .answers) (a′ .stands-not)
+-- ---- an add, whose notes are right where it is told of a builder
+abbrev pub ToldNoted : Held → ℕ → Rooms → Lists → Notes → Type 0
+ToldNoted held noted rooms lists notes = ((b : Builder) × (Holds b held lists × NotedBy (held .names) (b .plan .yards) noted notes)) ⊎ (standing held rooms ≡ false)
 
+-- the number for the notes is one, whatever else the two lists of notes hold
+noted-one : (names : ℕ) (yards : List Yard) (noted : ℕ) (notes : Notes) (n n′ : ℕ) (notes₁ notes₂ : Notes) (changed : Changed) → Renoted names yards noted notes n notes₁ changed → Renoted names yards noted notes n′ notes₂ changed → n ≡ n′
+unfolding Renoted
+noted-one names yards noted notes n n′ notes₁ notes₂ (C.Into held) one other = one .number ∙ sym (other .number)
+noted-one names yards noted notes n n′ notes₁ notes₂ (C.Refused why) one other = one .0 ∙ sym (other .0)
+
+added-one : (r r′ : Added) → r .changed ≡ r′ .changed → r .noted ≡ r′ .noted → r ≡ r′
+added-one r r′ changed noted = ap (λ (c : Changed). record { changed = c; noted = r .noted }) changed ∙ ap (λ (n : ℕ). record { changed = r′ .changed; noted = n }) noted
+
+module _ (held : Held) (noted : ℕ) (rooms : Rooms) (lent : NoteRooms) (before : Lists) (notes : Notes) {o : Offered} {out : ℕ} {after after′ : Lists} {notes₁ notes₂ : Notes} {r r′ : Added} where
+  pub same-added : ToldNoted held noted rooms before notes → Adds held noted o rooms lent out before after notes notes₁ r → Adds held noted o rooms lent out before after′ notes notes₂ r′ → (r ≡ r′) × (after ≡ after′)
+  same-added (inl (b, (holds, right))) a a′ =
+      let one = a .answers b holds right in
+      let other = a′ .answers b holds right in
+      let same = same-answer (add b o (Adding.spaceFor held rooms lent o out)) before after after′ (r .changed) (r′ .changed) (one .0) (other .0) in
+      let yards : List Yard = joined (b .plan) o .yards in
+      let renoted = subst (λ (c : Changed). Renoted (held .names) yards noted notes (r .noted) notes₁ c) (same .0) (one .1) in
+      (added-one r r′ (same .0) (noted-one (held .names) yards noted notes (r .noted) (r′ .noted) notes₁ notes₂ (r′ .changed) renoted (other .1)), same .1)
+  same-added (inr broken) a a′ = (a .stands-not broken .0 ∙ sym (a′ .stands-not broken .0), a .stands-not broken .1 .0 ∙ sym (a′ .stands-not broken .1 .0))
+
+-- ---- and its notes, in lists of the same lengths
+pub record SameNotes (one other : Notes) : Type 0 where
+  pub marks : length (one .marks) ≡ length (other .marks)
+  pub chains : length (one .chains) ≡ length (other .chains)
+  pub groups : length (one .groups) ≡ length (other .groups)
+  pub begins : length (one .begins) ≡ length (other .begins)
+
+-- the notes of given yards are one
+pub notes-one : (names : ℕ) (yards : List Yard) (n n′ : ℕ) (one other : Notes) → Noted names yards n one → Noted names yards n′ other → SameNotes one other → one ≡ other
+notes-one names yards n n′ one other a a′ same =
+    let l = a .lists in
+    let l′ = a′ .lists in
+    ap (λ (x : List ℕ). notesAs x (one .chains) (one .groups) (one .begins)) (front-one 0 (l′ .marks-are) (l .marks-are) (same .marks))
+    ∙ (ap (λ (x : List ℕ). notesAs (other .marks) x (one .groups) (one .begins)) (chained-one _ _ _ (one .chains) (other .chains) (same .chains) (l .indexed .fields) (l′ .indexed .fields))
+    ∙ (ap (λ (x : List ℕ). notesAs (other .marks) (other .chains) x (one .begins)) (chained-one _ _ _ (one .groups) (other .groups) (same .groups) (l .indexed .records) (l′ .indexed .records))
+    ∙ ap (λ (x : List ℕ). notesAs (other .marks) (other .chains) (other .groups) x) (front-one 0 (l′ .begins-are) (l .begins-are) (same .begins))))
+
+renoted-one : (names : ℕ) (yards : List Yard) (noted : ℕ) (notes : Notes) (n n′ : ℕ) (one other : Notes) (changed : Changed) → Renoted names yards noted notes n one changed → Renoted names yards noted notes n′ other changed → SameNotes one other → one ≡ other
+unfolding Renoted
+renoted-one names yards noted notes n n′ one other (C.Into held) a a′ same = notes-one names yards n n′ one other a a′ same
+renoted-one names yards noted notes n n′ one other (C.Refused why) a a′ same = a .1 ∙ sym (a′ .1)
+
+module _ (held : Held) (noted : ℕ) (rooms : Rooms) (lent : NoteRooms) (before : Lists) (notes : Notes) {o : Offered} {out : ℕ} {after after′ : Lists} {notes₁ notes₂ : Notes} {r r′ : Added} where
+  pub same-notes : ToldNoted held noted rooms before notes → Adds held noted o rooms lent out before after notes notes₁ r → Adds held noted o rooms lent out before after′ notes notes₂ r′ → SameNotes notes₁ notes₂ → notes₁ ≡ notes₂
+  same-notes told a a′ same = go told
+    where
+      go : ToldNoted held noted rooms before notes → notes₁ ≡ notes₂
+      go (inl (b, (holds, right))) =
+          let changed = ap (λ (x : Added). x .changed) (same-added held noted rooms lent before notes told a a′ .0) in
+          let yards : List Yard = joined (b .plan) o .yards in
+          let renoted = subst (λ (c : Changed). Renoted (held .names) yards noted notes (r .noted) notes₁ c) changed (a .answers b holds right .1) in
+          renoted-one (held .names) yards noted notes (r .noted) (r′ .noted) notes₁ notes₂ (r′ .changed) renoted (a′ .answers b holds right .1) same
+      go (inr broken) = a .stands-not broken .1 .1 ∙ sym (a′ .stands-not broken .1 .1)
+
+-- ---- for each other call
+module _ (held : Held) (rooms : Rooms) (before : Lists) (told : Told held rooms before) {after after′ : Lists} {r r′ : Changed} where
   pub same-dropped : Drops held rooms before after r → Drops held rooms before after′ r′ → (r ≡ r′) × (after ≡ after′)
   same-dropped a a′ = same-changed (λ b. dropLast b (leftSpace held rooms (before .lengths))) 29 held rooms before told (a .answers) (a .broken) (a′ .answers) (a′ .broken)
 

@@ -5,10 +5,11 @@ use mir.{Syntax.{w32}, Val.{SFits}}
 use native.Mathlib.Omega.{arith}
 use Rattle.builder.specs.Yards.{Plan}
 use Rattle.changing.proofs.Nothing.{none-lies, none-totals}
+use Rattle.growing.specs.Notes.{Notes}
 use Rattle.held.proofs.{Fronts.{front-made}, Keeps.{begun-sound}, WorkedBuilder.{begins}}
 use Rattle.held.specs.{Builder.{Builder, summed}, State.{Holds, Lists, heldAs, listsAs}, Totals.{Totals}, declared.{room.Rooms.{Rooms}, state.Held.{Held}}}
-use Rattle.uskelzar.proofs.{Drafts.{words-back}, SameCalls.{Told}}
-use Rattle.uskelzar.specs.Draft.{heldOf, wordsOf}
+use Rattle.uskelzar.proofs.{Drafts.{words-back}, NotedDrafts.{Lasts, kept-lasts}, SameCalls.{Told, ToldNoted}}
+use Rattle.uskelzar.specs.Draft.{Kept, heldOf, notedIn, wordsOf}
 
 abbrev plan : Plan
 plan = record { kind = 0x43; version = 0; precision = 16; names = []; notice = []; yards = []; numbered = true; whole = true }
@@ -32,11 +33,19 @@ begun-holds =
     }
 
 -- and its words are read back
-pub begun-back : heldOf (wordsOf (heldAs begun)) ≡ heldAs begun
+pub begun-back : heldOf (wordsOf (heldAs begun) 0) ≡ heldAs begun
 unfolding summed
 begun-back =
-    words-back (heldAs begun) (omega arith) (omega arith) (omega arith) (omega arith)
+    words-back (heldAs begun) 0 (omega arith) (omega arith) (omega arith) (omega arith)
     (subst (λ (t : Totals). SFits w32 (t .greatest)) (sym (none-totals plan)) (record { sfits = omega arith }))
 
-pub begun-told : (rooms : Rooms) → Told (heldOf (wordsOf (heldAs begun))) rooms lists
+pub begun-told : (rooms : Rooms) → Told (heldOf (wordsOf (heldAs begun) 0)) rooms lists
 begun-told rooms = inl (begun, subst (λ (held : Held). Holds begun held lists) (sym begun-back) begun-holds)
+
+-- with any notes, as an add is told of it
+pub begun-lasts : (notes : Notes) → Lasts begun (wordsOf (heldAs begun) 0) lists notes
+unfolding Kept
+begun-lasts notes = kept-lasts begun [] (wordsOf (heldAs begun) 0) lists notes (heldAs begun) (refl, begun-back) begun-holds
+
+pub begun-told-noted : (rooms : Rooms) (notes : Notes) → ToldNoted (heldOf (wordsOf (heldAs begun) 0)) (notedIn (wordsOf (heldAs begun) 0)) rooms lists notes
+begun-told-noted rooms notes = let lasts = begun-lasts notes in inl (begun, (lasts .holds, lasts .noted))

@@ -4,6 +4,7 @@ use lib.ListN.{getD}
 use mathlib.Core.{Bool.{false}, List.{List, [], _∷_}, Path.{_≡_}}
 use mir.{Syntax.{w32}, Val.{ofZ}}
 use Rattle.build.specs.{Whole.{toldBuilt}, declared.file.Built.{Built}}
+use Rattle.growing.specs.declared.grow.Added.{Added}
 use Rattle.held.specs.{Builder.{Builder, finish}, Space.{standing}, State.{Holds, Lists}, declared.{room.Rooms.{Rooms}, state.{Held.{Held}, Changed.{Changed}}}}
 use Rattle.held.specs.declared.state.Changed.the-variants as C
 use Rattle.build.specs.declared.file.Built.the-variants as W
@@ -11,7 +12,7 @@ use Rattle.numbers.specs.{Lists.{zeros}, Point.{readI32}, Reply.{Reply, given, 
 use Rattle.summed.specs.Ends.{Finishes, spaceOf}
 use Rattle.uskelzar.specs.{Spoken.{saidOf, lengthValue}, declared.Said.{Said}}
 
--- thirteen words, one for each number of a builder; of the first four and the last only the low bits count
+-- of fourteen words thirteen, one for each number of a builder; of the first four and the thirteenth only the low bits count
 unfoldable pub heldOf : List ℕ → Held
 heldOf words =
     record {
@@ -30,9 +31,13 @@ heldOf words =
       greatest = readI32 (getD words 12 0 % 2 ^ 32);
     }
 
--- the words that a builder's numbers are kept in: no other bit is set
-unfoldable pub wordsOf : Held → List ℕ
-wordsOf held =
+-- the last one: what is noted beside it
+unfoldable pub notedIn : List ℕ → ℕ
+notedIn words = getD words 13 0
+
+-- the words that a builder's numbers are kept in, with what is noted: no other bit is set
+unfoldable pub wordsOf : Held → ℕ → List ℕ
+wordsOf held noted =
     held .kind
     ∷ held .version
     ∷ held .precision
@@ -46,6 +51,7 @@ wordsOf held =
     ∷ held .bytes
     ∷ held .yards
     ∷ ofZ w32 (held .greatest)
+    ∷ noted
     ∷ []
 
 -- the totals: the sizes of the three sections, how many yards there are, the 32 bits of their greatest lower latitude
@@ -56,21 +62,27 @@ unfoldable pub toldChanged : Changed → Reply Held
 toldChanged (C.Into held) = given held
 toldChanged (C.Refused why) = refused why
 
--- the words of a state are those of the changed builder and read back as it, or they are what they were
-unfoldable pub Kept : List ℕ → List ℕ → Changed → Type 0
-Kept before after (C.Into held) = (after ≡ wordsOf held) × (heldOf after ≡ held)
-Kept before after (C.Refused why) = after ≡ before
+-- the words of a state are those of the changed builder and read back as it, with what is noted then; or they are what they were
+unfoldable pub Kept : ℕ → List ℕ → List ℕ → Changed → Type 0
+Kept noted before after (C.Into held) = (after ≡ wordsOf held noted) × (heldOf after ≡ held)
+Kept noted before after (C.Refused why) = after ≡ before
 
 -- what a call says and leaves in the state
-pub record Spoke (changed : Changed) (before after : List ℕ) (number : ℕ) (words : List ℕ) : Type 0 where
+pub record Spoke (changed : Changed) (noted : ℕ) (before after : List ℕ) (number : ℕ) (words : List ℕ) : Type 0 where
   pub said : record { number = number; words = words } ≡ saidOf totalsValues (toldChanged changed)
-  pub kept : Kept before after changed
+  pub kept : Kept noted before after changed
 
--- the same of a change that is as the promise of the builder in the state's words says
+-- the same of a change that is as the promise of the builder in the state's words says; nothing is noted then
 pub record Speaks (Promised : Held → Changed → Type 0) (before after : List ℕ) (number : ℕ) (words : List ℕ) : Type 0 where
   pub changed : Changed
   pub promised : Promised (heldOf before) changed
-  pub spoke : Spoke changed before after number words
+  pub spoke : Spoke changed 0 before after number words
+
+-- and of an add, whose promise speaks of what is noted too
+pub record SpeaksNoted (Promised : Held → ℕ → Added → Type 0) (before after : List ℕ) (number : ℕ) (words : List ℕ) : Type 0 where
+  pub added : Added
+  pub promised : Promised (heldOf before) (notedIn before) added
+  pub spoke : Spoke (added .changed) (added .noted) before after number words
 
 -- and of the end, which leaves the state as it is
 pub record Ends (Promised : Held → Built → Type 0) (state : List ℕ) (number : ℕ) (words : List ℕ) : Type 0 where

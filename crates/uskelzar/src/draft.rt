@@ -2,12 +2,15 @@
 ghost use mathlib.Core.{Path.{_≡_}, List.{[]}};
 ghost use lib.ListN.{length};
 ghost use mir.{Syntax.{w32}, Val.{SFits, ofZ}};
-ghost use Rattle.adding.specs.{Adds.{Adds}, Offers.{offeredAs}};
+ghost use Rattle.adding.specs.Adds.{Adds, noteRooms, usedOut};
 ghost use Rattle.changing.specs.{Begun.{Begins, firstPlan, frontSpace}, Emptied.{Clears, ownRooms}, Dropped.{Drops}};
+ghost use Rattle.growing.specs.Notes.{notesAs};
 ghost use Rattle.held.specs.{Space.{roomsOf}, State.{Idle, listsAs}};
+ghost use Rattle.joining.specs.Joins.{Rests};
 ghost use Rattle.numbers.specs.Lists.{zeros};
+ghost use Rattle.offered.specs.Offers.{offeredAs};
 ghost use Rattle.replacing.specs.Replaced.{Replaces};
-ghost use Rattle.uskelzar.specs.{Spoken.{saidOf}, Draft.{heldOf, wordsOf, totalsValues, toldChanged, Kept, Spoke, Speaks, Files, Ends}};
+ghost use Rattle.uskelzar.specs.{Spoken.{saidOf}, Draft.{heldOf, notedIn, wordsOf, totalsValues, toldChanged, Kept, Spoke, Speaks, SpeaksNoted, Files, Ends}};
 use crate::Said;
 use crate::say_refused;
 use crate::speak;
@@ -25,8 +28,8 @@ use summed::finish::finish;
 use tzif::local::Local;
 use tzif::local::offset_bits;
 
-// A builder's numbers from their words. Any words are a builder: what its lists cannot hold is refused by each call.
-fn state_of(words: [u64; 13]) -> Held
+// A builder's numbers from their words, all but the last, which tells of its notes. Any words are a builder: what its lists cannot hold is refused by each call.
+fn state_of(words: [u64; 14]) -> Held
     ensures { λ r. ⌜ r ≡ heldOf words ⌝ }
 {
     let bits = words[12] % 0x1_0000_0000;
@@ -48,6 +51,12 @@ fn state_of(words: [u64; 13]) -> Held
     }
 }
 
+fn noted_of(words: [u64; 14]) -> usize
+    ensures { λ r. ⌜ r ≡ notedIn words ⌝ }
+{
+    words[13] as usize
+}
+
 // The 32 bits of the greatest lower latitude, which has the form of an offset.
 fn greatest_bits(held: Held) -> u64
     ensures { λ r. ⌜ (r ≡ ofZ w32 (held .greatest)) × SFits w32 (held .greatest) ⌝ }
@@ -60,8 +69,8 @@ fn greatest_bits(held: Held) -> u64
     })
 }
 
-fn words_of(held: Held) -> [u64; 13]
-    ensures { λ r. ⌜ (r ≡ wordsOf held) × (heldOf r ≡ held) ⌝ }
+fn words_of(held: Held, noted: usize) -> [u64; 14]
+    ensures { λ r. ⌜ (r ≡ wordsOf held noted) × (heldOf r ≡ held) ⌝ }
 {
     let bits = greatest_bits(held);
     [
@@ -78,6 +87,7 @@ fn words_of(held: Held) -> [u64; 13]
         held.bytes as u64,
         held.yards as u64,
         bits,
+        noted as u64,
     ]
 }
 
@@ -102,27 +112,28 @@ fn say_changed(changed: Changed) -> Said
     }
 }
 
-// The changed builder's words; on a refusal they stay as they are.
-fn keep(changed: Changed, state: &mut [u64; 13])
-    ensures { λ _. ⌜ Kept (now (state .entry)) (now (state .exit)) changed ⌝ }
+// The changed builder's words, and what is noted beside it; on a refusal they stay as they are.
+fn keep(changed: Changed, noted: usize, state: &mut [u64; 14])
+    ensures { λ _. ⌜ Kept noted (now (state .entry)) (now (state .exit)) changed ⌝ }
 {
     match changed {
-        Changed::Into(held) => *state = words_of(held),
+        Changed::Into(held) => *state = words_of(held, noted),
         Changed::Refused(_) => (),
     }
 }
 
-fn speak_changed(changed: Changed, state: &mut [u64; 13], reply: &mut [u64; 5]) -> u8
-    ensures { λ r. ⌜ Spoke changed (now (state .entry)) (now (state .exit)) r (now (reply .exit)) ⌝ }
+// With 0 noted the next add sums afresh.
+fn speak_changed(changed: Changed, noted: usize, state: &mut [u64; 14], reply: &mut [u64; 5]) -> u8
+    ensures { λ r. ⌜ Spoke changed noted (now (state .entry)) (now (state .exit)) r (now (reply .exit)) ⌝ }
 {
-    keep(changed, state);
+    keep(changed, noted, state);
     speak(say_changed(changed), reply)
 }
 
 // Begins a builder. Values: its totals. On a refusal the state and its lists are zero.
 #[no_mangle]
 pub extern "C" fn uskelzar_begin(
-    state: &mut [u64; 13],
+    state: &mut [u64; 14],
     kind: u8,
     version: u8,
     precision: u8,
@@ -139,9 +150,9 @@ pub extern "C" fn uskelzar_begin(
 ) -> u8
     ensures { λ r. ⌜ Speaks (λ _. Begins (firstPlan kind version precision names (now (sizes .entry)) (now (strings .entry))) room (frontSpace names (now (sizes .entry)) (length (now (lengths .entry))) (length (now (texts .entry))) (length (now (bytes .entry))))
         (listsAs (now (boxes .entry)) (now (borders .entry)) (now (lengths .entry)) (now (texts .entry)) (now (bytes .entry)))
-        (listsAs (now (boxes .exit)) (now (borders .exit)) (now (lengths .exit)) (now (texts .exit)) (now (bytes .exit)))) (zeros 13) (now (state .exit)) r (now (reply .exit)) ⌝ }
+        (listsAs (now (boxes .exit)) (now (borders .exit)) (now (lengths .exit)) (now (texts .exit)) (now (bytes .exit)))) (zeros 14) (now (state .exit)) r (now (reply .exit)) ⌝ }
 {
-    *state = [0; 13];
+    *state = [0; 14];
     let asked = Asked {
         kind,
         version,
@@ -159,13 +170,13 @@ pub extern "C" fn uskelzar_begin(
         texts,
         bytes,
     );
-    speak_changed(changed, state, reply)
+    speak_changed(changed, 0, state, reply)
 }
 
-// Adds a yard. Values: the totals.
+// Adds a yard. Values: the totals. Marks to begins are the builder's notes.
 #[no_mangle]
 pub extern "C" fn uskelzar_add(
-    state: &mut [u64; 13],
+    state: &mut [u64; 14],
     lats: &[i32],
     lons: &[i32],
     pieces: &[u32],
@@ -176,6 +187,10 @@ pub extern "C" fn uskelzar_add(
     lengths: &mut [u32],
     texts: &mut [u8],
     bytes: &mut [u8],
+    marks: &mut [u32],
+    chains: &mut [u32],
+    groups: &mut [u32],
+    begins: &mut [u32],
     starts: &mut [u32],
     keys: &mut [u64],
     spare: &mut [u64],
@@ -186,16 +201,19 @@ pub extern "C" fn uskelzar_add(
     out: &mut [u8],
     reply: &mut [u64; 5],
 ) -> u8
-    ensures { λ r. ⌜ Speaks (λ h. Adds h (offeredAs (now (lats .entry)) (now (lons .entry)) (now (pieces .entry)) (now (sizes .entry)) (now (values .entry)))
+    ensures { λ r. ⌜ SpeaksNoted (λ h noted. Adds h noted (offeredAs (now (lats .entry)) (now (lons .entry)) (now (pieces .entry)) (now (sizes .entry)) (now (values .entry)))
         (roomsOf (length (now (boxes .entry))) (length (now (borders .entry))) (length (now (lengths .entry))) (length (now (texts .entry))) (length (now (bytes .entry))) (length (now (starts .entry))) (length (now (keys .entry))) (length (now (spare .entry))) (length (now (kept .entry))) (length (now (held .entry))) (length (now (words .entry))) (length (now (places .entry))))
-        (length (now (out .entry))) (listsAs (now (boxes .entry)) (now (borders .entry)) (now (lengths .entry)) (now (texts .entry)) (now (bytes .entry)))
-        (listsAs (now (boxes .exit)) (now (borders .exit)) (now (lengths .exit)) (now (texts .exit)) (now (bytes .exit)))) (now (state .entry)) (now (state .exit)) r (now (reply .exit))
-        × Idle (now (starts .entry)) (now (keys .entry)) (now (spare .entry)) (now (kept .entry)) (now (held .entry)) (now (words .entry)) (now (places .entry)) (now (out .entry))
-        (now (starts .exit)) (now (keys .exit)) (now (spare .exit)) (now (kept .exit)) (now (held .exit)) (now (words .exit)) (now (places .exit)) (now (out .exit)) ⌝ }
+        (noteRooms (length (now (marks .entry))) (length (now (chains .entry))) (length (now (groups .entry))) (length (now (begins .entry)))) (length (now (out .entry)))
+        (listsAs (now (boxes .entry)) (now (borders .entry)) (now (lengths .entry)) (now (texts .entry)) (now (bytes .entry))) (listsAs (now (boxes .exit)) (now (borders .exit)) (now (lengths .exit)) (now (texts .exit)) (now (bytes .exit)))
+        (notesAs (now (marks .entry)) (now (chains .entry)) (now (groups .entry)) (now (begins .entry))) (notesAs (now (marks .exit)) (now (chains .exit)) (now (groups .exit)) (now (begins .exit)))) (now (state .entry)) (now (state .exit)) r (now (reply .exit))
+        × (Rests (now (starts .entry)) (now (keys .entry)) (now (spare .entry)) (now (kept .entry)) (now (held .entry)) (now (words .entry)) (now (places .entry)) (now (starts .exit)) (now (keys .exit)) (now (spare .exit)) (now (kept .exit)) (now (held .exit)) (now (words .exit)) (now (places .exit))
+        × (now (out .exit) ≡ usedOut (length (now (lats .entry))) (now (out .entry)))) ⌝ }
 {
     let builder = state_of(*state);
-    let changed = add(
+    let noted = noted_of(*state);
+    let added = add(
         builder,
+        noted,
         lats,
         lons,
         pieces,
@@ -206,6 +224,10 @@ pub extern "C" fn uskelzar_add(
         lengths,
         texts,
         bytes,
+        marks,
+        chains,
+        groups,
+        begins,
         starts,
         keys,
         spare,
@@ -215,13 +237,14 @@ pub extern "C" fn uskelzar_add(
         places,
         out,
     );
-    speak_changed(changed, state, reply)
+    let changed = added.changed;
+    speak_changed(changed, added.noted, state, reply)
 }
 
 // Takes the last yard away. Values: the totals.
 #[no_mangle]
 pub extern "C" fn uskelzar_drop_last(
-    state: &mut [u64; 13],
+    state: &mut [u64; 14],
     boxes: &mut [i32],
     borders: &mut [u32],
     lengths: &mut [u32],
@@ -258,13 +281,13 @@ pub extern "C" fn uskelzar_drop_last(
         words,
         places,
     );
-    speak_changed(changed, state, reply)
+    speak_changed(changed, 0, state, reply)
 }
 
 // Puts a text in the place of a yard's value. Values: the totals.
 #[no_mangle]
 pub extern "C" fn uskelzar_replace(
-    state: &mut [u64; 13],
+    state: &mut [u64; 14],
     yard: u32,
     field: u32,
     text: &[u8],
@@ -310,13 +333,13 @@ pub extern "C" fn uskelzar_replace(
         places,
         out,
     );
-    speak_changed(changed, state, reply)
+    speak_changed(changed, 0, state, reply)
 }
 
 // Takes all yards away. Values: the totals.
 #[no_mangle]
 pub extern "C" fn uskelzar_clear(
-    state: &mut [u64; 13],
+    state: &mut [u64; 14],
     boxes: &mut [i32],
     borders: &mut [u32],
     lengths: &mut [u32],
@@ -330,13 +353,13 @@ pub extern "C" fn uskelzar_clear(
 {
     let builder = state_of(*state);
     let changed = clear(builder, boxes, borders, lengths, texts, bytes);
-    speak_changed(changed, state, reply)
+    speak_changed(changed, 0, state, reply)
 }
 
 // The file of the held yards. Values: its length. The builder stays as it is.
 #[no_mangle]
 pub extern "C" fn uskelzar_finish(
-    state: &[u64; 13],
+    state: &[u64; 14],
     boxes: &[i32],
     borders: &[u32],
     lengths: &[u32],

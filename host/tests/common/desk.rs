@@ -3,11 +3,30 @@
 use super::fence::{Edge, Fence, Plain};
 use uskelzar::raw::{Lengths, Work};
 
+/// What a call has made of the lists that it was lent to work in.
+#[derive(Clone, Copy, Debug, Eq, PartialEq)]
+pub enum Left {
+    Zero,
+    Untouched,
+    /// Some of it.
+    Mixed,
+}
+
 /// Of starts, keys, spare, kept, held, words and places.
 pub struct FencedDesk([Fence; 7]);
 
 pub fn is_zero<T: Plain + PartialEq + Default>(list: &[T]) -> bool {
     list.iter().all(|item| *item == T::default())
+}
+
+impl Left {
+    fn of(zero: bool, untouched: bool) -> Left {
+        match (zero, untouched) {
+            (true, _) => Left::Zero,
+            (_, true) => Left::Untouched,
+            _ => Left::Mixed,
+        }
+    }
 }
 
 /// The length of each, to be changed.
@@ -26,8 +45,8 @@ impl FencedDesk {
         FencedDesk([(); 7].map(|()| Fence::new(1024)))
     }
 
-    /// What a call answers, and whether it has left all of these lists zero. Nothing was written beside them.
-    pub fn work<A>(&mut self, lengths: Lengths, edge: Edge, call: impl FnOnce(Work) -> A) -> (A, bool) {
+    /// What a call answers, and how it has left these lists. Nothing was written beside them.
+    pub fn work<A>(&mut self, lengths: Lengths, edge: Edge, call: impl FnOnce(Work) -> A) -> (A, Left) {
         let [a, b, c, d, e, f, g] = &mut self.0;
         let starts: &mut [u32] = a.lend(lengths.starts, edge);
         let keys: &mut [u64] = b.lend(lengths.keys, edge);
@@ -47,9 +66,11 @@ impl FencedDesk {
             4 * lengths.words,
             4 * lengths.places,
         ];
+        let mut untouched = true;
         for (fence, size) in self.0.iter_mut().zip(sizes) {
             fence.assert_kept(size, edge);
+            untouched &= fence.is_filled(size, edge);
         }
-        (answer, zero == [true; 7])
+        (answer, Left::of(zero == [true; 7], untouched))
     }
 }

@@ -120,6 +120,12 @@ impl Fence {
         assert!(kept, "written beside what was lent");
     }
 
+    /// What was lent is still filled as it was.
+    pub fn is_filled(&mut self, bytes: usize, edge: Edge) -> bool {
+        let [lent, _] = self.parts(bytes, edge);
+        self.bytes(lent).iter().all(|byte| *byte == FILL)
+    }
+
     /// The last address before the memory, and the first behind it.
     pub fn guards(&self) -> [*const u8; 2] {
         [

@@ -173,3 +173,20 @@ impl Buffers {
         outcome
     }
 }
+
+/// Numbers that look random, the same in every run.
+pub struct Dice(pub u64);
+
+impl Dice {
+    pub fn any(&mut self) -> u64 {
+        self.0 ^= self.0 << 13;
+        self.0 ^= self.0 >> 7;
+        self.0 ^= self.0 << 17;
+        self.0
+    }
+
+    /// Below a number that is not 0.
+    pub fn below(&mut self, most: usize) -> usize {
+        (self.any() >> 11) as usize % most
+    }
+}

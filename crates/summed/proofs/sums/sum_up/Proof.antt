@@ -10,10 +10,10 @@ use Rattle.summed.proofs.sums.sum_up.Tie as tie
 returns : tie.Need-returns
 returns c =
     let pre = c .before .before .before .before .before .before .before .before .before .before .before .pre in
-    λ yards drawn s. never-long _ _ _ _ _ _ _ _ s (pre .named) (c .if1 .taken)
+    λ yards drawn s. never-long _ _ _ _ _ _ _ _ s (pre .named) (c .if1 .taken) _
 
 returns-2 : tie.Need-returns-2
-returns-2 c = λ yards drawn s. never-other _ _ _ _ _ _ _ _ s _ (c .before .is-sum .ensures) (c .if2 .taken)
+returns-2 c = λ yards drawn s. never-other _ _ _ _ _ _ _ _ s _ (c .before .is-sum .ensures) (c .if2 .taken) _
 
 lay-out-requires : tie.Need-lay-out-requires
 lay-out-requires c κs =
@@ -50,7 +50,7 @@ returns-3 c =
     let lay-out = c .before .before .before .before .before .before .before .before .before .before .before .before .before .before .before .before .before .before .before .before .lay-out in
     let pre = c .before .before .before .before .before .before .before .before .before .before .before .before .before .before .before .before .before .before .before .before .before .before .before .before .before .before .before .before .before .before .before .before .before .before .before .before .before .before .before .before .before .pre in
     let table-size = c .before .before .before .table-size in
-    λ yards drawn s. sums-are _ _ _ _ _ _ _ _ s _ _ _ _ _ _ _ _ _ _ (lay-out .ensures) (reached _ _ _ _ _ _ (pre) .places) _ _ _ (table-size .ensures) refl (toZ-ofZ (sfits-of (c .greatest-of .ok)) ∙ c .greatest-of .ensures)
+    λ yards drawn s. sums-are _ _ _ _ _ _ _ _ s _ _ _ _ _ _ _ _ _ _ (lay-out .ensures) (reached _ _ _ _ _ _ (pre) .places) _ _ _ _ (table-size .ensures) refl (toZ-ofZ (sfits-of (c .greatest-of .ok)) ∙ c .greatest-of .ensures) refl
 
 pub sum-up-spec : {M : Type 1} → statement M
 sum-up-spec =

@@ -8,4 +8,4 @@ use Rattle.uskelzar.proofs.draft.keep.Lts as lts
 use Rattle.uskelzar.proofs.draft.words_of.Reads as words-of-reads
 
 pub keep-spec : {M : Type 1} → statement M
-keep-spec = tie.close (tie.spec (λ c. search needs) (λ c κs. search needs) (λ c. search needs) (λ c. kept-into _ _ (c .before .before .changed .given .1) (c .words-of .ensures)) (λ c. kept-refused _ _ (c .enum-told .given .1) refl))
+keep-spec = tie.close (tie.spec (λ c. search needs) (λ c κs. search needs) (λ c. search needs) (λ c. kept-into _ _ _ (c .before .before .changed .given .1) (c .words-of .ensures)) (λ c. kept-refused _ _ _ (c .enum-told .given .1) refl))

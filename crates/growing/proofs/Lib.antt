@@ -1,0 +1,2 @@
+-- Laws on plain values that the functions' proofs cite.
+pub mod Measured

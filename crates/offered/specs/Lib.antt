@@ -1,0 +1,2 @@
+pub mod Offers
+pub mod Puts

@@ -1,0 +1,2 @@
+// The bytes of a new record, where it changes no other record.
+pub mod weigh;
