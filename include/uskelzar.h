@@ -376,7 +376,7 @@ uint8_t uskelzar_build(uint8_t type, uint8_t version, uint8_t precision, uint32_
  * boxes to bytes: the builder's own lists, in which it holds its yards. uskelzar_begin writes them whole, whatever they held; lend the same five to each later call, and write to
  *          none between the calls. How long each must be: USKELZAR_HELD_.. above. Behind what is held they are zero.
  * starts to places, and `out` of add and replace: lists to work in, whatever they hold; zeros afterwards, but see uskelzar_add. A list that is too short is 28, last.
- * A refused call changes neither state nor lists nor notes. Numbers that no call has made with these lists are refused 28 where they do not fit the lists (a drop: 29), and else answered
+ * A refused call changes neither state nor lists, nor notes that an add has left. Numbers that no call has made with these lists are refused 28 where they do not fit the lists (a drop: 29), and else answered
  * with some totals or other; nothing outside the lists is touched.
  *
  * Begins a builder for files of at most `room` bytes.
