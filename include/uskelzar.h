@@ -94,7 +94,10 @@ enum uskelzar_refusal {
     USKELZAR_TZIF_FOOTER = 58,        /* no newline at its start, a NUL, no newline at its end: the octet met, or the end */
     USKELZAR_TZIF_REST = 59,          /* bytes behind the end: the first of them */
     USKELZAR_TZIF_STRING = 60,        /* no TZ string: its fault; or it contradicts the last transition: the newline before it */
-    USKELZAR_TZIF_YEAR = 61           /* an instant outside the years 1 to 9999; detail: 0 */
+    USKELZAR_TZIF_YEAR = 61,          /* the rule's instant (local time) or the clock (civil time) is outside the years 1 to 9999; detail: 0 */
+    /* what no function here says, and whoever stamps a slip must: see below */
+    USKELZAR_NO_PLACE = 84,           /* latitude not from -90 to 90 or longitude not from -180 to 180; NaN is neither */
+    USKELZAR_LEAP_SECONDS = 91        /* the zone's file counts leap seconds: its scale is not the instant's */
 };
 
 /* reply[0] of a refusal: which of the two causes, for 6, 7 and 15; otherwise none */
@@ -171,10 +174,15 @@ enum {
     USKELZAR_CIVIL_WORDS = 7
 };
 enum {
-    USKELZAR_LOCAL_KNOWN = 0,         /* 1: local time is known; 0: it is not, and all words are 0 */
+    USKELZAR_LOCAL_KNOWN = 0,         /* 0: local time is not known, and all words are 0; else the scale, of USKELZAR_SCALE_.. */
     USKELZAR_LOCAL_OFFSET = 1,        /* seconds east of UT: the bits of an int32_t */
     USKELZAR_LOCAL_DAYLIGHT = 2,      /* 1: daylight time; 0: standard time */
-    USKELZAR_LOCAL_LENGTH = 3         /* bytes of the abbreviation */
+    USKELZAR_LOCAL_LENGTH = 3,        /* bytes of the abbreviation */
+    USKELZAR_LOCAL_CORRECTION = 4     /* leap seconds at the instant, 0 in UNIX time: the bits of an int32_t */
+};
+enum {
+    USKELZAR_SCALE_UNIX = 1,          /* the instant was read as UNIX time */
+    USKELZAR_SCALE_OWN = 2            /* it was read on the file's own scale, which counts leap seconds */
 };
 
 /* ---- a match in `hits`: four words. A list of n words has room for n / 4 hits. */
@@ -471,10 +479,14 @@ uint8_t uskelzar_salvage(const uint8_t *file, size_t file_length, uint32_t *drop
                          size_t out_length, uint64_t reply[USKELZAR_REPLY_WORDS]);
 
 /* Local time at an instant, by a TZif file (RFC 8536 and 9636, versions 1 to 4) and the TZ string of its footer, all of
- * which is checked first. The instant is in seconds from 1970-01-01 00:00:00 UT, on the file's own scale.
- * Answers: 1, the offset's bits, the daylight flag, the abbreviation's length: by the last transition that is not after the
- *       instant; before the first by type 0. After the last, and throughout where there are none, by the TZ string, where
- *       the file has one; where it has none, by type 0 if there are no transitions, and else unknown: all words are 0.
+ * which is checked first. The instant is in seconds from 1970-01-01 00:00:00 UT, on the file's own scale: UNIX time, unless
+ * the block that answers (the only one of version 1, else the second) has leap-second records.
+ * Answers: the scale, the offset's bits, the daylight flag, the abbreviation's length, the correction's bits: by the last
+ *       transition that is not after the instant; before the first by type 0. After the last, and throughout where there are
+ *       none, by the TZ string, where the file has one; where it has none, by type 0 if there are no transitions, and else
+ *       unknown: all words are 0. The scale is 1 where that block has no leap-second records: the instant was read as UNIX
+ *       time, and the correction is 0. It is 2 where it has: the instant was read on the file's scale, and the correction is
+ *       that of the last record not after it, 0 before the first.
  * text: the abbreviation, without a zero byte at its end (one stands behind it if there is room); zeros where it is unknown.
  * Refuses: 1; 40 to 60, the first fault in file order; 61 where the string would answer; 18 last. */
 uint8_t uskelzar_local_time(const uint8_t *file, size_t file_length, int64_t instant, uint8_t *text, size_t text_length,
@@ -486,9 +498,11 @@ uint8_t uskelzar_local_time(const uint8_t *file, size_t file_length, int64_t ins
  * Refuses: 61, with seven zeros, where the clock is outside the years 1 to 9999. */
 uint8_t uskelzar_civil_time(int64_t instant, int32_t offset, uint64_t reply[USKELZAR_CIVIL_WORDS]);
 
-/* To stamp a slip: uskelzar_simple_lookup gives the zone's name, to be used only under USKELZAR_END_WHOLE; find the TZif file of that name and
- * lend it to uskelzar_local_time; its offset goes to uskelzar_civil_time. The library opens no file, so the name is checked by whoever makes a
- * path of it. host/example-stamp.c has every way of not stamping. */
+/* To stamp a slip: refuse a fix that is no place on the globe (84: a lookup answers for any two numbers, NaN too). uskelzar_simple_lookup gives
+ * the zone's name, to be used only under USKELZAR_END_WHOLE; find the TZif file of that name and lend it to uskelzar_local_time. Go on only
+ * under USKELZAR_SCALE_UNIX: a clock that is shown at an instant of another scale is wrong by the leap seconds between them, so that such a file
+ * is refused (91). The offset goes to uskelzar_civil_time. The library opens no file, so the name is checked by whoever makes a path of it.
+ * host/example-stamp.c has every way of not stamping. */
 
 #ifdef __cplusplus
 }

@@ -919,7 +919,14 @@ pub fn civil_time(instant: i64, offset: i32) -> Result<[u64; 7], Refusal> {
     Err(Refusal::of(number, [0; 5]))
 }
 
-/// 1, offset bits, daylight flag, the abbreviation's length; the abbreviation in the text. All zero where it is unknown.
+/// Local time's first word: it is not known.
+pub const NO_SCALE: u64 = 0;
+/// It is known, and the instant was read as UNIX time.
+pub const UNIX_SCALE: u64 = 1;
+/// It is known, and the instant was read on the file's own scale, which counts leap seconds.
+pub const OWN_SCALE: u64 = 2;
+
+/// The scale, offset bits, daylight flag, the abbreviation's length, bits of the correction; the abbreviation in the text. All zero where it is unknown.
 pub fn local_time(file: &[u8], instant: i64, text: &mut [u8]) -> Result<Reply, Refusal> {
     // SAFETY: as in `open_by`.
     answered(|reply| unsafe {

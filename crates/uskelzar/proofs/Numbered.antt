@@ -11,7 +11,7 @@ use Rattle.builder.specs.{File.{builtOf}, Yards.{Lent, planOf}}
 use Rattle.builder.specs.File as F
 use Rattle.numbers.{proofs.Refusals.{Listed}, specs.{Reply.{Reply, given, refused}, declared.refusal.Refusal.{Refusal}}}
 use Rattle.writer.{proofs.NumberedWriter.{writerNumbers, writer-refusals}, specs.{Writer.{borderOf, fitted}, declared.write.Piece.{Piece}}}
-use Rattle.footer.{proofs.Numbered.{footerNumbers, local-time-refusals}, specs.Local.{localTime}}
+use Rattle.footer.{proofs.Numbered.{footerNumbers, local-time-refusals}, specs.Local.{localTime, scaleAt}}
 use Rattle.tzif.specs.declared.local.LocalTime.{LocalTime}
 use Rattle.tzif.specs.declared.local.LocalTime.the-variants as L
 use Rattle.tzif.specs.declared.refusal.Refusal as T
@@ -119,7 +119,7 @@ of-local L.Unknown why e h = let z : _≡_ {A = ℕ} 0 1 = cc in absurd (omega a
 of-local (L.Refused told) why e h = let same : told .number ≡ why .number = cc in subst (Listed footerNumbers) same (h told refl)
 
 pub local-time-zero : (file : List ℕ) (instant : ℤ) (room : ℕ)
-    → (localSpoken (localTime file instant room) .said .number ≡ 0) ↔ Answered (localReply (localTime file instant room .reply))
+    → (localSpoken (scaleAt file instant) (localTime file instant room) .said .number ≡ 0) ↔ Answered (localReply (localTime file instant room .reply))
 local-time-zero file instant room =
-    zero-said localValues (localReply (localTime file instant room .reply))
+    zero-said (localValues (scaleAt file instant)) (localReply (localTime file instant room .reply))
     (λ why is. never-zero footerNumbers (λ z. z) (why .number) (of-local (localTime file instant room .reply) why is (local-time-refusals file instant room)))
