@@ -2,13 +2,14 @@
 use Prim.Native.Nat.{ℕ, zero, suc, _+_, _-_, _*_, _/_, _≤_, _<_}
 use borrow.Author.Tests.{ltb-true, ltb-false}
 use lib.{Dec.{ltb}, ListN.{length}}
-use mathlib.Core.{Bool.{Bool, true, false}, List.{List, [], _∷_}, Path.{_≡_, refl, sym}}
+use mathlib.Core.{Bool.{Bool, true, false}, List.{List, [], _∷_}, Path.{_≡_, refl, sym, ap, _∙_}}
 use native.Mathlib.Omega.{arith}
 use Rattle.header.specs.declared.{header.Head.{Head}, text.Text.{Text}}
-use Rattle.numbers.specs.{Answer.{Answer, found, failed, if_then_else_}, Reply.{Reply, given, refused, plain, demand, _orElse_, _>>=_, _>>_}, Varint.{readingOf}, declared.refusal.Refusal.{Refusal}}
+use Rattle.numbers.specs.{Answer.{Answer, found, failed, if_then_else_}, Reply.{Reply, given, refused, plain, demand, _orElse_, _>>=_, _>>_}, Varint.{Numeral, readingOf}}
+use Rattle.numbers.specs.declared.refusal.Refusal.{Refusal}
 use Rattle.numbers.specs.Answer as A
-use Rattle.table.proofs.TableRows.{reading-grows, row-less}
-use Rattle.table.specs.{Rows.{tableEnd, after, startAt, rowsThen, rowBy, rowsWithin, rowsFrom, rowsIn}, declared.rows.{Cursor.{Cursor}, Row.{Row}}}
+use Rattle.table.proofs.TableRows.{Grows, reading-grows, at-end, at-row, at-unreadable, at-refused, row-less}
+use Rattle.table.specs.{Rows.{Rows, row, tableEnd, after, startAt, rowsThen, rowBy, rowsWithin, rowsFrom, rowsIn}, declared.rows.{Cursor.{Cursor}, Row.{Row}}}
 use Rattle.salvage.specs.Kept.{stringInside, borderGood, fieldGood, fieldsGood, recordPlace, entryGood, lineIf, linesFrom}
 use Rattle.salvage.specs.Promises.{borderEnd, valueAt, Strings, no-more, one-more, BadString, unread, outside, later, Whole, Spoilt, border-fails, border-stops, string-spoilt, entryAt}
 use Rattle.salvage.specs.Promises.{Listed, keeps, drops, table-ends, entry-fails, entry-stops, ListOf}
@@ -99,3 +100,66 @@ module _ (file : List ℕ) (head : Head) where
   two-words (table-ends past) = refl
   two-words (entry-fails here is) = refl
   two-words (entry-stops here is) = refl
+
+-- ---- and no other list is so
+-- a reply that is refused with this number
+record Refusing (reply : Reply (Unit {0})) (n : ℕ) : Type 0 where
+  why : Refusal
+  is : reply ≡ refused why
+  number : why .number ≡ n
+
+module _ (file : List ℕ) (head : Head) where
+  strings-good : {more place : ℕ} → Strings file head more place → fieldsGood file head more place ≡ given tt
+  unfolding fieldsGood fieldGood
+  strings-good no-more = refl
+  strings-good (one-more is i rest) = rw (is, i) (strings-good rest)
+
+  strings-bad : {more place n : ℕ} → BadString file head more place n → Refusing (fieldsGood file head more place) n
+  unfolding fieldsGood fieldGood
+  strings-bad (unread {why = why} is) = record { why = why; is = rw is; number = refl }
+  strings-bad (outside is i) = record { why = plain 72; is = rw (is, i); number = refl }
+  strings-bad (later is i rest) = let r = strings-bad rest in record { why = r .why; is = rw (is, i) (r .is); number = r .number }
+
+  whole-good : {r : Row} → Whole file head r → entryGood file head r ≡ given tt
+  unfolding entryGood borderGood
+  whole-good w = rw (w .closes) (strings-good (w .strings))
+
+  spoilt-bad : {r : Row} {n : ℕ} → Spoilt file head r n → Refusing (entryGood file head r) n
+  unfolding entryGood borderGood
+  spoilt-bad (border-fails is) = record { why = plain 71; is = rw is; number = refl }
+  spoilt-bad (border-stops {n = n} is) = record { why = plain n; is = rw is; number = refl }
+  spoilt-bad (string-spoilt is bad) = let r = strings-bad bad in record { why = r .why; is = rw is (r .is); number = r .number }
+
+  kept-line : (number : ℕ) (r : Row) (rows : Rows) → entryGood file head r ≡ given tt → linesFrom file head number (row r rows) ≡ linesFrom file head (number + 1) rows
+  unfolding linesFrom
+  kept-line number r rows e = rw e
+
+  dropped-line : (number : ℕ) (r : Row) (rows : Rows) {n : ℕ} → Refusing (entryGood file head r) n
+      → linesFrom file head number (row r rows) ≡ number ∷ n ∷ linesFrom file head (number + 1) rows
+  unfolding linesFrom
+  dropped-line number r rows bad = rw (bad .is) (ap (λ (n : ℕ). number ∷ n ∷ linesFrom file head (number + 1) rows) (bad .number))
+
+  abbrev read : ℕ → Answer Numeral
+  read = readingOf (head .strict) file
+
+  abbrev grows : Grows read
+  grows = reading-grows (head .strict) file
+
+  listed-is : {number : ℕ} {at : Cursor} {lines : List ℕ} → Listed file head number at lines → lines ≡ linesFrom file head number (rowsFrom read (head .sections .metadata) at)
+  unfolding linesFrom
+  listed-is {number} {at} (keeps {r = r} here is whole l) =
+      listed-is l
+      ∙ sym (kept-line number r (rowsFrom read (head .sections .metadata) (after r)) (whole-good whole))
+      ∙ ap (linesFrom file head number) (sym (at-row read grows at here (sym is) refl))
+  listed-is {number} {at} (drops {n = n} {r = r} here is spoilt l) =
+      ap (λ (lines : List ℕ). number ∷ n ∷ lines) (listed-is l)
+      ∙ sym (dropped-line number r (rowsFrom read (head .sections .metadata) (after r)) (spoilt-bad spoilt))
+      ∙ ap (linesFrom file head number) (sym (at-row read grows at here (sym is) refl))
+  listed-is {number} {at} (table-ends past) = ap (linesFrom file head number) (sym (at-end read grows at past))
+  listed-is {number} {at} (entry-fails here is) = ap (linesFrom file head number) (sym (at-unreadable read grows at here (sym is)))
+  listed-is {number} {at} (entry-stops here is) = ap (linesFrom file head number) (sym (at-refused read grows at here (sym is)))
+
+  -- Words that are such a list are the words of salvage's list.
+  pub list-alone : {lines : List ℕ} → ListOf file head lines → lines ≡ linesFrom file head 0 (rowsIn file head)
+  unfolding rowsIn
+  list-alone l = listed-is l
