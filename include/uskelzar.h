@@ -280,7 +280,8 @@ uint8_t uskelzar_lookup(const uint8_t *file, size_t file_length, float lat, floa
                         size_t hits_length, uint8_t *text, size_t text_length, uint64_t reply[USKELZAR_REPLY_WORDS]);
 
 /* The same two, but a number that the file's end cuts is refused, with 31: where it is read, behind 12 and before its value is used. What they
- * take, answer, write and refuse is otherwise that of the plain ones. So each is refused 31, or replies and writes what its plain one does.
+ * take, answer, write and refuse is otherwise that of the plain ones. So each is refused 31 exactly where its plain one would read such a number
+ * before it is refused or ends, and else replies and writes what its plain one does; of a file whose last byte is below 128 it always does.
  * uskelzar_lookup_strict opens strictly, then 16, then searches; behind an early stop a cut number is end mark 2, as in the plain lookup. A string
  * or an entry that is not there at all fails as before. */
 uint8_t uskelzar_open_strict(const uint8_t *file, size_t file_length, uint8_t *text, size_t text_length,
@@ -467,7 +468,8 @@ uint8_t uskelzar_finish(const uint64_t state[USKELZAR_STATE_WORDS], const int32_
 
 /* A new file with what is left of a damaged one: each entry whose six numbers, border and strings all read strictly and whose strings, lengths
  * included, lie wholly in the metadata section, in the old order.
- * The first seven bytes and the metadata section stay as they are; names and notice go inline; each kept entry has its old box and metadata id,
+ * The first seven bytes and the metadata section stay as they are; names and notice go inline, and open and open_strict give of the new file what
+ * open_strict gives of the old one, for any room; each kept entry has its old box and metadata id,
  * and its border is written without borrowed runs, move by move, so that its verdict and distance at every fix are the old ones.
  * Answers: the new file's length, the list's lines, the entries kept.
  * dropped: two words a line: the entry's number, from 0, and the first reason met (enum uskelzar_reason, or 12, 13, 14, 15, 31). Behind an entry
