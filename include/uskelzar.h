@@ -71,7 +71,7 @@ enum uskelzar_refusal {
     USKELZAR_FIXES = 33,              /* many fixes: lists of unequal length, over 4,096 fixes, or `answers` too short */
     USKELZAR_INDEX_TABLE = 34,        /* no index: the table is not in order, can't be read, or runs past the metadata start */
     USKELZAR_INDEX_ROOM = 35,         /* index doesn't fit the lent words */
-    USKELZAR_OTHER_INDEX = 36,        /* index and file differ: in length, header or table; or the words are no index */
+    USKELZAR_OTHER_INDEX = 36,        /* index and file differ in length, header or table; or a list, or an entry that it names, is outside the words */
     /* of a TZif file: the rule of RFC 8536 or 9636 that is broken; detail: a place in the file, that of .. */
     USKELZAR_TZIF_MAGIC = 40,         /* a header does not begin with "TZif": the header */
     USKELZAR_TZIF_VERSION = 41,       /* version missing, not 0, '2', '3' or '4', or the second not the first: the octet */
@@ -267,7 +267,8 @@ uint8_t uskelzar_open(const uint8_t *file, size_t file_length, uint8_t *text, si
                       uint64_t reply[USKELZAR_REPLY_WORDS]);
 
 /* The zones that hold a fix, in degrees; `asked`: with the safezone.
- * Answers: matches, end mark, safezone bits, bytes of text used. The safezone is the distance in degrees, those of longitude
+ * Answers: matches, end mark, safezone bits, bytes of text used. The search was whole where 0 was returned and the end mark, reply[1], is 1: ask both, since a
+ *       refusal has its detail there, and a 6 for the second name leaves a 1. The safezone is the distance in degrees, those of longitude
  *       counted like those of latitude, to the nearest border among those whose box holds the fix: 0 on a border, very large
  *       where there is none; at precision 32 it is negative.
  * hits: the matches, four words each. While it searches the list must hold every hit, and several hits with one metadata id
@@ -311,14 +312,17 @@ uint8_t uskelzar_lookup_many(const uint8_t *file, size_t file_length, const floa
 uint8_t uskelzar_build_index(const uint8_t *file, size_t file_length, uint32_t *index, size_t index_length,
                              uint64_t reply[USKELZAR_REPLY_WORDS]);
 
-/* Whether words are an index of this file, or of one with the same length, header and table: every byte of both is compared.
- * Answers: no value; 0 says that they are.
+/* Whether words keep this file's length, header and table: length, metadata start, where the lists begin, that they end inside the words, and every byte up to
+ * the metadata are compared. Records, starts and lists are not looked at: they are believed. So for words that uskelzar_build_index gave, 0 says that they are an
+ * index of this file, or of one with the same length, header and table; of other words it does not say that they are an index.
+ * Answers: no value; 0 says that they keep them.
  * Refuses: what open refuses but for its 18; then 16, 36. */
 uint8_t uskelzar_index_tied(const uint8_t *file, size_t file_length, const uint32_t *index, size_t index_length,
                             uint64_t reply[USKELZAR_REPLY_WORDS]);
 
 /* uskelzar_lookup through an index: it answers, writes and refuses what uskelzar_lookup does, where uskelzar_build_index gave the words and uskelzar_index_tied
- * said 0 of them and this file. Any words are taken; of others the answer is theirs, and nothing outside them is touched.
+ * said 0 of them and this file. It asks neither: any words are taken, and their records, starts and lists are believed. Of other words the answer is theirs, and may
+ * miss a zone under end mark 1; nothing outside them is touched.
  * Refuses: what open refuses but for its 18; then 16; then 36 where length and metadata start are not the file's or the tile's list is not inside the words;
  *       then as lookup, and 36 at a number in the list that has no entry. */
 uint8_t uskelzar_lookup_through(const uint8_t *file, size_t file_length, const uint32_t *index, size_t index_length, float lat,
@@ -326,7 +330,7 @@ uint8_t uskelzar_lookup_through(const uint8_t *file, size_t file_length, const u
                                 uint64_t reply[USKELZAR_REPLY_WORDS]);
 
 /* The same after a comparison: uskelzar_index_tied, then uskelzar_lookup_through. For words that uskelzar_build_index gave, it is uskelzar_lookup wherever it does
- * not refuse with 36. */
+ * not refuse with 36. Records, starts and lists are believed here too: of words that uskelzar_build_index did not give the answer is theirs. */
 uint8_t uskelzar_lookup_indexed(const uint8_t *file, size_t file_length, const uint32_t *index, size_t index_length, float lat,
                                 float lon, bool asked, uint32_t *hits, size_t hits_length, uint8_t *text, size_t text_length,
                                 uint64_t reply[USKELZAR_REPLY_WORDS]);
