@@ -1,8 +1,10 @@
 /* uskelzar.h: which zone holds a fix, by a PLB border file; a writer of borders, a builder of files, and one that holds yards which may still change; salvage of a damaged file;
  * local time, by a TZif file; and dates.
  *
- * For libuskelzar.a. What its functions answer, write and touch, and that they end, is proved for every input; what it calls
- * is seen to by a test of the archive. What holds for all twenty-one:
+ * For libuskelzar.a. What its functions answer, write and touch, and that they end, is proved for every input; of the calls of
+ * a builder what they answer and write is proved for a state, lists and notes as its calls have left them, and for numbers
+ * that do not fit the lists, and for all others what they touch, and that they end. What the library calls is seen to by a
+ * test of the archive. What holds for all twenty-one:
  *
  * You bring    pointers that are not null, aligned for their type and good for their length: to read from, or where the
  *              buffer is lent (no const), to write to. Lent buffers and `reply` do not overlap each other or an input, and
@@ -387,16 +389,17 @@ uint8_t uskelzar_build(uint8_t type, uint8_t version, uint8_t precision, uint32_
  * that are held. After every call the totals, in `reply`, are those of that file: so what is still to fit is known before it is written.
  * state:   the builder's numbers. uskelzar_begin writes them; lend them to each later call as they are. uskelzar_finish only reads them.
  * boxes to bytes: the builder's own lists, in which it holds its yards. uskelzar_begin writes them whole, whatever they held; lend the same five to each later call, and write to
- *          none between the calls. How long each must be: USKELZAR_HELD_.. above. Behind what is held they are zero.
+ *          none between the calls, but for zeros that you may put behind one to make it longer. How long each must be: USKELZAR_HELD_.. above. Behind what is held they are zero.
  * starts to places, and `out` of add and replace: lists to work in, whatever they hold; zeros afterwards, but see uskelzar_add. A list that is too short is 28, last.
  * A refused call changes neither state nor lists, nor notes that an add has left. Numbers that no call has made with these lists are refused 28 where they do not fit the lists (a drop: 29), and else answered
- * with some totals or other; nothing outside the lists is touched.
+ * with some totals or other, or refused with a number of the call; nothing outside the lists is touched.
  *
  * Begins a builder for files of at most `room` bytes.
  * sizes:   how many bytes each text has: those of the names, of the notice.
  * strings: the bytes of all of them, one after the other.
  * Answers: the totals of no yards: 0, 0, 1, 0, 0.
- * Refuses: 25 for over 255 names or fewer sizes; 26, 27; 28 only for a list that is too short. State and lists are then zero. */
+ * Refuses: 25 for over 255 names or fewer sizes; 26, 27; 28 only for a list that is too short. State and lists are then zero, and such a state is refused by every other call, 28, a
+ *          drop 29. */
 uint8_t uskelzar_begin(uint64_t state[USKELZAR_STATE_WORDS], uint8_t type, uint8_t version, uint8_t precision, uint32_t names,
                        size_t room, const uint32_t *sizes, size_t sizes_length, const uint8_t *strings, size_t strings_length,
                        int32_t *boxes, size_t boxes_length, uint32_t *borders, size_t borders_length, uint32_t *lengths,
@@ -406,18 +409,23 @@ uint8_t uskelzar_begin(uint64_t state[USKELZAR_STATE_WORDS], uint8_t type, uint8
 /* Adds a yard, behind those that are held.
  * lats, lons, pieces: its border, as for uskelzar_build; a piece's `start` counts from the data's first byte, the zero byte, and may lie in any border that is held.
  * sizes, values: how many bytes each of its values has, and their bytes.
- * marks to begins: the builder's notes, with which an add does not sum all yards afresh: it costs what its own yard does, and a look at the box of each held one. However long the lists are
- *          does not matter then. Lend the same four to each add of one builder, as the last add left them, and write to none between the calls; what they hold before the first does not
- *          matter, and no other call takes them. How long each must be: USKELZAR_NOTE_.. above. With words that no add has left there the totals may be wrong until a call sums afresh, and
- *          the file is then not promised; nothing outside the lists is touched. The yards are summed afresh, and noted anew, by the first add, by the first behind any other change of the
- *          builder, and where a new record has a value that stands in exactly one other place of the records, or twice in it, or makes their words longer.
+ * marks to begins: the builder's notes, with which an add need not sum all yards afresh. Lend the same four to each add of one builder, as the last add left them, and write to none between
+ *          the calls, but for zeros that you may put behind one to make it longer; what they hold before the first add does not matter, and no other call takes them. How long each must
+ *          be: USKELZAR_NOTE_.. above. With words that no add has left there the totals may be wrong until a call sums afresh, and the file is then not promised; nothing outside the lists
+ *          is touched.
+ *          An add that does not sum afresh costs what its own yard does, a look at the box of each held one, and for each of its values, and for all of them together, a walk along a chain
+ *          of notes: there are 4,096 chains, however many yards are held, so of 255 names and 4,000 yards each has some 250 values. How long the lists are does not matter then.
+ *          The yards are summed afresh, and noted anew, by the first add, by the first behind any other change of the builder, and, where no held yard has all values of the new one, in
+ *          three cases: a value of it, not empty, stands in exactly one place of the records; one stands nowhere in them and twice in the yard; or the records have under 16,128 bytes and the
+ *          metadata with the new record over 16,128, the same with 2,096,896 and with 268,435,200. Within such bounds words of unequal lengths may stand in the records, so every such add
+ *          sums afresh, though most change the length of none.
  * starts to places: zero afterwards, or all as they were lent: lent zero, they are zero.
  * out:     no more of it is used than a border of so many points can take, its first 170 * points + 400 bytes (of over 65,536 points, those of so many): they are zero afterwards, the rest
  *          is as it was.
  * Answers: the totals with it.
  * Refuses: 19, 20, 21, 22, each over the whole border; 25 for a 4,097th yard, or more or fewer sizes than names; 26; 23 (detail: the piece's index); 28 for the data against
  *          the builder's room, `bytes`, `out` and 1 GiB, then for the whole file against its room and 1 GiB, and for every other list. So it is refused as uskelzar_build would
- *          refuse the held yards and this one. */
+ *          refuse the held yards and this one, if `out` is as long as the data held; in a shorter one 23 comes before that 28. */
 uint8_t uskelzar_add(uint64_t state[USKELZAR_STATE_WORDS], const int32_t *lats, size_t lats_length, const int32_t *lons,
                      size_t lons_length, const uint32_t *pieces, size_t pieces_length, const uint32_t *sizes,
                      size_t sizes_length, const uint8_t *values, size_t values_length, int32_t *boxes, size_t boxes_length,
@@ -460,7 +468,7 @@ uint8_t uskelzar_clear(uint64_t state[USKELZAR_STATE_WORDS], int32_t *boxes, siz
 
 /* The file of the yards that are held: what uskelzar_build would write of them. The builder stays as it is.
  * Answers: the file's length.
- * out:     the file.
+ * out:     the file, and zeros behind it; on a refusal zeros alone, whatever the state.
  * Refuses: 25 where there are no yards; 28 for the file against `out`, which may be shorter or longer than the builder's room, and 1 GiB, and for a list to work in. */
 uint8_t uskelzar_finish(const uint64_t state[USKELZAR_STATE_WORDS], const int32_t *boxes, size_t boxes_length,
                         const uint32_t *borders, size_t borders_length, const uint32_t *lengths, size_t lengths_length,

@@ -9,3 +9,5 @@ pub mod NumberedDrafts
 pub mod SameCalls
 pub mod SameDrafts
 pub mod WorkedDraft
+pub mod Made
+pub mod WorkedCalls
