@@ -4,7 +4,7 @@
  * For libuskelzar.a. What its functions answer, write and touch, and that they end, is proved for every input; of the calls of
  * a builder what they answer and write is proved for a state, lists and notes as its calls have left them, and for numbers
  * that do not fit the lists, and for all others what they touch, and that they end. What the library calls is seen to by a
- * test of the archive. What holds for all twenty-one:
+ * test of the archive. What holds for all twenty-two:
  *
  * You bring    pointers that are not null, aligned for their type and good for their length: to read from, or where the
  *              buffer is lent (no const), to write to. Lent buffers and `reply` do not overlap each other or an input, and
@@ -73,7 +73,7 @@ enum uskelzar_refusal {
     USKELZAR_FIXES = 33,              /* many fixes: lists of unequal length, over 4,096 fixes, or `answers` too short */
     USKELZAR_INDEX_TABLE = 34,        /* no index: the table is not in order, can't be read, or runs past the metadata start */
     USKELZAR_INDEX_ROOM = 35,         /* index doesn't fit the lent words */
-    USKELZAR_OTHER_INDEX = 36,        /* index and file differ in length, header or table; or a list, or an entry that it names, is outside the words */
+    USKELZAR_OTHER_INDEX = 36,        /* index and file differ in length, header or table; a list, or an entry that it names, is outside the words; is_index: other words */
     /* of a TZif file: the rule of RFC 8536 or 9636 that is broken; detail: a place in the file, that of .. */
     USKELZAR_TZIF_MAGIC = 40,         /* a header does not begin with "TZif": the header */
     USKELZAR_TZIF_VERSION = 41,       /* version missing, not 0, '2', '3' or '4', or the second not the first: the octet */
@@ -321,6 +321,14 @@ uint8_t uskelzar_build_index(const uint8_t *file, size_t file_length, uint32_t *
  * Refuses: what open refuses but for its 18; then 16, 36. */
 uint8_t uskelzar_index_tied(const uint8_t *file, size_t file_length, const uint32_t *index, size_t index_length,
                             uint64_t reply[USKELZAR_REPLY_WORDS]);
+
+/* Whether words are the index of this file, whoever wrote them: each word is worked out again and compared, without room for them. Ask it of words from a disk or
+ * from another program. The words are those that uskelzar_build_index, lent as many, leaves for this file: the index, and zeros behind it. Through such words
+ * uskelzar_lookup_through and uskelzar_lookup_indexed are uskelzar_lookup.
+ * Answers: no value; 0 says that they are.
+ * Refuses: what open refuses but for its 18; then 16, 34 over the whole table, 36 last: for any other words, and for too few. */
+uint8_t uskelzar_is_index(const uint8_t *file, size_t file_length, const uint32_t *index, size_t index_length,
+                          uint64_t reply[USKELZAR_REPLY_WORDS]);
 
 /* uskelzar_lookup through an index: it answers, writes and refuses what uskelzar_lookup does, where uskelzar_build_index gave the words and uskelzar_index_tied
  * said 0 of them and this file. It asks neither: any words are taken, and their records, starts and lists are believed. Of other words the answer is theirs, and may
