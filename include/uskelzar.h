@@ -89,8 +89,8 @@ enum uskelzar_refusal {
     USKELZAR_TZIF_ISDST = 51,         /* neither 0 nor 1: the octet */
     USKELZAR_TZIF_DESIGIDX = 52,      /* not below charcnt: the octet */
     USKELZAR_TZIF_DESIGNATION = 53,   /* no NUL at or after desigidx: the desigidx */
-    USKELZAR_TZIF_OCCURRENCE = 54,    /* the first negative, a later one under 2,419,199 s above the last: the occurrence */
-    USKELZAR_TZIF_CORRECTION = 55,    /* not exactly 1 away from the one before it, 0 before the first: the correction */
+    USKELZAR_TZIF_OCCURRENCE = 54,    /* the first negative, a later one under 2,419,199 s above the last; version 4's expiry: not above it: the occurrence */
+    USKELZAR_TZIF_CORRECTION = 55,    /* not exactly 1 away from the one before it, 0 before the first; version 4: any first, an expiry repeats the last: the correction */
     USKELZAR_TZIF_STANDARD = 56,      /* a standard/wall indicator other than 0 and 1: the octet */
     USKELZAR_TZIF_UT = 57,            /* a UT/local indicator other than 0 and 1, or 1 without the standard one: the octet */
     USKELZAR_TZIF_FOOTER = 58,        /* no newline at its start, a NUL, no newline at its end: the octet met, or the end */
