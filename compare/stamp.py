@@ -2,6 +2,7 @@
 
 compare/stamp says how it is run. Of each slip safezone, matches, kinds and fields must be the Rust's, and the `hour` line of each zone that holds the fix (date, time,
 weekday, offset, daylight flag, abbreviation) zoneinfo's. What zoneinfo is known to answer otherwise is left out by the choice of instants (SPAN).
+Every zone that a slip meets is asked by its file in LEAPING too, which counts leap seconds: no hour may come, but 91.
 """
 
 import argparse
@@ -22,6 +23,8 @@ import peers
 SPAN = (-2145916800, 13569465599)
 MAP = "examples/world-9.plb"
 FOLDER = "/usr/share/zoneinfo"
+# the same zones with leap seconds
+LEAPING = "/usr/share/zoneinfo/right"
 ORACLE = "target/oracle/target/release/oracle"
 BATCH = 500
 
@@ -97,6 +100,18 @@ def zone_names(matches):
     return list(dict.fromkeys(text(f, "TimezoneIdPrefix") + text(f, "TimezoneId") for _, f in matches))
 
 
+def by_leaps(ours, zone, instant, tally):
+    path = os.path.join(LEAPING, zone)
+    if not os.path.isfile(path):
+        tally["no file with leap seconds: " + zone] += 1
+        return
+    with open(path, "rb") as file:
+        got = ours.hour(instant, file.read())
+    tally["files with leap seconds"] += 1
+    if got != "refused 91 0":
+        tally.wrong(path, instant, got)
+
+
 def one_slip(ours, plb, fix, instant, rust, tally):
     names, safezone, matches = rust
     mark, our_safezone, our_matches = ours.zones(fix, plb, names)
@@ -115,6 +130,7 @@ def one_slip(ours, plb, fix, instant, rust, tally):
             continue
         with open(path, "rb") as file:
             got = ours.hour(instant, file.read())
+        by_leaps(ours, zone, instant, tally)
         wanted = hour_by_zoneinfo(zoneinfo.ZoneInfo(zone), instant)
         tally["hours"] += 1
         if got != wanted:
@@ -148,6 +164,8 @@ def main():
         for (fix, instant), rust in zip(batch, by_rust(plb, [fix for fix, _ in batch])):
             tally["slips"] += 1
             one_slip(ours, plb, fix, instant, rust, tally)
+    if not tally["files with leap seconds"]:
+        sys.exit(f"no zone has a file in {LEAPING}: Debian's tzdata-legacy, or `zic -L leapseconds`")
     for what in sorted(tally):
         if what not in ("slips", "wrong"):
             print(f"{what}: {tally[what]}")

@@ -2,6 +2,7 @@
  * The zone is that of uskelzar_simple_lookup, printed only where the search was whole and one zone alone holds the fix; the file of that name
  * gives local time, and local time the date. Exit status: 0 stamped, 1 not stamped, 2 not run. */
 #include "uskelzar.h"
+#include <errno.h>
 #include <inttypes.h>
 #include <stdio.h>
 #include <stdlib.h>
@@ -12,6 +13,7 @@ enum { HITS = USKELZAR_HIT_WORDS * 64, TEXT = 256, MAP_MOST = 64 << 20, ZONE_MOS
 /* Every way of not stamping; 0 is stamped. */
 enum outcome {
     STAMPED,
+    NO_PLACE,         /* 84: latitude not from -90 to 90, or longitude not from -180 to 180 */
     MAP_REFUSED,      /* the map is refused */
     NOT_WHOLE,        /* the search was not whole */
     NO_ZONE,          /* no zone holds the fix, or the map has no names */
@@ -19,13 +21,15 @@ enum outcome {
     BAD_NAME,         /* the zone's name is no path inside the folder */
     NO_FILE,          /* no TZif file of that name, or too large */
     ZONE_REFUSED,     /* the TZif file is refused */
+    LEAP_SECONDS,     /* 91: it counts leap seconds, so that its scale is not the instant's */
     UNKNOWN,          /* it does not say what holds at this instant */
-    OUTSIDE_YEARS     /* the instant is outside the years 1 to 9999 */
+    OUTSIDE_YEARS     /* 61: the instant, or the clock at it, is outside the years 1 to 9999 */
 };
 
 static const char *const outcome_words[] = {
-    "stamped", "the map is refused", "the search was not whole", "no zone", "several zones hold the fix", "not a zone's name",
-    "no TZif file of that name", "the TZif file is refused", "unknown", "outside the years 1 to 9999"};
+    "stamped", "refusal 84: no place on the globe", "the map is refused", "the search was not whole", "no zone", "several zones hold the fix", "not a zone's name",
+    "no TZif file of that name", "the TZif file is refused", "refusal 91: the TZif file counts leap seconds", "unknown",
+    "the instant, or the clock at it, is outside the years 1 to 9999"};
 
 struct bytes {
     uint8_t *at;
@@ -101,7 +105,9 @@ static enum outcome find_hour(const struct bytes *file, int64_t instant, struct 
         return OUTSIDE_YEARS;
     if (stamp->number != USKELZAR_ANSWERED)
         return ZONE_REFUSED;
-    if (reply[USKELZAR_LOCAL_KNOWN] != 1)
+    if (reply[USKELZAR_LOCAL_KNOWN] == USKELZAR_SCALE_OWN)
+        return LEAP_SECONDS;
+    if (reply[USKELZAR_LOCAL_KNOWN] != USKELZAR_SCALE_UNIX)
         return UNKNOWN;
     uint32_t bits = (uint32_t)reply[USKELZAR_LOCAL_OFFSET];
     memcpy(&stamp->offset, &bits, sizeof bits);
@@ -117,6 +123,9 @@ static enum outcome stamp_slip(const struct bytes *map, const char *folder, floa
     static uint8_t room[ZONE_MOST];
     char path[PATH_MOST];
     struct bytes file;
+    /* NaN fails each comparison */
+    if (!(lat >= -90 && lat <= 90 && lon >= -180 && lon <= 180))
+        return NO_PLACE;
     enum outcome found = find_zone(map, lat, lon, stamp);
     if (found != STAMPED)
         return found;
@@ -139,12 +148,35 @@ static void print_stamp(const struct stamp *stamp)
     printf(" %s %s\n", stamp->abbreviation, stamp->zone);
 }
 
+/* A decimal number of degrees, all of the text; "nan", "inf" and exponents are none. */
+static bool read_degrees(const char *text, float *degrees)
+{
+    char *end;
+    *degrees = strtof(text, &end);
+    return end != text && *end == '\0' && strspn(text, "+-.0123456789") == strlen(text);
+}
+
+/* Seconds from 1970, all of the text. */
+static bool read_instant(const char *text, int64_t *instant)
+{
+    char *end;
+    errno = 0;
+    *instant = strtoll(text, &end, 10);
+    return end != text && *end == '\0' && errno == 0 && strspn(text, "+-0123456789") == strlen(text);
+}
+
 int main(int count, char **words)
 {
     struct bytes map;
+    float lat, lon;
+    int64_t instant;
     struct stamp stamp = {.number = 0};
     if (count != 6) {
         fprintf(stderr, "usage: example-stamp FILE TZDIR LAT LON INSTANT\n");
+        return 2;
+    }
+    if (!read_degrees(words[3], &lat) || !read_degrees(words[4], &lon) || !read_instant(words[5], &instant)) {
+        fprintf(stderr, "example-stamp: %s %s %s are not two coordinates and an instant\n", words[3], words[4], words[5]);
         return 2;
     }
     uint8_t *room = malloc(MAP_MOST);
@@ -152,8 +184,7 @@ int main(int count, char **words)
         fprintf(stderr, "example-stamp: cannot read %s\n", words[1]);
         return 2;
     }
-    float lat = strtof(words[3], NULL), lon = strtof(words[4], NULL);
-    enum outcome outcome = stamp_slip(&map, words[2], lat, lon, strtoll(words[5], NULL, 10), &stamp);
+    enum outcome outcome = stamp_slip(&map, words[2], lat, lon, instant, &stamp);
     free(room);
     if (outcome == STAMPED) {
         print_stamp(&stamp);

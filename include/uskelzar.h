@@ -1,8 +1,10 @@
 /* uskelzar.h: which zone holds a fix, by a PLB border file; a writer of borders, a builder of files, and one that holds yards which may still change; salvage of a damaged file;
  * local time, by a TZif file; and dates.
  *
- * For libuskelzar.a. What its functions answer, write and touch, and that they end, is proved for every input; what it calls
- * is seen to by a test of the archive. What holds for all twenty-one:
+ * For libuskelzar.a. What its functions answer, write and touch, and that they end, is proved for every input; of the calls of
+ * a builder what they answer and write is proved for a state, lists and notes as its calls have left them, and for numbers
+ * that do not fit the lists, and for all others what they touch, and that they end. What the library calls is seen to by a
+ * test of the archive. What holds for all twenty-two:
  *
  * You bring    pointers that are not null, aligned for their type and good for their length: to read from, or where the
  *              buffer is lent (no const), to write to. Lent buffers and `reply` do not overlap each other or an input, and
@@ -71,7 +73,7 @@ enum uskelzar_refusal {
     USKELZAR_FIXES = 33,              /* many fixes: lists of unequal length, over 4,096 fixes, or `answers` too short */
     USKELZAR_INDEX_TABLE = 34,        /* no index: the table is not in order, can't be read, or runs past the metadata start */
     USKELZAR_INDEX_ROOM = 35,         /* index doesn't fit the lent words */
-    USKELZAR_OTHER_INDEX = 36,        /* index and file differ: in length, header or table; or the words are no index */
+    USKELZAR_OTHER_INDEX = 36,        /* index and file differ in length, header or table; a list, or an entry that it names, is outside the words; is_index: other words */
     /* of a TZif file: the rule of RFC 8536 or 9636 that is broken; detail: a place in the file, that of .. */
     USKELZAR_TZIF_MAGIC = 40,         /* a header does not begin with "TZif": the header */
     USKELZAR_TZIF_VERSION = 41,       /* version missing, not 0, '2', '3' or '4', or the second not the first: the octet */
@@ -87,14 +89,17 @@ enum uskelzar_refusal {
     USKELZAR_TZIF_ISDST = 51,         /* neither 0 nor 1: the octet */
     USKELZAR_TZIF_DESIGIDX = 52,      /* not below charcnt: the octet */
     USKELZAR_TZIF_DESIGNATION = 53,   /* no NUL at or after desigidx: the desigidx */
-    USKELZAR_TZIF_OCCURRENCE = 54,    /* the first negative, a later one under 2,419,199 s above the last: the occurrence */
-    USKELZAR_TZIF_CORRECTION = 55,    /* not exactly 1 away from the one before it, 0 before the first: the correction */
+    USKELZAR_TZIF_OCCURRENCE = 54,    /* the first negative, a later one under 2,419,199 s above the last; version 4's expiry: not above it: the occurrence */
+    USKELZAR_TZIF_CORRECTION = 55,    /* not exactly 1 away from the one before it, 0 before the first; version 4: any first, an expiry repeats the last: the correction */
     USKELZAR_TZIF_STANDARD = 56,      /* a standard/wall indicator other than 0 and 1: the octet */
     USKELZAR_TZIF_UT = 57,            /* a UT/local indicator other than 0 and 1, or 1 without the standard one: the octet */
     USKELZAR_TZIF_FOOTER = 58,        /* no newline at its start, a NUL, no newline at its end: the octet met, or the end */
     USKELZAR_TZIF_REST = 59,          /* bytes behind the end: the first of them */
     USKELZAR_TZIF_STRING = 60,        /* no TZ string: its fault; or it contradicts the last transition: the newline before it */
-    USKELZAR_TZIF_YEAR = 61           /* an instant outside the years 1 to 9999; detail: 0 */
+    USKELZAR_TZIF_YEAR = 61,          /* the rule's instant (local time) or the clock (civil time) is outside the years 1 to 9999; detail: 0 */
+    /* what no function here says, and whoever stamps a slip must: see below */
+    USKELZAR_NO_PLACE = 84,           /* latitude not from -90 to 90 or longitude not from -180 to 180; NaN is neither */
+    USKELZAR_LEAP_SECONDS = 91        /* the zone's file counts leap seconds: its scale is not the instant's */
 };
 
 /* reply[0] of a refusal: which of the two causes, for 6, 7 and 15; otherwise none */
@@ -171,10 +176,15 @@ enum {
     USKELZAR_CIVIL_WORDS = 7
 };
 enum {
-    USKELZAR_LOCAL_KNOWN = 0,         /* 1: local time is known; 0: it is not, and all words are 0 */
+    USKELZAR_LOCAL_KNOWN = 0,         /* 0: local time is not known, and all words are 0; else the scale, of USKELZAR_SCALE_.. */
     USKELZAR_LOCAL_OFFSET = 1,        /* seconds east of UT: the bits of an int32_t */
     USKELZAR_LOCAL_DAYLIGHT = 2,      /* 1: daylight time; 0: standard time */
-    USKELZAR_LOCAL_LENGTH = 3         /* bytes of the abbreviation */
+    USKELZAR_LOCAL_LENGTH = 3,        /* bytes of the abbreviation */
+    USKELZAR_LOCAL_CORRECTION = 4     /* leap seconds at the instant, 0 in UNIX time: the bits of an int32_t */
+};
+enum {
+    USKELZAR_SCALE_UNIX = 1,          /* the instant was read as UNIX time */
+    USKELZAR_SCALE_OWN = 2            /* it was read on the file's own scale, which counts leap seconds */
 };
 
 /* ---- a match in `hits`: four words. A list of n words has room for n / 4 hits. */
@@ -259,7 +269,8 @@ uint8_t uskelzar_open(const uint8_t *file, size_t file_length, uint8_t *text, si
                       uint64_t reply[USKELZAR_REPLY_WORDS]);
 
 /* The zones that hold a fix, in degrees; `asked`: with the safezone.
- * Answers: matches, end mark, safezone bits, bytes of text used. The safezone is the distance in degrees, those of longitude
+ * Answers: matches, end mark, safezone bits, bytes of text used. The search was whole where 0 was returned and the end mark, reply[1], is 1: ask both, since a
+ *       refusal has its detail there, and a 6 for the second name leaves a 1. The safezone is the distance in degrees, those of longitude
  *       counted like those of latitude, to the nearest border among those whose box holds the fix: 0 on a border, very large
  *       where there is none; at precision 32 it is negative.
  * hits: the matches, four words each. While it searches the list must hold every hit, and several hits with one metadata id
@@ -272,7 +283,8 @@ uint8_t uskelzar_lookup(const uint8_t *file, size_t file_length, float lat, floa
                         size_t hits_length, uint8_t *text, size_t text_length, uint64_t reply[USKELZAR_REPLY_WORDS]);
 
 /* The same two, but a number that the file's end cuts is refused, with 31: where it is read, behind 12 and before its value is used. What they
- * take, answer, write and refuse is otherwise that of the plain ones. So each is refused 31, or replies and writes what its plain one does.
+ * take, answer, write and refuse is otherwise that of the plain ones. So each is refused 31 exactly where its plain one would read such a number
+ * before it is refused or ends, and else replies and writes what its plain one does; of a file whose last byte is below 128 it always does.
  * uskelzar_lookup_strict opens strictly, then 16, then searches; behind an early stop a cut number is end mark 2, as in the plain lookup. A string
  * or an entry that is not there at all fails as before. */
 uint8_t uskelzar_open_strict(const uint8_t *file, size_t file_length, uint8_t *text, size_t text_length,
@@ -302,14 +314,25 @@ uint8_t uskelzar_lookup_many(const uint8_t *file, size_t file_length, const floa
 uint8_t uskelzar_build_index(const uint8_t *file, size_t file_length, uint32_t *index, size_t index_length,
                              uint64_t reply[USKELZAR_REPLY_WORDS]);
 
-/* Whether words are an index of this file, or of one with the same length, header and table: every byte of both is compared.
- * Answers: no value; 0 says that they are.
+/* Whether words keep this file's length, header and table: length, metadata start, where the lists begin, that they end inside the words, and every byte up to
+ * the metadata are compared. Records, starts and lists are not looked at: they are believed. So for words that uskelzar_build_index gave, 0 says that they are an
+ * index of this file, or of one with the same length, header and table; of other words it does not say that they are an index.
+ * Answers: no value; 0 says that they keep them.
  * Refuses: what open refuses but for its 18; then 16, 36. */
 uint8_t uskelzar_index_tied(const uint8_t *file, size_t file_length, const uint32_t *index, size_t index_length,
                             uint64_t reply[USKELZAR_REPLY_WORDS]);
 
+/* Whether words are the index of this file, whoever wrote them: each word is worked out again and compared, without room for them. Ask it of words from a disk or
+ * from another program. The words are those that uskelzar_build_index, lent as many, leaves for this file: the index, and zeros behind it. Through such words
+ * uskelzar_lookup_through and uskelzar_lookup_indexed are uskelzar_lookup.
+ * Answers: no value; 0 says that they are.
+ * Refuses: what open refuses but for its 18; then 16, 34 over the whole table, 36 last: for any other words, and for too few. */
+uint8_t uskelzar_is_index(const uint8_t *file, size_t file_length, const uint32_t *index, size_t index_length,
+                          uint64_t reply[USKELZAR_REPLY_WORDS]);
+
 /* uskelzar_lookup through an index: it answers, writes and refuses what uskelzar_lookup does, where uskelzar_build_index gave the words and uskelzar_index_tied
- * said 0 of them and this file. Any words are taken; of others the answer is theirs, and nothing outside them is touched.
+ * said 0 of them and this file. It asks neither: any words are taken, and their records, starts and lists are believed. Of other words the answer is theirs, and may
+ * miss a zone under end mark 1; nothing outside them is touched.
  * Refuses: what open refuses but for its 18; then 16; then 36 where length and metadata start are not the file's or the tile's list is not inside the words;
  *       then as lookup, and 36 at a number in the list that has no entry. */
 uint8_t uskelzar_lookup_through(const uint8_t *file, size_t file_length, const uint32_t *index, size_t index_length, float lat,
@@ -317,7 +340,7 @@ uint8_t uskelzar_lookup_through(const uint8_t *file, size_t file_length, const u
                                 uint64_t reply[USKELZAR_REPLY_WORDS]);
 
 /* The same after a comparison: uskelzar_index_tied, then uskelzar_lookup_through. For words that uskelzar_build_index gave, it is uskelzar_lookup wherever it does
- * not refuse with 36. */
+ * not refuse with 36. Records, starts and lists are believed here too: of words that uskelzar_build_index did not give the answer is theirs. */
 uint8_t uskelzar_lookup_indexed(const uint8_t *file, size_t file_length, const uint32_t *index, size_t index_length, float lat,
                                 float lon, bool asked, uint32_t *hits, size_t hits_length, uint8_t *text, size_t text_length,
                                 uint64_t reply[USKELZAR_REPLY_WORDS]);
@@ -374,16 +397,17 @@ uint8_t uskelzar_build(uint8_t type, uint8_t version, uint8_t precision, uint32_
  * that are held. After every call the totals, in `reply`, are those of that file: so what is still to fit is known before it is written.
  * state:   the builder's numbers. uskelzar_begin writes them; lend them to each later call as they are. uskelzar_finish only reads them.
  * boxes to bytes: the builder's own lists, in which it holds its yards. uskelzar_begin writes them whole, whatever they held; lend the same five to each later call, and write to
- *          none between the calls. How long each must be: USKELZAR_HELD_.. above. Behind what is held they are zero.
+ *          none between the calls, but for zeros that you may put behind one to make it longer. How long each must be: USKELZAR_HELD_.. above. Behind what is held they are zero.
  * starts to places, and `out` of add and replace: lists to work in, whatever they hold; zeros afterwards, but see uskelzar_add. A list that is too short is 28, last.
  * A refused call changes neither state nor lists, nor notes that an add has left. Numbers that no call has made with these lists are refused 28 where they do not fit the lists (a drop: 29), and else answered
- * with some totals or other; nothing outside the lists is touched.
+ * with some totals or other, or refused with a number of the call; nothing outside the lists is touched.
  *
  * Begins a builder for files of at most `room` bytes.
  * sizes:   how many bytes each text has: those of the names, of the notice.
  * strings: the bytes of all of them, one after the other.
  * Answers: the totals of no yards: 0, 0, 1, 0, 0.
- * Refuses: 25 for over 255 names or fewer sizes; 26, 27; 28 only for a list that is too short. State and lists are then zero. */
+ * Refuses: 25 for over 255 names or fewer sizes; 26, 27; 28 only for a list that is too short. State and lists are then zero, and such a state is refused by every other call, 28, a
+ *          drop 29. */
 uint8_t uskelzar_begin(uint64_t state[USKELZAR_STATE_WORDS], uint8_t type, uint8_t version, uint8_t precision, uint32_t names,
                        size_t room, const uint32_t *sizes, size_t sizes_length, const uint8_t *strings, size_t strings_length,
                        int32_t *boxes, size_t boxes_length, uint32_t *borders, size_t borders_length, uint32_t *lengths,
@@ -393,18 +417,23 @@ uint8_t uskelzar_begin(uint64_t state[USKELZAR_STATE_WORDS], uint8_t type, uint8
 /* Adds a yard, behind those that are held.
  * lats, lons, pieces: its border, as for uskelzar_build; a piece's `start` counts from the data's first byte, the zero byte, and may lie in any border that is held.
  * sizes, values: how many bytes each of its values has, and their bytes.
- * marks to begins: the builder's notes, with which an add does not sum all yards afresh: it costs what its own yard does, and a look at the box of each held one. However long the lists are
- *          does not matter then. Lend the same four to each add of one builder, as the last add left them, and write to none between the calls; what they hold before the first does not
- *          matter, and no other call takes them. How long each must be: USKELZAR_NOTE_.. above. With words that no add has left there the totals may be wrong until a call sums afresh, and
- *          the file is then not promised; nothing outside the lists is touched. The yards are summed afresh, and noted anew, by the first add, by the first behind any other change of the
- *          builder, and where a new record has a value that stands in exactly one other place of the records, or twice in it, or makes their words longer.
+ * marks to begins: the builder's notes, with which an add need not sum all yards afresh. Lend the same four to each add of one builder, as the last add left them, and write to none between
+ *          the calls, but for zeros that you may put behind one to make it longer; what they hold before the first add does not matter, and no other call takes them. How long each must
+ *          be: USKELZAR_NOTE_.. above. With words that no add has left there the totals may be wrong until a call sums afresh, and the file is then not promised; nothing outside the lists
+ *          is touched.
+ *          An add that does not sum afresh costs what its own yard does, a look at the box of each held one, and for each of its values, and for all of them together, a walk along a chain
+ *          of notes: there are 4,096 chains, however many yards are held, so of 255 names and 4,000 yards each has some 250 values. How long the lists are does not matter then.
+ *          The yards are summed afresh, and noted anew, by the first add, by the first behind any other change of the builder, and, where no held yard has all values of the new one, in
+ *          three cases: a value of it, not empty, stands in exactly one place of the records; one stands nowhere in them and twice in the yard; or the records have under 16,128 bytes and the
+ *          metadata with the new record over 16,128, the same with 2,096,896 and with 268,435,200. Within such bounds words of unequal lengths may stand in the records, so every such add
+ *          sums afresh, though most change the length of none.
  * starts to places: zero afterwards, or all as they were lent: lent zero, they are zero.
  * out:     no more of it is used than a border of so many points can take, its first 170 * points + 400 bytes (of over 65,536 points, those of so many): they are zero afterwards, the rest
  *          is as it was.
  * Answers: the totals with it.
  * Refuses: 19, 20, 21, 22, each over the whole border; 25 for a 4,097th yard, or more or fewer sizes than names; 26; 23 (detail: the piece's index); 28 for the data against
  *          the builder's room, `bytes`, `out` and 1 GiB, then for the whole file against its room and 1 GiB, and for every other list. So it is refused as uskelzar_build would
- *          refuse the held yards and this one. */
+ *          refuse the held yards and this one, if `out` is as long as the data held; in a shorter one 23 comes before that 28. */
 uint8_t uskelzar_add(uint64_t state[USKELZAR_STATE_WORDS], const int32_t *lats, size_t lats_length, const int32_t *lons,
                      size_t lons_length, const uint32_t *pieces, size_t pieces_length, const uint32_t *sizes,
                      size_t sizes_length, const uint8_t *values, size_t values_length, int32_t *boxes, size_t boxes_length,
@@ -447,7 +476,7 @@ uint8_t uskelzar_clear(uint64_t state[USKELZAR_STATE_WORDS], int32_t *boxes, siz
 
 /* The file of the yards that are held: what uskelzar_build would write of them. The builder stays as it is.
  * Answers: the file's length.
- * out:     the file.
+ * out:     the file, and zeros behind it; on a refusal zeros alone, whatever the state.
  * Refuses: 25 where there are no yards; 28 for the file against `out`, which may be shorter or longer than the builder's room, and 1 GiB, and for a list to work in. */
 uint8_t uskelzar_finish(const uint64_t state[USKELZAR_STATE_WORDS], const int32_t *boxes, size_t boxes_length,
                         const uint32_t *borders, size_t borders_length, const uint32_t *lengths, size_t lengths_length,
@@ -459,7 +488,8 @@ uint8_t uskelzar_finish(const uint64_t state[USKELZAR_STATE_WORDS], const int32_
 
 /* A new file with what is left of a damaged one: each entry whose six numbers, border and strings all read strictly and whose strings, lengths
  * included, lie wholly in the metadata section, in the old order.
- * The first seven bytes and the metadata section stay as they are; names and notice go inline; each kept entry has its old box and metadata id,
+ * The first seven bytes and the metadata section stay as they are; names and notice go inline, and open and open_strict give of the new file what
+ * open_strict gives of the old one, for any room; each kept entry has its old box and metadata id,
  * and its border is written without borrowed runs, move by move, so that its verdict and distance at every fix are the old ones.
  * Answers: the new file's length, the list's lines, the entries kept.
  * dropped: two words a line: the entry's number, from 0, and the first reason met (enum uskelzar_reason, or 12, 13, 14, 15, 31). Behind an entry
@@ -471,10 +501,14 @@ uint8_t uskelzar_salvage(const uint8_t *file, size_t file_length, uint32_t *drop
                          size_t out_length, uint64_t reply[USKELZAR_REPLY_WORDS]);
 
 /* Local time at an instant, by a TZif file (RFC 8536 and 9636, versions 1 to 4) and the TZ string of its footer, all of
- * which is checked first. The instant is in seconds from 1970-01-01 00:00:00 UT, on the file's own scale.
- * Answers: 1, the offset's bits, the daylight flag, the abbreviation's length: by the last transition that is not after the
- *       instant; before the first by type 0. After the last, and throughout where there are none, by the TZ string, where
- *       the file has one; where it has none, by type 0 if there are no transitions, and else unknown: all words are 0.
+ * which is checked first. The instant is in seconds from 1970-01-01 00:00:00 UT, on the file's own scale: UNIX time, unless
+ * the block that answers (the only one of version 1, else the second) has leap-second records.
+ * Answers: the scale, the offset's bits, the daylight flag, the abbreviation's length, the correction's bits: by the last
+ *       transition that is not after the instant; before the first by type 0. After the last, and throughout where there are
+ *       none, by the TZ string, where the file has one; where it has none, by type 0 if there are no transitions, and else
+ *       unknown: all words are 0. The scale is 1 where that block has no leap-second records: the instant was read as UNIX
+ *       time, and the correction is 0. It is 2 where it has: the instant was read on the file's scale, and the correction is
+ *       that of the last record not after it, 0 before the first.
  * text: the abbreviation, without a zero byte at its end (one stands behind it if there is room); zeros where it is unknown.
  * Refuses: 1; 40 to 60, the first fault in file order; 61 where the string would answer; 18 last. */
 uint8_t uskelzar_local_time(const uint8_t *file, size_t file_length, int64_t instant, uint8_t *text, size_t text_length,
@@ -486,9 +520,11 @@ uint8_t uskelzar_local_time(const uint8_t *file, size_t file_length, int64_t ins
  * Refuses: 61, with seven zeros, where the clock is outside the years 1 to 9999. */
 uint8_t uskelzar_civil_time(int64_t instant, int32_t offset, uint64_t reply[USKELZAR_CIVIL_WORDS]);
 
-/* To stamp a slip: uskelzar_simple_lookup gives the zone's name, to be used only under USKELZAR_END_WHOLE; find the TZif file of that name and
- * lend it to uskelzar_local_time; its offset goes to uskelzar_civil_time. The library opens no file, so the name is checked by whoever makes a
- * path of it. host/example-stamp.c has every way of not stamping. */
+/* To stamp a slip: refuse a fix that is no place on the globe (84: a lookup answers for any two numbers, NaN too). uskelzar_simple_lookup gives
+ * the zone's name, to be used only under USKELZAR_END_WHOLE; find the TZif file of that name and lend it to uskelzar_local_time. Go on only
+ * under USKELZAR_SCALE_UNIX: a clock that is shown at an instant of another scale is wrong by the leap seconds between them, so that such a file
+ * is refused (91). The offset goes to uskelzar_civil_time. The library opens no file, so the name is checked by whoever makes a path of it.
+ * host/example-stamp.c has every way of not stamping. */
 
 #ifdef __cplusplus
 }

@@ -4,13 +4,19 @@
 use std::process::ExitCode;
 use uskelzar::{Map, Printer};
 
+/// A decimal number; `NaN`, `inf` and exponents are none.
+fn degrees(text: &str) -> Option<f32> {
+    let decimal = |letter: char| letter.is_ascii_digit() || "+-.".contains(letter);
+    text.parse().ok().filter(|_| text.chars().all(decimal))
+}
+
 fn main() -> ExitCode {
     let words: Vec<String> = std::env::args().skip(1).collect();
     let [path, folder, lat, lon, instant] = words.as_slice() else {
         eprintln!("usage: stamp FILE TZDIR LAT LON INSTANT");
         return ExitCode::from(2);
     };
-    let (Ok(lat), Ok(lon), Ok(instant)) = (lat.parse(), lon.parse(), instant.parse()) else {
+    let (Some(lat), Some(lon), Ok(instant)) = (degrees(lat), degrees(lon), instant.parse()) else {
         eprintln!("stamp: {lat} {lon} {instant} are not two coordinates and an instant");
         return ExitCode::from(2);
     };

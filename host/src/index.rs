@@ -35,7 +35,7 @@ impl Index {
         }
     }
 
-    /// An index of these words. Any are taken: a lookup through words that do not go with its file is refused.
+    /// An index of these words. Any are taken, and their records, starts and lists are believed: ask [`Index::is_of`] of words that another program wrote.
     pub fn of_words(words: Vec<u32>) -> Index {
         Index { words }
     }
@@ -56,14 +56,17 @@ impl Index {
         self.words.iter().flat_map(|word| word.to_le_bytes()).collect()
     }
 
-    /// What `to_bytes` gave. Any words are taken; bytes that are not four a word are no index.
-    pub fn of_bytes(bytes: &[u8]) -> Result<Index, Error> {
+    /// What `to_bytes` gave for this map. Each word is worked out again: any other words are refused with 36, whoever wrote them; bytes that are not four a word
+    /// are no index.
+    pub fn of_bytes<B: AsRef<[u8]>>(bytes: &[u8], map: &Map<B>) -> Result<Index, Error> {
         let words = bytes.chunks_exact(4);
         if !words.remainder().is_empty() {
             return Err(cut(bytes.len()).into());
         }
         let word = |four: &[u8]| u32::from_le_bytes([four[0], four[1], four[2], four[3]]);
-        Ok(Index { words: words.map(word).collect() })
+        let words: Vec<u32> = words.map(word).collect();
+        raw::is_index(map.bytes(), &words)?;
+        Ok(Index { words })
     }
 
     /// Keeps it in a file.
@@ -71,12 +74,17 @@ impl Index {
         Ok(std::fs::write(path, self.to_bytes())?)
     }
 
-    /// Reads what `write` wrote.
-    pub fn read(path: impl AsRef<Path>) -> Result<Index, Error> {
-        Index::of_bytes(&std::fs::read(path)?)
+    /// Reads what `write` wrote for this map, and asks as `of_bytes` does.
+    pub fn read<B: AsRef<[u8]>>(path: impl AsRef<Path>, map: &Map<B>) -> Result<Index, Error> {
+        Index::of_bytes(&std::fs::read(path)?, map)
     }
 
-    /// Whether it goes with a map; then lookups through it may leave the comparison out.
+    /// Whether it is what `build` gives for a map, whoever wrote it; then a lookup through it, with or without a comparison, is the plain lookup.
+    pub fn is_of<B: AsRef<[u8]>>(&self, map: &Map<B>) -> bool {
+        raw::is_index(map.bytes(), &self.words).is_ok()
+    }
+
+    /// Whether it keeps a map's length, header and table; then lookups through an index that was built may leave the comparison out.
     pub fn is_tied<B: AsRef<[u8]>>(&self, map: &Map<B>) -> bool {
         raw::index_tied(map.bytes(), &self.words).is_ok()
     }

@@ -14,6 +14,8 @@ pub struct LocalTime {
     pub daylight: bool,
     /// The abbreviation, as the file has it: RFC 8536 asks for letters, digits, `+` and `-`, and the library for none of it.
     pub abbreviation: Vec<u8>,
+    /// The correction at the instant, where the file counts leap seconds: it then reads the instant on its own scale, not as UNIX time, and [`CivilTime`] must not be asked.
+    pub leap_seconds: Option<i32>,
 }
 
 /// A date and a time of day.
@@ -85,12 +87,13 @@ impl<B: AsRef<[u8]>> TimeZone<B> {
             }
             reply => reply?,
         };
-        let [known, offset, daylight, length, _] = reply;
+        let [scale, offset, daylight, length, correction] = reply;
         text.truncate(length as usize);
-        Ok((known == 1).then_some(LocalTime {
+        Ok((scale != raw::NO_SCALE).then_some(LocalTime {
             offset: offset as u32 as i32,
             daylight: daylight == 1,
             abbreviation: text,
+            leap_seconds: (scale != raw::UNIX_SCALE).then_some(correction as u32 as i32),
         }))
     }
 }

@@ -290,7 +290,7 @@ impl<B: AsRef<[u8]>> Map<B> {
         self.found_by(|hits, text| raw::lookup_indexed(self.bytes(), index.words(), (lat, lon, true), hits, text))
     }
 
-    /// The same without the comparison: for an index of which [`Index::is_tied`] said yes.
+    /// The same without the comparison: for an index that was built, of which [`Index::is_tied`] said yes, or any of which [`Index::is_of`] did.
     pub fn lookup_through(&self, index: &Index, lat: f32, lon: f32) -> Result<Zones, Error> {
         self.found_by(|hits, text| raw::lookup_through(self.bytes(), index.words(), (lat, lon, true), hits, text))
     }

@@ -31,6 +31,8 @@ pub struct Hour {
 /// Why a slip carries no hour.
 #[derive(Debug)]
 pub enum NotStamped {
+    /// 84: the latitude is not from -90 to 90 or the longitude not from -180 to 180.
+    NoPlace,
     /// The map refused, or answered with a number that is not known here.
     Map(Error),
     /// The search was not whole.
@@ -45,9 +47,11 @@ pub enum NotStamped {
     NoFile(String, io::Error),
     /// The zone's TZif file is refused.
     Refused(String, Refusal),
+    /// 91: the zone's file counts leap seconds, so that its scale is not the instant's.
+    LeapSeconds(String),
     /// The zone's file does not say what holds at this instant.
     Unknown(String),
-    /// The instant is outside the years 1 to 9999.
+    /// 61: the instant, or the clock at it, is outside the years 1 to 9999.
     OutsideYears,
     /// The fix is on a border, and the hours of its zones differ.
     HoursDiffer(Vec<Hour>),
@@ -71,6 +75,7 @@ impl fmt::Display for Hour {
 impl fmt::Display for NotStamped {
     fn fmt(&self, f: &mut fmt::Formatter) -> fmt::Result {
         match self {
+            NotStamped::NoPlace => write!(f, "refusal {}: {}", Number::NoPlace as u8, Number::NoPlace.words()),
             NotStamped::Map(error) => error.fmt(f),
             NotStamped::NotWhole(End::TableUnreadable) => write!(f, "the search was not whole: mark 2"),
             NotStamped::NotWhole(End::BorderFailed) => write!(f, "the search was not whole: mark 3"),
@@ -80,8 +85,9 @@ impl fmt::Display for NotStamped {
             NotStamped::BadName(zone) => write!(f, "the zone name {} is not that of a file", zone.escape_default()),
             NotStamped::NoFile(zone, error) => write!(f, "no TZif file {zone}: {error}"),
             NotStamped::Refused(zone, refusal) => write!(f, "the file of {zone} is refused: {refusal}"),
+            NotStamped::LeapSeconds(zone) => write!(f, "the file of {zone} is refused: refusal {}: it counts leap seconds", Number::LeapSeconds as u8),
             NotStamped::Unknown(zone) => write!(f, "the file of {zone} says nothing of this instant"),
-            NotStamped::OutsideYears => write!(f, "the instant is outside the years 1 to 9999"),
+            NotStamped::OutsideYears => write!(f, "the instant, or the clock at it, is outside the years 1 to 9999"),
             NotStamped::HoursDiffer(hours) => {
                 write!(f, "on a border, and the hours differ")?;
                 hours.iter().try_for_each(|hour| write!(f, "; {hour}"))
@@ -101,6 +107,9 @@ impl<B: AsRef<[u8]>> Printer<B> {
     /// The hours that a slip may carry, all of one date, time and offset: that of the zone that holds the fix, and on a border of several
     /// zones one for each. The instant is in seconds from 1970.
     pub fn stamp(&self, lat: f32, lon: f32, instant: i64) -> Result<Vec<Hour>, NotStamped> {
+        if !is_place(lat, lon) {
+            return Err(NotStamped::NoPlace);
+        }
         let found = self.map.lookup(lat, lon).map_err(NotStamped::Map)?;
         self.hours(&found, instant)
     }
@@ -116,8 +125,14 @@ impl<B: AsRef<[u8]>> Printer<B> {
         stamped
     }
 
-    /// At least the first of them. A refusal stops them all, so those before it are asked again.
+    /// At least the first of them. A refusal stops them all, so those before it are asked again; and what is no place is not asked.
     fn stamp_some(&self, slips: &[Slip], stamped: &mut Vec<Result<Vec<Hour>, NotStamped>>) {
+        let places = slips.iter().take_while(|slip| is_place(slip.0, slip.1)).count();
+        if places == 0 {
+            stamped.push(Err(NotStamped::NoPlace));
+            return;
+        }
+        let slips = &slips[..places];
         let fixes: Vec<(f32, f32)> = slips.iter().map(|slip| (slip.0, slip.1)).collect();
         match self.map.lookup_many(&fixes) {
             Ok(answers) => stamped.extend(answers.zip(slips).map(|(found, slip)| {
@@ -153,6 +168,8 @@ impl<B: AsRef<[u8]>> Printer<B> {
             Err(error) => return Err(NotStamped::NoFile(zone, error)),
         };
         let local = match TimeZone::new(file).and_then(|file| file.local_time(instant)) {
+            // the clock goes by UNIX time
+            Ok(Some(local)) if local.leap_seconds.is_some() => return Err(NotStamped::LeapSeconds(zone)),
             Ok(Some(local)) => local,
             Ok(None) => return Err(NotStamped::Unknown(zone)),
             Err(why) if why.number == Number::TzifYear => return Err(NotStamped::OutsideYears),
@@ -161,6 +178,11 @@ impl<B: AsRef<[u8]>> Printer<B> {
         let civil = CivilTime::at(instant, local.offset).map_err(|_| NotStamped::OutsideYears)?;
         Ok(Hour { zone, civil, local })
     }
+}
+
+/// Latitude and longitude are degrees of the globe; NaN is neither.
+fn is_place(lat: f32, lon: f32) -> bool {
+    (-90.0..=90.0).contains(&lat) && (-180.0..=180.0).contains(&lon)
 }
 
 /// The names of the zones that hold a fix, each once, by a search that was whole; at least one.

@@ -1,4 +1,4 @@
-//! The library's twenty-one functions over lent buffers (include/uskelzar.h has their contracts). It asks nothing of `std`, and all that is unsafe
+//! The library's twenty-two functions over lent buffers (include/uskelzar.h has their contracts). It asks nothing of `std`, and all that is unsafe
 //! in this crate is here, but for the mapping of files.
 
 pub use crate::hit::HIT_WORDS;
@@ -103,6 +103,13 @@ mod library {
             reply: *mut [u64; 5],
         ) -> u8;
         pub fn uskelzar_index_tied(
+            file: *const u8,
+            file_length: usize,
+            index: *const u32,
+            index_length: usize,
+            reply: *mut [u64; 5],
+        ) -> u8;
+        pub fn uskelzar_is_index(
             file: *const u8,
             file_length: usize,
             index: *const u32,
@@ -546,7 +553,15 @@ pub fn build_index(file: &[u8], index: &mut [u32]) -> Result<Reply, Refusal> {
     })
 }
 
-/// Whether words are an index of this file, or of one with the same length, header and table; no value.
+/// Whether words are those that `build_index`, lent as many, leaves for this file, whoever wrote them; no value.
+pub fn is_index(file: &[u8], index: &[u32]) -> Result<Reply, Refusal> {
+    // SAFETY: as in `open_by`.
+    answered(|reply| unsafe {
+        library::uskelzar_is_index(file.as_ptr(), file.len(), index.as_ptr(), index.len(), reply)
+    })
+}
+
+/// Whether words keep this file's length, header and table; records, starts and lists are believed. No value.
 pub fn index_tied(file: &[u8], index: &[u32]) -> Result<Reply, Refusal> {
     // SAFETY: as in `open_by`.
     answered(|reply| unsafe {
@@ -919,7 +934,14 @@ pub fn civil_time(instant: i64, offset: i32) -> Result<[u64; 7], Refusal> {
     Err(Refusal::of(number, [0; 5]))
 }
 
-/// 1, offset bits, daylight flag, the abbreviation's length; the abbreviation in the text. All zero where it is unknown.
+/// Local time's first word: it is not known.
+pub const NO_SCALE: u64 = 0;
+/// It is known, and the instant was read as UNIX time.
+pub const UNIX_SCALE: u64 = 1;
+/// It is known, and the instant was read on the file's own scale, which counts leap seconds.
+pub const OWN_SCALE: u64 = 2;
+
+/// The scale, offset bits, daylight flag, the abbreviation's length, bits of the correction; the abbreviation in the text. All zero where it is unknown.
 pub fn local_time(file: &[u8], instant: i64, text: &mut [u8]) -> Result<Reply, Refusal> {
     // SAFETY: as in `open_by`.
     answered(|reply| unsafe {

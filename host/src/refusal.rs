@@ -2,7 +2,7 @@
 
 use core::fmt;
 
-/// What the library refuses, by the numbers of documents 01 and 02.
+/// What the library refuses, by the numbers of documents 01 and 02; and two of document 03, which a printer refuses.
 #[derive(Clone, Copy, Debug, Eq, PartialEq)]
 #[repr(u8)]
 #[allow(missing_docs)] // `words` says each
@@ -65,12 +65,14 @@ pub enum Number {
     TzifRest = 59,
     TzifString = 60,
     TzifYear = 61,
+    NoPlace = 84,
+    LeapSeconds = 91,
 }
 
 use Number::*;
 
 /// Each number with document 01's words for it, in order.
-const TABLE: [(Number, &str); 58] = [
+const TABLE: [(Number, &str); 60] = [
     (
         TooLarge,
         "file, or the writer's earlier data, over 1,073,741,824 bytes",
@@ -158,7 +160,9 @@ const TABLE: [(Number, &str); 58] = [
     (TzifFooter, "a footer that is not newline, string, newline"),
     (TzifRest, "bytes behind the end"),
     (TzifString, "no TZ string, or one that contradicts the last transition"),
-    (TzifYear, "an instant outside the years 1 to 9999"),
+    (TzifYear, "the rule's instant, or the clock, is outside the years 1 to 9999"),
+    (NoPlace, "no place on the globe"),
+    (LeapSeconds, "the zone's file counts leap seconds: its scale is not the instant's"),
 ];
 
 impl Number {
@@ -191,7 +195,7 @@ impl Number {
             TableType | Version => Some("byte"),
             FieldName | Piece => Some("index"),
             LengthMismatch => Some("computed length"),
-            TzifYear => None,
+            TzifYear | NoPlace | LeapSeconds => None,
             _ if self as u8 >= 40 => Some("place"),
             _ => None,
         }

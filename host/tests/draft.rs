@@ -753,12 +753,15 @@ fn a_state_that_no_call_has_made() {
         (Number::FileRoom, &|state, holding, _, work, out| raw::finish(state, &holding, work, out)),
     ];
     let good = holding(1, rooms_for(2));
-    let changes: [fn(&mut Kept); 8] = [
+    let changes: [fn(&mut Kept); 10] = [
         |kept| kept.state[3] = 256,
         |kept| kept.state[11] = 4097,
         |kept| kept.state[11] = u64::MAX,
         |kept| kept.state[7] = 1 << 40,
         |kept| kept.state[10] = 1 << 31,
+        |kept| kept.state[10] = 0,
+        // as a refused begin leaves it
+        |kept| kept.state.fill(0),
         |kept| kept.boxes.truncate(3),
         |kept| kept.borders.clear(),
         |kept| kept.lengths.truncate(4),

@@ -67,7 +67,8 @@ fn through_it_in_every_room() {
     }
 }
 
-/// Each word changed: refused 36 where it is of the head, a kept byte or the list's places; and whatever is answered, nothing outside is touched.
+/// Each word changed: it is no index of the file any more, and whatever a lookup through it answers, nothing outside is touched. The tie, which believes records,
+/// starts and lists, refuses only a changed length, metadata start or count, kept bytes, and where the lists begin.
 #[test]
 fn every_word_changed() {
     let file = overlap(1);
@@ -76,6 +77,7 @@ fn every_word_changed() {
     for at in 0..index.len() {
         for change in [1, u32::MAX, 0x8000_0000] {
             index[at] ^= change;
+            assert_eq!(raw::is_index(&file, &index).unwrap_err().number, Number::OtherIndex);
             for edge in EDGES {
                 let got = lent.lookup_indexed((&file, &index), fix(), MOST, 512, edge);
                 got.assert_zero_behind(|reply| reply[3]);
@@ -85,6 +87,48 @@ fn every_word_changed() {
             }
             index[at] ^= change;
         }
+    }
+}
+
+/// The words at a page that may not be touched, as many as building leaves them in: with zeros behind them they are the index, cut or with anything else they are not.
+#[test]
+fn only_what_was_built() {
+    for version in [0, 1] {
+        let file = overlap(version);
+        let index = built(&file);
+        let (mut held, mut words) = (Fence::new(file.len()), Fence::new(4 * (index.len() + MOST)));
+        for edge in EDGES {
+            let file = held.hold(&file, edge);
+            for room in (0..=MOST).chain([2051, 2052, index.len() - 1]).chain(index.len()..=index.len() + MOST) {
+                let lent = words.lend::<u32>(room, edge);
+                let both = room.min(index.len());
+                lent[..both].copy_from_slice(&index[..both]);
+                lent[both..].fill(0);
+                let said = raw::is_index(file, lent);
+                if room < index.len() {
+                    assert_eq!(said.unwrap_err().number, Number::OtherIndex);
+                } else {
+                    assert_eq!(said.unwrap(), [0; 5]);
+                }
+                if room > index.len() {
+                    lent[room - 1] = 1;
+                    assert_eq!(raw::is_index(file, lent).unwrap_err().number, Number::OtherIndex);
+                }
+            }
+        }
+    }
+}
+
+/// A record, a start and a list that no comparison of header and table looks at: tied, and no index.
+#[test]
+fn tied_and_no_index() {
+    let file = overlap(1);
+    let index = built(&file);
+    for at in [4, 2052 + 5, index.len() - 1] {
+        let mut other = index.clone();
+        other[at] ^= 1;
+        assert_eq!(raw::index_tied(&file, &other).unwrap(), [0; 5]);
+        assert_eq!(raw::is_index(&file, &other).unwrap_err().number, Number::OtherIndex);
     }
 }
 
@@ -106,10 +150,10 @@ fn kept_in_a_file() {
     let index = Index::build(&map).unwrap();
     let path = std::env::temp_dir().join(format!("uskelzar-index-{}", std::process::id()));
     index.write(&path).unwrap();
-    let again = Index::read(&path).unwrap();
+    let again = Index::read(&path, &map).unwrap();
     std::fs::remove_file(&path).unwrap();
     assert_eq!(again, index);
-    assert!(again.is_tied(&map));
+    assert!(again.is_tied(&map) && again.is_of(&map));
     for step in 0..500 {
         let (lat, lon) = (step as f32 * 0.37 % 180.0 - 90.0, step as f32 * 1.71 % 360.0 - 180.0);
         let plain = map.lookup(lat, lon).unwrap();
@@ -118,26 +162,21 @@ fn kept_in_a_file() {
     }
 }
 
-/// Bytes that are no words are an error that says what to do; words that are no index are taken, and refused where they are looked up through.
+/// Bytes that are no words are an error that says what to do; words that are no index of the map are refused.
 #[test]
 fn kept_badly() {
     let map = Map::read(WORLD).unwrap();
     let good = Index::build(&map).unwrap().to_bytes();
-    assert!(Index::of_bytes(&good).unwrap().is_tied(&map));
+    assert!(Index::of_bytes(&good, &map).unwrap().is_tied(&map));
     for cut in [1, 2, 3, 4, 8, good.len() / 8 * 4, good.len()] {
-        match Index::of_bytes(&good[..good.len() - cut]) {
-            Err(error) => {
-                assert!(cut % 4 != 0);
-                assert!(error.to_string().ends_with("it is no index or a cut one: build it again"), "{error}");
-            }
-            Ok(index) => {
-                assert!(cut % 4 == 0 && !index.is_tied(&map));
-                let error = map.lookup_indexed(&index, 52.5, 13.4).unwrap_err();
-                assert_eq!(error.to_string(), "refusal 36: index and file differ");
-            }
+        let error = Index::of_bytes(&good[..good.len() - cut], &map).unwrap_err();
+        if cut % 4 == 0 {
+            assert_eq!(error.to_string(), "refusal 36: index and file differ");
+        } else {
+            assert!(error.to_string().ends_with("it is no index or a cut one: build it again"), "{error}");
         }
     }
-    assert!(matches!(Index::read("/nonexistent"), Err(Error::File(_))));
+    assert!(matches!(Index::read("/nonexistent", &map), Err(Error::File(_))));
 }
 
 /// So many entries are in the lists of all tiles as the index has words behind its head, records and kept bytes.

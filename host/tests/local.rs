@@ -15,6 +15,7 @@ fn local(offset: i32, daylight: bool, name: &[u8]) -> Option<LocalTime> {
         offset,
         daylight,
         abbreviation: name.to_vec(),
+        leap_seconds: None,
     })
 }
 
@@ -112,7 +113,12 @@ fn fourth() {
     }
     let zone = TimeZone::new(leaping(b'4', &[(0, 27), (1, 27)])).unwrap();
     assert_eq!(zone.local_time(1 << 40).err().map(|why| why.number), Some(Number::TzifYear));
-    assert_eq!(zone.local_time(2).unwrap(), local(0, false, b"AAA"));
+    let counted = |correction| local(0, false, b"AAA").map(|plain| LocalTime { leap_seconds: Some(correction), ..plain });
+    assert_eq!(zone.local_time(2).unwrap(), counted(27));
+    assert_eq!(zone.local_time(-1).unwrap(), counted(0));
+    assert_eq!(TimeZone::new(leaping(b'4', &[(0, -1)])).unwrap().local_time(0).unwrap(), counted(-1));
+    assert_eq!(TimeZone::new(leaping(b'4', &[(0, 0)])).unwrap().local_time(0).unwrap(), counted(0));
+    assert_eq!(TimeZone::new(leaping(b'4', &[])).unwrap().local_time(0).unwrap(), local(0, false, b"AAA"));
     assert_eq!(TimeZone::new(leaping(b'5', &[])).err().unwrap().number, Number::TzifVersion);
 }
 

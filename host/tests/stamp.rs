@@ -3,7 +3,7 @@
 mod common;
 
 use common::files::*;
-use common::tzif::{ended, fixed};
+use common::tzif::{ended, fixed, leaping, small};
 use std::fs;
 use std::path::{Path, PathBuf};
 use uskelzar::{Hour, Map, NotStamped, Number, Printer, Room};
@@ -117,6 +117,68 @@ fn files_that_do_not_answer() {
     assert!(matches!(ask(&cut, 0), NotStamped::Refused(_, why) if why.number == Number::TzifHeader));
     let long = Folder::new("years").with("Up/Two", &fixed(0, "UTC"));
     assert!(matches!(ask(&long, i64::MAX), NotStamped::OutsideYears));
+}
+
+/// 61 of the rule's years, 61 of the clock's alone, and neither.
+#[test]
+fn years_of_the_rule_and_of_the_clock() {
+    const LAST: i64 = 253_402_300_799;
+    let folder = Folder::new("clock").with("Up/One", &fixed(0, "UTC")).with("Up/Two", &fixed(3600, "CET"));
+    let ask = |instant| stamp(&overlap(1), &folder.0, ALONE, instant);
+    for instant in [LAST, LAST - 3599, i64::MAX] {
+        let why = ask(instant).unwrap_err();
+        assert!(matches!(why, NotStamped::OutsideYears), "{instant}: {why}");
+        assert_eq!(why.to_string(), "the instant, or the clock at it, is outside the years 1 to 9999");
+    }
+    assert_eq!(words(&ask(LAST - 3600).unwrap()), ["9999-12-31 23:59:59 +01:00 CET Up/Two"]);
+    let ruled = Folder::new("rule").with("Up/Two", &small());
+    let why = stamp(&overlap(1), &ruled.0, ALONE, LAST + 1).unwrap_err();
+    assert!(matches!(why, NotStamped::OutsideYears), "{why}");
+    assert!(stamp(&overlap(1), &ruled.0, ALONE, LAST).is_ok());
+}
+
+/// 91: its scale is not the instant's, whatever the instant.
+#[test]
+fn a_file_that_counts_leap_seconds() {
+    let folder = Folder::new("leaps").with("Up/Two", &leaping(3600, "CET", &[78_796_800, 94_694_401]));
+    for instant in [0, 78_796_799, 78_796_800, 1_761_440_400, i64::MIN, i64::MAX] {
+        let why = stamp(&overlap(1), &folder.0, ALONE, instant).unwrap_err();
+        assert!(matches!(&why, NotStamped::LeapSeconds(zone) if zone == "Up/Two"), "{instant}: {why}");
+        assert!(why.to_string().contains("refusal 91"), "{why}");
+    }
+    let plain = Folder::new("no-leaps").with("Up/Two", &leaping(3600, "CET", &[]));
+    assert_eq!(words(&stamp(&overlap(1), &plain.0, ALONE, 0).unwrap()), ["1970-01-01 01:00:00 +01:00 CET Up/Two"]);
+}
+
+/// 84: NaN, infinity and what is off the globe; the poles and the date line are places.
+#[test]
+fn no_place() {
+    let folder = Folder::new("no-place").with("Up/One", &fixed(0, "UTC")).with("Up/Two", &fixed(0, "UTC"));
+    let printer = Printer::new(Map::open(overlap(1)).unwrap(), &folder.0);
+    let above = |degrees: f32| f32::from_bits(degrees.to_bits() + 1);
+    for (lat, lon) in [
+        (f32::NAN, FIX.1),
+        (FIX.0, f32::NAN),
+        (f32::NAN, f32::NAN),
+        (f32::INFINITY, FIX.1),
+        (FIX.0, f32::NEG_INFINITY),
+        (above(90.0), FIX.1),
+        (-above(90.0), FIX.1),
+        (FIX.0, above(180.0)),
+        (FIX.0, -above(180.0)),
+    ] {
+        let why = printer.stamp(lat, lon, 0).unwrap_err();
+        assert!(matches!(why, NotStamped::NoPlace), "{lat} {lon}: {why}");
+        assert_eq!(why.to_string(), "refusal 84: no place on the globe");
+        // one among many stops no other
+        let many = printer.stamp_many(&[(ALONE.0, ALONE.1, 0), (lat, lon, 0), (lat, lon, 0), (ALONE.0, ALONE.1, 0)]);
+        assert_eq!(many.len(), 4);
+        assert!(many[0].is_ok() && many[3].is_ok());
+        assert!(many[1..3].iter().all(|slip| matches!(slip, Err(NotStamped::NoPlace))));
+    }
+    for (lat, lon) in [(90.0, 180.0), (-90.0, -180.0)] {
+        assert!(matches!(printer.stamp(lat, lon, 0), Err(NotStamped::NoZone)));
+    }
 }
 
 fn told(slip: &Result<Vec<Hour>, NotStamped>) -> String {

@@ -9,6 +9,7 @@ use Rattle.builder.proofs.Counting.{lengths-room}
 use Rattle.builder.specs.{File.{areTexts, isText, upTo}, Yards.{cutBy, sumOf}, declared.borders.Border.{Border}}
 use Rattle.builder.specs.declared.borders.Border.the-variants as B
 use Rattle.drawing.{proofs.Sections.{appended-fits}, specs.Section.{LentFor}}
+use Rattle.held.proofs.Stood.{Own, Stood, own-parts, stood as stood-is}
 use Rattle.held.specs.{Builder.{Offered}, Space.{ownEnough, longEnough, roomsOf, standing}, State.{Lists, listsAs}, declared.{room.Rooms.{Rooms}, state.Held.{Held}}}
 use Rattle.numbers.specs.{Lists.{zeros}, Reply.{given}}
 use Rattle.writer.specs.{Pieces.{piecesOf}, Writer.{every, borderOf}}
@@ -18,43 +19,6 @@ use Rattle.offered.specs.{Offers.{offeredAs, offerGood, dataWith, Offers}, Puts
 use Rattle.adding.specs.{Adds.{Few, notesEnough, usedOut}, declared.room.NoteRooms.{NoteRooms}}
 
 -- ---- lists that are long enough
-pub record Own (r : Rooms) (names yards strings : ℕ) : Type 0 where
-  pub borders : yards ≤ r .borders
-  pub lengths : names + 1 + names * yards ≤ r .lengths
-  pub texts : strings ≤ r .texts
-  pub boxes : 4 * yards ≤ r .boxes
-
-own : (r : Rooms) (names yards strings : ℕ) → ownEnough r names yards strings ≡ true → Own r names yards strings
-unfolding ownEnough
-own r names yards strings e =
-    let one = both (leb yards (r .borders)) _ e in
-    let two = both (leb (names + 1 + names * yards) (r .lengths)) _ (one .1) in
-    let three = both (leb strings (r .texts)) _ (two .1) in
-    record { borders = leb-true yards (r .borders) (one .0); lengths = leb-true (names + 1 + names * yards) (r .lengths) (two .0); texts = leb-true strings (r .texts) (three .0); boxes = leb-true (4 * yards) (r .boxes) (three .1) }
-
-pub record Stood (held : Held) (r : Rooms) : Type 0 where
-  pub names : held .names ≤ 255
-  pub order : held .front ≤ held .strings
-  pub bytes-few : held .bytes ≤ 2 ^ 30
-  pub bytes-in : held .bytes ≤ r .bytes
-  pub lists : Own r (held .names) (held .yards) (held .strings)
-
-pub stood-is : (held : Held) (r : Rooms) → standing held r ≡ true → Stood held r
-unfolding standing
-stood-is held r e =
-    let one = both (leb (held .names) 255) _ e in
-    let two = both (leb (held .yards) 4096) _ (one .1) in
-    let three = both (leb (held .front) (held .strings)) _ (two .1) in
-    let four = both (leb (held .bytes) (2 ^ 30)) _ (three .1) in
-    let five = both (leb (held .bytes) (r .bytes)) _ (four .1) in
-    record {
-      names = leb-true (held .names) 255 (one .0);
-      order = leb-true (held .front) (held .strings) (three .0);
-      bytes-few = leb-true (held .bytes) (2 ^ 30) (four .0);
-      bytes-in = leb-true (held .bytes) (r .bytes) (five .0);
-      lists = own r (held .names) (held .yards) (held .strings) (five .1);
-    }
-
 third : (a b d : Bool) → (a && (b && (false && d))) ≡ false
 third true true d = refl
 third true false d = refl
@@ -146,19 +110,19 @@ module _ (held : Held) (lats lons : List ℤ) (pieces sizes values : List ℕ) (
   sum-most = texts-few sizes values sum-in (both (leb (sumOf sizes) (length values)) (every isText (cutBy sizes values)) (f .texts) .1)
 
   pub sum-few : sumOf sizes ≤ 2 ^ 16
-  sum-few = omega (arith, sum-most, f .valued, s .names)
+  sum-few = omega (arith, sum-most, f .valued, s .few-names)
 
   pub sum-small : sumOf sizes < 2 ^ 60
   sum-small = omega (arith, sum-few)
 
   pub few-here : Few held (rooms .texts)
-  few-here = record { names = s .names; yards = f .few; order = s .order; inside = s .lists .texts }
+  few-here = record { names = s .few-names; yards = f .few; order = s .front-first; inside = s .own .texts-room }
 
   data-fits : held .bytes + size ≤ upTo (min (held .room) (min (length bytes) out))
   data-fits =
       let fits : length (take (held .bytes) bytes ++ take size after) ≤ upTo (min (held .room) (min (length bytes) out)) =
       appended-fits (upTo (min (held .room) (min (length bytes) out))) (take (held .bytes) bytes) false (length (piecesOf pieces)) (borderOf (held .version) lats lons (piecesOf pieces) (take (held .bytes) bytes)) (take (held .bytes) bytes ++ take size after) drawn in
-      omega (arith, fits, length-append (take (held .bytes) bytes) (take size after), length-take-le (held .bytes) bytes (omega (arith, s .bytes-in, bytes-are)), length-take-le size after size-in)
+      omega (arith, fits, length-append (take (held .bytes) bytes) (take size after), length-take-le (held .bytes) bytes (omega (arith, s .bytes-room, bytes-are)), length-take-le size after size-in)
 
   module _ (lent : NoteRooms) (sum : ℕ) (sum-is : sum ≡ sumOf sizes) (t : Bool) (e : t ≡ (longEnough rooms (held .names) (held .yards + 1) (held .front) (held .strings + sum) && notesEnough lent (held .names) (held .yards + 1))) (n : not t ≡ false) where
     all-long : (longEnough rooms (held .names) (held .yards + 1) (held .front) (held .strings + sum) ≡ true) × (notesEnough lent (held .names) (held .yards + 1) ≡ true)
@@ -170,10 +134,10 @@ module _ (held : Held) (lats lons : List ℤ) (pieces sizes values : List ℕ) (
     parts = both (ownEnough rooms (held .names) (held .yards + 1) (held .strings + sum)) _ (all-long .0)
 
     lists : Own rooms (held .names) (held .yards + 1) (held .strings + sum)
-    lists = own rooms (held .names) (held .yards + 1) (held .strings + sum) (parts .0)
+    lists = own-parts rooms (held .names) (held .yards + 1) (held .strings + sum) (parts .0)
 
     pub strings-in : held .strings + sum ≤ rooms .texts
-    strings-in = lists .texts
+    strings-in = lists .texts-room
 
     values-size : length (take sum values) ≡ sum
     values-size = length-take-le sum values (omega (arith, sum-is, sum-in))
@@ -188,15 +152,15 @@ module _ (held : Held) (lats lons : List ℤ) (pieces sizes values : List ℕ) (
         → Placed held (length sizes) (length (take sum values)) (length (take size after)) before
     placed-here before same boxes borders lengths texts =
         record {
-          few-names = s .names;
+          few-names = s .few-names;
           few-yards = f .few;
           few-sizes = omega (arith, f .valued);
           few-values = omega (arith, values-size, sum-is, sum-few);
           few-bytes = omega (arith, border-size, data-fits);
-          boxes-room = omega (arith, boxes, lists .boxes);
-          borders-room = omega (arith, borders, lists .borders);
-          lengths-room = omega (arith, lengths, lists .lengths, times, f .valued);
-          texts-room = omega (arith, texts, lists .texts, values-size);
+          boxes-room = omega (arith, boxes, lists .boxes-room);
+          borders-room = omega (arith, borders, lists .borders-room);
+          lengths-room = omega (arith, lengths, lists .lengths-all, times, f .valued);
+          texts-room = omega (arith, texts, lists .texts-room, values-size);
           bytes-room = omega (arith, border-size, data-fits, ap length same);
         }
 
@@ -205,17 +169,17 @@ module _ (held : Held) (lats lons : List ℤ) (pieces sizes values : List ℕ) (
         (lent .marks) (lent .chains) (lent .groups) (lent .begins)
     measuring-here strings end =
         record {
-          few-names = s .names;
+          few-names = s .few-names;
           few-yards = f .few;
           few-bytes = omega (arith, border-size, data-fits);
-          order = s .order;
+          order = s .front-first;
           longer = omega (arith, end);
           valued = sym (f .valued);
           few-values = sum-few;
-          boxes-room = lists .boxes;
-          borders-room = lists .borders;
-          lengths-room = lists .lengths;
-          texts-room = omega (arith, end, lists .texts);
+          boxes-room = lists .boxes-room;
+          borders-room = lists .borders-room;
+          lengths-room = lists .lengths-all;
+          texts-room = omega (arith, end, lists .texts-room);
           work-room = ap (λ (k : ℕ). enough (workOf (rooms .starts) (rooms .keys) (rooms .spare) (rooms .kept) (rooms .held) (rooms .words) (rooms .places) (rooms .boxes)) (held .yards + 1) (held .names * (held .yards + 1)) (k - held .front)) end ∙ parts .1;
           noted = notes-parts lent (held .names) (held .yards + 1) (all-long .1);
         }

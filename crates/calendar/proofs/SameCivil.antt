@@ -1,4 +1,4 @@
--- The clock's answer is one. Assumes nothing.
+-- The clock's answer is one, and the moment's. Assumes nothing.
 use Prim.Native.Nat.{ℕ, _+_, _*_}
 use lib.IntN.{ℤ}
 use mathlib.Core.Path.{_≡_, refl, ap, sym, _∙_}
@@ -6,6 +6,8 @@ use native.Mathlib.Omega.{arith}
 use Rattle.calendar.proofs.{Dates.{unique, number-short}, Laws.{days-in-all}, Unique.{one-moment}}
 use Rattle.calendar.specs.{Calendar.{dayNumber, weekdayOf}, Civil.{Shows, CivilOf}, Moments.{InDays, MomentOf}}
 use Rattle.calendar.specs.declared.civil.{Civil.{Civil, the-variants.{Shown, Outside}}, Reading.{Reading}}
+use Rattle.calendar.specs.declared.moment.Moment.{Moment}
+use Rattle.calendar.specs.declared.moment.Moment.the-variants as m
 
 -- a reading is of a second of these days
 in-days : (local : ℤ) (r : Reading) → Shows local r → InDays (dayNumber (r .year) (r .month) (r .day)) (3600 * r .hour + 60 * r .minute + r .second)
@@ -36,3 +38,11 @@ same-civil instant offset (Shown r) (Shown q) s t = ap Shown (same-reading _ r q
 same-civil instant offset (Shown r) Outside s t = absurd (t _ _ (in-days _ r s) (s .back))
 same-civil instant offset Outside (Shown q) s t = absurd (s _ _ (in-days _ q t) (t .back))
 same-civil instant offset Outside Outside s t = refl
+
+-- two answers that the promise of `moment_of` permits are equal
+pub same-moment : (instant : ℤ) (a b : Moment) → MomentOf instant a → MomentOf instant b → a ≡ b
+unfolding MomentOf
+same-moment instant (m.At day second) (m.At day′ second′) p q = let one = one-moment day second day′ second′ (p .0) (q .0) (p .1 ∙ sym (q .1)) in λ i. m.At (one .0 i) (one .1 i)
+same-moment instant (m.At day second) m.Outside p q = absurd (q day second (p .0) (p .1))
+same-moment instant m.Outside (m.At day second) p q = absurd (p day second (q .0) (q .1))
+same-moment instant m.Outside m.Outside p q = refl

@@ -1,14 +1,25 @@
 -- The chains with one item more, entered or left out, and what makes two of them the same. Assumes nothing.
-use Prim.Native.Nat.{ℕ, suc, _+_, _-_, _≤_, _<_}
+use Prim.Native.Nat.{ℕ, zero, suc, _+_, _-_, _≤_, _<_}
 use borrow.Author.Tests.{eq-eqb, ne-eqb, eqb-true, eqb-false, ltb-true, ltb-false}
-use lib.{Dec.{eqb, ltb}, ListN.{length, getD, set, length-set, length-replicate, getD-replicate, List·getD-eq-default}, Seq.{getD-set-same, getD-set-other, ext-getD}}
-use mathlib.Core.{Bool.{Bool, true, false, _&&_}, List.{List}, Path.{_≡_, refl, sym, ap, subst, _∙_}}
+use lib.{Dec.{eqb, ltb}, ListN.{length, getD, set, length-append, length-set, length-replicate}, Seq.{getD-set-same, getD-set-other, ext-getD}}
+use mathlib.Core.{Bool.{Bool, true, false, _&&_}, List.{List, [], _∷_, _++_}, Path.{_≡_, refl, sym, ap, subst, _∙_}}
 use native.Mathlib.{Numerals.{add-one}, Omega.{arith}}
 use Rattle.chains.proofs.Lasts.{never, below-next, last-in, last-out, last-agree}
 use Rattle.chains.specs.Chains.{lastWith, inBucket, Chained}
 use Rattle.numbers.specs.Lists.{zeros}
 
--- the chains after an item is entered in its bucket
+-- ---- zeros
+zero-at : (n i : ℕ) → getD (zeros n) i 0 ≡ 0
+zero-at zero i = refl
+zero-at (suc n) zero = refl
+zero-at (suc n) (suc i) = zero-at n i
+
+wider-at : (list : List ℕ) (n i : ℕ) → getD (list ++ zeros n) i 0 ≡ getD list i 0
+wider-at [] n i = zero-at n i
+wider-at (x ∷ xs) n zero = refl
+wider-at (x ∷ xs) n (suc i) = wider-at xs n i
+
+-- ---- the chains after an item is entered in its bucket
 abbrev pub entering : List ℕ → ℕ → ℕ → List ℕ
 entering chain item k = set (set chain (4096 + item) (getD chain k 0)) k (item + 1)
 
@@ -99,18 +110,21 @@ module _ (bucket : ℕ → ℕ) (entered : ℕ → Bool) where
   unfolding lastWith
   chained-none size h = record {
     room = omega (arith, length-replicate {A = ℕ} size 0);
-    heads = λ k s. zero-at k;
+    heads = λ k s. zero-at size k;
     links = λ item s e. absurd (omega arith);
     left-out = λ item s e. absurd (omega arith);
-    rest = λ item s. zero-at (4096 + item);
+    rest = λ item s. zero-at size (4096 + item);
   }
-    where
-      zero-at : (i : ℕ) → getD (zeros size) i 0 ≡ 0
-      zero-at i = go (ltb i size) refl
-        where
-          go : (t : Bool) → ltb i size ≡ t → getD (zeros size) i 0 ≡ 0
-          go true e = getD-replicate size i 0 0 (ltb-true i size e)
-          go false e = List·getD-eq-default (zeros size) 0 (omega (arith, ltb-false i size e, length-replicate {A = ℕ} size 0))
+
+  -- zeros behind it change no chain
+  pub chained-wider : (count more : ℕ) (chain : List ℕ) → Chained bucket entered count chain → Chained bucket entered count (chain ++ zeros more)
+  chained-wider count more chain c = record {
+    room = omega (arith, c .room, length-append chain (zeros more));
+    heads = λ k h. wider-at chain more k ∙ c .heads k h;
+    links = λ item h e. wider-at chain more (4096 + item) ∙ c .links item h e;
+    left-out = λ item h e. wider-at chain more (4096 + item) ∙ c .left-out item h e;
+    rest = λ item h. wider-at chain more (4096 + item) ∙ c .rest item h;
+  }
 
   -- the chains are determined
   pub chained-one : (count : ℕ) (one other : List ℕ) → length one ≡ length other → Chained bucket entered count one → Chained bucket entered count other → one ≡ other

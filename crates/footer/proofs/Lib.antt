@@ -2,3 +2,4 @@
 pub mod Theorems
 pub mod Numbered
 pub mod Versions
+pub mod Worked

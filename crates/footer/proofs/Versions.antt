@@ -4,11 +4,11 @@ use lib.{Dec.{eqb}, IntN.{ℤ}}
 use mathlib.Core.{Bool.{Bool, true, false}, List.{List}, Path.{_≡_, refl, ap, ap₂, _∙_}}
 use native.Mathlib.Omega.{arith}
 use Rattle.footer.specs.Found.{foundOf, sameOctets, sameFound}
-use Rattle.footer.specs.{Local.{askIn, sameAs, agrees, orSixty, stringIn, rulesIn, isRuled, byRule, answerBy, answerAt, localTimeBy, localTime}, declared.rule.Rules.{Rules}}
+use Rattle.footer.specs.{Local.{askIn, sameAs, agrees, orSixty, stringIn, rulesIn, isRuled, byRule, answerBy, answerAt, localTimeBy, localTime, scaleIn, scaleOr, scaleBy, scaleAt}, declared.{rule.Rules.{Rules}, scale.Scale.{Scale}}}
 use Rattle.footer.specs.declared.rule.Rules.the-variants as R
 use Rattle.tzif.proofs.Beyond.{Beyond, Behind, found-behind, refused-one, transition-same, correction-same, type-same, type-behind, behind-same, after-same, table-same, table-behind, lent-same}
 use Rattle.tzif.proofs.{Marked.{PlainFour, markedThree, secondVersion, beyond, renamed, Second, ReadAlike, refuses, gives, zone-read}, Versions.{zone-v3-unchanged}}
-use Rattle.tzif.specs.{Block.{endOf}, Header.{rfc8536}, Local.{typeIn, typeBehind, byTable, lent}, Number.{octet, lift}}
+use Rattle.tzif.specs.{Block.{endOf}, Header.{rfc8536}, Local.{typeIn, typeBehind, byTable, lent}, Number.{octet, raised, lift}}
 use Rattle.tzif.specs.{Reply.{Reply, given, refused, refusal, demand, if_then_else_, _>>=_, _>>_}, Times.{timeIn, transitionsOf}}
 use Rattle.tzif.specs.declared.{block.Block.{Block}, local.{Answer.{Answer}, Found.{Found}}, refusal.Refusal.{Refusal}, zone.Zone.{Zone}}
 use Rattle.tzrule.proofs.Tail.{Alike, faults, reads, TzFrom, string-alike}
@@ -25,6 +25,11 @@ answerOf instant file zone = rulesIn file zone >>= λ rules. answerBy file (zone
 pub v3-unchanged : (file : List ℕ) → (octet file 4 ≡ 0x34 → ⊥) → (instant : ℤ) (room : ℕ) → localTime file instant room ≡ localTimeBy rfc8536 file instant room
 unfolding localTimeBy answerAt
 v3-unchanged file older instant room = ap (λ (z : Reply Zone). lent file room (z >>= λ zone. rulesIn file zone >>= λ rules. answerBy file (zone .block) rules (lift instant))) (zone-v3-unchanged file older)
+
+-- on the same scale
+pub v3-scale : (file : List ℕ) → (octet file 4 ≡ 0x34 → ⊥) → (instant : ℤ) → scaleAt file instant ≡ scaleBy rfc8536 file instant
+unfolding scaleBy
+v3-scale file older instant = ap (λ (z : Reply Zone). scaleOr (z >>= λ zone. rulesIn file zone >>= λ rules. given (scaleIn file (zone .block) (lift instant)))) (zone-v3-unchanged file older)
 
 -- ---- what the rule says stands behind the place where its string begins
 data AskedFrom (from : ℕ) : Asked → Type 0 where
@@ -160,6 +165,28 @@ module _ (file other : List ℕ) (from : ℕ) (b : Beyond file other from) where
       let rules = rules-alike zone second in
       lent-same file other from b room (answer-behind (zone .block) (second .block) (second .wide) (lift instant) rules)
       ∙ ap (lent other room) (answer-same (zone .block) (second .block) (second .wide) (lift instant) rules)
+
+  -- the scale
+  scale-rest : (one two : Scale) → one ≡ two → {a b : Reply Rules} → RulesAlike from a b → scaleOr (a >>= λ rules. given one) ≡ scaleOr (b >>= λ rules. given two)
+  unfolding scaleOr _>>=_
+  scale-rest one two e no-rules = refl
+  scale-rest one two e without = e
+  scale-rest one two e (by-rule t) = e
+
+  scales-alike : (instant : ℤ) {one two : Reply Zone} → ReadAlike from one two
+      → scaleOr (one >>= λ zone. rulesIn file zone >>= λ rules. given (scaleIn file (zone .block) (lift instant))) ≡ scaleOr (two >>= λ zone. rulesIn other zone >>= λ rules. given (scaleIn other (zone .block) (lift instant)))
+  unfolding _>>=_ scaleIn
+  scales-alike instant refuses = refl
+  scales-alike instant (gives {zone = zone} second) =
+      let correction = correction-same file other from b (zone .block) (second .block) (second .wide) (lift instant) in
+      let same : scaleIn file (zone .block) (lift instant) ≡ scaleIn other (zone .block) (lift instant) =
+      ap (λ (n : ℕ). if eqb (zone .block .leapcnt) 0 then record { kind = 1; correction = 0 } else record { kind = 2; correction = raised n }) correction in
+      scale-rest (scaleIn file (zone .block) (lift instant)) (scaleIn other (zone .block) (lift instant)) same (rules-alike zone second)
+
+-- a version 4 file without its features is on the scale of the same bytes marked 3
+pub v4-scale : (file : List ℕ) → PlainFour file → (instant : ℤ) → scaleAt file instant ≡ scaleAt (markedThree file) instant
+unfolding scaleBy
+v4-scale file plain instant = scales-alike file (markedThree file) (secondVersion file + 1) (beyond file plain) instant (zone-read file plain)
 
 -- a version 4 file without its features answers as the same bytes marked 3, at every instant, with whatever room
 pub v4-as-v3 : (file : List ℕ) → PlainFour file → (instant : ℤ) (room : ℕ) → localTime file instant room ≡ localTime (markedThree file) instant room

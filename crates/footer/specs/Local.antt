@@ -2,12 +2,12 @@
 use Prim.Native.Nat.{ℕ, _-_}
 use lib.{Dec.{ltb, eqb}, IntN.{ℤ}}
 use mathlib.Core.{Bool.{Bool, true}, List.{List}}
-use Rattle.footer.specs.{Found.{foundOf, sameFound}, declared.{local.Said.{Said}, rule.{Rules.{Rules}, Stated.{Stated}}}}
+use Rattle.footer.specs.{Found.{foundOf, sameFound}, declared.{local.Said.{Said}, rule.{Rules.{Rules}, Stated.{Stated}}, scale.Scale.{Scale}}}
 use Rattle.footer.specs.declared.local.Said.the-variants as S
 use Rattle.footer.specs.declared.rule.Rules.the-variants as R
 use Rattle.footer.specs.declared.rule.Stated.the-variants as Q
 use Rattle.tzif.specs.{Reply.{if_then_else_, Reply, given, refused, refusal, demand, _>>=_, _>>_}, Block.{endOf}, Check.{correctionAt}, Header.{Rfc, rfc9636}}
-use Rattle.tzif.specs.{Local.{typeIn, typeBehind, isAfterLast, byTable, lent, Replied, Good, Held}, Number.{lift}, Times.{timeIn, transitionsOf, occurrencesOf, Rises}}
+use Rattle.tzif.specs.{Local.{typeIn, typeBehind, isAfterLast, byTable, lent, Replied, Good, Held}, Number.{raised, lift}, Times.{timeIn, transitionsOf, occurrencesOf, Rises}}
 use Rattle.tzif.specs.{Zone.{readZoneBy}, declared.{block.Block.{Block}, local.{Answer.{Answer}, Found.{Found}}, zone.Zone.{Zone}}}
 use Rattle.tzif.specs.declared.local.Answer.the-variants as A
 use Rattle.tzrule.specs.Answer as T
@@ -71,6 +71,29 @@ localTimeBy rfc file instant room = lent file room (answerAt rfc file instant)
 -- by the newer RFC
 abbrev pub localTime : List ℕ → ℤ → ℕ → Replied
 localTime = localTimeBy rfc9636
+
+-- ---- the scale on which the instant was read
+-- UNIX time's, 1, where the block that answers has no leap-second records; else the file's own, 2, with the bits of the correction at the instant
+unfoldable pub scaleIn : List ℕ → Block → ℕ → Scale
+scaleIn file block instant =
+    if eqb (block .leapcnt) 0 then record { kind = 1; correction = 0 }
+    else record { kind = 2; correction = raised (correctionAt file block instant) }
+
+-- none, 0, where the file is refused
+unfoldable pub scaleOr : Reply Scale → Scale
+scaleOr (given scale) = scale
+scaleOr (refused why) = record { kind = 0; correction = 0 }
+
+-- of a file at an instant, whether or not it says what holds there
+unfoldable pub scaleBy : Rfc → List ℕ → ℤ → Scale
+scaleBy rfc file instant = scaleOr (do
+  zone ← readZoneBy rfc file
+  rules ← rulesIn file zone
+  given (scaleIn file (zone .block) (lift instant)))
+
+-- by the newer RFC
+abbrev pub scaleAt : List ℕ → ℤ → Scale
+scaleAt = scaleBy rfc9636
 
 -- what the code's answers say
 unfoldable pub toldRules : Stated → Reply Rules

@@ -2,3 +2,4 @@
 pub mod found;
 pub mod local;
 pub mod rule;
+pub mod scale;

@@ -1,13 +1,16 @@
 // Local time from a file: by its transitions, and by its TZ string after the last one.
 ghost use mathlib.Core.Path.{_≡_};
 ghost use lib.ListN.{length};
-ghost use Rattle.footer.specs.Local.{isRuled, byRule, answerBy, answerAt, localTime, toldSaid, Sound, HeldRules, HeldAsked, HeldSaid};
-ghost use Rattle.tzif.specs.{Header.{rfc9636}, Local.{byTable, replied, Good}, Reply.{given}};
+ghost use Rattle.footer.specs.Local.{isRuled, byRule, answerBy, answerAt, localTime, scaleAt, toldSaid, Sound, HeldRules, HeldAsked, HeldSaid};
+ghost use Rattle.footer.specs.declared.local.Said.the-variants as S;
+ghost use Rattle.tzif.specs.{Header.{rfc9636}, Local.{byTable, lent, replied, Good}, Reply.{given}};
 use crate::found::found_of;
 use crate::rule::Rules;
 use crate::rule::Stated;
 use crate::rule::ask_in;
 use crate::rule::rules_in;
+use crate::scale::Scale;
+use crate::scale::scale_in;
 use tzif::block::Block;
 use tzif::local::Answer;
 use tzif::local::Found;
@@ -83,27 +86,48 @@ fn answer_by(file: &[u8], block: Block, rules: Rules, instant: usize) -> Said
     }
 }
 
+// What a file says of an instant, and the scale on which it was read.
+struct Answered {
+    said: Said,
+    scale: Scale,
+}
+
+fn not_answered(why: Refusal) -> Answered
+    ensures { λ r. ⌜ (r .said ≡ S.Refused why) × (r .scale ≡ record { kind = 0; correction = 0 }) ⌝ }
+{
+    Answered {
+        said: Said::Refused(why),
+        scale: Scale {
+            kind: 0,
+            correction: 0,
+        },
+    }
+}
+
 // What a file says of an instant.
-fn answer_at(file: &[u8], instant: i64) -> Said
-    ensures { λ r. ⌜ (toldSaid r ≡ answerAt rfc9636 (now (file .entry)) instant) × HeldSaid (length (now (file .entry))) r ⌝ }
+fn answer_at(file: &[u8], instant: i64) -> Answered
+    ensures { λ r. ⌜ (toldSaid (r .said) ≡ answerAt rfc9636 (now (file .entry)) instant) × HeldSaid (length (now (file .entry))) (r .said) × (r .scale ≡ scaleAt (now (file .entry)) instant) ⌝ }
 {
     let zone = match read_zone(file) {
         Read::Zone(zone) => zone,
-        Read::Refused(why) => return Said::Refused(why),
+        Read::Refused(why) => return not_answered(why),
     };
     let rules = match rules_in(file, zone) {
         Stated::Rules(rules) => rules,
-        Stated::Refused(why) => return Said::Refused(why),
+        Stated::Refused(why) => return not_answered(why),
     };
     let block = zone.block;
-    answer_by(file, block, rules, lifted(instant))
+    let at = lifted(instant);
+    let scale = scale_in(file, block, at);
+    let said = answer_by(file, block, rules, at);
+    Answered { said, scale }
 }
 
-// Local time at an instant, by a file that is checked first.
-pub fn local_time(file: &[u8], instant: i64, text: &mut [u8]) -> LocalTime
-    ensures { λ r. ⌜ replied r (now (text .exit)) ≡ localTime (now (file .entry)) instant (length (now (text .entry))) ⌝ }
+// The reply to what a file says, with the abbreviation in the lent text.
+fn reply_said(file: &[u8], said: Said, text: &mut [u8]) -> LocalTime
+    requires { ⌜ HeldSaid (length (now file)) said ⌝ }
+    ensures { λ r. ⌜ replied r (now (text .exit)) ≡ lent (now (file .entry)) (length (now (text .entry))) (toldSaid said) ⌝ }
 {
-    let said = answer_at(file, instant);
     match said {
         Said::Found(found) => reply_found(file, found, text),
         Said::Unknown => {
@@ -115,4 +139,21 @@ pub fn local_time(file: &[u8], instant: i64, text: &mut [u8]) -> LocalTime
             LocalTime::Refused(why)
         }
     }
+}
+
+// Local time, and the scale on which the instant was read.
+pub struct Timed {
+    pub time: LocalTime,
+    pub scale: Scale,
+}
+
+// Local time at an instant, by a file that is checked first.
+pub fn local_time(file: &[u8], instant: i64, text: &mut [u8]) -> Timed
+    ensures { λ r. ⌜ (replied (r .time) (now (text .exit)) ≡ localTime (now (file .entry)) instant (length (now (text .entry)))) × (r .scale ≡ scaleAt (now (file .entry)) instant) ⌝ }
+{
+    let answered = answer_at(file, instant);
+    let said = answered.said;
+    let scale = answered.scale;
+    let time = reply_said(file, said, text);
+    Timed { time, scale }
 }

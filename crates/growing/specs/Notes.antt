@@ -1,13 +1,14 @@
 -- What is noted beside a builder, so that an add need not sum afresh: a number, which is 0 where nothing is noted, and four lists.
 use Prim.Native.Nat.{ℕ, _+_, _*_, _≤_, _<_}
 use lib.ListN.{length}
-use mathlib.Core.{List.{List, map}, Path.{_≡_}}
+use mathlib.Core.{List.{List, _++_, map}, Path.{_≡_}}
 use Rattle.builder.specs.{Metadata.{fieldsOf, layoutOf}, Yards.{Text, Yard}}
 use Rattle.chains.specs.Entered.{Indexed}
 use Rattle.grouping.specs.Items.{startsFrom}
 use Rattle.held.specs.State.{Front}
 use Rattle.metadata.specs.Kept.{joined}
 use Rattle.noted.specs.Records.{fieldsIn, beginIn}
+use Rattle.numbers.specs.Lists.{zeros}
 
 pub record Notes : Type 0 where
   pub marks : List ℕ
@@ -17,6 +18,16 @@ pub record Notes : Type 0 where
 
 abbrev pub notesAs : List ℕ → List ℕ → List ℕ → List ℕ → Notes
 notesAs marks chains groups begins = record { marks = marks; chains = chains; groups = groups; begins = begins }
+
+-- the same notes with so many zeros behind each list
+pub record MoreNotes : Type 0 where
+  pub marks : ℕ
+  pub chains : ℕ
+  pub groups : ℕ
+  pub begins : ℕ
+
+abbrev pub widerNotes : MoreNotes → Notes → Notes
+widerNotes more n = notesAs (n .marks ++ zeros (more .marks)) (n .chains ++ zeros (more .chains)) (n .groups ++ zeros (more .groups)) (n .begins ++ zeros (more .begins))
 
 -- the values of some yards, one after another
 abbrev pub valuesIn : List Yard → List Text

@@ -1,4 +1,4 @@
--- An add is refused exactly as building the yards held and the new one would be. Assumes nothing.
+-- An add is refused exactly as building the yards held and the new one would be, where the data held fits the room that is lent for it. Assumes nothing.
 use Prim.Native.Nat.{ℕ, _+_, _≤_, _<_, min}
 use borrow.Author.Tests.{eqb-true, le-leb, lt-leb, lt-ltb, ltb-true, ltb-false}
 use lib.{Dec.{ltb, leb, eqb}, ListN.{length}}
@@ -89,7 +89,7 @@ module _ (b : Builder) (sound : Sound (b .plan) (b .room)) (o : Offered) (space 
   unfolding builtOf
   built-steps = refl
 
-  -- An add gives the builder with the yard, or is refused, exactly as building the yards held and the new one is answered or refused.
+  -- An add gives the builder with the yard, or is refused, exactly as building the yards held and the new one is answered or refused, where the data held fits the room lent.
   pub add-refuses-as-build : length (dataOf (b .plan) .bytes) ≤ space .bytes → add b o space ≡ (builtOf (joined (b .plan) o) (roomFor (b .room) space) >>= λ file. given (summed (joined (b .plan) o) (b .room)))
   unfolding add fitting summed
   add-refuses-as-build inside =

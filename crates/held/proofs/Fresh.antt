@@ -1,10 +1,10 @@
--- The totals of a builder are a fresh sum after every sequence of calls, and a refused call changes nothing. Assumes nothing.
+-- The totals of a builder are a fresh sum after every sequence of the definition's calls. Assumes nothing.
 use Prim.Native.Nat.{ℕ, _-_, min}
 use lib.{Dec.{ltb, leb, eqb}, ListN.{length, take}}
-use mathlib.Core.{Bool.{_&&_}, List.{List, [], _∷_}, Path.{_≡_, refl, ap, subst}}
+use mathlib.Core.{Bool.{_&&_}, List.{List, [], _∷_}, Path.{_≡_, refl, subst}}
 use Rattle.writer.specs.Writer.{checks}
 use Rattle.builder.specs.{Borders.{withBorder}, File.{areTexts, headOf, isText, known, readable, upTo}, Yards.{Text, Plan}}
-use Rattle.numbers.specs.{Reply.{Reply, given, refused, plain, demand, _>>_}, declared.refusal.Refusal.{Refusal}}
+use Rattle.numbers.specs.Reply.{Reply, given, refused, plain, demand, _>>_}
 use Rattle.held.specs.{Builder.{Builder, Offered, holding, yardOf, joined, changedAt, withValue, summed, fitting, begin, add, dropLast, replace, clear}, Calls.{Call, add-yard, drop-last, replace-value, clear-all, called, after, ran}, Space.{Space}, Totals.{dataOf, fileSize, totalsOf}}
 
 abbrev Fresh : Builder → Type 0
@@ -80,12 +80,7 @@ unfolding ran
 ran-fresh b [] h = h
 ran-fresh b (call ∷ calls) h = ran-fresh (after b (called b call)) calls (after-fresh b (called b call) h (called-fresh b call))
 
--- After every sequence of calls the totals equal what a fresh sum over the held yards gives.
-pub totals-fresh : (plan : Plan) (room : ℕ) (space : Space) (b : Builder) → begin plan room space ≡ given b → (calls : List Call) → ran b calls .totals ≡ totalsOf (ran b calls .plan)
+-- what the definition's calls give has fresh totals; of the exported calls uskelzar/proofs/Made says so
+pub ran-from-fresh : (plan : Plan) (room : ℕ) (space : Space) (b : Builder) → begin plan room space ≡ given b → (calls : List Call) → ran b calls .totals ≡ totalsOf (ran b calls .plan)
 unfolding Gives
-totals-fresh plan room space b e calls = ran-fresh b calls (subst Gives e (begin-fresh plan room space))
-
--- A refused call changes no yard and no number.
-pub refused-changes-nothing : (b : Builder) (call : Call) (why : Refusal) → called b call ≡ refused why → after b (called b call) ≡ b
-unfolding after
-refused-changes-nothing b call why e = ap (after b) e
+ran-from-fresh plan room space b e calls = ran-fresh b calls (subst Gives e (begin-fresh plan room space))

@@ -8,7 +8,7 @@ use Rattle.build.proofs.Planned.{both}
 use Rattle.builder.specs.{Borders.{drawnFrom, drawnOf}, File.{bordersGood, builtOf, headOf, isText, known, readable, upTo}, Yards.{Text, Plan}}
 use Rattle.numbers.{proofs.Replies.{demanded}, specs.{Reply.{Reply, given, refused, plain, demand, _>>=_, _>>_}, declared.refusal.Refusal.{Refusal}}}
 use Rattle.writer.specs.Writer.{every}
-use Rattle.held.proofs.{Adds.{Added, add-given, add-refuses-as-build, added-sound}, Ends.{finish-builds}, Fresh.{totals-fresh}, Kept.{cleared-sound, dropped-sound, replaced-sound}}
+use Rattle.held.proofs.{Adds.{Added, add-given, add-refuses-as-build, added-sound}, Ends.{finish-builds}, Fresh.{ran-from-fresh}, Kept.{cleared-sound, dropped-sound, replaced-sound}}
 use Rattle.held.specs.{Builder.{Builder, Offered, holding, joined, changedAt, withValue, summed, fitting, begin, add, dropLast, replace, clear, finish}, Calls.{Call, add-yard, drop-last, replace-value, clear-all, called, after, ran}, Sound.{Sound, roomFor}, Space.{Space}, Totals.{dataOf, fileSize}}
 
 -- ---- what a call gives is sound
@@ -101,11 +101,12 @@ module _ (plan : Plan) (room : ℕ) (space : Space) (b : Builder) (begun : begin
   pub reached-sound : Sound (here .plan) (here .room)
   reached-sound = ran-sound b calls (begun-sound plan room space b begun)
 
-  -- an add is refused exactly as building the yards held and the new one would be
+  -- an add is refused exactly as building the yards held and the new one would be, where the data held fits the room lent: a builder's data fits its own list, so `out` must be as long.
+  -- In a shorter one an add is refused too, but 23 for a bad piece comes first, where a build of all yards gives 28 for the data
   pub reached-add : (o : Offered) (lent : Space) → length (dataOf (here .plan) .bytes) ≤ lent .bytes
       → add here o lent ≡ (builtOf (joined (here .plan) o) (roomFor (here .room) lent) >>= λ file. given (summed (joined (here .plan) o) (here .room)))
   reached-add o lent inside = add-refuses-as-build here reached-sound o lent inside
 
   -- the end gives the file that building the held yards gives, or is refused as that is
   pub reached-finish : (out : ℕ) (lent : Space) → finish here out lent ≡ builtOf (here .plan) (roomFor out (record { bytes = out; lists = lent .lists }))
-  reached-finish out lent = finish-builds here reached-sound (totals-fresh plan room space b begun calls) out lent
+  reached-finish out lent = finish-builds here reached-sound (ran-from-fresh plan room space b begun calls) out lent

@@ -20,3 +20,4 @@ pub mod Longer
 pub mod Sure
 pub mod Begins
 pub mod Inserted
+pub mod Wider

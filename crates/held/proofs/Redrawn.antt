@@ -200,5 +200,9 @@ module _ (plan : Plan) (room : ℕ) (sound : Sound plan room) where
   pub data-few : length (dataOf plan .bytes) ≤ 2 ^ 30
   data-few = drawn-most (plan .version) (upTo room) (2 ^ 30) (0 ∷ []) (plan .yards) (dataOf plan) sound-draws (omega arith) (omega arith)
 
+  -- its zero byte at least
+  pub data-some : 1 ≤ length (dataOf plan .bytes)
+  data-some = shorter (0 ∷ []) (dataOf plan .bytes) (drawn-behind (plan .version) (upTo room) (0 ∷ []) (plan .yards) (dataOf plan) sound-draws)
+
   pub place-inside : (n : ℕ) → n < length (plan .yards) → getD (dataOf plan .places) n 0 ≤ length (dataOf plan .bytes)
   place-inside n h = drawn-place (plan .version) (upTo room) (0 ∷ []) (plan .yards) (dataOf plan) sound-draws n h

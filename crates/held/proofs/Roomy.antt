@@ -56,15 +56,22 @@ module _ (held : Held) (r : Rooms) where
       no-front h = rw (le-leb (held .names) 255 h0, le-leb (held .yards) 4096 h1, lt-leb (held .front) (held .strings) h) refl
 
       module _ (h2 : held .front ≤ held .strings) where
-        pub long-data : 2 ^ 30 < held .bytes → false ≡ standing held r
+        pub no-data : held .bytes < 1 → false ≡ standing held r
         unfolding standing
-        long-data h = rw (le-leb (held .names) 255 h0, le-leb (held .yards) 4096 h1, le-leb (held .front) (held .strings) h2, lt-leb (held .bytes) (2 ^ 30) h) refl
+        no-data h = rw (le-leb (held .names) 255 h0, le-leb (held .yards) 4096 h1, le-leb (held .front) (held .strings) h2, lt-leb 1 (held .bytes) h) refl
 
-        module _ (h3 : held .bytes ≤ 2 ^ 30) where
-          pub no-bytes : r .bytes < held .bytes → false ≡ standing held r
+        module _ (h3 : 1 ≤ held .bytes) where
+          pub long-data : 2 ^ 30 < held .bytes → false ≡ standing held r
           unfolding standing
-          no-bytes h = rw (le-leb (held .names) 255 h0, le-leb (held .yards) 4096 h1, le-leb (held .front) (held .strings) h2, le-leb (held .bytes) (2 ^ 30) h3, lt-leb (held .bytes) (r .bytes) h) refl
+          long-data h = rw (le-leb (held .names) 255 h0, le-leb (held .yards) 4096 h1, le-leb (held .front) (held .strings) h2, le-leb 1 (held .bytes) h3, lt-leb (held .bytes) (2 ^ 30) h) refl
 
-          pub own-last : held .bytes ≤ r .bytes → (b : Bool) → b ≡ ownEnough r (held .names) (held .yards) (held .strings) → b ≡ standing held r
-          unfolding standing
-          own-last h b e = rw (le-leb (held .names) 255 h0, le-leb (held .yards) 4096 h1, le-leb (held .front) (held .strings) h2, le-leb (held .bytes) (2 ^ 30) h3, le-leb (held .bytes) (r .bytes) h) e
+          module _ (h4 : held .bytes ≤ 2 ^ 30) where
+            pub no-bytes : r .bytes < held .bytes → false ≡ standing held r
+            unfolding standing
+            no-bytes h =
+                rw (le-leb (held .names) 255 h0, le-leb (held .yards) 4096 h1, le-leb (held .front) (held .strings) h2, le-leb 1 (held .bytes) h3, le-leb (held .bytes) (2 ^ 30) h4, lt-leb (held .bytes) (r .bytes) h) refl
+
+            pub own-last : held .bytes ≤ r .bytes → (b : Bool) → b ≡ ownEnough r (held .names) (held .yards) (held .strings) → b ≡ standing held r
+            unfolding standing
+            own-last h b e =
+                rw (le-leb (held .names) 255 h0, le-leb (held .yards) 4096 h1, le-leb (held .front) (held .strings) h2, le-leb 1 (held .bytes) h3, le-leb (held .bytes) (2 ^ 30) h4, le-leb (held .bytes) (r .bytes) h) e

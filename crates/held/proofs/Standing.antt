@@ -10,7 +10,7 @@ use Rattle.entries.specs.Corners.{cornersOf}
 use Rattle.metadata.{proofs.Shared.{flat-more}, specs.Kept.{joined}}
 use Rattle.recording.proofs.Fewer.{joined-sum}
 use Rattle.writer.specs.Writer.{every}
-use Rattle.held.proofs.{Fronts.{front-slice, front-take}, Redrawn.{data-few, data-many}, Roomy.{boxes-last, own-last}}
+use Rattle.held.proofs.{Fronts.{front-slice, front-take}, Redrawn.{data-few, data-many, data-some}, Roomy.{boxes-last, own-last}}
 use Rattle.held.specs.{Builder.{Builder}, Sound.{Sound}, Space.{ownEnough, standing}, State.{Front, Holds, Lies, Lists, Stands, frontOf, textsOf, valuesOf}, Totals.{Totals, dataOf, totalsFor, totalsOf}}
 use Rattle.held.specs.declared.{room.Rooms.{Rooms}, state.Held.{Held}}
 
@@ -148,6 +148,9 @@ module _ (b : Builder) (held : Held) (lists : Lists) (h : Holds b held lists) wh
   pub few-bytes : held .bytes ≤ 2 ^ 30
   few-bytes = omega (arith, held-bytes, data-few (b .plan) (b .room) (h .sound))
 
+  pub some-bytes : 1 ≤ held .bytes
+  some-bytes = omega (arith, held-bytes, data-some (b .plan) (b .room) (h .sound))
+
   pub bytes-inside : held .bytes ≤ length (lists .bytes)
   bytes-inside = omega (arith, held-bytes, h .lies .bytes-are .room)
 
@@ -166,7 +169,7 @@ module _ (b : Builder) (held : Held) (lists : Lists) (h : Holds b held lists) wh
       (omega (arith, held-names, times, lengths, lengths-room plan (b .room) (h .sound) lists (h .lies)))
       (omega (arith, texts, strings-inside)) true
       (sym (le-leb (4 * held .yards) (r .boxes) (omega (arith, held-yards, boxes, boxes-room plan (b .room) (h .sound) lists (h .lies))))) in
-      sym (own-last held r few-names few-yards front-first few-bytes (omega (arith, bytes, bytes-inside)) true own)
+      sym (own-last held r few-names few-yards front-first some-bytes few-bytes (omega (arith, bytes, bytes-inside)) true own)
 
   pub holds-stands : (from to : ℕ) → from ≡ held .names + 1 → to ≡ held .names + 1 + held .names * held .yards
       → Stands (b .plan .yards) (dataOf (b .plan)) (held .names) (held .yards) (lists .boxes) (lists .borders) (take (to - from) (drop from (lists .lengths))) (take (held .strings - held .front) (drop (held .front) (lists .texts)))

@@ -29,6 +29,7 @@ pub record Stood (held : Held) (r : Rooms) : Type 0 where
   pub few-names : held .names ≤ 255
   pub few-yards : held .yards ≤ 4096
   pub front-first : held .front ≤ held .strings
+  pub some-bytes : 1 ≤ held .bytes
   pub few-bytes : held .bytes ≤ 2 ^ 30
   pub bytes-room : held .bytes ≤ r .bytes
   pub own : Own r (held .names) (held .yards) (held .strings)
@@ -37,18 +38,21 @@ pub stood : (held : Held) (r : Rooms) → standing held r ≡ true → Stood hel
 unfolding standing
 stood held r e =
     let own : Bool = ownEnough r (held .names) (held .yards) (held .strings) in
-    let a = both (leb (held .names) 255) (leb (held .yards) 4096 && (leb (held .front) (held .strings) && (leb (held .bytes) (2 ^ 30) && (leb (held .bytes) (r .bytes) && own)))) e in
-    let b = both (leb (held .yards) 4096) (leb (held .front) (held .strings) && (leb (held .bytes) (2 ^ 30) && (leb (held .bytes) (r .bytes) && own))) (a .1) in
-    let c = both (leb (held .front) (held .strings)) (leb (held .bytes) (2 ^ 30) && (leb (held .bytes) (r .bytes) && own)) (b .1) in
-    let d = both (leb (held .bytes) (2 ^ 30)) (leb (held .bytes) (r .bytes) && own) (c .1) in
-    let f = both (leb (held .bytes) (r .bytes)) own (d .1) in
+    let from-bytes : Bool = leb (held .bytes) (2 ^ 30) && (leb (held .bytes) (r .bytes) && own) in
+    let a = both (leb (held .names) 255) (leb (held .yards) 4096 && (leb (held .front) (held .strings) && (leb 1 (held .bytes) && from-bytes))) e in
+    let b = both (leb (held .yards) 4096) (leb (held .front) (held .strings) && (leb 1 (held .bytes) && from-bytes)) (a .1) in
+    let c = both (leb (held .front) (held .strings)) (leb 1 (held .bytes) && from-bytes) (b .1) in
+    let d = both (leb 1 (held .bytes)) from-bytes (c .1) in
+    let f = both (leb (held .bytes) (2 ^ 30)) (leb (held .bytes) (r .bytes) && own) (d .1) in
+    let g = both (leb (held .bytes) (r .bytes)) own (f .1) in
     record {
       few-names = leb-true (held .names) 255 (a .0);
       few-yards = leb-true (held .yards) 4096 (b .0);
       front-first = leb-true (held .front) (held .strings) (c .0);
-      few-bytes = leb-true (held .bytes) (2 ^ 30) (d .0);
-      bytes-room = leb-true (held .bytes) (r .bytes) (f .0);
-      own = own-parts r (held .names) (held .yards) (held .strings) (f .1);
+      some-bytes = leb-true 1 (held .bytes) (d .0);
+      few-bytes = leb-true (held .bytes) (2 ^ 30) (f .0);
+      bytes-room = leb-true (held .bytes) (r .bytes) (g .0);
+      own = own-parts r (held .names) (held .yards) (held .strings) (g .1);
     }
 
 -- the lists to work in

@@ -21,14 +21,15 @@ longEnough r names yards front strings =
     ownEnough r names yards strings
     && enough (workOf (r .starts) (r .keys) (r .spare) (r .kept) (r .held) (r .words) (r .places) (r .boxes)) yards (names * yards) (strings - front)
 
--- a builder's numbers fit its own lists
+-- a builder's numbers fit its own lists; its data has a zero byte at least, so the zeros of a refused begin are none
 unfoldable pub standing : Held → Rooms → Bool
 standing held r =
     leb (held .names) 255
     && (leb (held .yards) 4096
     && (leb (held .front) (held .strings)
+    && (leb 1 (held .bytes)
     && (leb (held .bytes) (2 ^ 30)
-    && (leb (held .bytes) (r .bytes) && ownEnough r (held .names) (held .yards) (held .strings)))))
+    && (leb (held .bytes) (r .bytes) && ownEnough r (held .names) (held .yards) (held .strings))))))
 
 -- the lengths of all lists that are lent
 abbrev pub roomsOf : ℕ → ℕ → ℕ → ℕ → ℕ → ℕ → ℕ → ℕ → ℕ → ℕ → ℕ → ℕ → Rooms

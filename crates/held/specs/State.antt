@@ -27,6 +27,18 @@ pub record Lists : Type 0 where
 abbrev pub listsAs : List ℤ → List ℕ → List ℕ → List ℕ → List ℕ → Lists
 listsAs boxes borders lengths texts bytes = record { boxes = boxes; borders = borders; lengths = lengths; texts = texts; bytes = bytes }
 
+-- the same lists with so many zeros behind each: lists may grow between two calls
+pub record More : Type 0 where
+  pub boxes : ℕ
+  pub borders : ℕ
+  pub lengths : ℕ
+  pub texts : ℕ
+  pub bytes : ℕ
+
+abbrev pub wider : More → Lists → Lists
+wider more l =
+    listsAs (l .boxes ++ replicate (more .boxes) (pos 0)) (l .borders ++ zeros (more .borders)) (l .lengths ++ zeros (more .lengths)) (l .texts ++ zeros (more .texts)) (l .bytes ++ zeros (more .bytes))
+
 -- the names and the notice; the values, yard by yard
 abbrev pub frontOf : Plan → List Text
 frontOf plan = plan .names ++ (plan .notice ∷ [])

@@ -73,6 +73,9 @@ pub fn stands(held: Held, rooms: Rooms) -> bool
     if held.strings < held.front {
         return false;
     }
+    if held.bytes < 1 {
+        return false;
+    }
     if 0x4000_0000 < held.bytes {
         return false;
     }

@@ -1,13 +1,13 @@
 -- The line for an answer: which it is, that there is one, and that it has room. Assumes nothing.
 use Prim.Native.Nat.{ℕ, zero, suc, _+_, _-_, _≤_, _<_}
-use borrow.Author.Tests.{lt-ltb, le-ltb}
-use lib.{IntN.{ℤ, pos, negsuc}, ListN.{length, take, drop, length-append, length-drop, length-map, length-replicate}, Seq.{take-all}}
+use borrow.Author.Tests.{eq-eqb, ne-eqb, lt-ltb, le-ltb}
+use lib.{IntN.{ℤ, pos, negsuc}, ListN.{length, take, drop, length-append, length-drop, length-map, length-replicate}, Seq.{take-all, length-take-le}}
 use native.Mathlib.{Nat.{le-refl}, Omega.{arith}}
 use mathlib.Core.{List.{List, [], _∷_, _++_, map}, Path.{_≡_, refl, sym, ap, subst, _∙_}}
 use Rattle.calendar.{proofs.SameCivil.{same-civil}, specs.{Civil.{CivilOf}, declared.civil.{Civil.{Civil}, Reading.{Reading}}}}
 use Rattle.calendar.specs.declared.civil.Civil.the-variants as C
-use Rattle.footer.specs.Local.{localTime}
-use Rattle.hour.specs.Hour.{instantOf, answerOf, civilLine, LineFor, Answered, Printed}
+use Rattle.footer.specs.{Local.{localTime, scaleAt}, declared.scale.Scale.{Scale}}
+use Rattle.hour.specs.Hour.{instantOf, onScale, shownBy, answerOf, civilLine, LineFor, Answered, Printed}
 use Rattle.hour.specs.Line.{dateText, timeText, clockText, signedText, shown, hourLine, unknownLine, refusedLine}
 use Rattle.line.{proofs.{Decimals.{decimal-short}, Puts.{put-length, put-front}}, specs.Put.{Put, decimal}}
 use Rattle.tzif.specs.{Local.{Replied, replied}, Reply.{refusal}, Text.{zeros}, declared.{local.{Local.{Local}, LocalTime.{LocalTime}}, refusal.Refusal.{Refusal}}}
@@ -20,6 +20,12 @@ one-line instant (L.Local local) text a b p q =
     p .is ∙ ap (civilLine local (take (local .length) text)) (same-civil instant (local .offset) (p .civil) (q .civil) (p .shows) (q .shows)) ∙ sym (q .is)
 one-line instant L.Unknown text a b p q = p ∙ sym q
 one-line instant (L.Refused why) text a b p q = p ∙ sym q
+
+-- two buffers that the promise of the program permits begin with the same line, of the same length
+pub one-printed : {input : List ℕ} {room : ℕ} {out out′ : List ℕ} {used used′ : ℕ} → Printed input room out used → Printed input room out′ used′ → (take used out ≡ take used′ out′) × (used ≡ used′)
+one-printed {input} {room} {out} {out′} {used} {used′} p q =
+    let same = p .whole ∙ one-line (instantOf input) (answerOf input room .reply) (answerOf input room .text) (p .line) (q .line) (p .is) (q .is) ∙ sym (q .whole) in
+    (same, sym (length-take-le used out (p .fits)) ∙ ap length same ∙ length-take-le used′ out′ (q .fits))
 
 -- ---- how long a line is
 refused-short : (why : Refusal) → length (refusedLine why) ≤ 512
@@ -102,6 +108,16 @@ module _ {before after : List ℕ} {next : ℕ} where
   pub answered-as : {at instant : ℤ} {answer answer′ : Replied} → at ≡ instant → answer ≡ answer′ → Answered at answer before after next → Answered instant answer′ before after next
   answered-as {at} {instant} {answer} {answer′} i e a = subst (λ (z : ℤ). Answered z answer′ before after next) i (subst (λ (r : Replied). Answered at r before after next) e a)
 
+-- ---- the two ways of `on_scale`
+module _ (kind : ℕ) (time : LocalTime) where
+  pub own-scale : kind ≡ 2 → L.Refused (refusal 91 0) ≡ onScale kind time
+  unfolding onScale
+  own-scale e = simp (eq-eqb kind 2 e)
+
+  pub other-scale : (kind ≡ 2 → ⊥) → time ≡ onScale kind time
+  unfolding onScale
+  other-scale h = simp (ne-eqb kind 2 h)
+
 -- ---- the ways of `hour`
 module _ (input : List ℕ) (room : ℕ) where
   too-long : 65536 < length input → replied (L.Refused (refusal 1 0)) (zeros room) ≡ answerOf input room
@@ -112,7 +128,7 @@ module _ (input : List ℕ) (room : ℕ) where
   unfolding answerOf
   too-short l h = rw (le-ltb 65536 (length input) l, lt-ltb (length input) 8 h) refl
 
-  asked : length input ≤ 65536 → 8 ≤ length input → localTime (drop 8 input) (instantOf input) room ≡ answerOf input room
+  asked : length input ≤ 65536 → 8 ≤ length input → shownBy (drop 8 input) (instantOf input) room ≡ answerOf input room
   unfolding answerOf
   asked l h = rw (le-ltb 65536 (length input) l, le-ltb (length input) 8 h) refl
 
@@ -136,11 +152,13 @@ module _ (input : List ℕ) (room : ℕ) where
     pub printed-short : length input ≤ 65536 → length input < 8 → room ≤ 256 → 512 ≤ length before → Put before 0 (refusedLine (refusal 2 (length input))) after next → Printed input room after next
     printed-short l h = zeroed (too-short l h)
 
-    pub printed-answer : length input ≤ 65536 → 8 ≤ length input → {at at′ : ℤ} {file text : List ℕ} {reply : LocalTime} → at ≡ instantOf input → at′ ≡ instantOf input → file ≡ drop 8 input
-        → replied reply text ≡ localTime file at room → length text ≤ 256 → 512 ≤ length before → Answered at′ (replied reply text) before after next → Printed input room after next
-    printed-answer l h {at} {at′} {file} {text} {reply} i i′ f e small large a =
-        let same = e ∙ (λ k. localTime (f k) (i k) room) ∙ asked l h in
-        printed (answered-as i′ same a) (omega (arith, ap (λ (r : Replied). length (r .text)) same, small)) large
+    pub printed-answer : length input ≤ 65536 → 8 ≤ length input → {at at′ : ℤ} {file text : List ℕ} {time reply : LocalTime} {scale : Scale} → at ≡ instantOf input → at′ ≡ instantOf input → file ≡ drop 8 input
+        → replied time text ≡ localTime file at room → scale ≡ scaleAt file at → reply ≡ onScale (scale .kind) time → length text ≤ 256 → 512 ≤ length before → Answered at′ (replied reply text) before after next → Printed input room after next
+    printed-answer l h {at} {at′} {file} {text} {time} {reply} {scale} i i′ f e s r small large a =
+        let shows : replied reply text ≡ shownBy file at room =
+        ap (λ (x : LocalTime). replied x text) (r ∙ ap (λ (x : Scale). onScale (x .kind) time) s) ∙ ap (λ (x : Replied). replied (onScale (scaleAt file at .kind) (x .reply)) (x .text)) e in
+        let same = shows ∙ (λ k. shownBy (f k) (i k) room) ∙ asked l h in
+        printed (answered-as i′ same a) (omega (arith, ap (λ (x : Replied). length (x .text)) same, small)) large
 
 -- the file behind the instant, as it is lent
 pub behind : (input : List ℕ) → take (length input - 8) (drop 8 input) ≡ drop 8 input

@@ -2,4 +2,5 @@
 pub mod Signs
 pub mod Names
 pub mod Answers
+pub mod Leaps
 pub mod Worked

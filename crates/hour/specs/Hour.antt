@@ -1,11 +1,11 @@
 -- What the program prints for each input: an instant in eight bytes, low byte first, then a TZif file.
 use Prim.Native.Nat.{ℕ, _+_, _*_, _^_, _≤_}
-use lib.{Dec.{ltb}, IntN.{ℤ}, ListN.{length, take, drop}}
+use lib.{Dec.{ltb, eqb}, IntN.{ℤ}, ListN.{length, take, drop}}
 use mathlib.Core.{List.{List}, Path.{_≡_}}
 use mir.{Syntax.{w64}, Val.{toZ}}
 use Rattle.calendar.specs.{Civil.{CivilOf}, declared.civil.Civil.{Civil}}
 use Rattle.calendar.specs.declared.civil.Civil.the-variants as C
-use Rattle.footer.specs.Local.{localTime}
+use Rattle.footer.specs.Local.{localTime, scaleAt}
 use Rattle.hour.specs.Line.{hourLine, unknownLine, refusedLine}
 use Rattle.line.specs.{Bytes.{wordAt}, Put.{Put}}
 use Rattle.tzif.specs.{Local.{Replied, replied}, Reply.{refusal, if_then_else_}, Text.{zeros}, declared.local.{Local.{Local}, LocalTime.{LocalTime}}}
@@ -15,12 +15,20 @@ use Rattle.tzif.specs.declared.local.LocalTime.the-variants as L
 abbrev pub instantOf : List ℕ → ℤ
 instantOf input = toZ w64 (wordAt input 0 + 2 ^ 32 * wordAt input 4)
 
--- over 65,536 bytes refusal 1, under eight 2 with the length; else local time by the file behind the instant, with so many bytes for the abbreviation
+-- 91, whatever a file says, where it reads the instant on its own scale, which counts leap seconds: the clock goes by UNIX time's
+unfoldable pub onScale : ℕ → LocalTime → LocalTime
+onScale kind time = if eqb kind 2 then L.Refused (refusal 91 0) else time
+
+-- local time that a clock may show, by a file at an instant, with so many bytes for the abbreviation
+abbrev pub shownBy : List ℕ → ℤ → ℕ → Replied
+shownBy file instant room = replied (onScale (scaleAt file instant .kind) (localTime file instant room .reply)) (localTime file instant room .text)
+
+-- over 65,536 bytes refusal 1, under eight 2 with the length; else by the file behind the instant
 unfoldable pub answerOf : List ℕ → ℕ → Replied
 answerOf input room =
     if ltb 65536 (length input) then replied (L.Refused (refusal 1 0)) (zeros room)
     else (if ltb (length input) 8 then replied (L.Refused (refusal 2 (length input))) (zeros room)
-    else localTime (drop 8 input) (instantOf input) room)
+    else shownBy (drop 8 input) (instantOf input) room)
 
 -- what a clock shows by a local time; 61 outside the years 1 to 9999
 unfoldable pub civilLine : Local → List ℕ → Civil → List ℕ

@@ -5,13 +5,15 @@ mod lines;
 ghost use mathlib.Core.Path.{_≡_};
 ghost use Prim.Native.Nat.{_≤_};
 ghost use lib.ListN.{length};
-ghost use Rattle.hour.specs.Hour.{Printed};
+ghost use Rattle.hour.specs.Hour.{onScale, Printed};
+use footer::local::Timed;
 use footer::local::local_time;
 use instant::instant_of;
 use libc::STDIN_FILENO;
 use libc::STDOUT_FILENO;
 use lines::put_answer;
 use lines::put_refusal;
+use tzif::local::LocalTime;
 use tzif::refusal::Refusal;
 
 // One byte more than is taken, so that a longer input is seen.
@@ -32,6 +34,21 @@ fn line_space() -> [u8; 512]
     ensures { λ r. ⌜ 512 ≡ length r ⌝ }
 {
     [0; 512]
+}
+
+// What may be shown: a file that reads the instant on its own scale is refused.
+fn on_scale(timed: Timed) -> LocalTime
+    ensures { λ r. ⌜ r ≡ onScale (timed .scale .kind) (timed .time) ⌝ }
+{
+    let scale = timed.scale;
+    let time = timed.time;
+    if scale.kind == 2 {
+        return LocalTime::Refused(Refusal {
+            number: 91,
+            detail: 0,
+        });
+    }
+    time
 }
 
 // The line for an input, and how many bytes it has.
@@ -59,7 +76,8 @@ fn hour(input: &[u8], text: &mut [u8], out: &mut [u8]) -> usize
         );
     }
     let instant = instant_of(input);
-    let answer = local_time(&input[8..], instant, text);
+    let timed = local_time(&input[8..], instant, text);
+    let answer = on_scale(timed);
     put_answer(out, instant, answer, text)
 }
 

@@ -25,4 +25,8 @@ pub mod LaidOut
 pub mod Through
 pub mod ThroughIsPlain
 pub mod Same
+pub mod Standing
+pub mod Comparing
+pub mod Owning
+pub mod Owned
 mod WorkedIndex

@@ -11,11 +11,11 @@ use Rattle.index.proofs.SameReading.{reading-alike, table-alike}
 use Rattle.index.specs.{Index.{indexOf, hasRoom, indexWith, indexIn, indexedBy, indexedOf}, Table.{isNext, tableFrom, bottom, tableOf}}
 
 -- ---- a table is a list or 34
-data Settled : Reply (List Row) → Type 0 where
+pub data Settled : Reply (List Row) → Type 0 where
   lists : {rows : List Row} → Settled (given rows)
   bad : Settled (refused (plain 34))
 
-settled : (end : ℕ) (floor : ℤ) (table : Rows) → Settled (tableFrom end floor table)
+pub settled : (end : ℕ) (floor : ℤ) (table : Rows) → Settled (tableFrom end floor table)
 unfolding tableFrom
 settled end floor (row r table) = go (isNext end floor r) (settled end (lowest r) table)
   where

@@ -33,7 +33,7 @@ unfolding recordsOf
 records-length [] = refl
 records-length (r ∷ rows) = omega (arith, length-append (recordOf r) (recordsOf rows), records-length rows)
 
-records-snoc : (rows : List Row) (r : Row) → recordsOf (rows ++ (r ∷ [])) ≡ recordsOf rows ++ recordOf r
+pub records-snoc : (rows : List Row) (r : Row) → recordsOf (rows ++ (r ∷ [])) ≡ recordsOf rows ++ recordOf r
 unfolding recordsOf
 records-snoc [] r = append-nil (recordOf r)
 records-snoc (s ∷ rows) r = ap (λ (ws : List ℕ). recordOf s ++ ws) (records-snoc rows r) ∙ sym (append-assoc (recordOf s) (recordsOf rows) (recordOf r))
@@ -76,6 +76,10 @@ module _ (strict : Bool) (file : List ℕ) (end : ℕ) (start : Cursor) (bottom 
   pub tabling-starts : Tabling before start bottom recordsAt 0
   unfolding recordsOf
   tabling-starts = record { done = []; counted = refl; few = omega arith; here = refl; stored = refl; rest = bind-given (tableFrom end bottom (rowsAt start)) }
+
+  pub starts-done : tabling-starts .done ≡ []
+  unfolding tabling-starts
+  starts-done = refl
 
   module _ {now : List ℕ} {at : Cursor} {floor : ℤ} {place n : ℕ} (g : Tabling now at floor place n) where
     onto : {rows : Rows} → rowsAt at ≡ rows → whole ≡ (tableFrom end floor rows >>= λ rest. given (g .done ++ rest))
@@ -123,6 +127,11 @@ module _ (strict : Bool) (file : List ℕ) (end : ℕ) (start : Cursor) (bottom 
                   ∙ ap (λ (ws : List ℕ). sets before recordsAt ws) (sym (records-snoc (g .done) r));
               rest = turned next m ∙ rw is (bind-snoc (g .done) r (tableFrom end (lowest r) (rowsAt next)));
             }
+
+        pub next-done : {next : Cursor} {after′ : List ℕ} {place′ : ℕ} (is : isNext end floor r ≡ true) (m : next ≡ after r) (s : Stored now place (recordOf r) after′ place′)
+            → tabling-next is m s .done ≡ g .done ++ (r ∷ [])
+        unfolding tabling-next
+        next-done is m s = refl
 
 -- the rows from the table's first place are the file's
 pub same-table : (file : List ℕ) (head : Head) {start : Cursor} → start ≡ startAt (head .sections .table) → tableFrom (head .sections .metadata) bottom (rowsFrom (readingOf (head .strict) file) (head .sections .metadata) start) ≡ tableOf file head

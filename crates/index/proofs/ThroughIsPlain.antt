@@ -80,12 +80,12 @@ module _ (file : List ℕ) (lent : ℕ) {used : ℕ} (e : indexedOf file lent .r
   abbrev given-words : List ℕ
   given-words = indexedOf file lent .words
 
-  own-through : lookedThrough file given-words location asked n room ≡ lookedUp file location asked n room
+  pub own-through : lookedThrough file given-words location asked n room ≡ lookedUp file location asked n room
   own-through =
       let b = built-from file lent e in
       ap (λ (w : List ℕ). lookedThrough file w location asked n room) (b .whole) ∙ through-plainly file (b .head) (b .rows) (zeros (lent - length (indexOf file (b .head) (b .rows)))) (b .opened) (b .precise) (b .listed) location asked n room
 
-  own-indexed : lookedIndexed file given-words location asked n room ≡ lookedUp file location asked n room
+  pub own-indexed : lookedIndexed file given-words location asked n room ≡ lookedUp file location asked n room
   own-indexed =
       let b = built-from file lent e in
       ap (λ (w : List ℕ). lookedIndexed file w location asked n room) (b .whole) ∙ indexed-plainly file (b .head) (b .rows) (zeros (lent - length (indexOf file (b .head) (b .rows)))) (b .opened) (b .precise) (b .listed) location asked n room

@@ -144,11 +144,11 @@ module _ (file : List ℕ) (head : Head) (room : ℕ) where
             packed-length (take size file) (wordsFor size) 0,
           )
 
-      with-room : hasRoom room (length (indexOf file head rows)) ≡ true → given (indexOf file head rows) ≡ indexWith file head room
+      pub with-room : hasRoom room (length (indexOf file head rows)) ≡ true → given (indexOf file head rows) ≡ indexWith file head room
       unfolding indexWith
       with-room h = met h (plain 35) _ ∙ onward t _ ∙ met fine (plain 16) _
 
-      without : hasRoom room (length (indexOf file head rows)) ≡ false → refused (plain 35) ≡ indexWith file head room
+      pub without : hasRoom room (length (indexOf file head rows)) ≡ false → refused (plain 35) ≡ indexWith file head room
       unfolding indexWith
       without h = unmet h (plain 35) _ ∙ onward t _ ∙ met fine (plain 16) _
 

@@ -1,16 +1,22 @@
--- Document 01's printed file: its table has one row, whose box, (2,2) to (10,10), is in the list of the tile of (5,5) and not in that of the first tile. Assumes nothing.
+-- Document 01's printed file: it opens, its index is built, and a lookup through that is the plain one. Its table has one row, whose box, (2,2) to (10,10), is in the list of the tile of (5,5)
+-- and in no other. Assumes nothing.
 use Prim.Native.Nat.{ℕ}
 use lib.IntN.{pos}
-use mathlib.Core.{Bool.{false}, List.{List, [], _∷_}, Path.{_≡_, refl}}
+use mathlib.Core.{Bool.{Bool, false}, List.{List, [], _∷_}, Path.{_≡_, refl}}
 use Rattle.border.specs.declared.place.Point.{Point}
 use Rattle.numbers.specs.{Point.{signedOf}, Reply.{given}, Varint.{readingOf, forwardAt, valueOf, sizeOf, tooLong}}
-use Rattle.table.specs.{Rows.{rowsThen, rowBy, rowsWithin, rowsFrom, rowsIn}, Table.{stepsBy, entryBy}, declared.rows.Row.{Row}}
-use Rattle.header.specs.declared.header.Head.{Head}
-use Rattle.index.specs.{Index.{listFrom, listOf}, Table.{tableFrom, tableOf}, Tiles.{spanOf, tileAlong, tileOf, meets}}
+use Rattle.table.specs.{Rows.{rowsThen, rowBy, rowsWithin, rowsFrom, rowsIn}, Table.{stepsBy, entryBy}, declared.{location.Location.{Location}, rows.Row.{Row}}}
+use Rattle.header.specs.{Header.{preambleOf, textsFrom, sectionsFrom, sectionsAt, contentsBy, headBy, headOf}, declared.header.Head.{Head}}
+use Rattle.header.specs.{Text.{within, remoteAt, stringAt, bytesOf, textAt}, Utf8.{characters, startedBy, begunBy, followed, goesOn, isUtf8}}
+use Rattle.zones.specs.Lookup.{lookedUp}
+use Rattle.index.proofs.{Owned.{built-is-index}, ThroughIsPlain.{indexed-is-plain, own-front}}
+use Rattle.index.specs.Index.{recordsOf, packedFrom, listFrom, listOf, listsFrom, joined, startsFrom, indexOf, indexWith, indexIn, indexedBy, indexedOf}
+use Rattle.index.specs.{Own.{isIndexOf}, Table.{tableFrom, tableOf}, Through.{lookedIndexed}, Tiles.{spanOf, tileAlong, tileOf, meets}}
 
--- its bytes up to the metadata and two more
 abbrev printed : List ℕ
-printed = 0x50 ∷ 0x4C ∷ 0x42 ∷ 0x43 ∷ 0x01 ∷ 0x10 ∷ 0x01 ∷ 0x04 ∷ 0xCE ∷ 0xE1 ∷ 0xED ∷ 0xE5 ∷ 0x00 ∷ 0x06 ∷ 0x02 ∷ 0x09 ∷ 0x04 ∷ 0x04 ∷ 0x14 ∷ 0x14 ∷ 0x00 ∷ 0x00 ∷ 0x01 ∷ 0xC1 ∷ []
+printed =
+    0x50 ∷ 0x4C ∷ 0x42 ∷ 0x43 ∷ 0x01 ∷ 0x10 ∷ 0x01 ∷ 0x04 ∷ 0xCE ∷ 0xE1 ∷ 0xED ∷ 0xE5 ∷ 0x00 ∷ 0x06 ∷ 0x02 ∷ 0x09 ∷ 0x04 ∷ 0x04 ∷ 0x14
+    ∷ 0x14 ∷ 0x00 ∷ 0x00 ∷ 0x01 ∷ 0xC1 ∷ 0x30 ∷ 0x80 ∷ 0x02 ∷ 0x80 ∷ 0x04 ∷ 0x81 ∷ 0x02 ∷ 0x00 ∷ 0x00 ∷ []
 
 abbrev head : Head
 head = record { preamble = record { kind = 0x43; version = 1; precision = 16; count = 1 }; sections = record { table = 16; metadata = 22; «data» = 24 }; strict = false }
@@ -25,17 +31,35 @@ only = record {
   next = 22;
 }
 
-abbrev fix : Point
-fix = record { lat = record { 0 = pos 5 }; lon = record { 0 = pos 5 } }
+pub printed-opens : given head ≡ headOf printed
+unfolding readingOf forwardAt valueOf sizeOf tooLong signedOf preambleOf textsFrom sectionsFrom sectionsAt contentsBy headBy within remoteAt stringAt bytesOf textAt characters startedBy begunBy followed goesOn isUtf8
+printed-opens = refl
 
 pub printed-table : given (only ∷ []) ≡ tableOf printed head
 unfolding readingOf forwardAt valueOf sizeOf tooLong signedOf stepsBy entryBy rowsThen rowBy rowsWithin rowsFrom rowsIn tableFrom tableOf
 printed-table = refl
 
+abbrev fix : Point
+fix = record { lat = record { 0 = pos 5 }; lon = record { 0 = pos 5 } }
+
 pub printed-list : listOf 16 (only ∷ []) (tileOf 16 fix) ≡ 0 ∷ []
 unfolding listFrom meets spanOf tileAlong
 printed-list = refl
 
-pub printed-elsewhere : listOf 16 (only ∷ []) 0 ≡ []
-unfolding listFrom meets spanOf tileAlong
-printed-elsewhere = refl
+-- the lists of all 2,048 tiles have one number
+pub printed-lists : joined (listsFrom 16 (only ∷ []) 2048 0) ≡ 0 ∷ []
+unfolding listsFrom listFrom joined meets spanOf
+printed-lists = refl
+
+-- the index has 2,066 words
+pub printed-index : indexedOf printed 2066 .reply ≡ given 2066
+unfolding readingOf forwardAt valueOf sizeOf tooLong signedOf preambleOf textsFrom sectionsFrom sectionsAt contentsBy headBy within remoteAt stringAt bytesOf textAt characters startedBy begunBy followed goesOn isUtf8 stepsBy entryBy rowsThen rowBy rowsWithin rowsFrom rowsIn tableFrom tableOf listsFrom listFrom joined meets spanOf recordsOf packedFrom startsFrom indexOf indexWith indexIn indexedBy indexedOf
+printed-index = refl
+
+-- so `is_index` says 0 of them,
+pub printed-is-index : isIndexOf printed (indexedOf printed 2066 .words) ≡ given tt
+printed-is-index = built-is-index printed 2066 printed-index
+
+-- and a lookup through them is the plain one
+pub printed-is-plain : (location : Location) (asked : Bool) (n room : ℕ) → lookedIndexed printed (indexedOf printed 2066 .words) location asked n room ≡ lookedUp printed location asked n room
+printed-is-plain = indexed-is-plain printed printed 2066 printed-index printed-opens printed-opens (own-front 22 printed)

@@ -6,3 +6,4 @@ pub mod Complete
 pub mod Tied
 pub mod AsRows
 pub mod Through
+pub mod Own

@@ -40,7 +40,7 @@ fn put_record(index: &mut [u32], at: usize, row: Row) -> usize
 }
 
 // Whether a row may stand in the table: it does not run past the end, and is not below the row before it.
-fn is_next(row: Row, end: usize, floor: FixedLat) -> bool
+pub(crate) fn is_next(row: Row, end: usize, floor: FixedLat) -> bool
     ensures { λ r. ⌜ r ≡ isNext end (floor .0) row ⌝ }
 {
     let bounds = row.bounds;

@@ -5,6 +5,7 @@ mod entries;
 mod kept;
 mod lists;
 pub mod lookup;
+pub mod own;
 mod place;
 pub mod tied;
 pub mod tiles;

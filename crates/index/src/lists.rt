@@ -10,7 +10,7 @@ use crate::tiles::meets;
 use crate::tiles::tile_at;
 use crate::words::put;
 
-fn is_met_in(index: &[u32], tile: Tile, k: usize) -> bool
+pub(crate) fn is_met_in(index: &[u32], tile: Tile, k: usize) -> bool
     requires { ⌜ (k < 2 ^ 32) × (recordsAt + 7 * k + 7 ≤ length (now index)) ⌝ }
     ensures { λ r. ⌜ r ≡ isMetIn (now (index .entry)) tile k ⌝ }
 {

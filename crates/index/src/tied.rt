@@ -49,7 +49,7 @@ pub(crate) fn is_headed(index: &[u32], size: u32, length: usize) -> bool
     wide(index[2051]) <= index.len()
 }
 
-fn keeps(file: &[u8], size: usize, index: &[u32], from: usize) -> bool
+pub(crate) fn keeps(file: &[u8], size: usize, index: &[u32], from: usize) -> bool
     requires { ⌜ (size < 2 ^ 32) × («from» + wordsFor size ≤ length (now index)) × («from» < 2 ^ 50) ⌝ }
     ensures { λ r. ⌜ r ≡ keepsFrom (now (index .entry)) «from» (take size (now (file .entry))) (wordsFor size) 0 ⌝ }
 {

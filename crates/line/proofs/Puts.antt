@@ -61,3 +61,7 @@ pub put-front : {before bytes after : List ℕ} {next : ℕ} → Put before 0 by
 put-front {before} {bytes} {after} {next} p h =
     let n : next ≡ length bytes = omega (arith, p .place-after) in
     (n, ap (λ (xs : List ℕ). take next xs) (p .stored ∙ sets-eq bytes before 0 (omega arith)) ∙ take-at bytes (drop (0 + length bytes) before) next (sym n))
+
+-- two outcomes that the promise of a function that puts bytes permits are equal: the place after them and all of the buffer
+pub same-put : {before : List ℕ} {at : ℕ} {bytes after after′ : List ℕ} {next next′ : ℕ} → Put before at bytes after next → Put before at bytes after′ next′ → (next ≡ next′) × (after ≡ after′)
+same-put p q = (p .place-after ∙ sym (q .place-after), p .stored ∙ sym (q .stored))

@@ -64,7 +64,7 @@ fn put_move(out: &mut [u8], at: usize, by: RawPoint) -> usize
 }
 
 // So many pairs and one more.
-pub fn put_pairs(
+fn put_pairs(
     file: &[u8],
     strict: bool,
     place: usize,
@@ -92,7 +92,7 @@ pub fn put_pairs(
 }
 
 // The count, the moves and the closing pair.
-pub fn put_plain(file: &[u8], strict: bool, place: usize, out: &mut [u8], at: usize) -> usize
+pub(crate) fn put_plain(file: &[u8], strict: bool, place: usize, out: &mut [u8], at: usize) -> usize
     ensures { λ r. ⌜ Copied (movesBytes Plain) (plainMoves (readingOf strict (now (file .entry))) place) (now (out .entry)) at (now (out .exit)) r ⌝ }
 {
     let Varint::Number(count) = read_number(file, place, strict) else {

@@ -29,7 +29,7 @@ pub fn step_number(from: Point, to: Point) -> u64
 }
 
 // The moves of a border, and its end; `data` is where references count from.
-pub fn put_steps(
+pub(crate) fn put_steps(
     file: &[u8],
     data: u32,
     strict: bool,

@@ -69,13 +69,16 @@ pub fn described(number: u8, words: [u64; 5]) -> Reply {
     answered_none([words[0], words[1], words[3], words[4], words[2]])
 }
 
-// The same of local time, whose first word says whether it is known.
+// The same of local time, whose first word says whether it is known, and on which scale. Recorded are offset, daylight flag and length; a file's own scale has a correction too.
 pub fn known(number: u8, words: [u64; 5]) -> Reply {
     if number != 0 {
         return refused(number, words);
     }
     if words[0] == 1 {
         return answered([words[1], words[2], words[3], words[4], 0]);
+    }
+    if words[0] == 2 {
+        return answered([words[1], words[2], words[3], 0, 0]);
     }
     answered_none([words[1], words[2], words[3], words[4], words[0]])
 }

@@ -6,12 +6,12 @@ use mathlib.Core.{Bool.{Bool, true, false, _&&_}, List.{List}, Path.{_≡_, refl
 use native.Mathlib.Omega.{arith}
 use Rattle.build.{proofs.Planned.{both}, specs.{Room.{enough, workOf}, declared.room.Work.{Work}}}
 use Rattle.builder.specs.{File.{isText}, Yards.{Text}}
-use Rattle.held.proofs.Standing.{held-names, held-yards, holds-standing}
+use Rattle.held.proofs.{Standing.{held-names, held-yards, holds-standing}, Stood.{Own, Stood, own-parts, stood}}
 use Rattle.held.specs.{Builder.{Builder, fitting, replace, summed}, Space.{longEnough, ownEnough, standing}, State.{Answers, Holds, Idle, Lists, listsAs}, declared.{room.Rooms.{Rooms}, state.{Changed.{Changed}, Held.{Held}}}}
 use Rattle.held.specs.declared.state.Changed.the-variants as C
 use Rattle.numbers.{proofs.Replies.{demanded}, specs.{Lists.{zeros}, Reply.{Reply, given, refused, plain, demand, _>>=_, _>>_}, declared.refusal.Refusal.{Refusal}}}
 use Rattle.writer.{proofs.Stores.{stored-length}, specs.Stored.{Stored}}
-use Rattle.replacing.proofs.{Agreed.{checked-as}, Found.{text-few}, Renewed.{renews}, Spots.{Own, Stood, Within, fallen, index-inside, own-parts, spot-ordered, stood, within-parts}}
+use Rattle.replacing.proofs.{Agreed.{checked-as}, Found.{text-few}, Renewed.{renews}, Spots.{Within, fallen, index-inside, spot-ordered, within-parts}}
 use Rattle.replacing.specs.{Exchange.{Exchanging}, Replaced.{PutIn, Putting, Renews, Replaces, Resumming, Resums, TakenBack, afterChecks, replaced, spaceFor, spotUpTo}, Spot.{checkedOf, sizeWith, spotIn, textAt, told, within}}
 use Rattle.replacing.specs.declared.check.{Spot.{Spot}, Checked.{Checked}}
 use Rattle.replacing.specs.declared.check.Checked.the-variants as D

@@ -1,4 +1,4 @@
--- Whether a text may stand in the place of a value, test by test; and what a builder that stands says. Assumes nothing.
+-- Whether a text may stand in the place of a value, test by test. Assumes nothing.
 use Prim.Native.Nat.{ℕ, suc, _+_, _-_, _*_, _^_, _≤_, _<_}
 use borrow.Author.Tests.{le-leb, lt-leb, le-ltb, lt-ltb, leb-true}
 use lib.{Dec.{ltb, leb}, ListN.{length, take, getD}}
@@ -10,49 +10,6 @@ use Rattle.held.specs.{Space.{longEnough, ownEnough, standing}, declared.{room.
 use Rattle.numbers.specs.Reply.{Reply, given, refused, plain, demand, _>>=_, _>>_}
 use Rattle.replacing.specs.{Spot.{textAt, spotIn, within, sizeWith, checkedOf, told}, declared.check.{Spot.{Spot}, Checked.{Checked}}}
 use Rattle.replacing.specs.declared.check.Checked.the-variants as C
-
--- ---- a builder whose numbers fit its lists
-pub record Own (r : Rooms) (names yards strings : ℕ) : Type 0 where
-  pub borders-room : yards ≤ r .borders
-  pub lengths-all : names + 1 + names * yards ≤ r .lengths
-  pub texts-room : strings ≤ r .texts
-  pub boxes-room : 4 * yards ≤ r .boxes
-
-pub own-parts : (r : Rooms) (names yards strings : ℕ) → ownEnough r names yards strings ≡ true → Own r names yards strings
-unfolding ownEnough
-own-parts r names yards strings e =
-    let a = both (leb yards (r .borders)) (leb (names + 1 + names * yards) (r .lengths) && (leb strings (r .texts) && leb (4 * yards) (r .boxes))) e in
-    let b = both (leb (names + 1 + names * yards) (r .lengths)) (leb strings (r .texts) && leb (4 * yards) (r .boxes)) (a .1) in
-    let c = both (leb strings (r .texts)) (leb (4 * yards) (r .boxes)) (b .1) in
-    record {
-      borders-room = leb-true yards (r .borders) (a .0);
-      lengths-all = leb-true (names + 1 + names * yards) (r .lengths) (b .0);
-      texts-room = leb-true strings (r .texts) (c .0);
-      boxes-room = leb-true (4 * yards) (r .boxes) (c .1);
-    }
-
-pub record Stood (held : Held) (r : Rooms) : Type 0 where
-  pub few-names : held .names ≤ 255
-  pub few-yards : held .yards ≤ 4096
-  pub front-first : held .front ≤ held .strings
-  pub few-bytes : held .bytes ≤ 2 ^ 30
-  pub own : Own r (held .names) (held .yards) (held .strings)
-
-pub stood : (held : Held) (r : Rooms) → standing held r ≡ true → Stood held r
-unfolding standing
-stood held r e =
-    let own : Bool = ownEnough r (held .names) (held .yards) (held .strings) in
-    let a = both (leb (held .names) 255) (leb (held .yards) 4096 && (leb (held .front) (held .strings) && (leb (held .bytes) (2 ^ 30) && (leb (held .bytes) (r .bytes) && own)))) e in
-    let b = both (leb (held .yards) 4096) (leb (held .front) (held .strings) && (leb (held .bytes) (2 ^ 30) && (leb (held .bytes) (r .bytes) && own))) (a .1) in
-    let c = both (leb (held .front) (held .strings)) (leb (held .bytes) (2 ^ 30) && (leb (held .bytes) (r .bytes) && own)) (b .1) in
-    let d = both (leb (held .bytes) (2 ^ 30)) (leb (held .bytes) (r .bytes) && own) (c .1) in
-    record {
-      few-names = leb-true (held .names) 255 (a .0);
-      few-yards = leb-true (held .yards) 4096 (b .0);
-      front-first = leb-true (held .front) (held .strings) (c .0);
-      few-bytes = leb-true (held .bytes) (2 ^ 30) (d .0);
-      own = own-parts r (held .names) (held .yards) (held .strings) (both (leb (held .bytes) (r .bytes)) own (d .1) .1);
-    }
 
 -- ---- the index of a value
 pub index-inside : (names yards yard field : ℕ) → yard < yards → field < names → textAt names yard field < names + 1 + names * yards

@@ -17,7 +17,7 @@ fn put_byte(out: &mut [u8], at: usize, byte: u8) -> usize
 }
 
 // So many bytes from a place of the file on, or those that it has.
-pub fn put_span(file: &[u8], from: usize, size: usize, out: &mut [u8], at: usize) -> usize
+pub(crate) fn put_span(file: &[u8], from: usize, size: usize, out: &mut [u8], at: usize) -> usize
     ensures { λ r. ⌜ Capped (now (out .entry)) at (take size (drop from (now (file .entry)))) (now (out .exit)) r ⌝ }
 {
     let mut here = from;

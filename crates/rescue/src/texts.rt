@@ -48,7 +48,7 @@ fn put_text(file: &[u8], text: Text, out: &mut [u8], at: usize) -> usize
 }
 
 // The names, then the notice.
-pub fn put_texts(file: &[u8], head: Head, out: &mut [u8], at: usize) -> Put
+fn put_texts(file: &[u8], head: Head, out: &mut [u8], at: usize) -> Put
     ensures { λ r. ⌜ Inlined (headTexts (now (file .entry)) head) (now (out .entry)) at (now (out .exit)) r ⌝ }
 {
     let mut left = head.preamble.count as usize + 1;
@@ -67,7 +67,7 @@ pub fn put_texts(file: &[u8], head: Head, out: &mut [u8], at: usize) -> Put
 }
 
 // Behind the first seven bytes, which stay.
-pub fn put_head(file: &[u8], head: Head, out: &mut [u8]) -> Put
+pub(crate) fn put_head(file: &[u8], head: Head, out: &mut [u8]) -> Put
     ensures { λ r. ⌜ Inlined (behind (take 7 (now (file .entry))) (headTexts (now (file .entry)) head)) (now (out .entry)) 0 (now (out .exit)) r ⌝ }
 {
     let at = put_span(file, 0, 7, out, 0);

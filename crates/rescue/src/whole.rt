@@ -63,7 +63,7 @@ fn put_sections(file: &[u8], head: Head, out: &mut [u8], at: usize) -> usize
 }
 
 // All of it, and its length.
-pub fn put_whole(file: &[u8], head: Head, out: &mut [u8]) -> Put
+pub(crate) fn put_whole(file: &[u8], head: Head, out: &mut [u8]) -> Put
     ensures { λ r. ⌜ Inlined (wholeOf (now (file .entry)) head) (now (out .entry)) 0 (now (out .exit)) r ⌝ }
 {
     let sizes = match put_head(file, head, out) {

@@ -39,7 +39,7 @@ fn put_box(out: &mut [u8], at: usize, bounds: Bounds) -> usize
 }
 
 // The entry of a row behind one with this metadata id, whose border has so many bytes.
-pub fn put_entry(out: &mut [u8], at: usize, id: u32, size: u64, row: Row) -> usize
+fn put_entry(out: &mut [u8], at: usize, id: u32, size: u64, row: Row) -> usize
     ensures { λ r. ⌜ Capped (now (out .entry)) at (entryBytes id size row) (now (out .exit)) r ⌝ }
 {
     let next = put_box(out, at, row.bounds);
@@ -48,7 +48,7 @@ pub fn put_entry(out: &mut [u8], at: usize, id: u32, size: u64, row: Row) -> usi
 }
 
 // How many bytes a kept row's border has: it is written into no room.
-pub fn border_size(file: &[u8], head: Head, row: Row) -> usize
+fn border_size(file: &[u8], head: Head, row: Row) -> usize
     ensures { λ r. ⌜ Measured (entryGood (now (file .entry)) head row) (borderBytes (now (file .entry)) head row) r ⌝ }
 {
     let place = section_place(head.sections.data, row.polygon);

@@ -1,14 +1,16 @@
 -- An answered salvage in the words of its reply and of both lent outputs, so that the theorems speak of it. Assumes nothing.
-use Prim.Native.Nat.{ℕ, _+_, _-_, _/_, _≤_}
+use Prim.Native.Nat.{ℕ, _+_, _-_, _*_, _/_, _≤_}
 use lib.{ListN.{length, take}, Seq.{take-append-seam}}
-use mathlib.Core.{Bool.{Bool}, List.{List, []}, Logic.{_⊎_, inl, inr}, Path.{_≡_, refl, sym, ap, subst, _∙_}}
+use mathlib.Core.{Bool.{Bool, true}, List.{List, []}, Logic.{_⊎_, inl, inr}, Path.{_≡_, refl, sym, ap, subst, _∙_}}
 use native.Mathlib.Omega.{arith}
-use Rattle.header.specs.declared.header.Head.{Head}
+use Rattle.header.specs.{Header.{headBy}, Opening.{openedBy}, declared.header.Head.{Head}}
 use Rattle.numbers.specs.{Lists.{zeros, padded}, Reply.{Reply, given, refused}}
-use Rattle.salvage.specs.{Kept.{entryGood, lineIf, linesFrom}, Salvage.{Salvaged, salvagedOf, Counts, repliedOf, salvaged}}
-use Rattle.salvaged.proofs.{Again.{salvage-again}, Opens.{salvaged-strict}, Parts.{Made, made-from}, SameLookups.{salvage-same, salvage-same-simply}}
+use Rattle.salvage.proofs.Listing.{salvage-list, two-words}
+use Rattle.salvage.specs.{Kept.{entryGood, lineIf, keptOf, linesFrom}, Promises.{ListOf, KeptFile}, Salvage.{Salvaged, salvagedOf, Counts, repliedOf, salvaged}}
+use Rattle.salvaged.proofs.{Again.{salvage-again}, KeptAgain.{salvage-kept}, Opens.{salvaged-strict, salvaged-opens-alike}, Parts.{Made, made-from}}
+use Rattle.salvaged.proofs.SameLookups.{salvage-same, salvage-same-simply}
 use Rattle.salvaged.specs.{Opens.{OpensStrictly}, Same.{SameAnswers, SameSimply}}
-use Rattle.table.specs.Rows.{Rows, row, tableEnd, unreadable, rowsIn}
+use Rattle.table.specs.{Rows.{Rows, row, tableEnd, unreadable, rowsIn}, declared.rows.Row.{Row}}
 use Rattle.table.specs.Rows as T
 
 pub record Answered (file : List ℕ) (words room : ℕ) (counts : Counts) : Type 0 where
@@ -57,6 +59,9 @@ nothing-dropped {file} {words} {room} {counts} a zero-lines =
     go m few (inl none) = m .lines-are ∙ none
     go m few (inr some) = absurd (omega (arith, few, some, ap length (m .lines-are)))
 
+given-one : {A : Type 0} {x y : A} → given x ≡ given y → x ≡ y
+given-one e = cc (e)
+
 -- ---- the file that was written, and theorems in the words of the lent outputs
 pub written-file : {file : List ℕ} {words room : ℕ} {counts : Counts} (a : Answered file words room counts) → take (counts .length′) (salvaged file words room .out) ≡ a .s .file
 written-file {file} {words} {room} {counts} a =
@@ -71,6 +76,53 @@ module _ (file : List ℕ) (words room : ℕ) (counts : Counts) (e : salvaged fi
 
   pub lent-strict : OpensStrictly written
   lent-strict = subst OpensStrictly (sym (written-file a)) (salvaged-strict file words room (a .s) (a .is))
+
+  -- Opened plainly or strictly, with whatever room for text, it gives the old file's reply and text: type, version, precision, names and notice.
+  pub lent-opens-alike : (strict strict′ : Bool) (text : ℕ) → openedBy strict written text ≡ openedBy strict′ file text
+  lent-opens-alike strict strict′ text = ap (λ (f : List ℕ). openedBy strict f text) (written-file a) ∙ salvaged-opens-alike file words room (a .s) (a .is) strict strict′ text
+
+  -- the words of the list that were written
+  abbrev pub listed : List ℕ
+  listed = take (2 * counts .lines) (salvaged file words room .list)
+
+  module _ (head : Head) (opens : headBy true file ≡ given head) where
+    made : Made file words room (a .s)
+    made = made-from file words room (a .s) (a .is)
+
+    same-head : made .head ≡ head
+    same-head = given-one (sym (made .opens) ∙ opens)
+
+    kept-are : a .s .kept ≡ keptOf file head (rowsIn file head)
+    kept-are = made .kept-are ∙ ap (λ (h : Head). keptOf file h (rowsIn file h)) same-head
+
+    lines-are : a .s .lines ≡ linesFrom file head 0 (rowsIn file head)
+    lines-are = made .lines-are ∙ ap (λ (h : Head). linesFrom file h 0 (rowsIn file h)) same-head
+
+    -- The file that was written opens strictly, and its table is that of the old file's whole entries, in the old order, each as it was; the reply counts them.
+    pub lent-kept : KeptFile file head written (keptOf file head (rowsIn file head))
+    lent-kept =
+        subst (λ (f : List ℕ). KeptFile file head f (keptOf file head (rowsIn file head))) (sym (written-file a))
+        (subst (KeptFile file head (a .s .file)) kept-are (salvage-kept file words room head (a .s) opens (a .is)))
+
+    pub lent-count : counts .kept ≡ length (keptOf file head (rowsIn file head))
+    lent-count = ap (λ (c : Counts). c .kept) (a .counted) ∙ ap length kept-are
+
+    lines-listed : ListOf file head (a .s .lines)
+    lines-listed = subst (ListOf file head) (sym lines-are) (salvage-list file head)
+
+    words-counted : 2 * counts .lines ≡ length (a .s .lines)
+    words-counted = ap (λ (c : Counts). 2 * c .lines) (a .counted) ∙ sym (two-words file head lines-listed)
+
+    written-list : listed ≡ a .s .lines
+    written-list =
+        ap (λ (n : ℕ). take n (salvaged file words room .list)) words-counted ∙ ap (take (length (a .s .lines))) (a .list) ∙ take-append-seam (a .s .lines) (zeros (words - length (a .s .lines)))
+
+    -- The words that were written, two for each line that the reply counts, are exactly the old file's entries that do not read whole with their first reasons; behind them the lent list is zero.
+    pub lent-list : ListOf file head listed
+    lent-list = subst (ListOf file head) (sym written-list) lines-listed
+
+    pub lent-list-rest : salvaged file words room .list ≡ padded words listed
+    lent-list-rest = a .list ∙ ap (padded words) (sym written-list)
 
   -- Salvaged again, with room for it, it is answered with its length, no line and as many entries; the list is all zero, and the output is the same file.
   pub lent-again : (words′ room′ : ℕ) → counts .length′ ≤ room′

@@ -99,9 +99,9 @@ salvage-kept file words room head s opens e =
     let shift = shifted file (m .head) (m .texts) (s .kept) (s .file) (m .is) (m .small) (m .opens) sound true in
     let rows = rows-are file (m .head) (m .texts) (s .kept) (s .file) (m .is) (m .small) (m .opens) sound true in
     let carried = rows-carried file (m .head) (m .texts) (s .kept) (s .file) (m .is) (m .small) (m .opens) sound true in
-    let made : KeptFile file (m .head) s = record {
+    let made : KeptFile file (m .head) (s .file) (s .kept) = record {
       new-head = head′;
       opens = new-opens file (m .head) (m .texts) (s .kept) (s .file) (m .is) (m .small) (m .opens) (m .inline) true;
       entries = subst (KeptAs file (s .file) (m .head) head′ (s .kept)) (sym rows) (kept-as (shift .preamble) carried);
     } in
-    subst (λ (h : Head). KeptFile file h s) same made
+    subst (λ (h : Head). KeptFile file h (s .file) (s .kept)) same made

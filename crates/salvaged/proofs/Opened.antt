@@ -13,6 +13,7 @@ pub record Opened (file : List ℕ) (head : Head) : Type 0 where
   pub preamble : preambleOf file ≡ given (head .preamble)
   pub texts : Texts
   pub texts-are : textsOf true file (head .preamble .count) ≡ given texts
+  pub contents : contentsBy true file ≡ given (record { head = head; bytes = texts .bytes })
   pub in-order : head .sections .metadata ≤ head .sections .«data»
   pub inside : head .sections .«data» ≤ length file
 
@@ -66,6 +67,7 @@ opened-from file head e =
       preamble = sym (p .is);
       texts = t .it;
       texts-are = sym (t .is);
+      contents = sym (c .is) ∙ ap given (sym made);
       in-order = within .in-order;
       inside = within .inside;
     })

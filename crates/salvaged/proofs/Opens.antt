@@ -1,11 +1,13 @@
 -- A salvaged file opens, plainly and strictly, with the type, version, precision, names and notice of the old one. Assumes nothing.
 use Prim.Native.Nat.{ℕ, _+_, _^_, _≤_}
-use lib.ListN.{length, take}
-use mathlib.Core.{Bool.{Bool, true}, List.{List, [], _∷_, _++_}, Path.{_≡_, sym, ap, _∙_}}
+use lib.{Dec.{leb}, ListN.{length, take}}
+use mathlib.Core.{Bool.{Bool, true, false}, List.{List, [], _∷_, _++_}, Logic.{_⊎_, inl, inr}, Path.{_≡_, refl, sym, ap, _∙_}}
 use native.Mathlib.Omega.{arith}
 use Rattle.border.proofs.OnWay.{at-first, at-next}
-use Rattle.header.specs.{Header.{preambleOf, textsOf, sectionsAt, contentsBy, headBy}, declared.header.Head.{Head}}
-use Rattle.numbers.specs.{Reply.{given}, Spelling.{varintOf}}
+use Rattle.header.proofs.StrictHead.{strict-open-or-plain}
+use Rattle.header.specs.{Header.{preambleOf, textsOf, sectionsAt, Contents, contentsBy, headBy}, Opening.{fittingOf, Replied, repliedOf, openedBy}}
+use Rattle.header.specs.declared.{header.Head.{Head}, opening.Opening.{Opening}}
+use Rattle.numbers.specs.{Reply.{Reply, given, refused, plain, demand, _>>_}, Spelling.{varintOf}}
 use Rattle.salvage.specs.{File.{headTexts, tableFrom, metadataOf, newFile}, Salvage.{Salvaged, salvagedOf}}
 use Rattle.table.specs.declared.rows.Row.{Row}
 use Rattle.salvaged.proofs.{AtPlace.{at-behind, number-at}, Opened.{Opened, Seven, opened-from, opened-seven, preamble-again}}
@@ -85,6 +87,56 @@ module _ (file : List ℕ) (head : Head) (texts : List ℕ) (kept : List Row) (n
 
   pub first-bytes : take 7 new ≡ take 7 file
   first-bytes = ap (take 7) in-seven ∙ sym first-seven
+
+  -- opened with so much room for text, it replies and lends what the old one does
+  pub opens-so : (room : ℕ) → openedBy strict new room ≡ openedBy true file room
+  unfolding openedBy fittingOf newHead
+  opens-so room = rw (contents-are, opened .contents) (go (leb (length (opened .texts .bytes)) room))
+    where
+      go : (fits : Bool)
+          → repliedOf room (demand fits (plain 18) >> given (record { head = head′; bytes = opened .texts .bytes }))
+          ≡ repliedOf room (demand fits (plain 18) >> given (record { head = head; bytes = opened .texts .bytes }))
+      go true = refl
+      go false = refl
+
+-- ---- the old file, which opens strictly, opens plainly to the same
+module _ (file : List ℕ) (head : Head) (opens : headBy true file ≡ given head) (room : ℕ) where
+  old : Opened file head
+  old = opened-from file head opens
+
+  abbrev fitting : Bool
+  fitting = leb (length (old .texts .bytes)) room
+
+  strictly-so : openedBy true file room ≡ repliedOf room (demand fitting (plain 18) >> given (record { head = head; bytes = old .texts .bytes }))
+  unfolding openedBy fittingOf
+  strictly-so = rw (old .contents)
+
+  abbrev numberIn : Reply Opening → ℕ
+  numberIn (given opening) = 0
+  numberIn (refused why) = why .number
+
+  never-cut : (contents : Contents) (fits : Bool) → repliedOf room (demand fits (plain 18) >> given contents) .reply ≡ refused (plain 31) → ⊥
+  never-cut contents true e = let z : _≡_ {A = ℕ} 0 31 = ap numberIn e in omega arith
+  never-cut contents false e = let z : _≡_ {A = ℕ} 18 31 = ap numberIn e in omega arith
+
+  plainly-so : openedBy true file room ≡ openedBy false file room
+  plainly-so = go (strict-open-or-plain file room)
+    where
+      go : (openedBy true file room ≡ repliedOf room (refused (plain 31))) ⊎ (openedBy true file room ≡ openedBy false file room) → openedBy true file room ≡ openedBy false file room
+      go (inl e) = absurd (never-cut (record { head = head; bytes = old .texts .bytes }) fitting (ap (λ (r : Replied). r .reply) (sym strictly-so ∙ e)))
+      go (inr e) = e
+
+  pub opens-either : (strict : Bool) → openedBy true file room ≡ openedBy strict file room
+  opens-either true = refl
+  opens-either false = plainly-so
+
+-- ---- `salvaged-opens-alike`
+-- The result of a salvage, opened plainly or strictly and with whatever room for text, gives the reply and the text of the old file: type, version, precision, number of names, names and notice.
+pub salvaged-opens-alike : (file : List ℕ) (words room : ℕ) (s : Salvaged) → salvagedOf file words room ≡ given s → (strict strict′ : Bool) (text : ℕ)
+    → openedBy strict (s .file) text ≡ openedBy strict′ file text
+salvaged-opens-alike file words room s e strict strict′ text =
+    let m = made-from file words room s e in
+    opens-so file (m .head) (m .texts) (s .kept) (s .file) (m .is) (m .small) (m .opens) (m .inline) strict text ∙ opens-either file (m .head) (m .opens) text strict′
 
 -- ---- `salvaged-strict`
 -- The result of a salvage opens strictly.

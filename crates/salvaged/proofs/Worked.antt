@@ -1,18 +1,19 @@
 -- Two small files that are salvaged, one with an entry dropped and one without, so that each theorem speaks of something. Assumes nothing.
-use lib.{Dec.{lit≤}, IntN.{pos}}
-use mathlib.Core.{Bool.{Bool, true}, List.{List, [], _∷_, flatMap}, Path.{_≡_, refl, ap}}
+use lib.{Dec.{lit≤}, IntN.{pos}, ListN.{take}}
+use mathlib.Core.{Bool.{Bool, true}, List.{List, [], _∷_, flatMap}, Path.{_≡_, refl, ap, subst}}
 use Prim.Native.Nat.{ℕ}
 use Rattle.writer.specs.Moves.{moveTo, packedNumber}
 use Rattle.border.specs.{Place.{isStill, movedBy}, Reader.{advanced, marker, packedTurn, turnOf}, Trace.{roundAgain, nextWithin, nextPoint, traceThen, traceWithin, traceOf}}
 use Rattle.header.specs.{Header.{preambleOf, textsFrom, sectionsFrom, sectionsAt, contentsBy, headBy}, Text.{within, remoteAt, stringAt, bytesOf, textAt}}
-use Rattle.header.specs.{Utf8.{characters, startedBy, begunBy, followed, goesOn, isUtf8}, declared.header.Head.{Head}}
+use Rattle.header.specs.{Opening.{openedBy}, Utf8.{characters, startedBy, begunBy, followed, goesOn, isUtf8}, declared.header.Head.{Head}}
 use Rattle.moves.specs.Moves.{endOf, stepsFrom, movesBy, movesAt, stepNumber, stepBytes, movesBytes}
 use Rattle.numbers.specs.{Answer.{checked}, Point.{signedOf, evenBits, pointOf}, Reply.{Reply, given}, Spelling.{digitsOf, varintOf, signedForm, interleaved}}
 use Rattle.numbers.specs.Varint.{readingOf, wholeOf, forwardAt, valueOf, sizeOf, tooLong}
 use Rattle.salvage.specs.File.{textsInline, borderBytes, boxBytes, entryBytes, tableFrom, assembled, newFile}
-use Rattle.salvage.specs.{Kept.{borderGood, spanInside, stringInside, fieldGood, fieldsGood, entryGood, keptOf, linesFrom}, Promises.{KeptFile, Again}}
+use Rattle.salvage.specs.{Kept.{borderGood, spanInside, stringInside, fieldGood, fieldsGood, entryGood, keptOf, linesFrom}, Promises.{ListOf, KeptFile, Again}}
 use Rattle.salvage.specs.Salvage.{Salvaged, salvagedOf, Counts, Replied, repliedOf, salvaged}
-use Rattle.salvaged.proofs.{Again.{salvage-again}, Answered.{written, lent-again, lent-same}, KeptAgain.{salvage-kept}, Opens.{salvaged-strict}}
+use Rattle.salvaged.proofs.{Again.{salvage-again}, KeptAgain.{salvage-kept}, Opens.{salvaged-strict, salvaged-opens-alike}}
+use Rattle.salvaged.proofs.Answered.{written, listed, lent-opens-alike, lent-kept, lent-list, lent-again, lent-same}
 use Rattle.salvaged.proofs.{PlainlyKept.{salvage-kept-plainly}, SameLookups.{salvage-same, salvage-same-simply}}
 use Rattle.salvaged.specs.{Opens.{OpensStrictly, KeptPlainly}, Same.{SameAnswers, SameSimply}}
 use Rattle.table.specs.{Rows.{rowsThen, rowBy, rowsWithin, rowsFrom, rowsIn}, Table.{stepsBy, entryBy}, declared.rows.Row.{Row}}
@@ -68,7 +69,10 @@ undamaged-salvaged = refl
 pub mended-strict : OpensStrictly mended
 mended-strict = salvaged-strict damaged 2 25 one-dropped damaged-salvaged
 
-pub damaged-kept : KeptFile damaged (headAt 25 27) one-dropped
+pub mended-opens-alike : (strict strict′ : Bool) (text : ℕ) → openedBy strict mended text ≡ openedBy strict′ damaged text
+mended-opens-alike = salvaged-opens-alike damaged 2 25 one-dropped damaged-salvaged
+
+pub damaged-kept : KeptFile damaged (headAt 25 27) mended (firstRow ∷ [])
 damaged-kept = salvage-kept damaged 2 25 (headAt 25 27) one-dropped damaged-opens damaged-salvaged
 
 pub damaged-kept-plainly : KeptPlainly damaged one-dropped
@@ -97,6 +101,20 @@ damaged-answered = ap (λ (r : Reply Salvaged). repliedOf 2 25 r .reply) damaged
 pub undamaged-answered : salvaged undamaged 0 25 .reply ≡ given noLine
 unfolding salvaged
 undamaged-answered = ap (λ (r : Reply Salvaged). repliedOf 0 25 r .reply) undamaged-salvaged
+
+-- the file opens as the old one does, has the kept entry, and the list says that entry 1 is dropped: 71, its border can't be read to its end
+pub written-opens-alike : (strict strict′ : Bool) (text : ℕ) → openedBy strict (written damaged 2 25 oneLine damaged-answered) text ≡ openedBy strict′ damaged text
+written-opens-alike = lent-opens-alike damaged 2 25 oneLine damaged-answered
+
+pub written-kept : KeptFile damaged (headAt 25 27) (written damaged 2 25 oneLine damaged-answered) (keptOf damaged (headAt 25 27) (rowsIn damaged (headAt 25 27)))
+written-kept = lent-kept damaged 2 25 oneLine damaged-answered (headAt 25 27) damaged-opens
+
+pub written-lines : listed damaged 2 25 oneLine damaged-answered ≡ 1 ∷ 71 ∷ []
+unfolding salvaged
+written-lines = ap (λ (r : Reply Salvaged). take 2 (repliedOf 2 25 r .list)) damaged-salvaged
+
+pub damaged-listed : ListOf damaged (headAt 25 27) (1 ∷ 71 ∷ [])
+damaged-listed = subst (ListOf damaged (headAt 25 27)) written-lines (lent-list damaged 2 25 oneLine damaged-answered (headAt 25 27) damaged-opens)
 
 pub written-again : salvaged (written damaged 2 25 oneLine damaged-answered) 0 25 .reply ≡ given noLine
 written-again = ap (λ (r : Replied). r .reply) (lent-again damaged 2 25 oneLine damaged-answered 0 25 (lit≤ tt))

@@ -113,15 +113,22 @@ module _ (held : Held) (boxes : List ℤ) (borders lengths texts bytes : List �
           fits-whole h = said after (W.Length end) (λ b holds. whole-fills (spaceOf held rooms .lists) out (fileOf (b .plan) (dataOf (b .plan))) after enough-space end (s b holds) h)
 
 -- ---- as it is settled
+never-length : (n : ℕ) (why : Refusal) → _≡_ {A = Built} (W.Length n) (W.Refused why) → ⊥
+never-length n why e = let z : _≡_ {A = ℕ} 0 1 = cc in omega (arith, z)
+
 pub settled-ends : (reply : Reply (List ℕ)) (room : ℕ) (before after : List ℕ) (built r : Built) → length before ≡ room → Fills reply room before built → Settles built before after r → Finishes reply room after r
 unfolding Finishes
 settled-ends reply room before after built r size f s = settled-fits reply room before after built r size f s
 
-pub settled-refused : (room : ℕ) (before after : List ℕ) (built r : Built) (why : Refusal) → length before ≡ room → built ≡ W.Refused why → Settles built before after r → (r ≡ W.Refused why) × (after ≡ zeros room)
+pub settled-refused : (before after : List ℕ) (built r : Built) (why : Refusal) → built ≡ W.Refused why → Settles built before after r → r ≡ W.Refused why
 unfolding Settles
-settled-refused room before after built r why size e s =
-    let t : Settles (W.Refused why) before after r = subst (λ (x : Built). Settles x before after r) e s in
-    (t .0, t .1 ∙ ap zeros size)
+settled-refused before after built r why e s = subst (λ (x : Built). Settles x before after r) e s .0
+
+-- whatever was refused, and of any state
+pub settled-zero : (room : ℕ) (before after : List ℕ) (built r : Built) (why : Refusal) → length before ≡ room → Settles built before after r → r ≡ W.Refused why → after ≡ zeros room
+unfolding Settles
+settled-zero room before after (W.Length n) r why size s e = absurd (never-length n why (sym (s .0) ∙ e))
+settled-zero room before after (W.Refused other) r why size s e = s .1 ∙ ap zeros size
 
 -- the lists are zero that were worked in before
 module _ (a b c d e f g a₀ b₀ c₀ d₀ e₀ f₀ g₀ a′ b′ c′ d′ e′ f′ g′ : List ℕ) where

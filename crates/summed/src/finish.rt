@@ -4,7 +4,7 @@ ghost use lib.ListN.{length};
 ghost use Rattle.build.specs.Whole.{Fills};
 ghost use Rattle.held.specs.{Builder.{Builder, finish}, State.{Holds, Idle, listsAs}};
 ghost use Rattle.held.specs.Space.{roomsOf, standing};
-ghost use Rattle.numbers.specs.{Lists.{zeros}, Reply.{plain}};
+ghost use Rattle.numbers.specs.{Lists.{zeros}, Reply.{plain}, declared.refusal.Refusal.{Refusal}};
 ghost use Rattle.summed.specs.Ends.{spaceOf, Finishes};
 use crate::file::are_whole;
 use crate::file::put_file;
@@ -122,7 +122,8 @@ pub fn finish(
 ) -> Built
     ensures { λ r. ⌜ ((b : Builder) → Holds b builder (listsAs (now (boxes .entry)) (now (borders .entry)) (now (lengths .entry)) (now (texts .entry)) (now (bytes .entry)))
         → Finishes (finish b (length (now (out .entry))) (spaceOf builder (roomsOf (length (now (boxes .entry))) (length (now (borders .entry))) (length (now (lengths .entry))) (length (now (texts .entry))) (length (now (bytes .entry))) (length (now (starts .entry))) (length (now (keys .entry))) (length (now (spare .entry))) (length (now (kept .entry))) (length (now (held .entry))) (length (now (words .entry))) (length (now (places .entry)))))) (length (now (out .entry))) (now (out .exit)) r)
-        × (standing builder (roomsOf (length (now (boxes .entry))) (length (now (borders .entry))) (length (now (lengths .entry))) (length (now (texts .entry))) (length (now (bytes .entry))) (length (now (starts .entry))) (length (now (keys .entry))) (length (now (spare .entry))) (length (now (kept .entry))) (length (now (held .entry))) (length (now (words .entry))) (length (now (places .entry)))) ≡ false → (r ≡ Built.Refused (plain 28)) × (now (out .exit) ≡ zeros (length (now (out .entry)))))
+        × (standing builder (roomsOf (length (now (boxes .entry))) (length (now (borders .entry))) (length (now (lengths .entry))) (length (now (texts .entry))) (length (now (bytes .entry))) (length (now (starts .entry))) (length (now (keys .entry))) (length (now (spare .entry))) (length (now (kept .entry))) (length (now (held .entry))) (length (now (words .entry))) (length (now (places .entry)))) ≡ false → r ≡ Built.Refused (plain 28))
+        × ((why : Refusal) → r ≡ Built.Refused why → now (out .exit) ≡ zeros (length (now (out .entry))))
         × Idle (now (starts .entry)) (now (keys .entry)) (now (spare .entry)) (now (kept .entry)) (now (held .entry)) (now (words .entry)) (now (places .entry)) [] (now (starts .exit)) (now (keys .exit)) (now (spare .exit)) (now (kept .exit)) (now (held .exit)) (now (words .exit)) (now (places .exit)) [] ⌝ }
 {
     let built = fill(

@@ -10,5 +10,6 @@ pub mod Turns
 pub mod InOrder
 mod WorkedTable
 pub mod Joining
+pub mod Halves
 pub mod StrictRows
 pub mod SixNumbers

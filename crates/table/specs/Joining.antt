@@ -3,8 +3,16 @@ use mathlib.Core.{Bool.{Bool, true, false}, List.{List, [], _∷_, _++_, map}}
 use Prim.Native.Nat.{ℕ}
 use lib.Dec.{eqb}
 use Rattle.numbers.specs.Answer.{if_then_else_}
-use Rattle.table.specs.{Merge.{Summary, empty, _⊕_, summary, groupKind, seen, matchOf}, declared.hits.Hit.{Hit}}
+use Rattle.table.specs.{Merge.{Summary, empty, _⊕_, summary, groupKind, seen, matchOf}, Rows.{Rows, row, tableEnd, unreadable, refused}, declared.hits.Hit.{Hit}}
 
+-- the rows of one half, and behind its end those of the other; behind an entry that can't be read there are none
+unfoldable pub _⧺_ : Rows → Rows → Rows
+row r rows ⧺ second = row r (rows ⧺ second)
+tableEnd ⧺ second = second
+unreadable ⧺ second = unreadable
+refused n ⧺ second = refused n
+
+infixl 20 _⧺_
 -- a group on a board: the first hit that it has there, and its summary
 pub record Group : Type 0 where
   pub first : Hit

@@ -9,8 +9,10 @@ use Rattle.tzif.proofs.{Lasts.{last-within, last-holds, last-fails, las
 use Rattle.tzif.proofs.Signs.{Octets, time-is-signed, signed-fits, lift-keeps}
 use Rattle.tzif.specs.{Block.{timePlace, indicesOf}, Local.{typeBehind, isAfterLast, byTable, Replied, replied, lent, localTimeBy, localTime}}
 use Rattle.tzif.specs.{Number.{octet, signedAt, lift}, Reply.{Reply, given, refused, refusal, each, if_then_else_, _>>=_}, Text.{slice, zeros, padded}}
-use Rattle.tzif.specs.{Times.{timeIn, transitionsOf, lastWith, lastNotAfter, Rises}, Zone.{readZone}}
-use Rattle.tzif.specs.declared.{block.Block.{Block}, local.{Answer.{Answer}, Found.{Found}, Local.{Local}, LocalTime.{LocalTime}}, refusal.Refusal.{Refusal}}
+use Rattle.tzif.specs.{Header.{rfc9636, readBlock}, Times.{timeIn, transitionsOf, lastWith, lastNotAfter, Rises}, Told.{toldBlock, toldZone}, Zone.{readZone}}
+use Rattle.tzif.specs.declared.{block.Block.{Block}, header.Reading.{Reading}, local.{Answer.{Answer}, Found.{Found}, Local.{Local}, LocalTime.{LocalTime}}, refusal.Refusal.{Refusal}, zone.Read.{Read}}
+use Rattle.tzif.specs.declared.header.Reading.the-variants as R
+use Rattle.tzif.specs.declared.zone.Read.the-variants as Z
 use Rattle.tzif.specs.declared.local.Answer.the-variants as A
 use Rattle.tzif.specs.declared.local.LocalTime.the-variants as L
 
@@ -78,17 +80,17 @@ pub record BlockWidth (file file′ : List ℕ) (block block′ : Block) : Type 
   pub search : (instant : ℕ) → lastNotAfter file (transitionsOf block) instant ≡ lastNotAfter file′ (transitionsOf block′) instant
 
 pub block-width : (file file′ : List ℕ) → Octets file → Octets file′ → (block block′ : Block) → block .timecnt ≡ block′ .timecnt
-    → ((i : ℕ) → transitionTime file block i ≡ transitionTime file′ block′ i) → BlockWidth file file′ block block′
+    → ((i : ℕ) → i < block .timecnt → transitionTime file block i ≡ transitionTime file′ block′ i) → BlockWidth file file′ block block′
 unfolding lastNotAfter timeIn transitionTime
 block-width file file′ o o′ block block′ n e = record {
-  check = λ r. record { next = λ i l. rw (← same i, ← same (suc i)) (r .next i (omega arith)) };
+  check = λ r. record { next = λ i l. rw (← same i (omega arith), ← same (suc i) (omega arith)) (r .next i (omega arith)) };
   search = λ instant.
-      last-same (λ i. leb (timeIn file (transitionsOf block) i) instant) (λ i. leb (timeIn file′ (transitionsOf block′) i) instant) (block .timecnt) (λ i l. ap (λ (t : ℕ). leb t instant) (same i))
+      last-same (λ i. leb (timeIn file (transitionsOf block) i) instant) (λ i. leb (timeIn file′ (transitionsOf block′) i) instant) (block .timecnt) (λ i l. ap (λ (t : ℕ). leb t instant) (same i l))
       ∙ ap (λ (m : ℕ). lastWith m (λ i. leb (timeIn file′ (transitionsOf block′) i) instant)) n;
 }
   where
-    same : (i : ℕ) → timeIn file (transitionsOf block) i ≡ timeIn file′ (transitionsOf block′) i
-    same i = time-is-signed file (block .width) (timePlace block i) o ∙ ap lift (e i) ∙ sym (time-is-signed file′ (block′ .width) (timePlace block′ i) o′)
+    same : (i : ℕ) → i < block .timecnt → timeIn file (transitionsOf block) i ≡ timeIn file′ (transitionsOf block′) i
+    same i l = time-is-signed file (block .width) (timePlace block i) o ∙ ap lift (e i l) ∙ sym (time-is-signed file′ (block′ .width) (timePlace block′ i) o′)
 
 -- ---- first-fault
 -- checks index by index are refused exactly with the fault of the least index that has one
@@ -100,6 +102,27 @@ first-fault check n why = (least-fault check n why, fault-of-least)
 pub same-local-time : (file : List ℕ) (instant : ℤ) (room : ℕ) {r r′ : LocalTime} {text text′ : List ℕ}
     → replied r text ≡ localTime file instant room → replied r′ text′ ≡ localTime file instant room → (r ≡ r′) × (text ≡ text′)
 same-local-time file instant room e e′ = let same = e ∙ sym e′ in (ap (λ (s : Replied). s .reply) same, ap (λ (s : Replied). s .text) same)
+
+-- the same of a block that was read, and of a whole file
+pub same-read-block : (file : List ℕ) (wide : Bool) (at : ℕ) (r q : Reading) → toldBlock r ≡ readBlock rfc9636 file wide at → toldBlock q ≡ readBlock rfc9636 file wide at → r ≡ q
+unfolding toldBlock
+same-read-block file wide at r q e f = go r q (e ∙ sym f)
+  where
+    go : (r q : Reading) → toldBlock r ≡ toldBlock q → r ≡ q
+    go (R.Block a) (R.Block b) h = cc
+    go (R.Block a) (R.Refused why) h = let z : _≡_ {A = ℕ} 0 1 = cc in absurd (omega arith)
+    go (R.Refused why) (R.Block b) h = let z : _≡_ {A = ℕ} 0 1 = cc in absurd (omega arith)
+    go (R.Refused why) (R.Refused other) h = cc
+
+pub same-read-zone : (file : List ℕ) (r q : Read) → toldZone r ≡ readZone file → toldZone q ≡ readZone file → r ≡ q
+unfolding toldZone
+same-read-zone file r q e f = go r q (e ∙ sym f)
+  where
+    go : (r q : Read) → toldZone r ≡ toldZone q → r ≡ q
+    go (Z.Zone a) (Z.Zone b) h = cc
+    go (Z.Zone a) (Z.Refused why) h = let z : _≡_ {A = ℕ} 0 1 = cc in absurd (omega arith)
+    go (Z.Refused why) (Z.Zone b) h = let z : _≡_ {A = ℕ} 0 1 = cc in absurd (omega arith)
+    go (Z.Refused why) (Z.Refused other) h = cc
 
 -- ---- a refusal and unknown leave all lent text zero
 -- no local time in a reply

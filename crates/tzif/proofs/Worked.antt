@@ -1,12 +1,12 @@
 -- A small file, computed: what the theorems speak of is met. Assumes nothing.
-use Prim.Native.Nat.{ℕ, _+_, _^_}
+use Prim.Native.Nat.{ℕ, zero, suc, _+_, _^_, _<_}
 use lib.IntN.{pos, negsuc}
-use mathlib.Core.{List.{List, [], _∷_}, Path.{_≡_, refl}}
+use mathlib.Core.{Bool.{true, false}, List.{List, [], _∷_}, Path.{_≡_, refl}}
 use native.Mathlib.Omega.{arith}
-use Rattle.tzif.proofs.{Marked.{secondVersion, markedThree, PlainFour}, Signs.{allOctets, octets-of}, Theorems.{LastNotAfter, last-not-after}}
+use Rattle.tzif.proofs.{Marked.{secondVersion, markedThree, PlainFour}, Signs.{Octets, allOctets, octets-of}, Theorems.{LastNotAfter, last-not-after, transitionTime, BlockWidth, block-width}}
 use Rattle.tzif.specs.Check.{occursLater, correctionBefore, correctionOf, oneApart, isExpiry, nulEnd, checkTime, checkIndex, checkType, checkLeap, checkLeaps, checkStandard, isStandard, checkUt}
 use Rattle.tzif.specs.Header.{rfc8536, begins, isVersion, isFourth, versionFits, checkHeader, blockAt, noneOrAll, checkCounts, checkBlock, readBlock}
-use Rattle.tzif.specs.{Local.{typeIn, typeBehind, isAfterLast, byTable, replied, lent, localTimeBy, localTime}, Number.{octets, be32, raised, timeAt, lift}}
+use Rattle.tzif.specs.{Local.{typeIn, typeBehind, isAfterLast, byTable, replied, lent, localTimeBy, localTime}, Number.{octets, be32, raised, timeAt, signedAt, lift}}
 use Rattle.tzif.specs.{Part.{countOf, checkOf, checkPart}, Reply.{given, demand, each, refusal, _>>=_, _>>_}, Text.{firstWith, isStop, runTo}}
 use Rattle.tzif.specs.{Times.{timeIn, transitionsOf, lastWith, lastNotAfter}, Zone.{newlineAt, readFooter, readShort, readLong, readZoneBy, readZone}}
 use Rattle.tzif.specs.declared.block.Block.{Block}
@@ -37,6 +37,35 @@ worked = record { before = refl; there = refl; behind = refl; read = refl; no-ro
 pub small-last : LastNotAfter small table (pos 0) (typeBehind small table (lastNotAfter small (transitionsOf table) (lift (pos 0))))
 unfolding allOctets
 small-last = last-not-after small (octets-of small refl) table (pos 0) (record { sfits = omega arith })
+
+-- version 2: `A` at UT, `B` an hour east of it from a second before 1970 on for a day and a second; both blocks have these times
+abbrev both : List ℕ
+both =
+    84 ∷ 90 ∷ 105 ∷ 102 ∷ 50 ∷ 0 ∷ 0 ∷ 0 ∷ 0 ∷ 0 ∷ 0 ∷ 0 ∷ 0 ∷ 0 ∷ 0 ∷ 0 ∷ 0 ∷ 0 ∷ 0 ∷ 0 ∷ 0 ∷ 0 ∷ 0 ∷ 0 ∷ 0 ∷ 0 ∷ 0 ∷ 0 ∷ 0 ∷ 0 ∷ 0 ∷ 0 ∷ 0 ∷ 0 ∷ 0 ∷ 2 ∷ 0 ∷ 0 ∷ 0 ∷ 2 ∷ 0 ∷ 0 ∷ 0 ∷ 4 ∷ 255 ∷ 255 ∷ 255 ∷ 255 ∷ 0 ∷ 1 ∷ 81 ∷ 128 ∷ 1 ∷ 0 ∷ 0 ∷ 0 ∷ 0 ∷ 0 ∷ 0 ∷ 0 ∷ 0 ∷ 0 ∷ 14 ∷ 16 ∷ 1 ∷ 2 ∷ 65 ∷ 0 ∷ 66 ∷ 0 ∷ 84 ∷ 90 ∷ 105 ∷ 102 ∷ 50 ∷ 0 ∷ 0 ∷ 0 ∷ 0 ∷ 0 ∷ 0 ∷ 0 ∷ 0 ∷ 0 ∷ 0 ∷ 0 ∷ 0 ∷ 0 ∷ 0 ∷ 0 ∷ 0 ∷ 0 ∷ 0 ∷ 0 ∷ 0 ∷ 0 ∷ 0 ∷ 0 ∷ 0 ∷ 0 ∷ 0 ∷ 0 ∷ 0 ∷ 0 ∷ 0 ∷ 2 ∷ 0 ∷ 0 ∷ 0 ∷ 2 ∷ 0 ∷ 0 ∷ 0 ∷ 4 ∷ 255 ∷ 255 ∷ 255 ∷ 255 ∷ 255 ∷ 255 ∷ 255 ∷ 255 ∷ 0 ∷ 0 ∷ 0 ∷ 0 ∷ 0 ∷ 1 ∷ 81 ∷ 128 ∷ 1 ∷ 0 ∷ 0 ∷ 0 ∷ 0 ∷ 0 ∷ 0 ∷ 0 ∷ 0 ∷ 0 ∷ 14 ∷ 16 ∷ 1 ∷ 2 ∷ 65 ∷ 0 ∷ 66 ∷ 0 ∷ 10 ∷ 10 ∷ []
+
+abbrev narrow : Block
+narrow = record { width = 4; isutcnt = 0; isstdcnt = 0; leapcnt = 0; timecnt = 2; typecnt = 2; charcnt = 4; begin = 44 }
+
+abbrev wide : Block
+wide = record { width = 8; isutcnt = 0; isstdcnt = 0; leapcnt = 0; timecnt = 2; typecnt = 2; charcnt = 4; begin = 114 }
+
+-- what `block-width` asks is met by the file's own blocks
+pub record WorkedWidths : Type 0 where
+  pub first : blockAt both false 0 ≡ narrow
+  pub second : blockAt both true 70 ≡ wide
+  pub alike : BlockWidth both both narrow wide
+
+pub both-widths : WorkedWidths
+unfolding blockAt octets be32 allOctets transitionTime signedAt
+both-widths = record { first = refl; second = refl; alike = block-width both both bytes bytes narrow wide refl same }
+  where
+    bytes : Octets both
+    bytes = octets-of both refl
+
+    same : (i : ℕ) → i < 2 → transitionTime both narrow i ≡ transitionTime both wide i
+    same zero l = refl
+    same (suc zero) l = refl
+    same (suc (suc i)) l = absurd (omega arith)
 
 -- ---- version 4
 -- `A` at UT with two leap seconds, in both blocks: neither feature

@@ -31,8 +31,8 @@ pub(crate) fn be32(file: &[u8], place: usize) -> usize
     first * 0x100_0000 + second * 0x1_0000 + third * 0x100 + fourth
 }
 
-// A signed number of 32 bits, by its bits, more 2^31.
-pub(crate) fn raised(bits: usize) -> usize
+// A signed number of 32 bits, by its bits, more 2^31; and back.
+pub fn raised(bits: usize) -> usize
     requires { ⌜ bits < 2 ^ 32 ⌝ }
     ensures { λ r. ⌜ Word r (raised bits) ⌝ }
 {

@@ -1,9 +1,9 @@
 -- What callers of this crate go by. Assumes nothing.
 use Prim.Native.Nat.{ℕ}
-use mathlib.Core.{Bool.{Bool, true, false}, Path.{_≡_, ap, sym, _∙_}}
+use mathlib.Core.{Bool.{Bool, true, false}, List.{List}, Path.{_≡_, ap, sym, _∙_}}
 use Rattle.numbers.specs.Answer.{if_then_else_}
 use native.Mathlib.Omega.{arith}
-use Rattle.tzrule.specs.{Answer.{Answer, read, fault}, Ask.{Ruled, inYears, since, clockAt, ask}, String.{toldString, IsClock, IsTz, GoodString}, Summer.{isSummer}}
+use Rattle.tzrule.specs.{Answer.{Answer, read, fault}, Ask.{Ruled, inYears, since, clockAt, ask}, String.{stringOf, toldString, IsClock, IsTz, GoodString}, Summer.{isSummer}}
 use Rattle.tzrule.specs.declared.{ask.{Asked.the-variants.{Holds, Outside}, Time.{Time}}, rule.Tz.{Tz, the-variants.{Fixed, Changing}}}
 use Rattle.tzrule.specs.declared.string.{Parsed.{Parsed}, StringAt.{StringAt}}
 use Rattle.tzrule.specs.declared.string.Parsed.the-variants as parsed
@@ -47,3 +47,17 @@ asked-clock end tz u {time} g = go (inYears u)
         let same : clockAt tz u ≡ time = cc in
         rw (← same) (clock-held end tz u g)
     go false e = let z : _≡_ {A = ℕ} 0 1 = cc in absurd (omega arith)
+
+-- two answers that the promise of `string_at` permits are equal
+pub same-string : (wide : Bool) (text : List ℕ) (at : ℕ) (r q : Parsed) → toldString r ≡ stringOf wide text at → toldString q ≡ stringOf wide text at → r ≡ q
+unfolding toldString
+same-string wide text at r q e f = go r q (e ∙ sym f)
+  where
+    go : (r q : Parsed) → toldString r ≡ toldString q → r ≡ q
+    go (parsed.String a) (parsed.String b) h =
+        let tz : a .tz ≡ b .tz = cc in
+        let next : a .next ≡ b .next = cc in
+        λ i. parsed.String (record { tz = tz i; next = next i })
+    go (parsed.String a) (parsed.Fault place) h = let z : _≡_ {A = ℕ} 0 1 = cc in absurd (omega arith)
+    go (parsed.Fault place) (parsed.String b) h = let z : _≡_ {A = ℕ} 0 1 = cc in absurd (omega arith)
+    go (parsed.Fault place) (parsed.Fault other) h = cc

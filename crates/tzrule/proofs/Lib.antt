@@ -8,5 +8,6 @@ pub mod Times
 pub mod Signs
 pub mod Letters
 pub mod Laws
+pub mod Years
 pub mod Worked
 pub mod Tail

@@ -1,6 +1,6 @@
 pub mod Saying
 pub mod Numbered
-pub mod Strict
+pub mod ReturnedWhole
 pub mod Same
 pub mod SameCivil
 pub mod Drafts
@@ -10,3 +10,5 @@ pub mod NumberedDrafts
 pub mod SameCalls
 pub mod SameDrafts
 pub mod WorkedDraft
+pub mod Made
+pub mod WorkedCalls

@@ -16,7 +16,7 @@ pub record Lasts (b : Builder) (state : List ℕ) (lists : Lists) (notes : Notes
   pub holds : Holds b (heldOf state) lists
   pub noted : NotedBy (heldOf state .names) (b .plan .yards) (notedIn state) notes
 
-noted-back : (held : Held) (noted : ℕ) (state : List ℕ) → state ≡ wordsOf held noted → notedIn state ≡ noted
+pub noted-back : (held : Held) (noted : ℕ) (state : List ℕ) → state ≡ wordsOf held noted → notedIn state ≡ noted
 unfolding notedIn wordsOf
 noted-back held noted state is = ap (λ (words : List ℕ). notedIn words) is
 

@@ -11,18 +11,19 @@ use Rattle.builder.specs.{File.{builtOf}, Yards.{Lent, planOf}}
 use Rattle.builder.specs.File as F
 use Rattle.numbers.{proofs.Refusals.{Listed}, specs.{Reply.{Reply, given, refused}, declared.refusal.Refusal.{Refusal}}}
 use Rattle.writer.{proofs.NumberedWriter.{writerNumbers, writer-refusals}, specs.{Writer.{borderOf, fitted}, declared.write.Piece.{Piece}}}
-use Rattle.footer.{proofs.Numbered.{footerNumbers, local-time-refusals}, specs.Local.{localTime}}
+use Rattle.footer.{proofs.Numbered.{footerNumbers, local-time-refusals}, specs.Local.{localTime, scaleAt}}
 use Rattle.tzif.specs.declared.local.LocalTime.{LocalTime}
 use Rattle.tzif.specs.declared.local.LocalTime.the-variants as L
 use Rattle.tzif.specs.declared.refusal.Refusal as T
 use Rattle.header.{proofs.Numbered.{openingNumbers, opening-refusals, strict-opening-refusals}, specs.Opening.{openedOf, openedStrictly}}
 use Rattle.zones.proofs.NumberedLookup.{lookupNumbers, lookup-refusals, strict-lookup-refusals, simple-lookup-refusals}
 use Rattle.zones.specs.{Lookup.{lookedUp, lookedStrictly}, Simple.{simplyLooked}}
+use Rattle.index.{proofs.{Owned.{owningNumbers, is-index-refusals}, Refusing.{buildingNumbers, tyingNumbers, index-refusals, tied-refusals}}, specs.{Index.{indexedOf}, Own.{isIndexOf}, Tied.{tiedOf}}}
 use Rattle.rescue.proofs.NumberedSalvage.{salvageNumbers, salvage-refusals}
 use Rattle.salvage.specs.Salvage.{salvaged}
 use Rattle.table.specs.declared.location.Location.{Location}
 use Rattle.uskelzar.specs.{Many.{manySaid, manySpoken}, Built.{builtFor, builtSpoken}, Salvaged.{countsValues, salvageSpoken}}
-use Rattle.uskelzar.specs.Spoken.{saidOf, openingValues, zonesValues, describedValues, lengthValue, localValues, localReply, openingSpoken, foundSpoken, writtenSpoken, localSpoken}
+use Rattle.uskelzar.specs.Spoken.{saidOf, openingValues, zonesValues, describedValues, lengthValue, localValues, localReply, noValues, openingSpoken, foundSpoken, writtenSpoken, localSpoken, indexSpoken}
 
 -- the reply is an answer, and no refusal
 abbrev pub Answered : {A : Type 0} → Reply A → Type 0
@@ -80,6 +81,18 @@ many-zero file lats lons asked n room third =
     many-said (lookedUpMany file lats lons asked n room third .reply)
     (λ index why is. never-zero manyNumbers (λ z. z) (why .number) (many-refusals file lats lons asked n room third index why is))
 
+-- `uskelzar_build_index`
+pub build-index-zero : (file : List ℕ) (n : ℕ) → (indexSpoken (indexedOf file n) .said .number ≡ 0) ↔ Answered (indexedOf file n .reply)
+build-index-zero file n = zero-said lengthValue (indexedOf file n .reply) (λ why is. never-zero buildingNumbers (λ z. z) (why .number) (index-refusals file n why is))
+
+-- `uskelzar_index_tied`
+pub index-tied-zero : (file words : List ℕ) → (saidOf noValues (tiedOf file words) .number ≡ 0) ↔ Answered (tiedOf file words)
+index-tied-zero file words = zero-said noValues (tiedOf file words) (λ why is. never-zero tyingNumbers (λ z. z) (why .number) (tied-refusals file words why is))
+
+-- `uskelzar_is_index`
+pub is-index-zero : (file words : List ℕ) → (saidOf noValues (isIndexOf file words) .number ≡ 0) ↔ Answered (isIndexOf file words)
+is-index-zero file words = zero-said noValues (isIndexOf file words) (λ why is. never-zero owningNumbers (λ z. z) (why .number) (is-index-refusals file words why is))
+
 -- `uskelzar_simple_lookup`
 pub simple-lookup-zero : (file : List ℕ) (location : Location) (n room : ℕ)
     → (foundSpoken describedValues (simplyLooked file location n room) .said .number ≡ 0) ↔ Answered (simplyLooked file location n room .reply)
@@ -119,7 +132,7 @@ of-local L.Unknown why e h = let z : _≡_ {A = ℕ} 0 1 = cc in absurd (omega a
 of-local (L.Refused told) why e h = let same : told .number ≡ why .number = cc in subst (Listed footerNumbers) same (h told refl)
 
 pub local-time-zero : (file : List ℕ) (instant : ℤ) (room : ℕ)
-    → (localSpoken (localTime file instant room) .said .number ≡ 0) ↔ Answered (localReply (localTime file instant room .reply))
+    → (localSpoken (scaleAt file instant) (localTime file instant room) .said .number ≡ 0) ↔ Answered (localReply (localTime file instant room .reply))
 local-time-zero file instant room =
-    zero-said localValues (localReply (localTime file instant room .reply))
+    zero-said (localValues (scaleAt file instant)) (localReply (localTime file instant room .reply))
     (λ why is. never-zero footerNumbers (λ z. z) (why .number) (of-local (localTime file instant room .reply) why is (local-time-refusals file instant room)))

@@ -160,4 +160,4 @@ module _ (held : List ℕ) (rooms : Rooms) (lists : Lists) (room : ℕ) (out : L
   unfolding saidOf
   finish-numbers (inl (b, holds)) = few-of fileValues finishNumbers (λ z. z) (finish b room lent) (finish-refusals b lent room) (finish-said b holds)
   finish-numbers (inr broken) =
-      subst (λ (x : Said). Listed (0 ∷ finishNumbers) (x .number)) (sym (e .said ∙ ap (λ (r : Built). saidOf lengthValue (toldBuilt r)) (e .promised .broken broken .0))) refl
+      subst (λ (x : Said). Listed (0 ∷ finishNumbers) (x .number)) (sym (e .said ∙ ap (λ (r : Built). saidOf lengthValue (toldBuilt r)) (e .promised .broken broken))) refl

@@ -183,7 +183,7 @@ same-end reply room out out′ r r′ f f′ = let e = f ∙ sym f′ in (told-o
 
 pub same-finished : (held : Held) (rooms : Rooms) (lists : Lists) → Told held rooms lists → {room : ℕ} {out out′ : List ℕ} {r r′ : Built} → Files held rooms lists room out r → Files held rooms lists room out′ r′ → (r ≡ r′) × (out ≡ out′)
 same-finished held rooms lists (inl (b, holds)) {room} {out} {out′} {r} {r′} f f′ = same-end (finish b room (spaceOf held rooms)) room out out′ r r′ (f .answers b holds) (f′ .answers b holds)
-same-finished held rooms lists (inr broken) f f′ = (f .broken broken .0 ∙ sym (f′ .broken broken .0), f .broken broken .1 ∙ sym (f′ .broken broken .1))
+same-finished held rooms lists (inr broken) f f′ = (f .broken broken ∙ sym (f′ .broken broken), f .emptied (plain 28) (f .broken broken) ∙ sym (f′ .emptied (plain 28) (f′ .broken broken)))
 
 -- ---- the lists that were worked in
 module _ {starts keys spare kept held words places out starts₁ keys₁ spare₁ kept₁ held₁ words₁ places₁ out₁ starts₂ keys₂ spare₂ kept₂ held₂ words₂ places₂ out₂ : List ℕ} where

@@ -11,15 +11,15 @@ use Rattle.held.specs.{Builder.{Builder, summed}, State.{Holds, Lists, heldAs, 
 use Rattle.uskelzar.proofs.{Drafts.{words-back}, NotedDrafts.{Lasts, kept-lasts}, SameCalls.{Told, ToldNoted}}
 use Rattle.uskelzar.specs.Draft.{Kept, heldOf, notedIn, wordsOf}
 
-abbrev plan : Plan
+abbrev pub plan : Plan
 plan = record { kind = 0x43; version = 0; precision = 16; names = []; notice = []; yards = []; numbered = true; whole = true }
 
 -- in a room of 64 bytes; no name, and a notice without a byte
-abbrev begun : Builder
+abbrev pub begun : Builder
 begun = summed plan 64
 
 -- the length of the notice, and the data's zero byte
-abbrev lists : Lists
+abbrev pub lists : Lists
 lists = listsAs [] [] (0 ∷ []) [] (0 ∷ [])
 
 pub begun-holds : Holds begun (heldAs begun) lists

@@ -8,7 +8,7 @@ use Rattle.growing.specs.declared.grow.Added.{Added}
 use Rattle.held.specs.{Builder.{Builder, finish}, Space.{standing}, State.{Holds, Lists}, declared.{room.Rooms.{Rooms}, state.{Held.{Held}, Changed.{Changed}}}}
 use Rattle.held.specs.declared.state.Changed.the-variants as C
 use Rattle.build.specs.declared.file.Built.the-variants as W
-use Rattle.numbers.specs.{Lists.{zeros}, Point.{readI32}, Reply.{Reply, given, refused, plain}}
+use Rattle.numbers.specs.{Lists.{zeros}, Point.{readI32}, Reply.{Reply, given, refused, plain}, declared.refusal.Refusal.{Refusal}}
 use Rattle.summed.specs.Ends.{Finishes, spaceOf}
 use Rattle.uskelzar.specs.{Spoken.{saidOf, lengthValue}, declared.Said.{Said}}
 
@@ -90,7 +90,8 @@ pub record Ends (Promised : Held → Built → Type 0) (state : List ℕ) (numbe
   pub promised : Promised (heldOf state) built
   pub said : record { number = number; words = words } ≡ saidOf lengthValue (toldBuilt built)
 
--- the file of a builder that calls have made, in an output of this length; where its numbers do not fit its lists, 28 and zeros
+-- the file of a builder that calls have made, in an output of this length; where its numbers do not fit its lists, 28; a refusal leaves zeros, whatever the state
 pub record Files (held : Held) (rooms : Rooms) (lists : Lists) (room : ℕ) (out : List ℕ) (built : Built) : Type 0 where
   pub answers : (b : Builder) → Holds b held lists → Finishes (finish b room (spaceOf held rooms)) room out built
-  pub broken : standing held rooms ≡ false → (built ≡ W.Refused (plain 28)) × (out ≡ zeros room)
+  pub broken : standing held rooms ≡ false → built ≡ W.Refused (plain 28)
+  pub emptied : (why : Refusal) → built ≡ W.Refused why → out ≡ zeros room

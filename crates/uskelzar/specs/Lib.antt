@@ -4,3 +4,4 @@ pub mod Many
 pub mod Salvaged
 pub mod Built
 pub mod Draft
+pub mod Calls

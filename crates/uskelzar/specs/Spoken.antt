@@ -4,6 +4,7 @@ use mir.{Syntax.{w32}, Val.{ofZ}}
 use Prim.Native.Nat.{ℕ}
 use Rattle.writer.specs.Writer as W
 use Rattle.index.specs.Index.{Indexed}
+use Rattle.footer.specs.declared.scale.Scale.{Scale}
 use Rattle.tzif.specs.Local as T
 use Rattle.tzif.specs.declared.local.{Local.{Local}, LocalTime.{LocalTime}}
 use Rattle.tzif.specs.declared.local.LocalTime.the-variants as L
@@ -41,10 +42,11 @@ describedValues d = d .matches ∷ d .mark ∷ descriptionValues (d .description
 abbrev pub lengthValue : ℕ → List ℕ
 lengthValue length = length ∷ []
 
--- 1, the offset's 32 bits, the daylight flag and the abbreviation's length; nothing where local time is unknown
-abbrev pub localValues : Option Local → List ℕ
-localValues none = []
-localValues (some local) = 1 ∷ ofZ w32 (local .offset) ∷ local .daylight ∷ local .length ∷ []
+-- the scale, 1 for UNIX time's and 2 for the file's own, the offset's 32 bits, the daylight flag, the abbreviation's length and the correction's bits;
+-- nothing where local time is unknown
+abbrev pub localValues : Scale → Option Local → List ℕ
+localValues scale none = []
+localValues scale (some local) = scale .kind ∷ ofZ w32 (local .offset) ∷ local .daylight ∷ local .length ∷ scale .correction ∷ []
 
 -- refusals of a TZif file have no cause
 abbrev pub localReply : LocalTime → Reply (Option Local)
@@ -70,8 +72,8 @@ foundSpoken values left = record { said = saidOf values (left .reply); lent = le
 abbrev pub writtenSpoken : W.Replied → Spoken
 writtenSpoken left = record { said = saidOf lengthValue (left .reply); lent = left .out ∷ [] }
 
-abbrev pub localSpoken : T.Replied → Spoken
-localSpoken left = record { said = saidOf localValues (localReply (left .reply)); lent = left .text ∷ [] }
+abbrev pub localSpoken : Scale → T.Replied → Spoken
+localSpoken scale left = record { said = saidOf (localValues scale) (localReply (left .reply)); lent = left .text ∷ [] }
 
 -- request Q-11: how many words an index has, with all lent words; and that it goes with a file, which has no value
 abbrev pub indexSpoken : Indexed → Spoken

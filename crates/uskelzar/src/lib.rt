@@ -10,11 +10,12 @@ pub mod yards;
 ghost use mathlib.Core.{Path.{_≡_}, List.{[], _∷_}};
 ghost use lib.ListN.{length};
 ghost use Rattle.writer.specs.{Pieces.{piecesOf}, Writer.{borderOf, fitted, told}};
-ghost use Rattle.footer.specs.Local.{localTime};
+ghost use Rattle.footer.specs.Local.{localTime, scaleAt};
 ghost use Rattle.zones.specs.{Lookup.{lookedUp, lookedStrictly, toldLooked}, Simple.{simplyLooked, toldSimple}};
 ghost use Rattle.header.specs.Opening.{openedOf, openedStrictly, toldOpened};
 ghost use Rattle.numbers.specs.Reply.{Reply, given, refused};
 ghost use Rattle.uskelzar.specs.Spoken.{saidOf, openingValues, zonesValues, describedValues, lengthValue, localValues, refusedSaid, localReply, spoken, openingSpoken, foundSpoken, writtenSpoken, localSpoken};
+use footer::local::Timed;
 use footer::local::local_time;
 use header::opening::Opened;
 use header::opening::open;
@@ -113,18 +114,20 @@ fn say_written(written: Written) -> Said
     }
 }
 
-fn say_local(time: LocalTime) -> Said
-    ensures { λ r. ⌜ r ≡ saidOf localValues (localReply time) ⌝ }
+fn say_local(timed: Timed) -> Said
+    ensures { λ r. ⌜ r ≡ saidOf (localValues (timed .scale)) (localReply (timed .time)) ⌝ }
 {
+    let scale = timed.scale;
+    let time = timed.time;
     match time {
         LocalTime::Local(local) => Said {
             number: 0,
             words: [
-                1,
+                scale.kind as u64,
                 offset_bits(local),
                 local.daylight as u64,
                 local.length as u64,
-                0,
+                scale.correction as u64,
             ],
         },
         LocalTime::Unknown => Said {
@@ -236,7 +239,8 @@ pub extern "C" fn uskelzar_write_border(
     speak(say_written(written), reply)
 }
 
-// Local time at an instant, by a TZif file and its TZ string. Values: 1, the offset's 32 bits, the daylight flag and the abbreviation's length; all 0 where it is unknown.
+// Local time at an instant, by a TZif file and its TZ string. Values: 1 for UNIX time's scale or 2 for the file's own, the offset's 32 bits, the daylight flag, the abbreviation's length
+// and the 32 bits of the correction; all 0 where it is unknown.
 #[no_mangle]
 pub extern "C" fn uskelzar_local_time(
     file: &[u8],
@@ -245,7 +249,7 @@ pub extern "C" fn uskelzar_local_time(
     reply: &mut [u64; 5],
 ) -> u8
     ensures { λ r. ⌜ spoken r (now (reply .exit)) (now (text .exit) ∷ [])
-        ≡ localSpoken (localTime (now (file .entry)) instant (length (now (text .entry)))) ⌝ }
+        ≡ localSpoken (scaleAt (now (file .entry)) instant) (localTime (now (file .entry)) instant (length (now (text .entry)))) ⌝ }
 {
     speak(say_local(local_time(file, instant, text)), reply)
 }

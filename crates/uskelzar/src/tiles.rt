@@ -1,7 +1,7 @@
 // The tile index of request Q-11, for firmware.
 ghost use mathlib.Core.{Path.{_≡_}, List.{[], _∷_}};
 ghost use lib.ListN.{length};
-ghost use Rattle.index.specs.{Index.{indexedOf, toldBuilt}, Through.{lookedThrough, lookedIndexed}, Tied.{tiedOf, toldTied}};
+ghost use Rattle.index.specs.{Index.{indexedOf, toldBuilt}, Own.{isIndexOf}, Through.{lookedThrough, lookedIndexed}, Tied.{tiedOf, toldTied}};
 ghost use Rattle.uskelzar.specs.Spoken.{saidOf, zonesValues, lengthValue, noValues, spoken, foundSpoken, indexSpoken};
 use crate::Said;
 use crate::say_looked;
@@ -11,6 +11,7 @@ use index::build::Built;
 use index::build::build_index;
 use index::lookup::lookup_indexed;
 use index::lookup::lookup_through;
+use index::own::is_index;
 use index::tied::Tied;
 use index::tied::index_tied;
 use table::location::Location;
@@ -47,12 +48,20 @@ pub extern "C" fn uskelzar_build_index(file: &[u8], index: &mut [u32], reply: &m
     speak(say_built(build_index(file, index)), reply)
 }
 
-// Holds an index against a file: 0 where it is one of this file, or of one with the same length, header and table. No values.
+// Holds an index against a file: 0 where it keeps the file's length, header and table; records, starts and lists are believed. No values.
 #[no_mangle]
 pub extern "C" fn uskelzar_index_tied(file: &[u8], index: &[u32], reply: &mut [u64; 5]) -> u8
     ensures { λ r. ⌜ spoken r (now (reply .exit)) [] ≡ record { said = saidOf noValues (tiedOf (now (file .entry)) (now (index .entry))); lent = [] } ⌝ }
 {
     speak(say_tied(index_tied(file, index)), reply)
+}
+
+// Works a file's index out again: 0 where the words are those that `uskelzar_build_index`, lent as many, leaves for this file. No values.
+#[no_mangle]
+pub extern "C" fn uskelzar_is_index(file: &[u8], index: &[u32], reply: &mut [u64; 5]) -> u8
+    ensures { λ r. ⌜ spoken r (now (reply .exit)) [] ≡ record { said = saidOf noValues (isIndexOf (now (file .entry)) (now (index .entry))); lent = [] } ⌝ }
+{
+    speak(say_tied(is_index(file, index)), reply)
 }
 
 // Looks a location up through an index that was held against the file. Values as for `uskelzar_lookup`.

@@ -1,4 +1,8 @@
 // The lines that are printed. Each function puts something at a place of a lent buffer, as far as it fits, and answers the place after it.
+ghost use mathlib.Core.Path.{_≡_};
+ghost use Prim.Native.Nat.{_%_};
+ghost use Rattle.line.specs.Put.{Put};
+ghost use Rattle.zone.specs.Lines.{hexDigit, hexByte, bitsText, refusedLine};
 use line::bytes::byte_at;
 use line::put::put;
 use line::put::put_all;
@@ -17,27 +21,44 @@ fn after(at: usize, steps: usize) -> usize {
     std::num::wrapping_add_usize(at, steps)
 }
 
-fn hex_digit(n: u8) -> u8 {
+fn hex_digit(n: u8) -> u8
+    ensures { λ r. ⌜ r ≡ hexDigit n ⌝ }
+{
     let digit = n % 16;
-    if digit < 10 { 48 + digit } else { 55 + digit }
+    if digit < 10 {
+        return 48 + digit;
+    }
+    55 + digit
 }
 
-fn put_hex(out: &mut [u8], at: usize, byte: u8) -> usize {
-    let next = put(out, at, hex_digit(byte >> 4));
-    put(out, next, hex_digit(byte))
+fn put_hex(out: &mut [u8], at: usize, byte: u8) -> usize
+    ensures { λ r. ⌜ Put (now (out .entry)) at (hexByte byte) (now (out .exit)) r ⌝ }
+{
+    let high = hex_digit(byte / 16);
+    let low = hex_digit(byte);
+    let next = put(out, at, high);
+    put(out, next, low)
 }
 
-fn low_byte(bits: u32) -> u8 {
+fn low_byte(bits: u32) -> u8
+    ensures { λ r. ⌜ r ≡ bits % 256 ⌝ }
+{
     (bits % 256) as u8
 }
 
 // A space and the bits, highest first.
-fn put_bits(out: &mut [u8], at: usize, bits: u32) -> usize {
+fn put_bits(out: &mut [u8], at: usize, bits: u32) -> usize
+    ensures { λ r. ⌜ Put (now (out .entry)) at (bitsText bits) (now (out .exit)) r ⌝ }
+{
+    let a = low_byte(bits / 16777216);
+    let b = low_byte(bits / 65536);
+    let c = low_byte(bits / 256);
+    let d = low_byte(bits);
     let first = put(out, at, b' ');
-    let second = put_hex(out, first, low_byte(bits >> 24));
-    let third = put_hex(out, second, low_byte(bits >> 16));
-    let fourth = put_hex(out, third, low_byte(bits >> 8));
-    put_hex(out, fourth, low_byte(bits))
+    let second = put_hex(out, first, a);
+    let third = put_hex(out, second, b);
+    let fourth = put_hex(out, third, c);
+    put_hex(out, fourth, d)
 }
 
 // So many bytes of a text, after a space if there are any.
@@ -137,7 +158,9 @@ pub fn put_zones(out: &mut [u8], zones: Zones, count: u8, hits: &[u32], text: &[
     put_matches(out, first, zones.matches, count, hits, text)
 }
 
-pub fn put_refusal(out: &mut [u8], why: Refusal) -> usize {
+pub fn put_refusal(out: &mut [u8], why: Refusal) -> usize
+    ensures { λ r. ⌜ Put (now (out .entry)) 0 (refusedLine why) (now (out .exit)) r ⌝ }
+{
     let name = put_all(out, 0, b"refused");
     let number = put_number(out, name, why.number as u64);
     put(out, number, b'\n')

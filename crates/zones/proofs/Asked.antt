@@ -8,8 +8,9 @@ use Rattle.border.specs.declared.place.Point.{Point}
 use Rattle.numbers.specs.{Answer.{if_then_else_}, Reply.{Reply, given, refused, plain, _>>=_}}
 use Rattle.header.{proofs.Unless.{shown, Unless, refuses, alike, unless-after, unless-demand, unless-then}, specs.{Header.{headOf, headStrictly}, declared.header.Head.{Head}}}
 use Rattle.zones.specs.{Fields.{fieldsOf}, Lent.{Outcome, Replied, replied, repliedOf}}
-use Rattle.zones.specs.{Lookup.{safezoneBits, zonesWith, zonesIn, lookedWith, lookedUp, lookedStrictly}, declared.lookup.Zones.{Zones}}
-use Rattle.table.specs.{Find.{Matched, isPrecision, fixOf, matchedWith}, Hits.{width}, Merge.{merged}, Rest.{restMark}, Rows.{Rows, row, tableEnd, unreadable, rowsIn}}
+use Rattle.zones.specs.{Lookup.{safezoneBits, zonesFrom, zonesWith, zonesIn, zonesListed, lookedWith, lookedUp, lookedStrictly, lookedListed}, declared.lookup.Zones.{Zones}}
+use Rattle.table.specs.{Find.{Matched, isPrecision, fixOf, matchedBy, matchedWith}, GivenRows.{rowsListed, searchedListed, matchedListed}, Hits.{width}, Merge.{merged}}
+use Rattle.table.specs.{Rest.{restMark}, Rows.{Rows, row, tableEnd, unreadable, rowsIn}, Unstopped.{seekAll}}
 use Rattle.table.specs.{Search.{Found, ended, kindOf, rowHit, farthest, afterTurn, judgedTurn, rowTurn, seek, judgeIn, searched}, Table.{isAbove, holds}}
 use Rattle.table.specs.declared.{hits.Hit.{Hit}, location.Location.{Location}, rows.Row.{Row}, search.Turn.the-variants.{On, Met}}
 use Rattle.verdict.specs.Verdict as J
@@ -68,6 +69,14 @@ module _ (judge judge′ : ℕ → ℕ → Judgement) (agree : (polygon least le
   seek-unless end unreadable least least′ hits = alike refl
   seek-unless end (T.refused n) least least′ hits = alike refl
 
+  -- the same of the search that never stops early, as rows that an index gives are searched
+  pub seek-all-unless : (rows : Rows) (least least′ : ℕ) (hits : List Hit) → Same (seekAll judge fix room rows least hits) (seekAll judge′ fix room rows least′ hits)
+  unfolding seekAll
+  seek-all-unless (row r rows) least least′ hits = row-same hits (seekAll judge fix room rows) (seekAll judge′ fix room rows) (seek-all-unless rows) r least least′
+  seek-all-unless tableEnd least least′ hits = alike refl
+  seek-all-unless unreadable least least′ hits = alike refl
+  seek-all-unless (T.refused n) least least′ hits = alike refl
+
 -- ---- in a file
 -- all that is known of the matches but the distance
 abbrev unmeasuredMatched : Matched → Matched
@@ -81,13 +90,28 @@ module _ (file : List ℕ) (head : Head) (location : Location) where
   abbrev fix : Point
   fix = fixOf location (head .preamble .precision)
 
+  -- the distance does not change how a border is judged here, but for a 13
+  judged-unless : (polygon least least′ : ℕ) → Agrees least′ (judgeIn file head fix true polygon least) (judgeIn file head fix false polygon least′)
+  judged-unless polygon = judged-asked-or-not file _ _ (fix .lat) (fix .lon)
+
+  found-unless : (asked not : Point → Reply Found) → Unless 13 unmeasuredFound (asked fix) (not fix) → Unless 13 unmeasuredMatched (matchedBy head location asked) (matchedBy head location not)
+  found-unless asked not same =
+      unless-demand (isPrecision (head .preamble .precision)) (plain 16)
+      (unless-then (asked fix) (not fix) same (λ a b same. alike (ap (λ (f : Found). given (record { matches = merged (f .hits); mark = f .mark; least = 0 })) same)))
+
   matched-unless : (room : ℕ) → Unless 13 unmeasuredMatched (matchedWith file head location true room) (matchedWith file head location false room)
   unfolding matchedWith searched
   matched-unless room =
-      unless-demand (isPrecision (head .preamble .precision)) (plain 16)
-      (unless-then (searched file head fix true room) (searched file head fix false room)
-      (seek-unless (judgeIn file head fix true) (judgeIn file head fix false) (λ polygon. judged-asked-or-not file _ _ (fix .lat) (fix .lon)) fix room (head .sections .metadata) (rowsIn file head) farthest farthest [])
-      (λ a b same. alike (ap (λ (f : Found). given (record { matches = merged (f .hits); mark = f .mark; least = 0 })) same)))
+      found-unless (λ p. searched file head p true room) (λ p. searched file head p false room)
+      (seek-unless (judgeIn file head fix true) (judgeIn file head fix false) judged-unless fix room (head .sections .metadata) (rowsIn file head) farthest farthest [])
+
+  -- among rows that are given as words
+  listed-unless : (records numbers : List ℕ) (room : ℕ)
+      → Unless 13 unmeasuredMatched (matchedListed file head location true records numbers room) (matchedListed file head location false records numbers room)
+  unfolding matchedListed searchedListed
+  listed-unless records numbers room =
+      found-unless (λ p. searchedListed file head p true records numbers room) (λ p. searchedListed file head p false records numbers room)
+      (seek-all-unless (judgeIn file head fix true) (judgeIn file head fix false) judged-unless fix room (rowsListed records numbers) farthest farthest [])
 
   -- what lookup makes of the matches
   abbrev finished : ℕ → Bool → Matched → ℕ → Reply (Outcome Zones)
@@ -99,17 +123,16 @@ module _ (file : List ℕ) (head : Head) (location : Location) where
         text = text;
       })
 
-  zones-unless : (n room : ℕ) → Unless 13 unmeasuredOutcome (zonesWith file head location true n room) (zonesWith file head location false n room)
-  unfolding zonesWith
-  zones-unless n room =
-      unless-then (matchedWith file head location true (n / width)) (matchedWith file head location false (n / width)) (matched-unless (n / width))
+  zones-unless : (room : ℕ) {asked not : Reply Matched} → Unless 13 unmeasuredMatched asked not → Unless 13 unmeasuredOutcome (zonesFrom file head true room asked) (zonesFrom file head false room not)
+  zones-unless room {asked} {not} same =
+      unless-then asked not same
       λ a b same. subst (λ (found : Matched). Unless 13 unmeasuredOutcome (finished room true a (a .least)) (finished room false found (b .least))) same
       (unless-after (fieldsOf file head room (a .matches) []) (λ text. alike refl))
 
   -- without the distance there are no safezone bits to leave out
-  zones-unmeasured : (n room : ℕ) → shown unmeasuredOutcome (zonesWith file head location false n room) ≡ zonesWith file head location false n room
-  unfolding zonesWith safezoneBits
-  zones-unmeasured n room = through (matchedWith file head location false (n / width))
+  zones-unmeasured : (room : ℕ) (matched : Reply Matched) → shown unmeasuredOutcome (zonesFrom file head false room matched) ≡ zonesFrom file head false room matched
+  unfolding safezoneBits
+  zones-unmeasured room = through
     where
       written : (found : Matched) (text : Reply (List ℕ)) → shown unmeasuredOutcome (text >>= λ t. given (record {
         answer = record { matches = length (found .matches); mark = found .mark; safezone = 0; used = length t };
@@ -147,24 +170,37 @@ replies-so n room asked not (alike e) same = inr (replied-unmeasured n room aske
 
 -- in a file whose header was read,
 pub asked-or-not-with : (file : List ℕ) (head : Head) (location : Location) (n room : ℕ) → AskedOrNot n room (lookedWith file head location true n room) (lookedWith file head location false n room)
-unfolding lookedWith
-asked-or-not-with file head location n room = replies-so n room _ _ (zones-unless file head location n room) (zones-unmeasured file head location n room)
+unfolding lookedWith zonesWith
+asked-or-not-with file head location n room = replies-so n room _ _ (zones-unless file head location room (matched-unless file head location (n / width))) (zones-unmeasured file head location room (matchedWith file head location false (n / width)))
+
+-- among rows that are given as words, as an index has them,
+pub asked-or-not-listed : (file : List ℕ) (head : Head) (location : Location) (records numbers : List ℕ) (n room : ℕ)
+    → AskedOrNot n room (lookedListed file head location true records numbers n room) (lookedListed file head location false records numbers n room)
+unfolding lookedListed zonesListed
+asked-or-not-listed file head location records numbers n room =
+    replies-so n room _ _ (zones-unless file head location room (listed-unless file head location records numbers (n / width)))
+    (zones-unmeasured file head location room (matchedListed file head location false records numbers (n / width)))
 
 module _ (file : List ℕ) (location : Location) (n room : ℕ) where
   opened : (r : Reply Head) → shown unmeasuredOutcome (r >>= λ head. zonesWith file head location false n room) ≡ (r >>= λ head. zonesWith file head location false n room)
-  opened (given head) = zones-unmeasured file head location n room
+  unfolding zonesWith
+  opened (given head) = zones-unmeasured file head location room (matchedWith file head location false (n / width))
   opened (refused why) = refl
+
+  with-unless : (head : Head) → Unless 13 unmeasuredOutcome (zonesWith file head location true n room) (zonesWith file head location false n room)
+  unfolding zonesWith
+  with-unless head = zones-unless file head location room (matched-unless file head location (n / width))
 
   -- and in one that is opened first
   pub asked-or-not-up : AskedOrNot n room (lookedUp file location true n room) (lookedUp file location false n room)
   unfolding lookedUp zonesIn
   asked-or-not-up =
-      replies-so n room _ _ (unless-after (headOf file) (λ head. zones-unless file head location n room)) (opened (headOf file))
+      replies-so n room _ _ (unless-after (headOf file) with-unless) (opened (headOf file))
 
   -- strictly too
   pub asked-or-not-strictly : AskedOrNot n room (lookedStrictly file location true n room) (lookedStrictly file location false n room)
   unfolding lookedStrictly
-  asked-or-not-strictly = replies-so n room _ _ (unless-after (headStrictly file) (λ head. zones-unless file head location n room)) (opened (headStrictly file))
+  asked-or-not-strictly = replies-so n room _ _ (unless-after (headStrictly file) with-unless) (opened (headStrictly file))
 
   -- where asking with the distance is answered, asking without it is answered too: the same matches, strings, bytes used and end mark
   pub without-safezone : {zones : Zones} → lookedUp file location true n room .reply ≡ given zones

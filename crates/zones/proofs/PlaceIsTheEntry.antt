@@ -1,4 +1,4 @@
--- The fourth word of a match leads to its entry: read there, it has a box that holds the location, and with it the table's row has the match's metadata id. Assumes nothing.
+-- The fourth word of a match leads to its entry: the place of the table's row with the match's number and metadata id, whose box, read there, holds the location. Assumes nothing.
 use mathlib.Core.{Path.{_≡_, refl, sym, ap, subst, _∙_}, Bool.{Bool, true, false}, List.{List, [], _∷_}}
 use Prim.Native.Nat.{ℕ, _%_, _^_, _≤_, _<_}
 use native.Mathlib.Omega.{arith}
@@ -20,13 +20,13 @@ use Rattle.zones.specs.Places as P
 use Rattle.table.specs.Rows as T
 
 -- ---- a row of the table was read at its place
-unfoldable Begins : Rows → Type 0
+unfoldable pub Begins : Rows → Type 0
 Begins (row r rows) = Unit
 Begins tableEnd = ⊥
 Begins unreadable = ⊥
 Begins (T.refused n) = ⊥
 
-begins : {r : Row} {rows : Rows} → Listed r rows → Begins rows
+pub begins : {r : Row} {rows : Rows} → Listed r rows → Begins rows
 unfolding Begins
 begins P.here = tt
 begins (later l) = tt
@@ -113,6 +113,7 @@ entry-of file location head opened match f =
       listed = f .listed;
       numbered = f .numbered;
       same-id = f .same-id;
+      placed = place;
       entry = read .entry;
       reads = ap (entryBy (forwardAt file)) (sym place) ∙ read .reads;
       box = read .box;
@@ -129,7 +130,7 @@ answered-entry {file} {location} {hits = hits} a i h =
     let each : Each (From fix all) (a .list) = subst (Each (From fix all)) (sym (b .merges)) (merged-from fix all (through-from all (b .ending .through) (λ r l. l))) in
     entry-of file location (b .head) (b .opened) (hitAt hits i) (answered-each {P = From fix all} a each i h)
 
--- At the place of each match of an answered lookup stands an entry of the table whose box holds the location and whose row has the match's metadata id,
+-- At the place of each match of an answered lookup stands the entry of the row with the match's number and metadata id, whose box holds the location,
 pub place-is-the-entry : (file : List ℕ) (location : Location) (asked : Bool) (n room : ℕ) (zones : Zones) → lookedUp file location asked n room .reply ≡ given zones
     → (i : ℕ) → i < zones .matches → EntryOf file location (hitAt (lookedUp file location asked n room .hits) i)
 place-is-the-entry file location asked n room zones e = answered-entry (lookup-ends file location asked n room zones e)

@@ -1,13 +1,14 @@
 -- Mark 1 means that nothing was missed: the whole reply is that of a search which never stops early. Mark 4 means that something may have been. Assumes nothing.
 use Prim.Native.Nat.{ℕ, _/_}
-use mathlib.Core.{Bool.{Bool, false}, List.{List}, Path.{_≡_, sym, ap, _∙_}}
+use mathlib.Core.{Bool.{Bool, false}, List.{List}, Path.{_≡_, sym, ap, subst, _∙_}}
 use Rattle.header.specs.{Header.{headOf}, declared.header.Head.{Head}}
 use Rattle.numbers.{proofs.Replies.{given-from, onward}, specs.Reply.{Reply, given, _>>=_}}
 use Rattle.table.proofs.Unstopped.{matched-whole, passed-over}
-use Rattle.table.specs.{Find.{fixOf, Matched, matchedWith}, Hits.{width}, Unstopped.{matchedAll, PassedOver}, declared.location.Location.{Location}}
+use Rattle.table.specs.{Ending.{Through, Behind}, Find.{fixOf, Matched, matchedWith}, Hits.{width}, Rows.{Rows, rowsIn}, Search.{judgeIn, farthest}, Unstopped.{matchedAll}}
+use Rattle.table.specs.declared.{hits.Hit.{Hit}, location.Location.{Location}}
 use Rattle.zones.proofs.HowItEnds.{outcame, Tells, lookup-tells, simple-tells, lookup-ends, simple-lookup-ends}
 use Rattle.zones.specs.{Lent.{Outcome, repliedOf}, Lookup.{zonesWith, zonesIn, lookedUp}, Simple.{describedWith, describedIn, simplyLooked}}
-use Rattle.zones.specs.{Unstopped.{lookedThroughAll, simplyLookedThroughAll}, declared.{lookup.Zones.{Zones}, simple.Described.{Described}}}
+use Rattle.zones.specs.{Unstopped.{lookedThroughAll, simplyLookedThroughAll, StoppedShort}, declared.{lookup.Zones.{Zones}, simple.Described.{Described}}}
 
 module _ {A : Type 0} (marked counted : A → ℕ) (file : List ℕ) (location : Location) (asked : Bool) (n room : ℕ) (next : Head → Matched → Reply (Outcome A))
     (tells : (head : Head) (m : Matched) (o : Outcome A) → given o ≡ next head m → Tells marked counted m o) where
@@ -46,12 +47,29 @@ unfolding simplyLooked describedIn describedWith simplyLookedThroughAll
 simple-whole-means-whole file location n room = answer-whole (λ (d : Described). d .mark) (λ (d : Described). d .matches) file location false n room _ (simple-tells file room)
 
 -- ---- mark 4
--- Under mark 4 a row behind the one at which the search stopped holds the location,
-pub mark-four : (file : List ℕ) (location : Location) (asked : Bool) (n room : ℕ) (zones : Zones) (e : lookedUp file location asked n room .reply ≡ given zones) → zones .mark ≡ 4
-    → PassedOver (fixOf location (lookup-ends file location asked n room zones e .behind .head .preamble .precision)) (lookup-ends file location asked n room zones e .behind .ending .left)
-mark-four file location asked n room zones e four = let b = lookup-ends file location asked n room zones e .behind in passed-over (b .ending .ends) (sym (b .marked) ∙ four)
+short : {file : List ℕ} {location : Location} {asked : Bool} {matches : List Hit} {mark : ℕ} → Behind file location asked matches mark → mark ≡ 4 → StoppedShort file location asked
+short {file} {location} {asked} b four =
+    let fix = fixOf location (b .head .preamble .precision) in
+    let p = passed-over (b .ending .ends) (sym (b .marked) ∙ four) in
+    record {
+      head = b .head;
+      opened = b .opened;
+      hits = b .found .hits;
+      stop = p .stop;
+      rest = p .rest;
+      last = b .ending .last;
+      through =
+          subst (λ (left : Rows). Through (judgeIn file (b .head) fix asked) fix (rowsIn file (b .head)) farthest (b .found .hits) left (b .ending .last)) (p .is) (b .ending .through);
+      stops = p .stops;
+      held = p .held;
+    }
 
--- in a simple lookup too.
-pub simple-mark-four : (file : List ℕ) (location : Location) (n room : ℕ) (described : Described) (e : simplyLooked file location n room .reply ≡ given described) → described .mark ≡ 4
-    → PassedOver (fixOf location (simple-lookup-ends file location n room described e .behind .head .preamble .precision)) (simple-lookup-ends file location n room described e .behind .ending .left)
-simple-mark-four file location n room described e four = let b = simple-lookup-ends file location n room described e .behind in passed-over (b .ending .ends) (sym (b .marked) ∙ four)
+-- Under mark 4 the search stopped at a row above the location, and a row behind that one holds the location,
+pub mark-four : (file : List ℕ) (location : Location) (asked : Bool) (n room : ℕ) (zones : Zones) → lookedUp file location asked n room .reply ≡ given zones → zones .mark ≡ 4
+    → StoppedShort file location asked
+mark-four file location asked n room zones e four = short (lookup-ends file location asked n room zones e .behind) four
+
+-- in a simple lookup too, which does not ask for the distance.
+pub simple-mark-four : (file : List ℕ) (location : Location) (n room : ℕ) (described : Described) → simplyLooked file location n room .reply ≡ given described → described .mark ≡ 4
+    → StoppedShort file location false
+simple-mark-four file location n room described e four = short (simple-lookup-ends file location n room described e .behind) four

@@ -1,23 +1,24 @@
--- Cases that meet the theorems on endings, asked at (5, 5) on their grid, by computation: document 01's printed file, and a table out of order. Assumes nothing.
+-- Cases that meet the theorems on endings, asked at (5, 5) on their grid, by computation: document 01's printed file, a table out of order, one in order, and one entry twice. Assumes nothing.
 use mathlib.Core.{Path.{_≡_, refl, ap, subst}, Bool.{false}, List.{List, [], _∷_}}
 use Prim.Native.Nat.{ℕ}
 use native.Mathlib.Omega.{arith}
-use lib.{IntN.{negsuc}, Ieee.{fin, ofInt, add, sub, mul, div, toSigned}}
+use lib.{IntN.{pos, negsuc}, Ieee.{fin, ofInt, add, sub, mul, div, toSigned}}
 use Rattle.numbers.specs.{Varint.{readingOf, forwardAt, valueOf, sizeOf, tooLong}, Point.{signedOf, evenBits, pointOf}, Float.{fixedPoint, oneShifted}, Answer.{checked}}
-use Rattle.numbers.specs.Reply.{given}
+use Rattle.numbers.specs.Reply.{Reply, given, refused}
 use Rattle.border.specs.{Place.{movedBy}, Reader.{advanced, marker, packedTurn, turnOf}, Trace.{roundAgain, nextWithin, nextPoint, traceThen, traceWithin, traceOf}}
 use Rattle.verdict.specs.Edge.{samePoint, between, inBox, quadrantOf, slopeOf, edgeOf, straight, closestOn}
 use Rattle.verdict.specs.{Winding.{turned, quarterBy, halfTurn, turnAt, crossingOf, acrossBy, clearOf, woundBy}, Distance.{measured}}
 use Rattle.verdict.specs.Verdict.{along, passing, closedAt, thenOn, judge, judgedAt}
 use Rattle.verdict.specs.Step as S
-use Rattle.header.specs.{Field.{fieldAt}, Header.{preambleOf, textsFrom, sectionsFrom, sectionsAt, contentsBy, headBy}}
+use Rattle.header.specs.{Field.{fieldAt}, Header.{preambleOf, textsFrom, sectionsFrom, sectionsAt, contentsBy, headBy, headOf}, declared.header.Head.{Head}}
 use Rattle.header.specs.{Text.{within, remoteAt, stringAt, bytesOf, textAt}, Utf8.{characters, startedBy, begunBy, followed, goesOn, isUtf8}}
 use Rattle.zones.specs.{Fields.{fieldsFrom, fieldsOf}, Lent.{Replied, replied, repliedOf}, Lookup.{safezoneBits, zonesWith, zonesIn, lookedUp}}
-use Rattle.zones.specs.{declared.lookup.Zones.{Zones}, Places.{EntryOf}, Unstopped.{lookedThroughAll}}
+use Rattle.zones.specs.{declared.lookup.Zones.{Zones}, Places.{EntryOf, Listed}, Unstopped.{lookedThroughAll, StoppedShort}}
+use Rattle.zones.specs.Places as P
 use Rattle.table.specs.{Find.{fixOf, matchedWith}, Hits.{words, hitOf, hitAt}, Ending.{Answered}, Merge.{summary, seen, mergedAfter, merged}}
-use Rattle.table.specs.{Rows.{rowsThen, rowBy, rowsWithin, rowsFrom, rowsIn}, Search.{judgedTurn, rowTurn, seek, searched}, Table.{stepsBy, entryBy}}
-use Rattle.table.specs.{declared.location.Location.{Location}, Rest.{restMark}, Unstopped.{PassedOver}}
-use Rattle.zones.proofs.{HowItEnds.{lookup-ends}, PlaceIsTheEntry.{place-is-the-entry}, WholeMeansWhole.{whole-means-whole, mark-four}}
+use Rattle.table.specs.{Rows.{row, tableEnd, rowsThen, rowBy, rowsWithin, rowsFrom, rowsIn}, Search.{judgedTurn, rowTurn, seek, searched}, Table.{stepsBy, entryBy}}
+use Rattle.table.specs.{declared.{location.Location.{Location}, rows.Row.{Row}}, Rest.{restMark}}
+use Rattle.zones.proofs.{HowItEnds.{lookup-ends}, PlaceIsTheEntry.{Begins, begins, place-is-the-entry}, WholeMeansWhole.{whole-means-whole, mark-four}}
 
 abbrev printed : List ℕ
 printed =
@@ -58,9 +59,70 @@ pub stopped-early : lookedUp outOfOrder inTheZone false 4 4
 unfolding readingOf restMark forwardAt valueOf sizeOf tooLong signedOf evenBits pointOf fixedPoint oneShifted checked movedBy advanced marker packedTurn turnOf roundAgain nextWithin nextPoint traceThen traceWithin traceOf along passing closedAt thenOn judge judgedAt fieldAt fieldsFrom fieldsOf fixOf matchedWith preambleOf textsFrom sectionsFrom sectionsAt contentsBy headBy words repliedOf safezoneBits zonesWith zonesIn lookedUp summary seen mergedAfter merged rowsThen rowBy rowsWithin rowsFrom rowsIn judgedTurn rowTurn seek searched stepsBy entryBy within remoteAt stringAt bytesOf textAt characters startedBy begunBy followed goesOn isUtf8 samePoint between inBox quadrantOf slopeOf edgeOf straight closestOn turned quarterBy halfTurn turnAt crossingOf acrossBy clearOf woundBy measured S.checked ofInt add sub mul div toSigned
 stopped-early = refl
 
--- so a row behind the second holds the location
-abbrev early-ends : Answered outOfOrder inTheZone false 4 1 4 (lookedUp outOfOrder inTheZone false 4 4 .hits)
-early-ends = lookup-ends outOfOrder inTheZone false 4 4 _ (ap (λ (x : Replied Zones). x .reply) stopped-early)
-
-pub stopped-early-misses : PassedOver (fixOf inTheZone (early-ends .behind .head .preamble .precision)) (early-ends .behind .ending .left)
+-- so the search stopped short
+pub stopped-early-misses : StoppedShort outOfOrder inTheZone false
 stopped-early-misses = mark-four outOfOrder inTheZone false 4 4 _ (ap (λ (x : Replied Zones). x .reply) stopped-early) refl
+
+-- ---- two entries in order: one that holds the location, and one above it, at which the search stops
+abbrev inOrder : List ℕ
+inOrder =
+    0x50 ∷ 0x4C ∷ 0x42 ∷ 0x43 ∷ 0x01 ∷ 0x10 ∷ 0x01 ∷ 0x04 ∷ 0xCE ∷ 0xE1 ∷ 0xED ∷ 0xE5 ∷ 0x00 ∷ 0x0C ∷ 0x02 ∷ 0x09 ∷ 0x04 ∷ 0x04 ∷ 0x14
+    ∷ 0x14 ∷ 0x00 ∷ 0x00 ∷ 0x28 ∷ 0x28 ∷ 0x28 ∷ 0x28 ∷ 0x00 ∷ 0x00 ∷ 0x01 ∷ 0xC1 ∷ 0x30 ∷ 0x80 ∷ 0x02 ∷ 0x80 ∷ 0x04 ∷ 0x81 ∷ 0x02 ∷ 0x00 ∷ 0x00 ∷ []
+
+-- with mark 1, since the rest is clean
+pub stopped-clean : lookedUp inOrder inTheZone false 4 4
+    ≡ replied (given (record { matches = 1; mark = 1; safezone = 0; used = 4 })) (0 ∷ 0 ∷ 1 ∷ 16 ∷ []) (0 ∷ 0 ∷ 1 ∷ 0x41 ∷ [])
+unfolding readingOf restMark forwardAt valueOf sizeOf tooLong signedOf evenBits pointOf fixedPoint oneShifted checked movedBy advanced marker packedTurn turnOf roundAgain nextWithin nextPoint traceThen traceWithin traceOf along passing closedAt thenOn judge judgedAt fieldAt fieldsFrom fieldsOf fixOf matchedWith preambleOf textsFrom sectionsFrom sectionsAt contentsBy headBy words repliedOf safezoneBits zonesWith zonesIn lookedUp summary seen mergedAfter merged rowsThen rowBy rowsWithin rowsFrom rowsIn judgedTurn rowTurn seek searched stepsBy entryBy within remoteAt stringAt bytesOf textAt characters startedBy begunBy followed goesOn isUtf8 samePoint between inBox quadrantOf slopeOf edgeOf straight closestOn turned quarterBy halfTurn turnAt crossingOf acrossBy clearOf woundBy measured S.checked ofInt add sub mul div toSigned
+stopped-clean = refl
+
+-- and nothing was missed
+pub stopped-clean-whole : lookedUp inOrder inTheZone false 4 4 ≡ lookedThroughAll inOrder inTheZone false 4 4
+stopped-clean-whole = whole-means-whole inOrder inTheZone false 4 4 _ (ap (λ (x : Replied Zones). x .reply) stopped-clean) refl
+
+-- ---- two entries with one box and one border: the match is the first's
+abbrev alikeTwice : List ℕ
+alikeTwice =
+    0x50 ∷ 0x4C ∷ 0x42 ∷ 0x43 ∷ 0x01 ∷ 0x10 ∷ 0x01 ∷ 0x04 ∷ 0xCE ∷ 0xE1 ∷ 0xED ∷ 0xE5 ∷ 0x00 ∷ 0x0C ∷ 0x02 ∷ 0x09 ∷ 0x04 ∷ 0x04 ∷ 0x14
+    ∷ 0x14 ∷ 0x00 ∷ 0x00 ∷ 0x04 ∷ 0x04 ∷ 0x14 ∷ 0x14 ∷ 0x00 ∷ 0x00 ∷ 0x01 ∷ 0xC1 ∷ 0x30 ∷ 0x80 ∷ 0x02 ∷ 0x80 ∷ 0x04 ∷ 0x81 ∷ 0x02 ∷ 0x00 ∷ 0x00 ∷ []
+
+pub first-of-two : lookedUp alikeTwice inTheZone false 8 4
+    ≡ replied (given (record { matches = 1; mark = 1; safezone = 0; used = 4 })) (0 ∷ 0 ∷ 1 ∷ 16 ∷ 0 ∷ 0 ∷ 0 ∷ 0 ∷ []) (0 ∷ 0 ∷ 1 ∷ 0x41 ∷ [])
+unfolding readingOf restMark forwardAt valueOf sizeOf tooLong signedOf evenBits pointOf fixedPoint oneShifted checked movedBy advanced marker packedTurn turnOf roundAgain nextWithin nextPoint traceThen traceWithin traceOf along passing closedAt thenOn judge judgedAt fieldAt fieldsFrom fieldsOf fixOf matchedWith preambleOf textsFrom sectionsFrom sectionsAt contentsBy headBy words repliedOf safezoneBits zonesWith zonesIn lookedUp summary seen mergedAfter merged rowsThen rowBy rowsWithin rowsFrom rowsIn judgedTurn rowTurn seek searched stepsBy entryBy within remoteAt stringAt bytesOf textAt characters startedBy begunBy followed goesOn isUtf8 samePoint between inBox quadrantOf slopeOf edgeOf straight closestOn turned quarterBy halfTurn turnAt crossingOf acrossBy clearOf woundBy measured S.checked ofInt add sub mul div toSigned
+first-of-two = refl
+
+pub first-of-two-entry : EntryOf alikeTwice inTheZone (hitOf 0 0 1 16)
+first-of-two-entry =
+    subst (λ (x : Replied Zones). EntryOf alikeTwice inTheZone (hitAt (x .hits) 0)) first-of-two
+    (place-is-the-entry alikeTwice inTheZone false 8 4 _ (ap (λ (x : Replied Zones). x .reply) first-of-two) 0 (omega arith))
+
+-- the second's place, 22, is not permitted, though an entry with the same box is read there
+numbered-first : (a b : Row) → b .id ≡ 1 → (r : Row) → Listed r (row a (row b tableEnd)) → r .id ≡ 0 → r .place ≡ a .place
+unfolding Begins
+numbered-first a b one _ P.here zero = refl
+numbered-first a b one _ (P.later P.here) zero = absurd (omega (arith, one, zero))
+numbered-first a b one r (P.later (P.later l)) zero = absurd (begins l)
+
+abbrev alikeRow : ℕ → ℕ → ℕ → Row
+alikeRow place id next =
+    record {
+      place = place;
+      id = id;
+      metadata = 0;
+      polygon = 0;
+      bounds = record { «min_lat» = record { 0 = pos 2 }; «min_lon» = record { 0 = pos 2 }; «max_lat» = record { 0 = pos 10 }; «max_lon» = record { 0 = pos 10 } };
+      next = next;
+    }
+
+unfoldable FirstAtSixteen : Reply Head → Type 0
+FirstAtSixteen (given head) = (r : Row) → Listed r (rowsIn alikeTwice head) → r .id ≡ 0 → r .place ≡ 16
+FirstAtSixteen (refused why) = ⊥
+
+first-at-sixteen : FirstAtSixteen (headOf alikeTwice)
+unfolding FirstAtSixteen readingOf forwardAt valueOf sizeOf tooLong signedOf preambleOf fieldAt textsFrom sectionsFrom sectionsAt contentsBy headBy within remoteAt stringAt bytesOf textAt characters startedBy begunBy followed goesOn isUtf8 rowsThen rowBy rowsWithin rowsFrom rowsIn stepsBy entryBy
+first-at-sixteen = numbered-first (alikeRow 16 0 22) (alikeRow 22 1 28) refl
+
+pub second-not-permitted : EntryOf alikeTwice inTheZone (hitOf 0 0 1 22) → ⊥
+unfolding FirstAtSixteen
+second-not-permitted e =
+    let at : e .table-row .place ≡ 16 = subst FirstAtSixteen (e .opened) first-at-sixteen (e .table-row) (e .listed) (e .numbered) in
+    omega (arith, e .placed, at)

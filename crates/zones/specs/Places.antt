@@ -14,7 +14,7 @@ pub data Listed (r : Row) : Rows → Type 0 where
   here : {rows : Rows} → Listed r (row r rows)
   later : {other : Row} {rows : Rows} → Listed r rows → Listed r (row other rows)
 
--- A row of the file's table has the match's number and metadata id; its entry is read at the match's place, and its box holds the location.
+-- A row of the file's table has the match's number, metadata id and place; its entry is read there, and its box holds the location.
 pub record EntryOf (file : List ℕ) (location : Location) (match : Hit) : Type 0 where
   pub head : Head
   pub opened : headOf file ≡ given head
@@ -22,6 +22,7 @@ pub record EntryOf (file : List ℕ) (location : Location) (match : Hit) : Type 
   pub listed : Listed table-row (rowsIn file head)
   pub numbered : table-row .id ≡ match .polygon
   pub same-id : table-row .metadata ≡ match .metadata
+  pub placed : table-row .place ≡ match .place
   pub entry : Entry
   pub reads : entryBy (forwardAt file) (match .place) ≡ found entry
   pub box : table-row .bounds ≡ entry .bounds

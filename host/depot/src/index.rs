@@ -25,15 +25,15 @@ pub fn run(path: &Path, output: &Path) -> Result<Said, Fault> {
 
 /// Looks a fix up through the index of a file.
 pub fn lookup(path: &Path, (file, map): (&Path, &Map<Vec<u8>>), (lat, lon): (f32, f32)) -> Result<Zones, Fault> {
-    let index = Index::read(path).map_err(|error| Fault::map(path, error))?;
-    map.lookup_indexed(&index, lat, lon).map_err(|error| match error {
+    let index = Index::read(path, map).map_err(|error| match error {
         Error::Refused(why) if why.number == Number::OtherIndex => other(path, file, why),
-        error => Fault::map(file, error),
-    })
+        error => Fault::map(path, error),
+    })?;
+    map.lookup_through(&index, lat, lon).map_err(|error| Fault::map(file, error))
 }
 
 fn other(index: &Path, file: &Path, why: Refusal) -> Fault {
     let (index, file) = (index.display(), file.display());
-    let advice = format!("it was not built for {file}, or that file's header or table has changed: depot index {file} -o {index}");
+    let advice = format!("it is not what is built for {file}: built for another file, before a change of that one's header or table, or damaged: depot index {file} -o {index}");
     Fault::No(format!("{index}: {why}\n  {advice}"))
 }

@@ -11,8 +11,8 @@ use uskelzar::{raw, Hour, NotStamped, Printer, Slip};
 /// The columns of a stamped slip, behind those of its line.
 const HOUR: [&str; 5] = ["local", "offset", "daylight", "abbreviation", "zone"];
 /// A column for each way of not stamping.
-const WAYS: [&str; 11] =
-    ["unreadable line", "map refused", "not whole", "no zone", "zone unnamed", "bad zone name", "no zone file", "zone file refused", "hour unknown", "outside the years", "hours differ"];
+const WAYS: [&str; 12] =
+    ["unreadable line", "map refused", "not whole", "no zone", "zone unnamed", "bad zone name", "no zone file", "zone file refused", "hour unknown", "outside the years", "hours differ", "no place"];
 
 /// Which columns a line's numbers stand in.
 struct Columns {
@@ -110,10 +110,11 @@ fn way(why: &NotStamped) -> usize {
         NotStamped::Unnamed => 4,
         NotStamped::BadName(_) => 5,
         NotStamped::NoFile(..) => 6,
-        NotStamped::Refused(..) => 7,
+        NotStamped::Refused(..) | NotStamped::LeapSeconds(_) => 7,
         NotStamped::Unknown(_) => 8,
         NotStamped::OutsideYears => 9,
         NotStamped::HoursDiffer(_) => 10,
+        NotStamped::NoPlace => 11,
     }
 }
 

@@ -158,7 +158,7 @@ fn zones_through_an_index() {
     // the yards' own, and that of another file
     let file = yards(&folder);
     let zone = |index: &str| depot(&["zone", "0.0035", "109.338", &file, "--index", index]);
-    said(&zone(&index), 1, &["world.index: refusal 36: index and file differ", "it was not built for", "yards.plb -o"]);
+    said(&zone(&index), 1, &["world.index: refusal 36: index and file differ", "it is not what is built for", "yards.plb -o"]);
     let own = folder.path("yards.index");
     said(&depot(&["index", &file, "-o", &own]), 0, &["for 12 entries"]);
     said(&zone(&own), 0, &["Asia/Pontianak, Tank farm: in the zone", "search: whole"]);

@@ -32,6 +32,19 @@ pub fn fixed(offset: i32, name: &str) -> Vec<u8> {
     file
 }
 
+/// Version 1: one clock, this offset, for ever, and a leap second at each of these instants.
+pub fn leaping(offset: i32, name: &str, occurrences: &[i32]) -> Vec<u8> {
+    let mut file = header(0, [0, 0, occurrences.len() as u32, 0, 1, name.len() as u32 + 1]);
+    file.extend(offset.to_be_bytes());
+    file.extend([0, 0]);
+    file.extend(name.bytes().chain([0]));
+    for (at, correction) in occurrences.iter().zip(1i32..) {
+        file.extend(at.to_be_bytes());
+        file.extend(correction.to_be_bytes());
+    }
+    file
+}
+
 /// Version 1: one change, at 1970, and nothing said after it.
 pub fn ended() -> Vec<u8> {
     let mut file = header(0, [0, 0, 0, 1, 1, 4]);

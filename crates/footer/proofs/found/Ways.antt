@@ -91,6 +91,7 @@ module _ (file : List ℕ) (a b : Found) where
       unfolding sameFound
       other-length h = simp (offsets, eq-eqb (a .daylight) (b .daylight) d, ne-eqb (a .length) (b .length) h)
 
-      pub same-so-far : a .length ≡ b .length → sameOctets file (a .place) (b .place) (a .length) ≡ sameFound file a b
+      -- whichever length was taken
+      pub same-so-far : a .length ≡ b .length → {n : ℕ} → n ≡ a .length → sameOctets file (a .place) (b .place) n ≡ sameFound file a b
       unfolding sameFound
-      same-so-far l = simp (offsets, eq-eqb (a .daylight) (b .daylight) d, eq-eqb (a .length) (b .length) l)
+      same-so-far l e = rw e (simp (offsets, eq-eqb (a .daylight) (b .daylight) d, eq-eqb (a .length) (b .length) l))

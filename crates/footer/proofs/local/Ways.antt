@@ -106,21 +106,32 @@ module _ (file : List ℕ) (instant : ℤ) where
     answered {rules} said r l s = s ∙ ap (answerBy file (zone .block) rules) l ∙ sym (simp (z, r))
 
 -- the reply
-module _ (file : List ℕ) (instant a : ℤ) (same : a ≡ instant) (room : ℕ) (said : Said) (told : toldSaid said ≡ answerAt rfc9636 file a) where
-  here : toldSaid said ≡ answerAt rfc9636 file instant
-  here = told ∙ ap (answerAt rfc9636 file) same
+module _ (file : List ℕ) (room : ℕ) (said : Said) where
+  pub reply-found : {found : Found} {reply : LocalTime} {text : List ℕ} → said ≡ S.Found found → replied reply text ≡ named file room found → replied reply text ≡ lent file room (toldSaid said)
+  unfolding toldSaid lent
+  reply-found e r = r ∙ ap (λ (s : Said). lent file room (toldSaid s)) (sym e)
 
-  pub reply-found : {found : Found} {reply : LocalTime} {text : List ℕ} → said ≡ S.Found found → replied reply text ≡ named file room found → replied reply text ≡ localTime file instant room
-  unfolding localTimeBy toldSaid lent
-  reply-found e r = r ∙ ap (lent file room) (sym (ap toldSaid e) ∙ here)
+  pub reply-unknown : {text : List ℕ} → said ≡ S.Unknown → text ≡ zeros room → replied L.Unknown text ≡ lent file room (toldSaid said)
+  unfolding toldSaid lent
+  reply-unknown e z = ap (replied L.Unknown) z ∙ ap (λ (s : Said). lent file room (toldSaid s)) (sym e)
 
-  pub reply-unknown : {text : List ℕ} → said ≡ S.Unknown → text ≡ zeros room → replied L.Unknown text ≡ localTime file instant room
-  unfolding localTimeBy toldSaid lent
-  reply-unknown e z = ap (replied L.Unknown) z ∙ ap (lent file room) (sym (ap toldSaid e) ∙ here)
+  pub reply-refused : {why : Refusal} {text : List ℕ} → said ≡ S.Refused why → text ≡ zeros room → replied (L.Refused why) text ≡ lent file room (toldSaid said)
+  unfolding toldSaid lent
+  reply-refused {why} e z = ap (replied (L.Refused why)) z ∙ ap (λ (s : Said). lent file room (toldSaid s)) (sym e)
 
-  pub reply-refused : {why : Refusal} {text : List ℕ} → said ≡ S.Refused why → text ≡ zeros room → replied (L.Refused why) text ≡ localTime file instant room
-  unfolding localTimeBy toldSaid lent
-  reply-refused {why} e z = ap (replied (L.Refused why)) z ∙ ap (lent file room) (sym (ap toldSaid e) ∙ here)
+  -- local time is the reply to what the file says
+  pub local-time-is : (instant : ℤ) {at : ℤ} {time : LocalTime} {text : List ℕ} → at ≡ instant → toldSaid said ≡ answerAt rfc9636 file at
+      → replied time text ≡ lent file room (toldSaid said) → replied time text ≡ localTime file instant room
+  unfolding localTimeBy
+  local-time-is instant same told r = r ∙ ap (lent file room) (told ∙ ap (answerAt rfc9636 file) same)
+
+-- what a refused file says
+pub refused-said : {said : Said} {why : Refusal} {x : Reply Answer} → said ≡ S.Refused why → toldSaid (S.Refused why) ≡ x → toldSaid said ≡ x
+refused-said e t = ap toldSaid e ∙ t
+
+pub refused-held : {said : Said} {why : Refusal} (end : ℕ) → said ≡ S.Refused why → HeldSaid end said
+unfolding HeldSaid
+refused-held end e = rw e tt
 
 pub said-held : {said : Said} {found : Found} (end : ℕ) → said ≡ S.Found found → HeldSaid end said → Held end found
 unfolding HeldSaid

@@ -26,14 +26,10 @@ returns-2 c =
 
 returns-3 : tie.Need-returns-3
 returns-3 c =
-    let args = c .before .before .before .before .before .before .before .before .before .before .before .before .before .before .before .before .args in
-    let if1 = c .before .before .before .before .before .before .before .before .before .before .before .before .if1 in
-    let if2 = c .before .before .before .before .before .before .before .before .before .before .before .if2 in
-    let instant-of = c .before .before .before .before .before .before .before .before .before .before .instant-of in
-    let local-time = c .before .before .before .before .before .before .before .local-time in
-    let pre = c .before .before .before .before .before .before .before .before .before .before .before .before .before .before .before .before .pre in
-    let put-answer = c .before .before .put-answer in
-    printed-answer (args .input .now) (length (args .text .now)) (if1 .left) (if2 .left) (toZ-ofZ (sfits-of (instant-of .ok)) ∙ instant-of .ensures) (toZ-ofZ (sfits-of (instant-of .ok)) ∙ instant-of .ensures) (behind (args .input .now)) (local-time .ensures) (omega (arith, pre .0)) (pre .1) (put-answer .ensures)
+    let args = c .before .before .before .before .before .before .before .before .before .before .before .before .before .before .before .before .before .args in
+    let instant-of = c .before .before .before .before .before .before .before .before .before .before .before .instant-of in
+    let instant = toZ-ofZ (sfits-of (instant-of .ok)) ∙ instant-of .ensures in
+    printed-answer (args .input .now) (length (args .text .now)) (c .before .before .before .before .before .before .before .before .before .before .before .before .before .if1 .left) (c .before .before .before .before .before .before .before .before .before .before .before .before .if2 .left) instant instant (behind (args .input .now)) (c .before .before .before .before .before .before .before .before .local-time .ensures .0) (c .before .before .before .before .before .before .before .before .local-time .ensures .1) (c .before .before .before .before .before .on-scale .ensures) (omega (arith, c .before .before .before .before .before .before .before .before .before .before .before .before .before .before .before .before .before .pre .0)) (c .before .before .before .before .before .before .before .before .before .before .before .before .before .before .before .before .before .pre .1) (c .before .before .put-answer .ensures)
 
 pub hour-spec : {M : Type 1} → statement M
 hour-spec =
@@ -49,6 +45,7 @@ hour-spec =
     (λ c. search needs)
     (λ c. search needs)
     (λ c. search needs)
+    (λ c κs. search needs)
     (λ c κs. search needs)
     (λ c κs. search needs)
     (λ c. search needs)

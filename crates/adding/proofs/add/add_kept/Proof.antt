@@ -4,9 +4,10 @@ use lib.{ListN.{length}, Seq.{length-take-le}}
 use mathlib.Core.Path.{refl, sym}
 use native.Mathlib.Omega.{arith}
 use Rattle.growing.specs.Notes.{notesAs}
+use Rattle.held.proofs.Stood.{stood as stood-is}
 use Rattle.held.specs.{Space.{roomsOf}, State.{listsAs}}
 use Rattle.joining.specs.Joins.{untouched}
-use Rattle.adding.proofs.{Adding.{as-changed, stands-not-adds, stood, refused-adds, full-adds, joined-adds}, Asking.{stood-is, sum-small, few-here, strings-in, sum-in, size-in, strings-are, placed-here, measuring-here}}
+use Rattle.adding.proofs.{Adding.{as-changed, stands-not-adds, stood, refused-adds, full-adds, joined-adds}, Asking.{sum-small, few-here, strings-in, sum-in, size-in, strings-are, placed-here, measuring-here}}
 use Rattle.adding.specs.Adds.{noteRooms}
 use Rattle.adding.proofs.add.add_kept.Statement.{statement}
 use Rattle.adding.proofs.add.add_kept.Tie as tie
@@ -48,7 +49,7 @@ take-offer-requires c κs =
     let lists = listsAs (args .boxes .now) (args .borders .now) (args .lengths .now) (args .texts .now) (args .bytes .now) in
     let notes = notesAs (args .marks .now) (args .chains .now) (args .groups .now) (args .begins .now) in
     let said = c .before .before .before .stands in
-    (stood-is (args .builder) rooms (stood (args .builder) (args .noted) (args .lats .now) (args .lons .now) (args .pieces .now) (args .sizes .now) (args .values .now) rooms lent (args .wide) lists notes refl (said .result) (said .ensures) (c .before .before .if1 .left)) .bytes-in, c .before .before .before .before .before .before .before .before .before .before .before .before .before .before .before .before .before .before .before .before .before .before .before .pre)
+    (stood-is (args .builder) rooms (stood (args .builder) (args .noted) (args .lats .now) (args .lons .now) (args .pieces .now) (args .sizes .now) (args .values .now) rooms lent (args .wide) lists notes refl (said .result) (said .ensures) (c .before .before .if1 .left)) .bytes-room, c .before .before .before .before .before .before .before .before .before .before .before .before .before .before .before .before .before .before .before .before .before .before .before .pre)
 
 enum-known-offered : tie.Need-enum-known-offered
 enum-known-offered c = search needs

@@ -11,7 +11,7 @@ same-octets-requires : tie.Need-same-octets-requires
 same-octets-requires c κs = omega (arith, c .before .before .before .before .before .before .before .before .before .before .before .before .pre .0 .held, c .before .before .before .before .before .before .before .before .before .before .before .before .pre .1 .held, c .if3 .left)
 
 returns-4 : tie.Need-returns-4
-returns-4 c = c .same-octets .ensures ∙ same-so-far _ _ _ (c .before .before .before .before .before .before .before .if1 .left) (c .before .before .before .before .if2 .left) (c .before .if3 .left)
+returns-4 c = c .same-octets .ensures ∙ same-so-far _ _ _ (c .before .before .before .before .before .before .before .if1 .left) (c .before .before .before .before .if2 .left) (c .before .if3 .left) (omega (arith, c .before .if3 .left))
 
 pub same-found-spec : {M : Type 1} → statement M
 same-found-spec =

@@ -1,9 +1,10 @@
 -- `replacing::check::check` meets its contract. Assumes nothing.
 use Rattle.replacing.proofs.Found.{text-few}
-use Rattle.replacing.proofs.Spots.{stood, index-inside, index-few, spot-ordered, within-parts, fallen, no-yard, no-field, no-text, outside, no-aside, no-space, spotted}
+use Rattle.replacing.proofs.Spots.{index-inside, index-few, spot-ordered, within-parts, fallen, no-yard, no-field, no-text, outside, no-aside, no-space, spotted}
 use Rattle.replacing.proofs.check.check.Statement.{statement}
 use Rattle.replacing.specs.Spot.{within, told}
 use Rattle.replacing.specs.declared.check.{Spot.{Spot}, Checked.{Checked}}
+use Rattle.held.proofs.Stood.{stood}
 use Rattle.held.specs.Space.{longEnough, standing}
 use Rattle.numbers.specs.Reply.{given}
 use lib.ListN.{length}

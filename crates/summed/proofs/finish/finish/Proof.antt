@@ -1,6 +1,6 @@
 -- `summed::finish::finish` meets its contract. Assumes nothing.
 use borrow.Author.Needs.{needs}
-use Rattle.summed.proofs.Finishing.{settled-ends, settled-refused, idle-as}
+use Rattle.summed.proofs.Finishing.{settled-ends, settled-refused, settled-zero, idle-as}
 use Rattle.summed.proofs.finish.finish.Statement.{statement}
 use Rattle.summed.proofs.finish.finish.Tie as tie
 
@@ -17,7 +17,7 @@ returns c =
     let words = c .before .before .before .before .before .before .before .before .before .before .before .before .before .before .before .before .before .before .before .before .before .before .before .before .before .before .before .before .before .before .before .words in
     let places = c .before .before .before .before .before .before .before .before .before .before .before .before .before .before .before .before .before .before .before .before .before .before .before .before .before .before .before .before .before .places in
     let rest-work = c .before .before .before .before .before .before .before .before .before .before .before .before .before .before .before .before .before .before .rest-work in
-    (λ b h. settled-ends _ _ _ _ _ _ (out .given) (fill .ensures .0 b h) (settle .ensures), λ e. settled-refused _ _ _ _ _ _ (out .given) (fill .ensures .1 e) (settle .ensures), idle-as _ _ _ _ _ _ _ _ _ _ _ _ _ _ _ _ _ _ _ _ _ (starts .given) (keys .given) (spare .given) (kept .given) (held .given) (words .given) (places .given) (rest-work .ensures))
+    (λ b h. settled-ends _ _ _ _ _ _ (out .given) (fill .ensures .0 b h) (settle .ensures), λ e. settled-refused _ _ _ _ _ (fill .ensures .1 e) (settle .ensures), λ why e. settled-zero _ _ _ _ _ why (out .given) (settle .ensures) e, idle-as _ _ _ _ _ _ _ _ _ _ _ _ _ _ _ _ _ _ _ _ _ (starts .given) (keys .given) (spare .given) (kept .given) (held .given) (words .given) (places .given) (rest-work .ensures))
 
 pub finish-spec : {M : Type 1} → statement M
 finish-spec =

@@ -6,7 +6,12 @@ use Rattle.uskelzar.specs.Spoken.{Spoken}
 use Rattle.uskelzar.proofs.draft.uskelzar_finish.Tie as tie
 
 returns : tie.Need-returns
-returns c = (ends (c .before .before .before .before .before .before .before .before .before .before .before .before .before .before .before .before .before .before .before .finish .result) (c .before .before .before .before .before .before .before .before .before .before .before .before .before .before .before .before .before .before .before .before .before .before .before .before .before .before .before .before .state-of .ensures) (record { answers = c .before .before .before .before .before .before .before .before .before .before .before .before .before .before .before .before .before .before .before .finish .ensures .0; broken = c .before .before .before .before .before .before .before .before .before .before .before .before .before .before .before .before .before .before .before .finish .ensures .1 }) (ap (λ (s : Spoken). s .said) (c .speak .ensures) ∙ c .before .before .say-built .ensures), c .before .before .before .before .before .before .before .before .before .before .before .before .before .before .before .before .before .before .before .finish .ensures .2)
+returns c =
+    let finish = c .before .before .before .before .before .before .before .before .before .before .before .before .before .before .before .before .before .before .before .finish in
+    let state-of = c .before .before .before .before .before .before .before .before .before .before .before .before .before .before .before .before .before .before .before .before .before .before .before .before .before .before .before .before .state-of in (
+      ends (finish .result) (state-of .ensures) (record { answers = finish .ensures .0; broken = finish .ensures .1; emptied = finish .ensures .2 }) (ap (λ (s : Spoken). s .said) (c .speak .ensures) ∙ c .before .before .say-built .ensures),
+      finish .ensures .3,
+    )
 
 pub uskelzar-finish-spec : {M : Type 1} → statement M
 uskelzar-finish-spec =

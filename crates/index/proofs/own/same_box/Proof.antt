@@ -1,0 +1,66 @@
+-- `index::own::same_box` meets its contract. Assumes nothing.
+use Prim.Native.Nat.{_+_}
+use borrow.Author.{Needs.{needs}, Tests.{not-true, not-false}}
+use mathlib.Core.Path.{sym, ap, _∙_}
+use mir.{Syntax.{w32}, Val.{ofZ}, ValLaws.{toZ-ofZ}}
+use Rattle.index.specs.Own.{isAt}
+use Rattle.index.proofs.{Sides.{and-first}, Standing.{goes, and-end, by-word}, own.same_box.Statement.{statement}}
+use Rattle.index.proofs.own.same_box.Tie as tie
+
+returns : tie.Need-returns
+unfolding isAt
+returns c =
+    let told = c .before .before .before .before .struct-told .given in
+    let r1 = by-word (c .before .before .before .before .before .before .args .index .now) (c .before .before .before .before .before .before .args .at) (c .before .before .wide .ensures .0 ∙ (c .before .before .before .word-of .ensures ∙ ap (ofZ w32) (toZ-ofZ w32 (c .before .before .before .before .before .before .args .bounds .«min_lat» .0) (search needs)))) (c .before .is-word .ensures) in
+    and-first _ _ (sym r1 ∙ not-true _ (c .if1 .taken))
+
+returns-2 : tie.Need-returns-2
+unfolding isAt
+returns-2 c =
+    let told = c .before .before .before .before .before .before .before .before .before .struct-told .given in
+    let r1 = by-word (c .before .before .before .before .before .before .before .before .before .before .before .args .index .now) (c .before .before .before .before .before .before .before .before .before .before .before .args .at) (c .before .before .before .before .before .before .before .wide .ensures .0 ∙ (c .before .before .before .before .before .before .before .before .word-of .ensures ∙ ap (ofZ w32) (toZ-ofZ w32 (c .before .before .before .before .before .before .before .before .before .before .before .args .bounds .«min_lat» .0) (search needs)))) (c .before .before .before .before .before .before .is-word .ensures) in
+    let r2 = by-word (c .before .before .before .before .before .before .before .before .before .before .before .args .index .now) (c .before .before .before .before .before .before .before .before .before .before .before .args .at + 1) (c .before .before .wide2 .ensures .0 ∙ (c .before .before .before .word-of2 .ensures ∙ ap (ofZ w32) (toZ-ofZ w32 (c .before .before .before .before .before .before .before .before .before .before .before .args .bounds .«min_lon» .0) (search needs)))) (c .before .is-word2 .ensures) in
+    goes _ _ (sym r1 ∙ not-false _ (c .before .before .before .before .before .if1 .left)) (and-first _ _ (sym r2 ∙ not-true _ (c .if2 .taken)))
+
+returns-3 : tie.Need-returns-3
+unfolding isAt
+returns-3 c =
+    let told = c .before .before .before .before .before .before .before .before .before .before .before .before .before .before .struct-told .given in
+    let r1 = by-word (c .before .before .before .before .before .before .before .before .before .before .before .before .before .before .before .before .args .index .now) (c .before .before .before .before .before .before .before .before .before .before .before .before .before .before .before .before .args .at) (c .before .before .before .before .before .before .before .before .before .before .before .before .wide .ensures .0 ∙ (c .before .before .before .before .before .before .before .before .before .before .before .before .before .word-of .ensures ∙ ap (ofZ w32) (toZ-ofZ w32 (c .before .before .before .before .before .before .before .before .before .before .before .before .before .before .before .before .args .bounds .«min_lat» .0) (search needs)))) (c .before .before .before .before .before .before .before .before .before .before .before .is-word .ensures) in
+    let r2 = by-word (c .before .before .before .before .before .before .before .before .before .before .before .before .before .before .before .before .args .index .now) (c .before .before .before .before .before .before .before .before .before .before .before .before .before .before .before .before .args .at + 1) (c .before .before .before .before .before .before .before .wide2 .ensures .0 ∙ (c .before .before .before .before .before .before .before .before .word-of2 .ensures ∙ ap (ofZ w32) (toZ-ofZ w32 (c .before .before .before .before .before .before .before .before .before .before .before .before .before .before .before .before .args .bounds .«min_lon» .0) (search needs)))) (c .before .before .before .before .before .before .is-word2 .ensures) in
+    let r3 = by-word (c .before .before .before .before .before .before .before .before .before .before .before .before .before .before .before .before .args .index .now) (c .before .before .before .before .before .before .before .before .before .before .before .before .before .before .before .before .args .at + 1 + 1) (c .before .before .wide3 .ensures .0 ∙ (c .before .before .before .word-of3 .ensures ∙ ap (ofZ w32) (toZ-ofZ w32 (c .before .before .before .before .before .before .before .before .before .before .before .before .before .before .before .before .args .bounds .«max_lat» .0) (search needs)))) (c .before .is-word3 .ensures) in
+    goes _ _ (sym r1 ∙ not-false _ (c .before .before .before .before .before .before .before .before .before .before .if1 .left)) (goes _ _ (sym r2 ∙ not-false _ (c .before .before .before .before .before .if2 .left)) (and-first _ _ (sym r3 ∙ not-true _ (c .if3 .taken))))
+
+returns-4 : tie.Need-returns-4
+unfolding isAt
+returns-4 c =
+    let told = c .before .before .before .before .before .before .before .before .before .before .before .before .before .before .before .before .before .before .struct-told .given in
+    let r1 = by-word (c .before .before .before .before .before .before .before .before .before .before .before .before .before .before .before .before .before .before .before .before .args .index .now) (c .before .before .before .before .before .before .before .before .before .before .before .before .before .before .before .before .before .before .before .before .args .at) (c .before .before .before .before .before .before .before .before .before .before .before .before .before .before .before .before .wide .ensures .0 ∙ (c .before .before .before .before .before .before .before .before .before .before .before .before .before .before .before .before .before .word-of .ensures ∙ ap (ofZ w32) (toZ-ofZ w32 (c .before .before .before .before .before .before .before .before .before .before .before .before .before .before .before .before .before .before .before .before .args .bounds .«min_lat» .0) (search needs)))) (c .before .before .before .before .before .before .before .before .before .before .before .before .before .before .before .is-word .ensures) in
+    let r2 = by-word (c .before .before .before .before .before .before .before .before .before .before .before .before .before .before .before .before .before .before .before .before .args .index .now) (c .before .before .before .before .before .before .before .before .before .before .before .before .before .before .before .before .before .before .before .before .args .at + 1) (c .before .before .before .before .before .before .before .before .before .before .before .wide2 .ensures .0 ∙ (c .before .before .before .before .before .before .before .before .before .before .before .before .word-of2 .ensures ∙ ap (ofZ w32) (toZ-ofZ w32 (c .before .before .before .before .before .before .before .before .before .before .before .before .before .before .before .before .before .before .before .before .args .bounds .«min_lon» .0) (search needs)))) (c .before .before .before .before .before .before .before .before .before .before .is-word2 .ensures) in
+    let r3 = by-word (c .before .before .before .before .before .before .before .before .before .before .before .before .before .before .before .before .before .before .before .before .args .index .now) (c .before .before .before .before .before .before .before .before .before .before .before .before .before .before .before .before .before .before .before .before .args .at + 1 + 1) (c .before .before .before .before .before .before .wide3 .ensures .0 ∙ (c .before .before .before .before .before .before .before .word-of3 .ensures ∙ ap (ofZ w32) (toZ-ofZ w32 (c .before .before .before .before .before .before .before .before .before .before .before .before .before .before .before .before .before .before .before .before .args .bounds .«max_lat» .0) (search needs)))) (c .before .before .before .before .before .is-word3 .ensures) in
+    let r4 = by-word (c .before .before .before .before .before .before .before .before .before .before .before .before .before .before .before .before .before .before .before .before .args .index .now) (c .before .before .before .before .before .before .before .before .before .before .before .before .before .before .before .before .before .before .before .before .args .at + 1 + 1 + 1) (c .before .wide4 .ensures .0 ∙ (c .before .before .word-of4 .ensures ∙ ap (ofZ w32) (toZ-ofZ w32 (c .before .before .before .before .before .before .before .before .before .before .before .before .before .before .before .before .before .before .before .before .args .bounds .«max_lon» .0) (search needs)))) (c .is-word4 .ensures) in
+    goes _ _ (sym r1 ∙ not-false _ (c .before .before .before .before .before .before .before .before .before .before .before .before .before .before .if1 .left)) (goes _ _ (sym r2 ∙ not-false _ (c .before .before .before .before .before .before .before .before .before .if2 .left)) (goes _ _ (sym r3 ∙ not-false _ (c .before .before .before .before .if3 .left)) (r4 ∙ and-end _)))
+
+pub same-box-spec : {M : Type 1} → statement M
+same-box-spec =
+    tie.close
+    (tie.spec
+    (λ c κs. search needs)
+    (λ c κs. search needs)
+    (λ c κs. search needs)
+    returns
+    (λ c. search needs)
+    (λ c κs. search needs)
+    (λ c κs. search needs)
+    (λ c κs. search needs)
+    returns-2
+    (λ c. search needs)
+    (λ c κs. search needs)
+    (λ c κs. search needs)
+    (λ c κs. search needs)
+    returns-3
+    (λ c. search needs)
+    (λ c κs. search needs)
+    (λ c κs. search needs)
+    (λ c κs. search needs)
+    returns-4)
