@@ -10,9 +10,9 @@ use Rattle.builder.specs.Borders.{Drawn, drawnFrom, drawnOf, passed, withBorder
 use Rattle.builder.specs.File.{Room, areTexts, bordersGood, builtOf, counted, fileOf, fitted, known, readable, upTo}
 use Rattle.builder.specs.{Yards.{Lent, Plan, Yard, countedLengths, countsGood, cutBy, lengthsGood, planOf, valuesFrom, yardsFrom}, declared.borders.Border.{Border}}
 use Rattle.builder.specs.declared.borders.Border.the-variants as B
-use Rattle.drawing.{proofs.Sections.{appended-fits, drawn-alone}, specs.Section.{DrawsAll}}
-use Rattle.drawing.specs.Section as Section
-use Rattle.entries.proofs.Tabled.{drawn-many}
+use Rattle.builder.{proofs.drawing.Sections.{appended-fits, drawn-alone}, specs.Drawing.Section.{DrawsAll}}
+use Rattle.builder.specs.Drawing.Section as Section
+use Rattle.build.proofs.entries.Tabled.{drawn-many}
 use Rattle.numbers.proofs.{Lists.{zeros-drop}, Replies.{demanded, given-from}}
 use Rattle.numbers.specs.{Lists.{padded, zeros}, Reply.{Reply, given, refused, plain, demand, _>>=_, _>>_}, declared.refusal.Refusal.{Refusal}}
 use Rattle.build.proofs.Planned.{both}

@@ -8,14 +8,15 @@ use Rattle.builder.proofs.{Counting.{cut-many, lengths-room, yards-many}, Inlin
 use Rattle.builder.specs.{Entries.{entryOfWord, tableFrom, tableOf}, File.{assembled, entryOf, fileOf, headFrom, headOf}}
 use Rattle.builder.specs.{Metadata.{inlined, isRemote, metadataOf, recordsOf, remotes}, Sharing.{firstsAfter, goodOnes, isIn, sameText, sameTexts, firsts}}
 use Rattle.builder.specs.Yards.{Lent, Text, Yard, cutBy, planOf, sumOf, yardsFrom}
-use Rattle.drawing.specs.Section.{spread}
-use Rattle.entries.{proofs.Tabled.{begins-are, table-of}, specs.Corners.{InOrder}}
-use Rattle.grouping.specs.Keys.{numbersFrom}
-use Rattle.metadata.specs.Kept.{beginOf, fieldsTo, joined, valuesTo}
+use Rattle.builder.specs.Drawing.Section.{spread}
+use Rattle.build.proofs.entries.Tabled.{begins-are, table-of}
+use Rattle.build.specs.Entries.Corners.{InOrder}
+use Rattle.builder.specs.Grouping.Keys.{numbersFrom}
+use Rattle.build.specs.Metadata.Kept.{beginOf, fieldsTo, joined, valuesTo}
 use Rattle.numbers.specs.Answer.{if_then_else_}
-use Rattle.recording.proofs.{Fewer.{fields-few, fields-short, layout-few}, Spreading.{spread-size}}
-use Rattle.recording.proofs.Written.{recorded-few, recorded-lengths, recorded-section, recorded-size, recorded-texts, recorded-words}
-use Rattle.recording.specs.Recorded.{Laying, Recorded}
+use Rattle.build.proofs.recording.{Fewer.{fields-few, fields-short, layout-few}, Spreading.{spread-size}}
+use Rattle.build.proofs.recording.Written.{recorded-few, recorded-lengths, recorded-section, recorded-size, recorded-texts, recorded-words}
+use Rattle.build.specs.Recording.Recorded.{Laying, Recorded}
 use Rattle.build.proofs.{Planned.{both, all-lengths, few-names}, Slices.{texts-few, value-all, value-bound, value-few, value-whole, plan-values, told, sums}}
 use Rattle.build.proofs.Valued.{cut-take}
 use Rattle.build.specs.{Checked.{lentAs}, Puts.{Headed, SectionIn, sectionFrom}, Room.{enough, enoughFor, needOf}, Whole.{Drew, Filling, fileFor}}

@@ -9,7 +9,7 @@ use Rattle.writer.specs.{Moves.{movesOf, isMove}, Pieces.{goodPieces}, Writer.{
 use Rattle.writer.specs.declared.write.Piece.{Piece}
 use Rattle.builder.specs.{Borders.{appended, withBorder, drawnFrom, drawnOf}, File.{Room, bordersGood, counted, readable, known, fileOf, upTo, builtOf}}
 use Rattle.builder.specs.Yards.{Yard, Plan}
-use Rattle.drawing.proofs.{Lending.{never-given}, Sections.{appended-fits}}
+use Rattle.builder.proofs.drawing.{Lending.{never-given}, Sections.{appended-fits}}
 use Rattle.header.specs.Header.{isKind}
 use Rattle.numbers.proofs.{Refusals.{Listed, either}, Replies.{NumberedReply, answers, refuses, then-reply, and-then, demands, number-of}}
 use Rattle.numbers.specs.{Answer.{if_then_else_}, Reply.{Reply, given, refused, refusal, plain, demand, _>>=_, _>>_}}

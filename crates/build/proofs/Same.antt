@@ -3,7 +3,7 @@ use Prim.Native.Nat.{ℕ}
 use lib.{ListN.{length, take}, Seq.{take-at}}
 use mathlib.Core.{List.{List}, Path.{_≡_, refl, sym, ap, _∙_}}
 use Rattle.builder.specs.{File.{Room, Replied, fitted, builtOf}, Yards.{Lent, planOf}}
-use Rattle.drawing.proofs.Lending.{never-given}
+use Rattle.builder.proofs.drawing.Lending.{never-given}
 use Rattle.numbers.{proofs.Refusals.{Listed}, specs.{Lists.{zeros}, Reply.{Reply, given, refused}, declared.refusal.Refusal.{Refusal}}}
 use Rattle.build.proofs.Numbered.{buildNumbers, build-refusals}
 use Rattle.build.specs.{Whole.{toldBuilt, Builds}, declared.file.Built.{Built}}

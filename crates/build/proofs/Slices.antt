@@ -7,7 +7,7 @@ use native.Mathlib.{Nat.{mul-comm}, Omega.{arith}}
 use Rattle.writer.specs.Writer.{every}
 use Rattle.builder.{proofs.Counting.{values-many, lengths-room}, specs.{File.{isText, areTexts}, Yards.{Yard, planOf, cutBy, sumOf, valuesFrom, countsGood, lengthsGood}}}
 use Rattle.header.specs.Utf8.{isUtf8}
-use Rattle.metadata.specs.Kept.{valuesTo}
+use Rattle.build.specs.Metadata.Kept.{valuesTo}
 use Rattle.build.proofs.{Planned.{both, few-names, few-yards, all-lengths}, Valued.{values-are}}
 use Rattle.build.specs.Checked.{lentAs}
 

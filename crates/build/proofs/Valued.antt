@@ -6,9 +6,9 @@ use mathlib.Core.{Bool.{Bool, true, false, _&&_}, List.{List, [], _∷_, map}, P
 use native.Mathlib.{Nat.{suc-mul}, Omega.{arith}}
 use Rattle.writer.specs.Writer.{every}
 use Rattle.builder.specs.Yards.{Text, Yard, cutBy, sumOf, yardsFrom, valuesFrom}
-use Rattle.grouping.{proofs.{Meant.{item-part}, Walks.{item-among}}, specs.{Items.{startsFrom, itemAt}, Keys.{numbersFrom}}}
-use Rattle.metadata.specs.Kept.{valuesTo}
-use Rattle.recording.proofs.Fewer.{map-same}
+use Rattle.builder.{proofs.grouping.{Meant.{item-part}, Walks.{item-among}}, specs.Grouping.{Items.{startsFrom, itemAt}, Keys.{numbersFrom}}}
+use Rattle.build.specs.Metadata.Kept.{valuesTo}
+use Rattle.build.proofs.recording.Fewer.{map-same}
 use Rattle.build.proofs.Planned.{both}
 
 -- ---- yard by yard, so many values each

@@ -3,7 +3,7 @@ use Prim.Native.Nat.{ℕ, _+_, _*_, _^_, _≤_, _<_}
 use lib.ListN.{length, take}
 use mathlib.Core.{List.{List, _++_, map, flatMap}, Path.{_≡_}}
 use Rattle.builder.specs.{Metadata.{inlined, remotes, joinedFrom, fieldBytes}, Yards.{cutBy, sumOf}}
-use Rattle.metadata.specs.Words.{wordIn}
+use Rattle.build.specs.Metadata.Words.{wordIn}
 
 -- the metadata section: the records by their words, the texts behind them
 unfoldable pub sectionFrom : ℕ → List ℕ → List ℕ → List ℕ → List ℕ

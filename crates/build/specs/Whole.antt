@@ -5,8 +5,8 @@ use mathlib.Core.{Bool.{Bool, true, _&&_}, List.{List}, Path.{_≡_}}
 use Rattle.builder.specs.{Borders.{Drawn, drawnOf}, File.{Room, Replied, areTexts, builtOf, fileOf, fitted, upTo}, Yards.{Lent, Plan, planOf, countsGood}}
 use Rattle.builder.specs.declared.borders.Border.{Border}
 use Rattle.builder.specs.declared.borders.Border.the-variants as B
-use Rattle.drawing.specs.Section.{spread}
-use Rattle.drawing.specs.Section as Section
+use Rattle.builder.specs.Drawing.Section.{spread}
+use Rattle.builder.specs.Drawing.Section as Section
 use Rattle.numbers.specs.{Lists.{zeros}, Reply.{Reply, given, refused, plain, demand, _>>_}}
 use Rattle.build.specs.{Checked.{checked, lentAs}, Room.{needOf, enoughFor}, declared.{asked.Asked.{Asked}, file.Built.{Built}, room.{Work.{Work}, Need.{Need}}}}
 use Rattle.build.specs.declared.file.Built.the-variants as W

@@ -6,9 +6,9 @@ ghost use Rattle.numbers.specs.Reply.{plain};
 ghost use Rattle.build.specs.Checked.{checked, lentAs};
 use builder::borders::Border;
 use builder::counts::are_counted;
+use builder::drawing::form::is_known;
 use builder::texts::are_texts;
 use builder::yards::check_yards;
-use drawing::form::is_known;
 use numbers::refusal::plain;
 
 // No yards or too many, too many names, or a yard with more or fewer values than names.
@@ -24,7 +24,7 @@ fn refused(number: u8) -> Border
     Border::Refused(plain(number))
 }
 
-pub fn check_plan(
+pub(crate) fn check_plan(
     kind: u8,
     version: u8,
     precision: u8,

@@ -3,10 +3,10 @@ ghost use mathlib.Core.{Path.{_≡_}, List.{List, []}};
 ghost use Prim.Native.Nat.{ℕ, _≤_};
 ghost use lib.ListN.{length, getD};
 ghost use Rattle.builder.specs.{Borders.{drawnOf}, Yards.{yardsFrom}};
-ghost use Rattle.drawing.specs.Section.{DrawsAll};
+ghost use Rattle.builder.specs.Drawing.Section.{DrawsAll};
 use builder::borders::Border;
-use drawing::section::draw_yards;
-use drawing::yard::draw_yard;
+use builder::drawing::section::draw_yards;
+use builder::drawing::yard::draw_yard;
 
 // With no room at all the first border is refused, by 23 before 28.
 fn draw_nothing(

@@ -4,16 +4,16 @@ ghost use Prim.Native.Nat.{ℕ, _*_, _/_, _^_, _≤_};
 ghost use lib.ListN.{length, take};
 ghost use Rattle.writer.specs.Stored.{Stored};
 ghost use Rattle.builder.specs.{Entries.{tableFrom, entryOfWord}, File.{headFrom, assembled}, Yards.{cutBy, yardsFrom}};
-ghost use Rattle.entries.specs.Corners.{InOrder};
+ghost use Rattle.build.specs.Entries.Corners.{InOrder};
 ghost use Rattle.numbers.specs.Lists.{zeros};
 ghost use Rattle.build.specs.{Puts.{sectionFrom, SectionIn, Headed}, Whole.{lentFor, Filling, fileFor, Drew}, Room.{workOf}};
 use crate::asked::Asked;
+use crate::entries::order::order_yards;
+use crate::recording::section::Section;
+use crate::recording::section::lay_records;
 use crate::room::Need;
 use crate::write::write_file;
 use builder::head::Form;
-use entries::order::order_yards;
-use recording::section::Section;
-use recording::section::lay_records;
 
 // The yards in the order of the table, and the whole file.
 fn put_file(

@@ -2,8 +2,11 @@
 pub mod asked;
 pub mod checks;
 pub mod draw;
+pub mod entries;
 pub mod file;
 pub mod fill;
+pub mod metadata;
+pub mod recording;
 pub mod room;
 pub mod write;
 pub mod zero;

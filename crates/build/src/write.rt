@@ -6,6 +6,7 @@ ghost use Rattle.writer.specs.Stored.{Stored};
 ghost use Rattle.builder.specs.{Entries.{tableFrom, entryOfWord}, File.{headFrom, assembled}, Yards.{cutBy}};
 ghost use Rattle.numbers.specs.{Lists.{zeros}, Spelling.{varintOf}};
 ghost use Rattle.build.specs.Puts.{sectionFrom, Sectioned, Headed};
+use crate::metadata::remotes::put_remotes;
 use builder::head::Form;
 use builder::head::put_head;
 use builder::put::put_bytes;
@@ -13,7 +14,6 @@ use builder::put::put_varint;
 use builder::records::put_records;
 use builder::table::put_table;
 use header::field::zero;
-use metadata::remotes::put_remotes;
 
 fn put_sizes(out: &mut [u8], place: usize, table: u64, metadata: u64, bytes: u64) -> usize
     requires { ⌜ place < 2 ^ 60 ⌝ }

@@ -5,7 +5,7 @@ pub mod Steps
 pub mod Masks
 pub mod Inlines
 pub mod Tables
-pub mod Drawing
+pub mod Draws
 pub mod Shortest
 pub mod WorkedFile
 pub mod Readables

@@ -4,3 +4,5 @@ pub mod Metadata
 pub mod Entries
 pub mod Borders
 pub mod File
+pub mod Grouping
+pub mod Drawing

@@ -2,7 +2,9 @@
 pub mod borders;
 pub mod boxes;
 pub mod counts;
+pub mod drawing;
 pub mod entry;
+pub mod grouping;
 pub mod head;
 pub mod put;
 pub mod records;

@@ -43,7 +43,7 @@ pub fn put_bytes(out: &mut [u8], place: usize, bytes: &[u8]) -> usize
 }
 
 // Bytes, each XOR 0x80.
-pub fn put_masked(out: &mut [u8], place: usize, bytes: &[u8]) -> usize
+pub(crate) fn put_masked(out: &mut [u8], place: usize, bytes: &[u8]) -> usize
     requires { ⌜ place + length (now bytes) < 2 ^ 62 ⌝ }
     ensures { λ r. ⌜ Stored (now (out .entry)) place (map unmasked (now (bytes .entry))) (now (out .exit)) r ⌝ }
 {

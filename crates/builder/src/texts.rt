@@ -43,7 +43,7 @@ pub fn are_texts(lengths: &[u32], texts: &[u8]) -> bool
 }
 
 // All texts inline.
-pub fn put_texts(out: &mut [u8], place: usize, lengths: &[u32], texts: &[u8]) -> usize
+pub(crate) fn put_texts(out: &mut [u8], place: usize, lengths: &[u32], texts: &[u8]) -> usize
     requires { ⌜ (sumOf (now lengths) ≤ length (now texts)) × (place + sumOf (now lengths) + 10 * length (now lengths) < 2 ^ 60) ⌝ }
     ensures { λ r. ⌜ Stored (now (out .entry)) place (flatMap inlined (cutBy (now (lengths .entry)) (now (texts .entry)))) (now (out .exit)) r ⌝ }
 {

@@ -6,7 +6,7 @@ use native.Mathlib.{Nat.{le-refl}, Omega.{arith}}
 use mathlib.Core.{List.{List, [], _∷_, _++_, map}, Path.{_≡_, refl, sym, ap, subst, _∙_}}
 use Rattle.calendar.{proofs.SameCivil.{same-civil}, specs.{Civil.{CivilOf}, declared.civil.{Civil.{Civil}, Reading.{Reading}}}}
 use Rattle.calendar.specs.declared.civil.Civil.the-variants as C
-use Rattle.footer.specs.{Local.{localTime, scaleAt}, declared.scale.Scale.{Scale}}
+use Rattle.localtime.specs.{Local.{localTime, scaleAt}, declared.scale.Scale.{Scale}}
 use Rattle.hour.specs.Hour.{instantOf, onScale, shownBy, answerOf, civilLine, LineFor, Answered, Printed}
 use Rattle.hour.specs.Line.{dateText, timeText, clockText, signedText, shown, hourLine, unknownLine, refusedLine}
 use Rattle.line.{proofs.{Decimals.{decimal-short}, Puts.{put-length, put-front}}, specs.Put.{Put, decimal}}

@@ -2,7 +2,7 @@
 use Prim.Native.Nat.{ℕ}
 use lib.{Dec.{ltb}, ListN.{length, take, drop}}
 use mathlib.Core.{Bool.{Bool, true, false}, List.{List, [], _∷_}, Path.{_≡_, refl, ap, sym, subst, _∙_}}
-use Rattle.footer.{proofs.Theorems.{no-scale, own-scale}, specs.Local.{rulesIn, answerAt, localTimeBy, localTime, scaleIn, scaleOr, scaleBy, scaleAt}, specs.declared.rule.Rules.{Rules}}
+use Rattle.localtime.{proofs.Theorems.{no-scale, own-scale}, specs.{Local.{rulesIn, answerAt, localTimeBy, localTime, scaleIn, scaleOr, scaleBy, scaleAt}, declared.rule.Rules.{Rules}}}
 use Rattle.hour.specs.{Hour.{instantOf, onScale, shownBy, answerOf, LineFor, Printed}, Line.{refusedLine}}
 use Rattle.tzif.specs.Check.{occursLater, correctionBefore, correctionAt, correctionOf, oneApart, isExpiry, nulEnd, checkTime, checkIndex, checkType, checkLeap, checkLeaps, checkStandard, isStandard, checkUt}
 use Rattle.tzif.specs.Header.{begins, isVersion, isFourth, versionFits, checkHeader, blockAt, noneOrAll, checkCounts, checkBlock, readBlock}

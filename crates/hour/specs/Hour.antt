@@ -5,7 +5,7 @@ use mathlib.Core.{List.{List}, Path.{_≡_}}
 use mir.{Syntax.{w64}, Val.{toZ}}
 use Rattle.calendar.specs.{Civil.{CivilOf}, declared.civil.Civil.{Civil}}
 use Rattle.calendar.specs.declared.civil.Civil.the-variants as C
-use Rattle.footer.specs.Local.{localTime, scaleAt}
+use Rattle.localtime.specs.Local.{localTime, scaleAt}
 use Rattle.hour.specs.Line.{hourLine, unknownLine, refusedLine}
 use Rattle.line.specs.{Bytes.{wordAt}, Put.{Put}}
 use Rattle.tzif.specs.{Local.{Replied, replied}, Reply.{refusal, if_then_else_}, Text.{zeros}, declared.local.{Local.{Local}, LocalTime.{LocalTime}}}

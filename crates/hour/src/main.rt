@@ -6,13 +6,13 @@ ghost use mathlib.Core.Path.{_≡_};
 ghost use Prim.Native.Nat.{_≤_};
 ghost use lib.ListN.{length};
 ghost use Rattle.hour.specs.Hour.{onScale, Printed};
-use footer::local::Timed;
-use footer::local::local_time;
 use instant::instant_of;
 use libc::STDIN_FILENO;
 use libc::STDOUT_FILENO;
 use lines::put_answer;
 use lines::put_refusal;
+use localtime::local::Timed;
+use localtime::local::local_time;
 use tzif::local::LocalTime;
 use tzif::refusal::Refusal;
 

@@ -2,10 +2,10 @@
 use recorded::reply::Reply;
 use recorded::reply::spoken;
 use recorded::reply::unspoken;
-use uskelzar::draft::uskelzar_add;
-use uskelzar::draft::uskelzar_drop_last;
-use uskelzar::draft::uskelzar_finish;
-use uskelzar::draft::uskelzar_replace;
+use uskelzar::calls::uskelzar_add;
+use uskelzar::calls::uskelzar_drop_last;
+use uskelzar::calls::uskelzar_finish;
+use uskelzar::calls::uskelzar_replace;
 
 // What a call said. The totals stand in a record behind a refusal too, where they are those of the state.
 pub fn told(number: u8, words: [u64; 5], state: [u64; 14]) -> Reply {

@@ -14,7 +14,7 @@ use recorded::reply::recorded_at;
 use recorded::reply::same_reply;
 use recorded::reply::unspoken;
 use std::num::wrapping_add_usize;
-use uskelzar::draft::uskelzar_clear;
+use uskelzar::calls::uskelzar_clear;
 
 const ADD: u8 = 1;
 

@@ -12,7 +12,7 @@ use recorded::record::word_at;
 use recorded::reply::Reply;
 use recorded::reply::unspoken;
 use std::num::wrapping_add_usize;
-use uskelzar::draft::uskelzar_begin;
+use uskelzar::calls::uskelzar_begin;
 
 fn begin_with(
     record: &[u8],

@@ -4,7 +4,7 @@ use mathlib.Core.{Bool.{Bool, true, false, _&&_}, Path.{_≡_}, List.{List, [], 
 use lib.Dec.{ltb, leb}
 use Rattle.border.specs.{Encoding.{versionOf, encodedBy}, Trace.{traceOf, borderAt}, declared.reader.Encoding.{Encoding}}
 use Rattle.header.specs.{Text.{textAt}, declared.header.Head.{Head}}
-use Rattle.moves.specs.Moves.{endOf}
+use Rattle.salvage.specs.Moves.Moves.{endOf}
 use Rattle.numbers.specs.{Answer.{Answer, found, failed, if_then_else_}, Reply.{Reply, given, refused, plain, demand, _orElse_, _>>=_, _>>_}, Varint.{Numeral, readingOf}}
 use Rattle.numbers.specs.Answer as A
 use Rattle.table.specs.{Rows.{Rows, row, tableEnd, unreadable, rowsFrom, after}, declared.rows.{Cursor.{Cursor}, Row.{Row}}}

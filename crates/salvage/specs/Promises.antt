@@ -5,7 +5,7 @@ use lib.ListN.{length}
 use Rattle.verdict.specs.Verdict.{judgedAt}
 use Rattle.border.specs.{Trace.{traceOf, borderAt}, declared.place.{FixedLat.{FixedLat}, FixedLon.{FixedLon}}}
 use Rattle.header.specs.{Header.{headBy}, Text.{textAt, bytesOf}, declared.{header.Head.{Head}, text.Text.{Text}}}
-use Rattle.moves.specs.Moves.{endOf}
+use Rattle.salvage.specs.Moves.Moves.{endOf}
 use Rattle.numbers.specs.{Answer.{Answer, found, failed}, Reply.{Reply, given, refused, _>>=_}, Varint.{readingOf}, declared.refusal.Refusal.{Refusal}}
 use Rattle.numbers.specs.Answer as A
 use Rattle.table.specs.{Rows.{Rows, row, tableEnd, after, startAt, rowBy, rowsIn}, declared.rows.{Cursor.{Cursor}, Row.{Row}}}

@@ -1,17 +1,17 @@
 // Entries of the new table.
 ghost use mathlib.Core.Path.{_≡_};
-ghost use Rattle.moves.specs.Laid.{Capped};
+ghost use Rattle.salvage.specs.Moves.Laid.{Capped};
 ghost use Rattle.numbers.specs.Spelling.{signedForm};
 ghost use Rattle.table.specs.Rows.{rowsIn};
 ghost use Rattle.salvage.specs.{File.{idStep, boxBytes, entryBytes, borderBytes, tableFrom, allShort, Measured, Tabled}, Kept.{entryGood, keptOf}};
 use crate::entry::encoding_in;
 use crate::entry::section_place;
+use crate::moves::put::form_of;
+use crate::moves::put::put_number;
+use crate::moves::redraw::put_border;
 use crate::walk::Kept;
 use crate::walk::next_kept;
 use header::header::Head;
-use moves::put::form_of;
-use moves::put::put_number;
-use moves::redraw::put_border;
 use table::rows::Row;
 use table::rows::after;
 use table::rows::start_at;
@@ -57,7 +57,7 @@ fn border_size(file: &[u8], head: Head, row: Row) -> usize
 }
 
 // An entry for each kept row, and the place behind the last.
-pub fn put_table(file: &[u8], head: Head, out: &mut [u8], at: usize) -> usize
+pub(crate) fn put_table(file: &[u8], head: Head, out: &mut [u8], at: usize) -> usize
     ensures { λ r. ⌜ Tabled (allShort (now (file .entry)) head (keptOf (now (file .entry)) head (rowsIn (now (file .entry)) head)))
         (now (out .entry)) at (tableFrom (now (file .entry)) head 0 0 (keptOf (now (file .entry)) head (rowsIn (now (file .entry)) head))) (now (out .exit)) r ⌝ }
 {

@@ -4,18 +4,18 @@ ghost use Prim.Native.Nat.{_+_, _%_, _^_};
 ghost use Rattle.border.specs.Encoding.{versionOf, encodedBy};
 ghost use Rattle.salvage.specs.Kept.{encodingIn, borderPlace, recordPlace, borderGood, entryGood, toldGood};
 use crate::codes::BORDER_FAILS;
+use crate::moves::ending::End;
+use crate::moves::ending::border_end;
 use crate::strings::Good;
 use crate::strings::fields_good;
 use border::reader::Encoding;
 use border::reader::Version;
 use header::header::Head;
-use moves::ending::End;
-use moves::ending::border_end;
 use numbers::refusal::plain;
 use table::rows::Row;
 
 // How the file's borders are encoded.
-pub fn encoding_in(head: Head) -> Encoding
+pub(crate) fn encoding_in(head: Head) -> Encoding
     ensures { λ r. ⌜ r ≡ encodedBy (head .strict) (versionOf (head .preamble .version)) (head .sections .«data») ⌝ }
 {
     let data = head.sections.data;
@@ -35,14 +35,14 @@ pub fn encoding_in(head: Head) -> Encoding
 }
 
 // A place so many bytes into a section, modulo 2^32.
-pub fn section_place(start: u32, sum: u32) -> usize
+pub(crate) fn section_place(start: u32, sum: u32) -> usize
     ensures { λ r. ⌜ r ≡ (start + sum) % 2 ^ 32 ⌝ }
 {
     ((start as u64 + sum as u64) % 0x1_0000_0000) as usize
 }
 
 // Its border is read to the end.
-pub fn border_good(file: &[u8], head: Head, row: Row) -> Good
+pub(crate) fn border_good(file: &[u8], head: Head, row: Row) -> Good
     ensures { λ r. ⌜ toldGood r ≡ borderGood (now (file .entry)) head row ⌝ }
 {
     let place = section_place(head.sections.data, row.polygon);
@@ -55,7 +55,7 @@ pub fn border_good(file: &[u8], head: Head, row: Row) -> Good
 }
 
 // The first reason met decides.
-pub fn entry_good(file: &[u8], head: Head, row: Row) -> Good
+pub(crate) fn entry_good(file: &[u8], head: Head, row: Row) -> Good
     ensures { λ r. ⌜ toldGood r ≡ entryGood (now (file .entry)) head row ⌝ }
 {
     match border_good(file, head, row) {

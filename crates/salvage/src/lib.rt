@@ -3,5 +3,7 @@ pub mod codes;
 pub mod data;
 pub mod entries;
 pub mod entry;
+pub mod moves;
+pub mod rescue;
 pub mod strings;
 pub mod walk;

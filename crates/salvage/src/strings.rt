@@ -24,7 +24,7 @@ pub enum Good {
 }
 
 // Whether the bytes from one place up to another lie in the metadata section.
-pub fn in_section(head: Head, from: usize, to: usize) -> bool
+pub(crate) fn in_section(head: Head, from: usize, to: usize) -> bool
     ensures { λ r. ⌜ r ≡ inSection head from to ⌝ }
 {
     if head.sections.metadata as usize <= from {
@@ -34,7 +34,7 @@ pub fn in_section(head: Head, from: usize, to: usize) -> bool
 }
 
 // Whether a length at a place and the bytes behind it do.
-pub fn span_inside(file: &[u8], head: Head, place: usize) -> bool
+pub(crate) fn span_inside(file: &[u8], head: Head, place: usize) -> bool
     ensures { λ r. ⌜ r ≡ spanInside (now (file .entry)) head place ⌝ }
 {
     let n = read_number(file, place, head.strict);
@@ -48,7 +48,7 @@ pub fn span_inside(file: &[u8], head: Head, place: usize) -> bool
 }
 
 // Whether a string does, its lengths included.
-pub fn string_inside(file: &[u8], head: Head, place: usize) -> bool
+pub(crate) fn string_inside(file: &[u8], head: Head, place: usize) -> bool
     ensures { λ r. ⌜ r ≡ stringInside (now (file .entry)) head place ⌝ }
 {
     let n = read_number(file, place, head.strict);
@@ -67,7 +67,7 @@ pub fn string_inside(file: &[u8], head: Head, place: usize) -> bool
 }
 
 // A field value, read and then placed.
-pub fn field_good(file: &[u8], head: Head, place: usize) -> Field
+pub(crate) fn field_good(file: &[u8], head: Head, place: usize) -> Field
     ensures { λ r. ⌜ toldField r ≡ fieldGood (now (file .entry)) head place ⌝ }
 {
     let blame = Blame {
@@ -86,7 +86,7 @@ pub fn field_good(file: &[u8], head: Head, place: usize) -> Field
 }
 
 // So many of them, one after the other.
-pub fn fields_good(file: &[u8], head: Head, count: usize, place: usize) -> Good
+pub(crate) fn fields_good(file: &[u8], head: Head, count: usize, place: usize) -> Good
     ensures { λ r. ⌜ toldGood r ≡ fieldsGood (now (file .entry)) head count place ⌝ }
 {
     let mut left = count;

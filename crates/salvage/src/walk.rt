@@ -15,7 +15,7 @@ pub enum Kept {
     None,
 }
 
-pub fn is_good(file: &[u8], head: Head, row: Row) -> bool
+pub(crate) fn is_good(file: &[u8], head: Head, row: Row) -> bool
     ensures { λ r. ⌜ r ≡ goodness (entryGood (now (file .entry)) head row) ⌝ }
 {
     match entry_good(file, head, row) {
@@ -25,7 +25,7 @@ pub fn is_good(file: &[u8], head: Head, row: Row) -> bool
 }
 
 // The first row from a cursor on that is kept.
-pub fn next_kept(file: &[u8], head: Head, from: Cursor) -> Kept
+pub(crate) fn next_kept(file: &[u8], head: Head, from: Cursor) -> Kept
     ensures { λ r. ⌜ FirstKept (now (file .entry)) head from r ⌝ }
 {
     let end = head.sections.metadata as usize;

@@ -6,12 +6,12 @@ use mathlib.Core.{List.{List, [], _∷_}, Path.{_≡_, sym, ap, subst, _∙_}}
 use mir.{Syntax.{w32}, Val.{SFits, ofZ}}
 use native.Mathlib.Omega.{arith}
 use Rattle.build.specs.{Whole.{toldBuilt}, declared.file.Built.{Built}}
-use Rattle.growing.specs.declared.grow.Added.{Added}
-use Rattle.held.specs.declared.state.{Held.{Held}, Changed.{Changed}}
+use Rattle.add.specs.declared.growing.grow.Added.{Added}
+use Rattle.draft.specs.declared.held.state.{Held.{Held}, Changed.{Changed}}
 use Rattle.index.proofs.Numbering.{read-back}
 use Rattle.numbers.specs.{Point.{readI32, signedOf}, declared.refusal.Refusal.{Refusal}}
 use Rattle.uskelzar.specs.{Draft.{heldOf, notedIn, wordsOf, Kept, Spoke, Speaks, SpeaksNoted, Ends}, Spoken.{lengthValue, saidOf}}
-use Rattle.held.specs.declared.state.Changed.the-variants as C
+use Rattle.draft.specs.declared.held.state.Changed.the-variants as C
 
 -- half of twice the bits
 signed-even : (bits : ℕ) → bits < 2 ^ 32 → signedOf (2 * bits) ≡ readI32 bits

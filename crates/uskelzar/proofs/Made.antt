@@ -5,17 +5,18 @@ use lib.{Dec.{ltb, leb, eqb}, ListN.{getD, length, take}}
 use mathlib.Core.{Bool.{Bool, true, false, _&&_}, List.{List, [], _∷_, _++_}, Logic.{_↔_, inl, inr}, Path.{_≡_, refl, sym, ap, subst, _∙_}}
 use mir.{Syntax.{w32}, Val.{ofZ}}
 use native.Mathlib.Omega.{arith}
-use Rattle.adding.specs.{Adds.{spaceFor}, declared.room.NoteRooms.{NoteRooms}}
+use Rattle.add.specs.{Adding.Adds.{spaceFor}, declared.adding.room.NoteRooms.{NoteRooms}}
 use Rattle.builder.specs.{Borders.{drawnOf}, File.{headOf, isText, known, readable, upTo}, Yards.{Plan, Text, Yard}}
-use Rattle.changing.specs.{Begun.{Begins, blank}, Dropped.{leftSpace}}
-use Rattle.drawing.proofs.Lending.{never-given}
-use Rattle.growing.proofs.Wider.{noted-by-wider}
-use Rattle.growing.specs.{Notes.{MoreNotes, Notes}, declared.grow.Added.{Added}}
-use Rattle.held.proofs.{Adds.{add-given}, Wider.{holds-wider}}
-use Rattle.held.specs.{Builder.{Builder, Offered, add, begin, changedAt, clear, dropLast, fitting, holding, joined, replace, summed, withValue, yardOf}, Space.{Space, standing}, State.{Answers, Holds, Lists, More, heldAs}, Totals.{dataOf, drawnOr, fileSize, totalsFor, totalsOf}, declared.{room.Rooms.{Rooms}, state.{Changed.{Changed}, Held.{Held}}}}
-use Rattle.held.specs.declared.state.Changed.the-variants as C
+use Rattle.edit.specs.Changing.{Begun.{Begins, blank}, Dropped.{leftSpace}}
+use Rattle.builder.proofs.drawing.Lending.{never-given}
+use Rattle.add.proofs.growing.Wider.{noted-by-wider}
+use Rattle.add.specs.{Growing.Notes.{MoreNotes, Notes}, declared.growing.grow.Added.{Added}}
+use Rattle.draft.proofs.held.{Adds.{add-given}, Wider.{holds-wider}}
+use Rattle.draft.specs.Held.{Builder.{Builder, Offered, add, begin, changedAt, clear, dropLast, fitting, holding, joined, replace, summed, withValue, yardOf}, Space.{Space, standing}, State.{Answers}}
+use Rattle.draft.specs.{Held.{State.{Holds, Lists, More, heldAs}, Totals.{dataOf, drawnOr, fileSize, totalsFor, totalsOf}}, declared.held.{room.Rooms.{Rooms}, state.{Changed.{Changed}, Held.{Held}}}}
+use Rattle.draft.specs.declared.held.state.Changed.the-variants as C
 use Rattle.numbers.{proofs.Replies.{demanded}, specs.{Lists.{zeros}, Reply.{Reply, given, refused, plain}, declared.refusal.Refusal.{Refusal}}}
-use Rattle.replacing.specs.Replaced as Replacing
+use Rattle.edit.specs.Replacing.Replaced as Replacing
 use Rattle.uskelzar.proofs.{NotedDrafts.{Lasts, LastsOn, add-lasts, kept-lasts, noted-back}, Numbered.{Answered}, NumberedDrafts.{add-zero, begin-zero, drop-zero, replace-zero}}
 use Rattle.uskelzar.specs.{Calls.{Called, Made, Shelf, TotalsIn, adds, begun, called, clears, drops, grown, replaces, yardsAfter}, Draft.{Kept, Speaks, Spoke, heldOf, notedIn, toldChanged, totalsValues, wordsOf}, Spoken.{saidOf}, declared.Said.{Said}}
 

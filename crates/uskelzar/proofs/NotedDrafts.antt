@@ -3,11 +3,12 @@ use Prim.Native.Nat.{ℕ, _<_}
 use lib.ListN.{length}
 use mathlib.Core.{List.{List}, Logic.{_⊎_, inl, inr}, Path.{_≡_, refl, sym, ap, subst, _∙_}}
 use native.Mathlib.Omega.{arith}
-use Rattle.adding.specs.{Adds.{Adds, spaceFor}, declared.room.NoteRooms.{NoteRooms}}
+use Rattle.add.specs.{Adding.Adds.{Adds, spaceFor}, declared.adding.room.NoteRooms.{NoteRooms}}
 use Rattle.builder.specs.Yards.{Yard}
-use Rattle.growing.specs.{Joins.{Renoted}, Notes.{Noted, NotedBy, Notes}}
-use Rattle.held.{proofs.Adds.{add-given}, specs.{Builder.{Builder, Offered, add, joined, summed}, State.{Answers, Holds, Lists}, declared.{room.Rooms.{Rooms}, state.{Changed.{Changed}, Held.{Held}}}}}
-use Rattle.held.specs.declared.state.Changed.the-variants as C
+use Rattle.add.specs.Growing.{Joins.{Renoted}, Notes.{Noted, NotedBy, Notes}}
+use Rattle.draft.{proofs.held.Adds.{add-given}, specs.{Held.{Builder.{Builder, Offered, add, joined, summed}, State.{Answers, Holds, Lists}}, declared.held.room.Rooms.{Rooms}}}
+use Rattle.draft.specs.declared.held.state.{Changed.{Changed}, Held.{Held}}
+use Rattle.draft.specs.declared.held.state.Changed.the-variants as C
 use Rattle.numbers.specs.{Reply.{given, refused}, declared.refusal.Refusal.{Refusal}}
 use Rattle.uskelzar.specs.Draft.{Kept, Speaks, SpeaksNoted, heldOf, notedIn, wordsOf}
 

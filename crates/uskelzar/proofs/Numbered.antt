@@ -4,14 +4,14 @@ use Prim.Native.Nat.{ℕ}
 use mathlib.Core.{Bool.{Bool, true, false}, List.{List, [], _∷_, _++_}, Logic.{_↔_}, Path.{_≡_, refl, subst}}
 use native.Mathlib.Omega.{arith}
 use lib.{IntN.{ℤ}, Ieee.{Float}}
-use Rattle.batch.{proofs.NumberedMany.{manyNumbers, many-refusals}, specs.{Many.{Batch, lookedUpMany}, declared.many.Totals.{Totals}}}
-use Rattle.batch.specs.Many as B
+use Rattle.zones.{proofs.batch.NumberedMany.{manyNumbers, many-refusals}, specs.{Batch.Many.{Batch, lookedUpMany}, declared.batch.many.Totals.{Totals}}}
+use Rattle.zones.specs.Batch.Many as B
 use Rattle.build.{proofs.Numbered.{buildNumbers, build-refusals}, specs.{Room.{roomOf}, declared.room.Work.{Work}}}
 use Rattle.builder.specs.{File.{builtOf}, Yards.{Lent, planOf}}
 use Rattle.builder.specs.File as F
 use Rattle.numbers.{proofs.Refusals.{Listed}, specs.{Reply.{Reply, given, refused}, declared.refusal.Refusal.{Refusal}}}
 use Rattle.writer.{proofs.NumberedWriter.{writerNumbers, writer-refusals}, specs.{Writer.{borderOf, fitted}, declared.write.Piece.{Piece}}}
-use Rattle.footer.{proofs.Numbered.{footerNumbers, local-time-refusals}, specs.Local.{localTime, scaleAt}}
+use Rattle.localtime.{proofs.Numbered.{footerNumbers, local-time-refusals}, specs.Local.{localTime, scaleAt}}
 use Rattle.tzif.specs.declared.local.LocalTime.{LocalTime}
 use Rattle.tzif.specs.declared.local.LocalTime.the-variants as L
 use Rattle.tzif.specs.declared.refusal.Refusal as T
@@ -19,7 +19,7 @@ use Rattle.header.{proofs.Numbered.{openingNumbers, opening-refusals, strict-op
 use Rattle.zones.proofs.NumberedLookup.{lookupNumbers, lookup-refusals, strict-lookup-refusals, simple-lookup-refusals}
 use Rattle.zones.specs.{Lookup.{lookedUp, lookedStrictly}, Simple.{simplyLooked}}
 use Rattle.index.{proofs.{Owned.{owningNumbers, is-index-refusals}, Refusing.{buildingNumbers, tyingNumbers, index-refusals, tied-refusals}}, specs.{Index.{indexedOf}, Own.{isIndexOf}, Tied.{tiedOf}}}
-use Rattle.rescue.proofs.NumberedSalvage.{salvageNumbers, salvage-refusals}
+use Rattle.salvage.proofs.rescue.NumberedSalvage.{salvageNumbers, salvage-refusals}
 use Rattle.salvage.specs.Salvage.{salvaged}
 use Rattle.table.specs.declared.location.Location.{Location}
 use Rattle.uskelzar.specs.{Many.{manySaid, manySpoken}, Built.{builtFor, builtSpoken}, Salvaged.{countsValues, salvageSpoken}}

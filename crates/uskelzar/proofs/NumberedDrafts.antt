@@ -2,19 +2,20 @@
 use Prim.Native.Nat.{ℕ}
 use lib.{Dec.{eqb}, ListN.{length}}
 use mathlib.Core.{Bool.{Bool, true, false, _||_}, List.{List, [], _∷_}, Logic.{_↔_, inl, inr}, Path.{_≡_, refl, sym, ap, subst, _∙_}}
-use Rattle.adding.specs.{Adds.{Adds}, declared.room.NoteRooms.{NoteRooms}}
-use Rattle.adding.specs.Adds as Adding
+use Rattle.add.specs.{Adding.Adds.{Adds}, declared.adding.room.NoteRooms.{NoteRooms}}
+use Rattle.add.specs.Adding.Adds as Adding
 use Rattle.build.specs.{Whole.{toldBuilt}, declared.file.Built.{Built}}
 use Rattle.builder.specs.{File.{Replied, fitted}, Yards.{Text, Plan}}
-use Rattle.changing.specs.{Begun.{Begins}, Dropped.{Drops, leftSpace}, Emptied.{Clears}}
-use Rattle.drawing.proofs.Lending.{never-given}
-use Rattle.growing.specs.{Notes.{Notes, NotedBy}, declared.grow.Added.{Added}}
-use Rattle.held.specs.{Builder.{Builder, Offered, add, begin, clear, dropLast, finish, replace}, Space.{Space}, State.{Answers, Holds, Lists, heldAs}, declared.{room.Rooms.{Rooms}, state.{Changed.{Changed}, Held.{Held}}}}
-use Rattle.held.specs.declared.state.Changed.the-variants as C
+use Rattle.edit.specs.Changing.{Begun.{Begins}, Dropped.{Drops, leftSpace}, Emptied.{Clears}}
+use Rattle.builder.proofs.drawing.Lending.{never-given}
+use Rattle.add.specs.{Growing.Notes.{Notes, NotedBy}, declared.growing.grow.Added.{Added}}
+use Rattle.draft.specs.{Held.{Builder.{Builder, Offered, add, begin, clear, dropLast, finish, replace}, Space.{Space}, State.{Answers, Holds, Lists, heldAs}}, declared.held.room.Rooms.{Rooms}}
+use Rattle.draft.specs.declared.held.state.{Changed.{Changed}, Held.{Held}}
+use Rattle.draft.specs.declared.held.state.Changed.the-variants as C
 use Rattle.numbers.{proofs.Refusals.{Listed, oneOf}, specs.{Reply.{Reply, given, refused, plain}, declared.refusal.Refusal.{Refusal}}}
-use Rattle.replacing.specs.Replaced.{Replaces}
-use Rattle.replacing.specs.Replaced as Replacing
-use Rattle.summed.specs.Ends.{Finishes, spaceOf}
+use Rattle.edit.specs.Replacing.Replaced.{Replaces}
+use Rattle.edit.specs.Replacing.Replaced as Replacing
+use Rattle.draft.specs.Summed.Ends.{Finishes, spaceOf}
 use Rattle.uskelzar.proofs.Numbered.{Answered, never-zero, zero-said}
 use Rattle.uskelzar.proofs.NumberedCalls.{addNumbers, add-refusals, beginNumbers, begin-refusals, dropNumbers, drop-refusals, finishNumbers, finish-refusals, replaceNumbers, replace-refusals}
 use Rattle.uskelzar.proofs.SameCalls.{Told, ToldNoted}

@@ -2,22 +2,23 @@
 use Prim.Native.Nat.{ℕ}
 use lib.{IntN.{pos}, ListN.{length}}
 use mathlib.Core.{Bool.{false}, List.{List}, Logic.{_⊎_, inl, inr}, Path.{_≡_, sym, ap, subst, _∙_}}
-use Rattle.adding.specs.{Adds.{Adds}, declared.room.NoteRooms.{NoteRooms}}
-use Rattle.adding.specs.Adds as Adding
+use Rattle.add.specs.{Adding.Adds.{Adds}, declared.adding.room.NoteRooms.{NoteRooms}}
+use Rattle.add.specs.Adding.Adds as Adding
 use Rattle.build.specs.{Whole.{toldBuilt}, declared.file.Built.{Built}}
 use Rattle.build.specs.declared.file.Built.the-variants as W
 use Rattle.builder.specs.{File.{Replied}, Yards.{Text, Plan, Yard}}
-use Rattle.changing.proofs.Cuts.{lists-same}
-use Rattle.changing.specs.{Begun.{Begins, blank}, Dropped.{Drops, leftSpace}, Emptied.{Clears}}
-use Rattle.chains.proofs.Entering.{chained-one}
-use Rattle.drawing.proofs.Lending.{never-given}
-use Rattle.growing.specs.{Joins.{Renoted}, Notes.{Notes, Noted, NotedBy, notesAs}, declared.grow.Added.{Added}}
-use Rattle.held.{proofs.Fronts.{front-one}, specs.{Builder.{Builder, Offered, add, begin, clear, dropLast, finish, joined, replace}, Space.{Space, standing}, State.{Answers, Holds, Idle, Lists, SameRooms}, declared.{room.Rooms.{Rooms}, state.{Changed.{Changed}, Held.{Held}}}}}
-use Rattle.held.specs.declared.state.Changed.the-variants as C
+use Rattle.edit.proofs.changing.Cuts.{lists-same}
+use Rattle.edit.specs.Changing.{Begun.{Begins, blank}, Dropped.{Drops, leftSpace}, Emptied.{Clears}}
+use Rattle.notes.proofs.chains.Entering.{chained-one}
+use Rattle.builder.proofs.drawing.Lending.{never-given}
+use Rattle.add.specs.{Growing.{Joins.{Renoted}, Notes.{Notes, Noted, NotedBy, notesAs}}, declared.growing.grow.Added.{Added}}
+use Rattle.draft.{proofs.held.Fronts.{front-one}, specs.Held.{Builder.{Builder, Offered, add, begin, clear, dropLast, finish, joined, replace}, Space.{Space, standing}, State.{Answers, Holds, Idle}}}
+use Rattle.draft.specs.{Held.State.{Lists, SameRooms}, declared.held.{room.Rooms.{Rooms}, state.{Changed.{Changed}, Held.{Held}}}}
+use Rattle.draft.specs.declared.held.state.Changed.the-variants as C
 use Rattle.numbers.specs.{Reply.{Reply, given, refused, plain}, declared.refusal.Refusal.{Refusal}}
-use Rattle.replacing.specs.Replaced.{Replaces}
-use Rattle.replacing.specs.Replaced as Replacing
-use Rattle.summed.specs.Ends.{Finishes, spaceOf}
+use Rattle.edit.specs.Replacing.Replaced.{Replaces}
+use Rattle.edit.specs.Replacing.Replaced as Replacing
+use Rattle.draft.specs.Summed.Ends.{Finishes, spaceOf}
 use Rattle.uskelzar.specs.Draft.{Files}
 
 -- One builder lies in one way in lists of given lengths.

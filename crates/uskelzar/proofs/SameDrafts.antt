@@ -1,14 +1,14 @@
 -- What the exported calls of a builder fix: two results that one permits, of a state that holds a builder or that does not fit its lists, are equal in number, reply words, state words and lists. Assumes nothing.
 use Prim.Native.Nat.{ℕ}
 use mathlib.Core.{List.{List}, Path.{_≡_, refl, sym, ap, subst, _∙_}}
-use Rattle.adding.specs.{Adds.{Adds}, declared.room.NoteRooms.{NoteRooms}}
+use Rattle.add.specs.{Adding.Adds.{Adds}, declared.adding.room.NoteRooms.{NoteRooms}}
 use Rattle.build.specs.{Whole.{toldBuilt}, declared.file.Built.{Built}}
 use Rattle.builder.specs.Yards.{Text, Plan}
-use Rattle.changing.specs.{Begun.{Begins}, Dropped.{Drops}, Emptied.{Clears}}
-use Rattle.growing.specs.{Notes.{Notes}, declared.grow.Added.{Added}}
-use Rattle.held.specs.{Builder.{Offered}, Space.{Space}, State.{Lists}, declared.{room.Rooms.{Rooms}, state.{Changed.{Changed}, Held.{Held}}}}
-use Rattle.held.specs.declared.state.Changed.the-variants as C
-use Rattle.replacing.specs.Replaced.{Replaces}
+use Rattle.edit.specs.Changing.{Begun.{Begins}, Dropped.{Drops}, Emptied.{Clears}}
+use Rattle.add.specs.{Growing.Notes.{Notes}, declared.growing.grow.Added.{Added}}
+use Rattle.draft.specs.{Held.{Builder.{Offered}, Space.{Space}, State.{Lists}}, declared.held.{room.Rooms.{Rooms}, state.{Changed.{Changed}, Held.{Held}}}}
+use Rattle.draft.specs.declared.held.state.Changed.the-variants as C
+use Rattle.edit.specs.Replacing.Replaced.{Replaces}
 use Rattle.uskelzar.proofs.SameCalls.{Told, ToldNoted, same-added, same-begun, same-cleared, same-dropped, same-finished, same-replaced}
 use Rattle.uskelzar.specs.{Draft.{Ends, Files, Kept, Speaks, SpeaksNoted, Spoke, heldOf, notedIn, toldChanged, totalsValues}, Spoken.{lengthValue, saidOf}, declared.Said.{Said}}
 

@@ -4,11 +4,11 @@ use borrow.Author.Tests.{le-ltb}
 use lib.ListN.{length, take}
 use mathlib.Core.{Bool.{true}, List.{[], _∷_}, Path.{_≡_, refl}}
 use native.Mathlib.Omega.{arith}
-use Rattle.changing.specs.{Begun.{Begins}, Dropped.{leftSpace}}
-use Rattle.growing.specs.Notes.{Notes}
-use Rattle.held.proofs.{Standing.{held-yards}, WorkedBuilder.{begins}}
-use Rattle.held.specs.{Builder.{Builder, dropLast, summed}, Space.{Space}, State.{Answers, Holds, heldAs}, Totals.{totalsFor, totalsOf}, declared.room.Rooms.{Rooms}}
-use Rattle.held.specs.declared.state.Changed.the-variants as C
+use Rattle.edit.specs.Changing.{Begun.{Begins}, Dropped.{leftSpace}}
+use Rattle.add.specs.Growing.Notes.{Notes}
+use Rattle.draft.proofs.held.{Standing.{held-yards}, WorkedBuilder.{begins}}
+use Rattle.draft.specs.{Held.{Builder.{Builder, dropLast, summed}, Space.{Space}, State.{Answers, Holds, heldAs}, Totals.{totalsFor, totalsOf}}, declared.held.room.Rooms.{Rooms}}
+use Rattle.draft.specs.declared.held.state.Changed.the-variants as C
 use Rattle.numbers.specs.{Lists.{padded}, Reply.{refused, plain}}
 use Rattle.uskelzar.proofs.WorkedDraft.{begun, begun-back, begun-holds, lists, plan}
 use Rattle.uskelzar.specs.{Calls.{Called, Made, Shelf, drops}, Draft.{Kept, heldOf, toldChanged, totalsValues, wordsOf}, Spoken.{saidOf}}

@@ -4,10 +4,10 @@ use mathlib.Core.{Bool.{true}, List.{[], _∷_, flatMap}, Logic.{inl}, Path.{_�
 use mir.{Syntax.{w32}, Val.{SFits}}
 use native.Mathlib.Omega.{arith}
 use Rattle.builder.specs.Yards.{Plan}
-use Rattle.changing.proofs.Nothing.{none-lies, none-totals}
-use Rattle.growing.specs.Notes.{Notes}
-use Rattle.held.proofs.{Fronts.{front-made}, Keeps.{begun-sound}, WorkedBuilder.{begins}}
-use Rattle.held.specs.{Builder.{Builder, summed}, State.{Holds, Lists, heldAs, listsAs}, Totals.{Totals}, declared.{room.Rooms.{Rooms}, state.Held.{Held}}}
+use Rattle.edit.proofs.changing.Nothing.{none-lies, none-totals}
+use Rattle.add.specs.Growing.Notes.{Notes}
+use Rattle.draft.proofs.held.{Fronts.{front-made}, Keeps.{begun-sound}, WorkedBuilder.{begins}}
+use Rattle.draft.specs.{Held.{Builder.{Builder, summed}, State.{Holds, Lists, heldAs, listsAs}, Totals.{Totals}}, declared.held.{room.Rooms.{Rooms}, state.Held.{Held}}}
 use Rattle.uskelzar.proofs.{Drafts.{words-back}, NotedDrafts.{Lasts, kept-lasts}, SameCalls.{Told, ToldNoted}}
 use Rattle.uskelzar.specs.Draft.{Kept, heldOf, notedIn, wordsOf}
 

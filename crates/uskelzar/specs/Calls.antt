@@ -3,13 +3,13 @@ use Prim.Native.Nat.{ℕ, _-_}
 use lib.{Dec.{eqb}, ListN.{getD, length, take}}
 use mathlib.Core.{List.{List, [], _∷_, _++_}, Path.{_≡_}}
 use mir.{Syntax.{w32}, Val.{ofZ}}
-use Rattle.adding.specs.{Adds.{Adds}, declared.room.NoteRooms.{NoteRooms}}
+use Rattle.add.specs.{Adding.Adds.{Adds}, declared.adding.room.NoteRooms.{NoteRooms}}
 use Rattle.builder.specs.Yards.{Plan, Text, Yard}
-use Rattle.changing.specs.{Begun.{Begins}, Dropped.{Drops}, Emptied.{Clears}}
-use Rattle.growing.specs.Notes.{MoreNotes, Notes, widerNotes}
-use Rattle.held.specs.{Builder.{Offered, changedAt, withValue, yardOf}, Space.{Space}, State.{Lists, More, wider}, Totals.{Totals}, declared.room.Rooms.{Rooms}}
+use Rattle.edit.specs.Changing.{Begun.{Begins}, Dropped.{Drops}, Emptied.{Clears}}
+use Rattle.add.specs.Growing.Notes.{MoreNotes, Notes, widerNotes}
+use Rattle.draft.specs.{Held.{Builder.{Offered, changedAt, withValue, yardOf}, Space.{Space}, State.{Lists, More, wider}, Totals.{Totals}}, declared.held.room.Rooms.{Rooms}}
 use Rattle.numbers.specs.{Answer.{if_then_else_}, Lists.{zeros}}
-use Rattle.replacing.specs.Replaced.{Replaces}
+use Rattle.edit.specs.Replacing.Replaced.{Replaces}
 use Rattle.uskelzar.specs.Draft.{Speaks, SpeaksNoted}
 
 -- what a caller keeps of a builder between two calls: its words, its lists, its notes

@@ -4,12 +4,12 @@ use lib.ListN.{getD}
 use mathlib.Core.{Bool.{false}, List.{List, [], _∷_}, Path.{_≡_}}
 use mir.{Syntax.{w32}, Val.{ofZ}}
 use Rattle.build.specs.{Whole.{toldBuilt}, declared.file.Built.{Built}}
-use Rattle.growing.specs.declared.grow.Added.{Added}
-use Rattle.held.specs.{Builder.{Builder, finish}, Space.{standing}, State.{Holds, Lists}, declared.{room.Rooms.{Rooms}, state.{Held.{Held}, Changed.{Changed}}}}
-use Rattle.held.specs.declared.state.Changed.the-variants as C
+use Rattle.add.specs.declared.growing.grow.Added.{Added}
+use Rattle.draft.specs.{Held.{Builder.{Builder, finish}, Space.{standing}, State.{Holds, Lists}}, declared.held.{room.Rooms.{Rooms}, state.{Held.{Held}, Changed.{Changed}}}}
+use Rattle.draft.specs.declared.held.state.Changed.the-variants as C
 use Rattle.build.specs.declared.file.Built.the-variants as W
 use Rattle.numbers.specs.{Lists.{zeros}, Point.{readI32}, Reply.{Reply, given, refused, plain}, declared.refusal.Refusal.{Refusal}}
-use Rattle.summed.specs.Ends.{Finishes, spaceOf}
+use Rattle.draft.specs.Summed.Ends.{Finishes, spaceOf}
 use Rattle.uskelzar.specs.{Spoken.{saidOf, lengthValue}, declared.Said.{Said}}
 
 -- of fourteen words thirteen, one for each number of a builder; of the first four and the thirteenth only the low bits count

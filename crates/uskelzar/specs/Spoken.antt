@@ -4,7 +4,7 @@ use mir.{Syntax.{w32}, Val.{ofZ}}
 use Prim.Native.Nat.{ℕ}
 use Rattle.writer.specs.Writer as W
 use Rattle.index.specs.Index.{Indexed}
-use Rattle.footer.specs.declared.scale.Scale.{Scale}
+use Rattle.localtime.specs.declared.scale.Scale.{Scale}
 use Rattle.tzif.specs.Local as T
 use Rattle.tzif.specs.declared.local.{Local.{Local}, LocalTime.{LocalTime}}
 use Rattle.tzif.specs.declared.local.LocalTime.the-variants as L

@@ -1,7 +1,7 @@
 // The form in which firmware takes the library: functions of plain names over numbers and slices; include/uskelzar.h has them for C.
 // Each returns 0 where it answers, with the answer's values in `reply`, or a refusal's number, with its cause and detail there.
+pub mod calls;
 pub mod civil;
-pub mod draft;
 pub mod many;
 pub mod salvaged;
 pub mod tiles;
@@ -10,16 +10,16 @@ pub mod yards;
 ghost use mathlib.Core.{Path.{_≡_}, List.{[], _∷_}};
 ghost use lib.ListN.{length};
 ghost use Rattle.writer.specs.{Pieces.{piecesOf}, Writer.{borderOf, fitted, told}};
-ghost use Rattle.footer.specs.Local.{localTime, scaleAt};
+ghost use Rattle.localtime.specs.Local.{localTime, scaleAt};
 ghost use Rattle.zones.specs.{Lookup.{lookedUp, lookedStrictly, toldLooked}, Simple.{simplyLooked, toldSimple}};
 ghost use Rattle.header.specs.Opening.{openedOf, openedStrictly, toldOpened};
 ghost use Rattle.numbers.specs.Reply.{Reply, given, refused};
 ghost use Rattle.uskelzar.specs.Spoken.{saidOf, openingValues, zonesValues, describedValues, lengthValue, localValues, refusedSaid, localReply, spoken, openingSpoken, foundSpoken, writtenSpoken, localSpoken};
-use footer::local::Timed;
-use footer::local::local_time;
 use header::opening::Opened;
 use header::opening::open;
 use header::opening::open_strict;
+use localtime::local::Timed;
+use localtime::local::local_time;
 use numbers::refusal::Refusal;
 use numbers::refusal::refuse;
 use table::location::Location;

@@ -1,12 +1,12 @@
 // Many fixes in one call, for C.
 ghost use mathlib.Core.{Path.{_≡_}, List.{[], _∷_}};
 ghost use lib.ListN.{length};
-ghost use Rattle.batch.specs.Many.{toldMany, lookedUpMany};
+ghost use Rattle.zones.specs.Batch.Many.{toldMany, lookedUpMany};
 ghost use Rattle.uskelzar.specs.{Spoken.{spoken}, Many.{manySaid, manySpoken}};
 use crate::Said;
 use crate::speak;
-use batch::many::Many;
-use batch::many::lookup_many;
+use zones::batch::many::Many;
+use zones::batch::many::lookup_many;
 
 fn say_many(many: Many) -> Said
     ensures { λ r. ⌜ r ≡ manySaid (toldMany many) ⌝ }

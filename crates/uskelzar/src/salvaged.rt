@@ -1,14 +1,14 @@
 // Salvage of a damaged file, for C.
 ghost use mathlib.Core.{Path.{_≡_}, List.{[], _∷_}};
 ghost use lib.ListN.{length};
-ghost use Rattle.rescue.specs.Told.{toldRescued};
+ghost use Rattle.salvage.specs.Rescue.Told.{toldRescued};
 ghost use Rattle.salvage.specs.Salvage.{salvaged};
 ghost use Rattle.uskelzar.specs.{Spoken.{saidOf, spoken}, Salvaged.{countsValues, salvageSpoken}};
 use crate::Said;
 use crate::say_refused;
 use crate::speak;
-use rescue::reply::Rescued;
-use rescue::reply::salvage;
+use salvage::rescue::reply::Rescued;
+use salvage::rescue::reply::salvage;
 
 fn say_rescued(rescued: Rescued) -> Said
     ensures { λ r. ⌜ r ≡ saidOf countsValues (toldRescued rescued) ⌝ }

@@ -18,7 +18,7 @@ pub enum Fields {
     Refused(Refusal),
 }
 
-pub fn fields_place(head: Head, id: u32) -> usize
+pub(crate) fn fields_place(head: Head, id: u32) -> usize
     ensures { λ r. ⌜ r ≡ fieldsPlace head id ⌝ }
 {
     let sections = head.sections;
@@ -56,7 +56,13 @@ fn write_match(text: &mut [u8], from: usize, file: &[u8], head: Head, start: usi
     Fields::Used(at)
 }
 
-pub fn write_fields(text: &mut [u8], file: &[u8], head: Head, hits: &[u32], count: usize) -> Fields
+pub(crate) fn write_fields(
+    text: &mut [u8],
+    file: &[u8],
+    head: Head,
+    hits: &[u32],
+    count: usize,
+) -> Fields
     requires { ⌜ (now text ≡ zeros (length (now text))) × (count ≤ length (now hits) / width) ⌝ }
     ensures { λ r. ⌜ Agrees (Wrote (length (now (text .entry))) (now (text .exit)))
         (fieldsOf (now (file .entry)) head (length (now (text .entry))) (take count (slots (now (hits .entry)))) []) (toldFields r) ⌝ }

@@ -280,7 +280,7 @@ fn look(file: &[u8], head: Head, location: Location, hits: &mut [u32], text: &mu
 }
 
 // In a file whose header was read; any header is taken.
-pub fn simple_lookup_in(
+pub(crate) fn simple_lookup_in(
     file: &[u8],
     head: Head,
     location: Location,

@@ -1,6 +1,6 @@
 use mathlib.Core.{List.{[], _∷_}, Path.{ap, sym, _∙_}}
 use Prim.Native.Nat.{ℕ}
-use Rattle.footer.specs.declared.scale.Scale.{Scale}
+use Rattle.localtime.specs.declared.scale.Scale.{Scale}
 use Rattle.numbers.specs.Reply.{refused}
 use Rattle.uskelzar.proofs.{Saying.{said-given, said-refused}, say_local.Statement.{statement}}
 use Rattle.uskelzar.specs.{Spoken.{localValues, localReply}, declared.Said.{Said}}

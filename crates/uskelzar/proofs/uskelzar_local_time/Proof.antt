@@ -1,7 +1,7 @@
 use lib.{IntN.{ℤ}, ListN.{length}}
 use mathlib.Core.Path.{ap, _∙_}
 use mir.{Syntax.{w64}, ValLaws.{toZ-ofZ}}
-use Rattle.footer.specs.Local.{localTime, scaleAt}
+use Rattle.localtime.specs.Local.{localTime, scaleAt}
 use Rattle.uskelzar.proofs.{Saying.{beside}, uskelzar_local_time.Statement.{statement}}
 use Rattle.uskelzar.specs.Spoken.{localSpoken}
 use borrow.Author.Needs.{needs}

@@ -1,6 +1,6 @@
 -- `builder::borders::check_border` meets its contract. Assumes nothing.
 use borrow.Author.Needs.{needs}
-use Rattle.builder.proofs.{Drawing.{check-never, check-says}, borders.check_border.Statement.{statement}}
+use Rattle.builder.proofs.{Draws.{check-never, check-says}, borders.check_border.Statement.{statement}}
 use Rattle.builder.proofs.borders.check_border.Tie as tie
 
 returns : tie.Need-returns

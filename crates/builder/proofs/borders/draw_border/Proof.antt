@@ -1,7 +1,7 @@
 -- `builder::borders::draw_border` meets its contract. Assumes nothing.
 use borrow.Author.Needs.{needs}
 use native.Mathlib.Omega.{arith}
-use Rattle.builder.proofs.{Drawing.{border-known, got-of, away-of, cut-off, too-long, draws}, borders.draw_border.Statement.{statement}}
+use Rattle.builder.proofs.{Draws.{border-known, got-of, away-of, cut-off, too-long, draws}, borders.draw_border.Statement.{statement}}
 use Rattle.builder.proofs.borders.draw_border.Tie as tie
 
 returns : tie.Need-returns

@@ -2,7 +2,7 @@
 use borrow.Author.Needs.{needs}
 use mathlib.Core.Path.{ap, _∙_}
 use mir.{Facts.{toZ-ofZ}, Syntax.{w32}, Val.{SFits}}
-use Rattle.moves.proofs.{Capping.{capped-form}, Forms.{from-zero}}
+use Rattle.salvage.proofs.moves.{Capping.{capped-form}, Forms.{from-zero}}
 use Rattle.numbers.specs.Spelling.{signedForm}
 use Rattle.salvage.proofs.entries.{Forming.{capped-four}, put_box.Statement.{statement}}
 use Rattle.salvage.specs.File.{boxBytes}

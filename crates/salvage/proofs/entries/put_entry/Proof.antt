@@ -1,6 +1,6 @@
 -- `salvage::entries::put_entry` meets its contract. Assumes nothing.
 use borrow.Author.Needs.{needs}
-use Rattle.moves.proofs.Capping.{capped-then, capped-form}
+use Rattle.salvage.proofs.moves.Capping.{capped-then, capped-form}
 use Rattle.salvage.specs.File.{entryBytes}
 use Rattle.salvage.proofs.entries.put_entry.Statement.{statement}
 use Rattle.salvage.proofs.entries.put_entry.Tie as tie

@@ -1,0 +1,45 @@
+-- `build::metadata::words::word_of` meets its contract. Assumes nothing.
+use Rattle.build.proofs.metadata.{Worded.{marked-inside, marked-few, old-inside, old-word, once-word, new-word, word-empty}, words.word_of.Statement.{statement}}
+use native.Mathlib.Omega.{arith}
+use borrow.Author.Needs.{needs}
+use Rattle.build.proofs.metadata.words.word_of.Tie as tie
+
+first-of-requires : tie.Need-first-of-requires
+first-of-requires c κs = (marked-inside _ _ _ _ (c .before .before .before .before .before .pre .0), c .before .before .before .before .before .pre .0 .order, marked-few _ _ _ _ (c .before .before .before .before .before .pre .0), omega (arith, c .before .before .before .before .before .pre .0 .many, c .before .before .before .before .before .pre .1))
+
+mul-result : tie.Need-mul-result
+mul-result c = omega (arith, old-inside _ _ _ _ (c .before .before .before .before .before .before .before .pre .0) _ (c .before .before .before .before .before .before .before .pre .1) _ (c .before .first-of .ensures) _ (c .before .before .before .before .before .before .before .pre .2) (c .if1 .taken))
+
+shared-slice-read-result : tie.Need-shared-slice-read-result
+shared-slice-read-result c = old-inside _ _ _ _ (c .before .before .before .before .before .before .before .before .pre .0) _ (c .before .before .before .before .before .before .before .before .pre .1) _ (c .before .before .first-of .ensures) _ (c .before .before .before .before .before .before .before .before .pre .2) (c .before .if1 .taken)
+
+returns : tie.Need-returns
+returns c = old-word _ _ _ _ (c .before .before .before .before .before .before .before .before .pre .0) _ (c .before .before .before .before .before .before .before .before .pre .1) _ (c .before .before .first-of .ensures) _ (c .before .before .before .before .before .before .before .before .pre .2) (c .before .if1 .taken)
+
+returns-2 : tie.Need-returns-2
+returns-2 c = word-empty _ _ (c .before .before .before .before .before .before .before .before .before .pre .0 .whole) _ (c .before .before .before .before .before .before .before .before .before .pre .1) (c .if2 .taken)
+
+is-twice-requires : tie.Need-is-twice-requires
+is-twice-requires c κs = (marked-inside _ _ _ _ (c .before .before .before .before .before .before .before .before .before .pre .0), c .before .before .before .before .before .before .before .before .before .pre .0 .order, marked-few _ _ _ _ (c .before .before .before .before .before .before .before .before .before .pre .0), omega (arith, c .before .before .before .before .before .before .before .before .before .pre .0 .many, c .before .before .before .before .before .before .before .before .before .pre .1))
+
+returns-3 : tie.Need-returns-3
+returns-3 c = new-word _ _ _ _ (c .before .before .before .before .before .before .before .before .before .before .before .pre .0) _ (c .before .before .before .before .before .before .before .before .before .before .before .pre .1) _ (c .before .before .before .before .before .first-of .ensures) (c .before .before .if2 .left) _ (c .before .is-twice .ensures) (c .if3 .taken) (c .before .before .before .before .if1 .left) _ (c .before .before .before .before .before .before .before .before .before .before .before .pre .3)
+
+returns-4 : tie.Need-returns-4
+returns-4 c = once-word _ _ _ _ (c .before .before .before .before .before .before .before .before .before .before .before .pre .0) _ (c .before .before .before .before .before .before .before .before .before .before .before .pre .1) _ (c .before .before .before .before .before .first-of .ensures) (c .before .before .if2 .left) _ (c .before .is-twice .ensures) (c .if3 .left)
+
+pub word-of-spec : {M : Type 1} → statement M
+word-of-spec =
+    tie.close
+    (tie.spec
+    first-of-requires
+    mul-result
+    shared-slice-read-result
+    returns
+    (λ c. search needs)
+    (λ c. search needs)
+    returns-2
+    is-twice-requires
+    (λ c. search needs)
+    returns-3
+    returns-4)

@@ -1,0 +1,63 @@
+-- `edit::replacing::resum::resum` meets its contract. Assumes nothing.
+use Rattle.edit.proofs.replacing.{Resumming.{summing, resums-broken, resums-settled}, resum.resum.Statement.{statement}}
+use borrow.Author.Needs.{needs}
+use Rattle.edit.proofs.replacing.resum.resum.Tie as tie
+
+sum-up-requires : tie.Need-sum-up-requires
+sum-up-requires c κs =
+    let args = c .before .before .before .before .before .before .before .before .before .before .before .before .before .before .before .before .before .before .before .before .args in
+    let pre = c .before .before .before .before .before .before .before .before .before .before .before .before .before .before .before .before .before .before .before .before .pre in
+    summing (args .builder) (args .strings) (args .lengths .now) (args .texts .now) _ _ (pre)
+
+enum-told : tie.Need-enum-told
+enum-told c = search needs
+
+returns : tie.Need-returns
+returns c =
+    let args = c .before .before .before .before .before .before .before .before .before .before .before .before .before .before .before .before .before .before .before .before .before .before .before .before .before .before .before .before .before .before .before .before .before .before .before .before .before .before .args in
+    let sum-up = c .before .before .before .before .before .before .before .before .before .before .before .before .before .before .before .before .before .sum-up in
+    resums-broken (args .builder) (args .strings) _ _ _ _ (sum-up .result) (sum-up .ensures) (enum-told (c .before .before)) _
+
+returns-2 : tie.Need-returns-2
+returns-2 c =
+    let args = c .before .before .before .before .before .before .before .before .before .before .before .before .before .before .before .before .before .before .before .before .before .before .before .before .before .before .before .before .before .before .before .before .before .before .before .before .before .before .before .args in
+    let sum-up = c .before .before .before .before .before .before .before .before .before .before .before .before .before .before .before .before .before .before .sum-up in
+    let summed = c .before .before .summed in
+    resums-settled (args .builder) (args .strings) _ _ _ _ (sum-up .result) (sum-up .ensures) _ (summed .given .1) _ (c .settle .ensures)
+
+pub resum-spec : {M : Type 1} → statement M
+resum-spec =
+    tie.close
+    (tie.spec
+    (λ c. search needs)
+    (λ c. search needs)
+    (λ c. search needs)
+    (λ c. search needs)
+    (λ c. search needs)
+    (λ c. search needs)
+    (λ c. search needs)
+    (λ c. search needs)
+    (λ c. search needs)
+    (λ c. search needs)
+    (λ c. search needs)
+    sum-up-requires
+    (λ c. search needs)
+    enum-told
+    (λ c κs. search needs)
+    (λ c. search needs)
+    (λ c. search needs)
+    (λ c. search needs)
+    (λ c. search needs)
+    (λ c. search needs)
+    (λ c. search needs)
+    (λ c. search needs)
+    returns
+    (λ c κs. search needs)
+    (λ c. search needs)
+    (λ c. search needs)
+    (λ c. search needs)
+    (λ c. search needs)
+    (λ c. search needs)
+    (λ c. search needs)
+    (λ c. search needs)
+    returns-2)

@@ -1,0 +1,35 @@
+-- A builder without a yard: what clearing gives.
+use Prim.Native.Nat.{ℕ}
+use lib.IntN.{pos}
+use mathlib.Core.{Bool.{false}, Path.{_≡_}}
+use Rattle.draft.specs.{Held.{Builder.{Builder, clear}, Space.{standing}, State.{Answers, Holds, Lists}}, declared.held.{room.Rooms.{Rooms}, state.{Changed.{Changed}, Held.{Held}}}}
+use Rattle.draft.specs.declared.held.state.Changed.the-variants as C
+use Rattle.numbers.specs.Reply.{given, plain}
+
+unfoldable pub emptiedOf : Held → Held
+emptiedOf h =
+    record {
+      kind = h .kind;
+      version = h .version;
+      precision = h .precision;
+      names = h .names;
+      room = h .room;
+      head = h .head;
+      front = h .front;
+      strings = h .front;
+      table = 0;
+      metadata = 0;
+      bytes = 1;
+      yards = 0;
+      greatest = pos 0;
+    }
+
+-- the builder's own lists, and none to work in
+abbrev pub ownRooms : ℕ → ℕ → ℕ → ℕ → ℕ → Rooms
+ownRooms boxes borders lengths texts bytes =
+    record { boxes = boxes; borders = borders; lengths = lengths; texts = texts; bytes = bytes; starts = 0; keys = 0; spare = 0; kept = 0; held = 0; words = 0; places = 0 }
+
+-- a builder that calls have made is cleared; where its numbers do not fit its lists, 28, and nothing changes
+pub record Clears (builder : Held) (rooms : Rooms) (before after : Lists) (r : Changed) : Type 0 where
+  pub answers : (b : Builder) → Holds b builder before → Answers (given (clear b)) before after r
+  pub broken : standing builder rooms ≡ false → (r ≡ C.Refused (plain 28)) × (after ≡ before)

@@ -1,0 +1,5 @@
+pub mod Chains
+pub mod Noted
+pub mod Weighed
+pub mod Nearby
+pub mod Quick

@@ -1,0 +1,12 @@
+-- What one more yard does, whose record takes so many bytes more and begins there.
+use Prim.Native.Nat.{ℕ, _+_}
+use lib.ListN.{length}
+use mathlib.Core.{Bool.{true}, List.{List, [], _∷_, _++_, map}, Path.{_≡_}}
+use Rattle.builder.specs.{Metadata.{layoutOf, metadataOf, recordsOf}, Sharing.{sameTexts, isIn}, Yards.{Yard}}
+use Rattle.notes.specs.Noted.Records.{fieldsIn, beginIn}
+
+pub record OneMore (yards : List Yard) (y : Yard) (by begin : ℕ) : Type 0 where
+  pub metadata-on : length (metadataOf (recordsOf (yards ++ (y ∷ [])))) ≡ length (metadataOf (recordsOf yards)) + by
+  pub layout-is : layoutOf (fieldsIn (yards ++ (y ∷ []))) ≡ layoutOf (fieldsIn yards) + by
+  pub begins-on : (x : Yard) → isIn sameTexts (x .values) (map (λ y. y .values) yards) ≡ true → beginIn (yards ++ (y ∷ [])) x ≡ beginIn yards x
+  pub begin-is : beginIn (yards ++ (y ∷ [])) y ≡ begin

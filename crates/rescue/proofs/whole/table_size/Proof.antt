@@ -1,7 +1,0 @@
--- `rescue::whole::table_size` meets its contract. Assumes nothing.
-use borrow.Author.Needs.{needs}
-use Rattle.rescue.proofs.whole.{Assembling.{table-sized}, table_size.Statement.{statement}}
-use Rattle.rescue.proofs.whole.table_size.Tie as tie
-
-pub table-size-spec : {M : Type 1} → statement M
-table-size-spec = tie.close (tie.spec (λ c. search needs) (λ c κs. search needs) (λ c. table-sized _ _ _ _ _ (c .before .put-table .ensures)))

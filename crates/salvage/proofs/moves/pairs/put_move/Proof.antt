@@ -1,0 +1,29 @@
+-- `salvage::moves::pairs::put_move` meets its contract. Assumes nothing.
+use mathlib.Core.Path.{ap, _∙_}
+use mir.{Facts.{toZ-ofZ}, Syntax.{w32}, Val.{SFits}}
+use Rattle.writer.specs.Moves.{plainMoveBytes}
+use Rattle.numbers.specs.Spelling.{varintOf, signedForm}
+use Rattle.salvage.proofs.moves.{Capping.{capped-then, capped-form}, Forms.{from-zero}, pairs.put_move.Statement.{statement}}
+use borrow.Author.Needs.{needs}
+use Rattle.salvage.proofs.moves.pairs.put_move.Tie as tie
+
+returns : tie.Need-returns
+unfolding plainMoveBytes
+returns c =
+    let told = c .before .before .before .before .before .before .before .before .before .before .struct-told .given in
+    let lat : SFits w32 (c .before .before .before .before .before .before .before .before .before .before .before .before .before .args .by .lat) = search needs in
+    let lon : SFits w32 (c .before .before .before .before .before .before .before .before .before .before .before .before .before .args .by .lon) = search needs in
+    capped-then (varintOf (signedForm (c .before .before .before .before .before .before .before .before .before .before .before .before .before .args .by .lat))) (varintOf (signedForm (c .before .before .before .before .before .before .before .before .before .before .before .before .before .args .by .lon)))
+    (capped-form (c .before .before .before .before .before .before .before .before .before .form-of .ensures ∙ from-zero _ ∙ ap signedForm (toZ-ofZ lat)) (c .before .before .before .before .before .before .before .before .put-number .ensures))
+    (capped-form (c .before .before .before .form-of2 .ensures ∙ from-zero _ ∙ ap signedForm (toZ-ofZ lon)) (c .before .before .put-number2 .ensures))
+
+pub put-move-spec : {M : Type 1} → statement M
+put-move-spec =
+    tie.close
+    (tie.spec
+    (λ c κs. search needs)
+    (λ c κs. search needs)
+    (λ c κs. search needs)
+    (λ c κs. search needs)
+    (λ c. search needs)
+    returns)

@@ -1,0 +1,15 @@
+-- `salvage::rescue::reply::has_room` meets its contract. Assumes nothing.
+use Rattle.salvage.proofs.rescue.reply.{Replying.{room-small, room-large, room-fits}, has_room.Statement.{statement}}
+use Rattle.salvage.proofs.rescue.reply.has_room.Tie as tie
+
+returns : tie.Need-returns
+returns c = room-small (c .before .args .size) (c .before .args .room) (c .before .args .words) (c .before .args .list) (c .if1 .taken)
+
+returns-2 : tie.Need-returns-2
+returns-2 c = room-large (c .before .before .args .size) (c .before .before .args .room) (c .before .before .args .words) (c .before .before .args .list) (c .if2 .taken)
+
+returns-3 : tie.Need-returns-3
+returns-3 c = room-fits (c .before .before .args .size) (c .before .before .args .room) (c .before .before .args .words) (c .before .before .args .list) (c .before .if1 .left) (c .if2 .left)
+
+pub has-room-spec : {M : Type 1} → statement M
+has-room-spec = tie.close (tie.spec returns returns-2 returns-3)

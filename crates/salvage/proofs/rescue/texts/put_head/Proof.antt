@@ -1,0 +1,12 @@
+-- `salvage::rescue::texts::put_head` meets its contract. Assumes nothing.
+use borrow.Author.Needs.{needs}
+use lib.ListN.{take}
+use Rattle.salvage.specs.File.{headTexts}
+use Rattle.salvage.proofs.rescue.texts.{Texting.{inlined-behind}, put_head.Statement.{statement}}
+use Rattle.salvage.proofs.rescue.texts.put_head.Tie as tie
+
+returns : tie.Need-returns
+returns c = inlined-behind (take 7 (c .before .before .before .before .before .before .before .before .before .before .args .file .now)) (headTexts (c .before .before .before .before .before .before .before .before .before .before .args .file .now) (c .before .before .before .before .before .before .before .before .before .before .args .head)) (c .before .before .put-texts .result) (c .before .before .put-texts .last .1 .1 .0) (c .before .before .before .before .before .before .put-span .ensures) (c .before .before .put-texts .ensures)
+
+pub put-head-spec : {M : Type 1} → statement M
+put-head-spec = tie.close (tie.spec (λ c κs. search needs) (λ c κs. search needs) (λ c. search needs) returns)

@@ -1,0 +1,8 @@
+-- `salvage::rescue::whole::data_size` meets its contract. Assumes nothing.
+use borrow.Author.Needs.{needs}
+use Rattle.salvage.proofs.entries.Tabling.{sized-of}
+use Rattle.salvage.proofs.rescue.whole.data_size.Statement.{statement}
+use Rattle.salvage.proofs.rescue.whole.data_size.Tie as tie
+
+pub data-size-spec : {M : Type 1} → statement M
+data-size-spec = tie.close (tie.spec (λ c. search needs) (λ c κs. search needs) (λ c. sized-of (c .before .put-data .ensures)))
