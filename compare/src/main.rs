@@ -20,7 +20,6 @@ mod writings;
 
 use ours::Program;
 use phases::Run;
-use std::collections::HashMap;
 
 struct Options {
     seed: u64,
@@ -32,13 +31,11 @@ struct Options {
     replay: Vec<String>,
     vectors: Vec<String>,
     recorded: Vec<String>,
-    marks: HashMap<u32, u32>,
 }
 
 fn options() -> Result<Options, String> {
     let mut o = Options {
         seed: 1, files: 20_000, borders: 10_000, leaves: 10_000, writes: 10_000, many: 10_000, replay: Vec::new(), vectors: Vec::new(), recorded: Vec::new(),
-        marks: HashMap::new(),
     };
     let mut words = std::env::args().skip(1);
     while let Some(word) = words.next() {
@@ -55,10 +52,6 @@ fn options() -> Result<Options, String> {
             "--replay" => o.replay = command(),
             "--vectors" => o.vectors = command(),
             "--recorded" => o.recorded.push(value),
-            "--marks" => {
-                let lines = std::fs::read_to_string(&value).map_err(|e| format!("{value}: {e}"))?;
-                o.marks = recorded::marks(&lines).ok_or_else(|| format!("{value}: no list of marks"))?;
-            }
             _ => return Err(format!("{word}: not known")),
         }
     }
@@ -69,7 +62,7 @@ fn run(o: Options) -> Result<bool, String> {
     let mut run = Run::new(o.seed, Program { command: o.replay }, Program { command: o.vectors })?;
     println!("seed {}: {} files, {} borders, {} writings, {} calls of many fixes, {} leaves of each kind", o.seed, o.files, o.borders, o.writes, o.many, o.leaves);
     for path in &o.recorded {
-        run.recorded(path, &o.marks)?;
+        run.recorded(path)?;
     }
     run.files(o.files)?;
     run.writes(o.writes)?;

@@ -11,7 +11,6 @@ use crate::shrink::{parts, smallest};
 use crate::tally::Tally;
 use crate::writer::written;
 use crate::writings;
-use std::collections::HashMap;
 
 /// Records of a batch, in bytes.
 const BATCH: usize = 8 << 20;
@@ -163,8 +162,8 @@ impl Run {
     }
 
     /// The harness against recorded cases.
-    pub fn recorded(&mut self, path: &str, marks: &HashMap<u32, u32>) -> Result<(), String> {
-        let (count, wrong) = recorded::compare(&std::fs::read(path).map_err(|e| format!("{path}: {e}"))?, marks);
+    pub fn recorded(&mut self, path: &str) -> Result<(), String> {
+        let (count, wrong) = recorded::compare(&std::fs::read(path).map_err(|e| format!("{path}: {e}"))?);
         println!("{path}: {count} recorded cases, {} expected otherwise {wrong:?}", wrong.len());
         self.wrong += wrong.len() as u64;
         Ok(())
