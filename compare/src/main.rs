@@ -12,6 +12,7 @@ mod phases;
 mod random;
 mod record;
 mod recorded;
+mod rooms;
 mod rust;
 mod shrink;
 mod tally;
@@ -61,8 +62,11 @@ fn options() -> Result<Options, String> {
 fn run(o: Options) -> Result<bool, String> {
     let mut run = Run::new(o.seed, Program { command: o.replay }, Program { command: o.vectors })?;
     println!("seed {}: {} files, {} borders, {} writings, {} calls of many fixes, {} leaves of each kind", o.seed, o.files, o.borders, o.writes, o.many, o.leaves);
+    // the harness itself, against recorded cases
     for path in &o.recorded {
-        run.recorded(path)?;
+        let (count, wrong) = recorded::compare(&std::fs::read(path).map_err(|e| format!("{path}: {e}"))?);
+        println!("{path}: {count} recorded cases, {} expected otherwise {wrong:?}", wrong.len());
+        run.wrong += wrong.len() as u64;
     }
     run.files(o.files)?;
     run.writes(o.writes)?;

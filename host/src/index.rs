@@ -1,6 +1,7 @@
 //! A tile index beside a map: a lookup through it reads only the entries whose box meets the fix's tile.
 
-use crate::map::{Error, Map};
+use crate::answer::{Error, Zones};
+use crate::map::Map;
 use crate::raw;
 use crate::refusal::Number;
 use std::io;
@@ -79,6 +80,18 @@ impl Index {
     /// Whether it goes with a map; then lookups through it may leave the comparison out.
     pub fn is_tied<B: AsRef<[u8]>>(&self, map: &Map<B>) -> bool {
         raw::index_tied(map.bytes(), &self.words).is_ok()
+    }
+}
+
+impl<B: AsRef<[u8]>> Map<B> {
+    /// What [`Map::lookup`] gives, through an index, which is held against the file at each call; refusal 36 says that it does not go with it.
+    pub fn lookup_indexed(&self, index: &Index, lat: f32, lon: f32) -> Result<Zones, Error> {
+        self.found_by(|hits, text| raw::lookup_indexed(self.bytes(), index.words(), (lat, lon, true), hits, text))
+    }
+
+    /// The same without the comparison: for an index of which [`Index::is_tied`] said yes.
+    pub fn lookup_through(&self, index: &Index, lat: f32, lon: f32) -> Result<Zones, Error> {
+        self.found_by(|hits, text| raw::lookup_through(self.bytes(), index.words(), (lat, lon, true), hits, text))
     }
 }
 
