@@ -60,10 +60,13 @@ crates_of() {
 sum_of() {
     {
         rt version
+        cd "$root" || exit
         for each in $(crates_of "$1"); do
-            grep "^$each:" "$root/crates.txt"
-            (cd "$root/crates/$each" && find src specs proofs -type f -exec sha256sum {} + 2>/dev/null) | sort -k 2
+            grep "^$each:" crates.txt
+            for part in src specs proofs; do [ ! -d "crates/$each/$part" ] || set -- "$@" "crates/$each/$part"; done
         done
+        shift
+        find "$@" -type f -exec sha256sum {} + | sort -k 2
     } | sha256sum | cut -d ' ' -f 1
 }
 

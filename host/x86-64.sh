@@ -52,11 +52,12 @@ need_depot_crates() {
     need_crate serde_json librust-serde-json-dev
 }
 
-# cargo_plain FOLDER COMMAND WORDS..: cargo on the crate in a folder, with Debian's crates
+# cargo_plain FOLDER COMMAND WORDS..: cargo on the crate in a folder, with Debian's crates; it says what it compiles where $quiet is empty
+quiet=--quiet
 cargo_plain() {
     folder=$1 command=$2
     shift 2
-    cargo "$command" --quiet --offline --config 'source.crates-io.replace-with="debian"' --config "source.debian.directory=\"$crates\"" \
+    cargo "$command" ${quiet:+"$quiet"} --offline --config 'source.crates-io.replace-with="debian"' --config "source.debian.directory=\"$crates\"" \
         --manifest-path "$root/$folder/Cargo.toml" "$@"
 }
 
