@@ -118,13 +118,14 @@ minutes() {
 
 # Reads rt's lines "rt: CRATE proved (..)" and says which crate of how many was proved, and about how many minutes are left.
 show_progress() { # CRATE:SECONDS..
-    all=$# at=0 left=0
+    all=$# at=0 left=0 seen=' '
     for each; do left=$((left + ${each#*:})); done
     say "proving and building, once: $all crates, about $(minutes "$left") min; what is proved already is not proved again"
     while read -r _ crate _ took _; do
         for each; do
             [ "${each%%:*}" = "$crate" ] || continue
-            at=$((at + 1)) left=$((left - ${each#*:}))
+            case $seen in *" $crate "*) continue ;; esac
+            at=$((at + 1)) left=$((left - ${each#*:})) seen="$seen$crate "
             case $took in \(unchanged) ;; *) say "$at of $all crates: $crate proved $took s); about $(minutes "$left") min left" ;; esac
         done
     done
@@ -140,8 +141,11 @@ prove_by() {
     shift
     log=$root/target/prove.log
     {
+        # rt proves what an archive is built from one crate after the other; a check proves several at a time
+        before=''
+        [ "$verb" != staticlib ] || before=$(crates_of "$names" | grep -vx "$names")
         # shellcheck disable=SC2086
-        (cd "$root" && rt "$verb" $names 2>&1 9>&- && echo 'rt: ended well')
+        (cd "$root" && { [ -z "$before" ] || rt check $before; } 2>&1 9>&- && rt "$verb" $names 2>&1 9>&- && echo 'rt: ended well')
     } | tee "$log" | { grep --line-buffered '^rt: [a-z_]* proved (' || true; } | show_progress "$@"
     [ "$(tail -n 1 "$log")" = 'rt: ended well' ] && return
     grep '^rt: ' "$log" | grep -v ' proved (' >&2
