@@ -65,6 +65,9 @@ fn run(o: Options) -> Result<bool, String> {
     // the harness itself, against recorded cases
     for path in &o.recorded {
         let (count, wrong) = recorded::compare(&std::fs::read(path).map_err(|e| format!("{path}: {e}"))?);
+        if count == 0 {
+            continue; // of ops that the Rust has no words for
+        }
         println!("{path}: {count} recorded cases, {} expected otherwise {wrong:?}", wrong.len());
         run.wrong += wrong.len() as u64;
     }
