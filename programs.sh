@@ -189,8 +189,8 @@ prove() {
 # prove_archive: target/staticlib/libuskelzar.a, for C and Rust to link.
 prove_archive() { ensure staticlib uskelzar:target/staticlib/libuskelzar.a || exit 2; }
 
-# prove_library CRATE: proved, with its folder in target/rlib. rt itself looks whether anything has changed.
-prove_library() { (lock; prove_by check "$1") || exit 2; }
+# prove_libraries CRATE..: proved, with their folders in target/rlib. rt itself looks whether anything has changed.
+prove_libraries() { (lock; prove_by check "$@") || exit 2; }
 
 # run PROGRAM: as rt runs it, by the kit's loader, and on another processor than x86-64 by its emulator.
 run() { ${emulator:+"$emulator"} "$tools/lib/ld-linux-x86-64.so.2" --library-path "$tools/lib" "$root/target/bin/$1"; }
