@@ -10,6 +10,9 @@ fn main() {
         "cargo:rerun-if-changed={}",
         folder.join("libuskelzar.a").display()
     );
+    if !folder.join("libuskelzar.a").exists() {
+        println!("cargo:warning=no libuskelzar.a in {}: name its folder in USKELZAR_LIB", folder.display());
+    }
     println!("cargo:rustc-link-search=native={}", folder.display());
     println!("cargo:rustc-link-lib=static=uskelzar");
 }

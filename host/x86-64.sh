@@ -1,11 +1,13 @@
-# Sourced by host/run and picture/run: how x86-64 programs are built and run on this machine.
-# Needs $root, the repository, and $kit, a folder that ../shared/bench/setup has prepared.
+# Sourced by host/run, ./depot and compare/: how x86-64 programs are built and run on this machine.
+# Needs $root, the repository, and $kit, a folder that tools/kit has prepared.
 # shellcheck shell=sh disable=SC2034,SC2154
+# shellcheck source=programs.sh
+. "$root/programs.sh"
 target=x86_64-unknown-linux-gnu
 built=$root/target/host/$target
 
-stop() { printf '%s: %s\n' "$0" "$*" >&2; exit 2; }
-need() { command -v "$1" >/dev/null || stop "$1 is missing: $2"; }
+stop() { die "$@"; }
+need() { command -v "$1" >/dev/null || stop "$1 is missing: $2 (tools/kit host installs what is Debian's)"; }
 
 need cargo "Debian's cargo, or Rust's own"
 if [ "$(uname -m)" = x86_64 ]; then
@@ -16,39 +18,46 @@ else
     need "$cc" "Debian's gcc-x86-64-linux-gnu and libc6-dev-amd64-cross"
     need qemu-x86_64 "Debian's qemu-user"
     RUSTC=${RUSTC:-$kit/rustc-x86}
-    [ -x "$RUSTC" ] || stop "no Rust for x86-64 at $RUSTC: ../shared/bench/setup FOLDER fetches it, then give --kit FOLDER, or set RUSTC"
+    [ -x "$RUSTC" ] || stop "no Rust for x86-64 at $RUSTC: tools/kit host fetches it (or set RUSTC, or BENCH_KIT to a folder that it has prepared)"
     export RUSTC CARGO_TARGET_X86_64_UNKNOWN_LINUX_GNU_LINKER="$cc" CARGO_TARGET_X86_64_UNKNOWN_LINUX_GNU_RUNNER="$runner"
 fi
 
 # Proves and writes libuskelzar.a, unless USKELZAR_LIB names a folder that has it.
 build_archive() {
     if [ -z "${USKELZAR_LIB-}" ]; then
-        need rt "the Rattle kit, or an archive's folder in USKELZAR_LIB"
-        (cd "$root" && rt staticlib uskelzar >target/staticlib.log 2>&1) || { cat "$root/target/staticlib.log" >&2; stop "the library is not proved"; }
+        command -v rt >/dev/null || stop "rt is missing: the Rattle kit, or an archive's folder in USKELZAR_LIB"
+        prove_archive
     fi
     archive=${USKELZAR_LIB:-$root/target/staticlib}/libuskelzar.a
     [ -f "$archive" ] || stop "no archive $archive"
 }
 
+# What counting takes besides.
+need_count() {
+    need qemu-x86_64 "Debian's qemu-user"
+    [ -f "$kit/count/insn.so" ] || stop "no $kit/count/insn.so: tools/kit bench builds it (--kit FOLDER: in another folder)"
+}
+
 # Rust's crates come from Debian's packages.
 crates=/usr/share/cargo/registry
-need_crate() { ls -d "$crates/$1"-* >/dev/null 2>&1 || stop "the crate $1 is missing: Debian's $2"; }
+need_crate() { ls -d "$crates/$1"-* >/dev/null 2>&1 || stop "the crate $1 is missing: Debian's $2 (tools/kit installs it)"; }
 need_crate memmap2 librust-memmap2-dev
 
 # what host/depot takes besides
 need_depot_crates() {
-    for each in chrono clap csv indicatif png; do
+    for each in chrono clap csv indicatif png rayon; do
         need_crate "$each" "librust-$each-dev"
     done
     need_crate clap_derive librust-clap-derive-dev
     need_crate serde_json librust-serde-json-dev
 }
 
-# cargo_plain FOLDER COMMAND WORDS..: cargo on the crate in a folder, with Debian's crates
+# cargo_plain FOLDER COMMAND WORDS..: cargo on the crate in a folder, with Debian's crates; it says what it compiles where $quiet is empty
+quiet=--quiet
 cargo_plain() {
     folder=$1 command=$2
     shift 2
-    cargo "$command" --quiet --offline --config 'source.crates-io.replace-with="debian"' --config "source.debian.directory=\"$crates\"" \
+    cargo "$command" ${quiet:+"$quiet"} --offline --config 'source.crates-io.replace-with="debian"' --config "source.debian.directory=\"$crates\"" \
         --manifest-path "$root/$folder/Cargo.toml" "$@"
 }
 

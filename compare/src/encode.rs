@@ -1,15 +1,11 @@
 //! How the format writes numbers and points, rightly and less rightly.
 use crate::random::Random;
 
-pub fn varint(mut value: u64) -> Vec<u8> {
-    let mut out = Vec::new();
-    while value >= 128 {
-        out.push(value as u8 | 0x80);
-        value >>= 7;
-    }
-    out.push(value as u8);
-    out
-}
+#[allow(dead_code)] // strings here are less right than those
+#[path = "../../host/tests/common/encode.rs"]
+mod rightly;
+
+pub use rightly::{number_of as signed, varint};
 
 /// The same value in at least so many bytes.
 pub fn padded(value: u64, width: usize) -> Vec<u8> {
@@ -19,10 +15,6 @@ pub fn padded(value: u64, width: usize) -> Vec<u8> {
         out.push(0);
     }
     out
-}
-
-pub fn signed(value: i64) -> u64 {
-    if value < 0 { value.unsigned_abs() * 2 + 1 } else { value as u64 * 2 }
 }
 
 fn spread(code: u32) -> u64 {

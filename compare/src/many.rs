@@ -2,9 +2,10 @@
 use crate::files;
 use crate::leaves::hex;
 use crate::ours::replay;
-use crate::phases::{room, slots_need, text_need, Run};
+use crate::phases::Run;
 use crate::random::Random;
 use crate::record::{reply_from, sized, Call, LOOKUP, MANY, ZONE_WORDS};
+use crate::rooms::{room, slots_need, text_need};
 use crate::rust::{caught, facts, open, refused, Facts, Refusal};
 use crate::shrink::{parts, smallest};
 

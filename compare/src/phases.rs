@@ -5,13 +5,12 @@ use crate::leaves::{self, hex, Leaf};
 use crate::ours::{replay, vectors, Program};
 use crate::random::Random;
 use crate::record::*;
-use crate::recorded;
-use crate::rust::{caught, Facts, Looked, Refusal};
+use crate::rooms::{names_need, room, slots_need, text_need};
+use crate::rust::{caught, Refusal};
 use crate::shrink::{parts, smallest};
 use crate::tally::Tally;
 use crate::writer::written;
 use crate::writings;
-use std::collections::HashMap;
 
 /// Records of a batch, in bytes.
 const BATCH: usize = 8 << 20;
@@ -78,29 +77,6 @@ fn reply_to(call: &mut Call) -> Result<Reply, Refusal> {
     }
 }
 
-/// Around what is needed: often just enough or one too few.
-pub fn room(r: &mut Random, need: usize) -> usize {
-    match r.below(40) {
-        0 | 1 => need.saturating_sub(1),
-        2 => r.below(need + 4),
-        3 => 0,
-        4..=14 => need,
-        _ => need + r.below(5),
-    }
-}
-
-pub fn text_need(looked: &Option<Looked>) -> usize {
-    looked.as_ref().map_or(0, |l| l.fields.iter().map(|f| 3 + f.2.len()).sum())
-}
-
-pub fn slots_need(looked: &Option<Looked>) -> usize {
-    looked.as_ref().map_or(0, |l| ZONE_WORDS * l.hits.len())
-}
-
-fn names_need(facts: &Facts) -> usize {
-    facts.opened.as_ref().map_or(0, |o| o.names.iter().chain([&o.notice]).map(|n| 2 + n.len()).sum())
-}
-
 /// The seven calls on one file, within what replay has room for.
 fn calls(r: &mut Random, case: &Case, read: &Readings) -> Vec<Call> {
     let Readings { plain, strict } = read;
@@ -160,14 +136,6 @@ impl Run {
             run.known[op as usize] = crate::ours::replay(&run.replay, &[record])?.skipped == 0;
         }
         Ok(run)
-    }
-
-    /// The harness against recorded cases.
-    pub fn recorded(&mut self, path: &str, marks: &HashMap<u32, u32>) -> Result<(), String> {
-        let (count, wrong) = recorded::compare(&std::fs::read(path).map_err(|e| format!("{path}: {e}"))?, marks);
-        println!("{path}: {count} recorded cases, {} expected otherwise {wrong:?}", wrong.len());
-        self.wrong += wrong.len() as u64;
-        Ok(())
     }
 
     fn count(&mut self, call: &Call, reply: &Reply) {

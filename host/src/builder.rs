@@ -1,8 +1,8 @@
 //! Files from yards.
 
+use crate::answer::Table;
 use crate::desk::Desk;
 use crate::draft::Draft;
-use crate::map::Table;
 use crate::raw::{self, Lengths, Plan, Start, MOST_NAMES, MOST_YARDS, YARD_WORDS};
 use crate::refusal::{Number, Refusal};
 use crate::{most_bytes, word, words_of, Piece};

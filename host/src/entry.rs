@@ -1,7 +1,7 @@
 //! What stands at a match's place in the file: a table entry, in words for service staff. Read here, apart from the library.
 
-use crate::map::Header;
-use crate::survey::{degrees_of, sections_of, walk_border, Numbers, Row, Rows};
+use crate::answer::Header;
+use crate::reading::{degrees_of, sections_of, walk_border, Numbers, Row, Rows};
 use std::fmt;
 
 /// A table entry.

@@ -1,6 +1,7 @@
 //! A tile index beside a map: a lookup through it reads only the entries whose box meets the fix's tile.
 
-use crate::map::{Error, Map};
+use crate::answer::{Error, Zones};
+use crate::map::Map;
 use crate::raw;
 use crate::refusal::Number;
 use std::io;
@@ -87,6 +88,18 @@ impl Index {
     /// Whether it keeps a map's length, header and table; then lookups through an index that was built may leave the comparison out.
     pub fn is_tied<B: AsRef<[u8]>>(&self, map: &Map<B>) -> bool {
         raw::index_tied(map.bytes(), &self.words).is_ok()
+    }
+}
+
+impl<B: AsRef<[u8]>> Map<B> {
+    /// What [`Map::lookup`] gives, through an index, which is held against the file at each call; refusal 36 says that it does not go with it.
+    pub fn lookup_indexed(&self, index: &Index, lat: f32, lon: f32) -> Result<Zones, Error> {
+        self.found_by(|hits, text| raw::lookup_indexed(self.bytes(), index.words(), (lat, lon, true), hits, text))
+    }
+
+    /// The same without the comparison: for an index that was built, of which [`Index::is_tied`] said yes, or any of which [`Index::is_of`] did.
+    pub fn lookup_through(&self, index: &Index, lat: f32, lon: f32) -> Result<Zones, Error> {
+        self.found_by(|hits, text| raw::lookup_through(self.bytes(), index.words(), (lat, lon, true), hits, text))
     }
 }
 

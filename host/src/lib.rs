@@ -16,6 +16,8 @@
 #![deny(unsafe_op_in_unsafe_fn, missing_docs)]
 
 #[cfg(feature = "std")]
+mod answer;
+#[cfg(feature = "std")]
 mod builder;
 #[cfg(feature = "std")]
 mod desk;
@@ -39,12 +41,16 @@ mod mapping;
 #[cfg(feature = "std")]
 mod printer;
 pub mod raw;
+#[cfg(feature = "std")]
+mod reading;
 mod refusal;
 #[cfg(feature = "std")]
 mod salvage;
 #[cfg(feature = "std")]
 mod survey;
 
+#[cfg(feature = "std")]
+pub use answer::{End, Error, Field, Header, Kind, Match, Simple, Table, Unknown, Zones};
 #[cfg(feature = "std")]
 pub use builder::{Builder, NotBuilt, Place};
 #[cfg(feature = "std")]
@@ -60,16 +66,18 @@ pub use local::{CivilTime, LocalTime, TimeZone};
 #[cfg(feature = "std")]
 pub use many::Answers;
 #[cfg(feature = "std")]
-pub use map::{End, Error, Field, Header, Kind, Map, Match, Room, Simple, Table, Unknown, Zones};
+pub use map::{Map, Room};
+#[cfg(feature = "std")]
+pub use mapping::Mapping;
 #[cfg(feature = "std")]
 pub use printer::{Hour, NotStamped, Printer, Slip};
 #[cfg(feature = "std")]
-pub use mapping::Mapping;
+pub use reading::Unread;
 pub use refusal::{Cause, Number, Refusal, Stop};
 #[cfg(feature = "std")]
 pub use salvage::{salvage, Dropped, Reason, Salvaged};
 #[cfg(feature = "std")]
-pub use survey::{Sizes, Unread};
+pub use survey::Sizes;
 
 /// A run of the earlier data that stands for some of a border's moves.
 #[derive(Clone, Copy, Debug, Eq, PartialEq)]

@@ -1,6 +1,6 @@
 //! Local time by a TZif file.
 
-use crate::map::Error;
+use crate::answer::Error;
 use crate::raw;
 use crate::refusal::{Number, Refusal};
 use std::path::Path;

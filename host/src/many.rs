@@ -1,7 +1,8 @@
 //! Many fixes in one call.
 
+use crate::answer::{Unknown, Zones};
 use crate::entries::Entries;
-use crate::map::{Map, Unknown, Zones};
+use crate::map::Map;
 use crate::raw::{self, ANSWER_WORDS, HIT_WORDS};
 use crate::refusal::{Number, Stop};
 

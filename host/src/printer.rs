@@ -1,7 +1,8 @@
 //! The printer's whole question: a fix and an instant, and the local hour that its slip carries, or why it carries none.
 
+use crate::answer::{End, Error, Zones};
 use crate::local::{CivilTime, LocalTime, TimeZone};
-use crate::map::{End, Error, Map, Zones};
+use crate::map::Map;
 use crate::raw::MOST_FIXES;
 use crate::refusal::{Number, Refusal};
 use std::fmt;

@@ -2,7 +2,7 @@
 
 use core::fmt;
 
-/// What the library refuses, by the numbers of documents 01 and 02; and two of document 03, which a printer refuses.
+/// What the library refuses: docs/FORMAT.md has the table, docs/TZIF.md that of a TZif file; and two numbers that a printer refuses with.
 #[derive(Clone, Copy, Debug, Eq, PartialEq)]
 #[repr(u8)]
 #[allow(missing_docs)] // `words` says each
@@ -71,7 +71,7 @@ pub enum Number {
 
 use Number::*;
 
-/// Each number with document 01's words for it, in order.
+/// Each number with its words, in order.
 const TABLE: [(Number, &str); 60] = [
     (
         TooLarge,
@@ -88,10 +88,7 @@ const TABLE: [(Number, &str); 60] = [
     (ThirdSize, "third size can't be read"),
     (LengthMismatch, "length mismatch"),
     (LongNumber, "eleventh varint byte"),
-    (
-        OutOfRange,
-        "an integer step on which the checked Rust panics",
-    ),
+    (OutOfRange, "an integer step leaves its range"),
     (StringPastEnd, "string byte past the end"),
     (FieldValue, "field value"),
     (Precision, "precision 0 or above 32"),
@@ -181,7 +178,7 @@ impl Number {
             .expect("the library's refusals are 1 to 36 and 40 to 61")
     }
 
-    /// The documents' words.
+    /// What it says, in words.
     pub fn words(self) -> &'static str {
         let known = TABLE.iter().find(|(known, _)| *known == self);
         known.expect("the table has every number").1

@@ -1,6 +1,7 @@
 //! What is left of a damaged file.
 
-use crate::map::{Error, Map, Unknown};
+use crate::answer::{Error, Unknown};
+use crate::map::Map;
 use crate::raw::{self, DROPPED_WORDS};
 use crate::refusal::{Number, Refusal};
 use std::fmt;

@@ -1,7 +1,7 @@
-//! What is said in more than one place is the same there: the release, and the refusals of the header and of `Number`.
+//! What is said in more than one place is the same there: the release, and the refusals of docs/FORMAT.md, of the header and of `Number`.
 
 use std::fs;
-use uskelzar::raw;
+use uskelzar::{raw, Number, Refusal};
 
 fn text(path: &str) -> String {
     fs::read_to_string(format!("{}/../{path}", env!("CARGO_MANIFEST_DIR"))).unwrap()
@@ -52,6 +52,47 @@ fn one_list_of_refusals() {
     let header: Vec<_> = header_refusals().iter().map(named).collect();
     let rust: Vec<_> = uskelzar::Number::all().map(|known| (in_capitals(&format!("{known:?}")), known as u8)).collect();
     assert_eq!(header, rust);
+}
+
+/// The rows of docs/FORMAT.md's table of refusals: number, name, when, cause, detail, where in the order.
+fn format_refusals() -> Vec<[String; 6]> {
+    let page = text("docs/FORMAT.md");
+    let table = page.split("## Refusals").nth(1).unwrap().lines().filter(|line| line.starts_with("| "));
+    let cells = |line: &str| -> [String; 6] {
+        let cells: Vec<String> = line.trim_matches('|').split('|').map(|cell| cell.trim().to_string()).collect();
+        cells.try_into().unwrap_or_else(|cells| panic!("not six cells: {cells:?}"))
+    };
+    table.map(cells).filter(|cells| cells[0] != "No.").collect()
+}
+
+/// What the header says beside a refusal's name.
+fn header_says(name: &str) -> String {
+    let header = text("include/uskelzar.h");
+    let line = header.lines().find(|line| line.trim().starts_with(&format!("USKELZAR_{name} = "))).unwrap();
+    line.split_once("/*").unwrap().1.to_string()
+}
+
+#[test]
+fn the_format_page_has_every_refusal() {
+    let page: Vec<(String, u8)> = format_refusals().iter().map(|row| (row[1].clone(), row[0].parse().unwrap())).collect();
+    let header: Vec<(String, u8)> = header_refusals().into_iter().filter(|(_, number)| *number < 40).collect();
+    assert_eq!(page, header);
+}
+
+#[test]
+fn the_format_page_says_what_is_said() {
+    for [number, name, when, cause, detail, met] in format_refusals() {
+        let known = Number::all().find(|known| (*known as u8).to_string() == number).unwrap();
+        assert_eq!(known.words(), when, "{name}");
+        let said = Refusal { number: known, cause: None, detail: 7 }.to_string();
+        let seven = if known == Number::Magic { "000007" } else { "7" };
+        let shown = if detail.is_empty() { String::new() } else { format!(" ({detail} {seven})") };
+        assert_eq!(said, format!("refusal {number}: {when}{shown}"));
+        let header = header_says(&name);
+        assert_eq!(header.contains("detail:"), !detail.is_empty(), "{name}: {header}");
+        assert_eq!(header.contains("with a cause"), cause == "yes", "{name}: {header}");
+        assert!(!met.is_empty(), "{name}");
+    }
 }
 
 #[test]

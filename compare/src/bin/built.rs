@@ -1,6 +1,11 @@
 //! built FIXES: what host/depot/examples/sets.rs writes, held against the unmodified Rust. Each file is opened by it and looked up at so many fixes; what is expected comes from the yards alone: the
 //! Rust's own verdict on each border, written plainly in version 0 in a file of nothing else, in the order of lower latitude and arrival, merged by document 01's rule.
 
+#[allow(dead_code)] // of its functions this uses two
+#[path = "../../../host/tests/common/encode.rs"]
+mod encode;
+
+use encode::{signed, varint};
 use std::collections::HashMap;
 use std::io::Read;
 use zone_detect::{Database, Location, TableType, ZoneMatchKind};
@@ -66,22 +71,13 @@ impl Reader<'_> {
     }
 }
 
-fn varint(out: &mut Vec<u8>, mut value: u64) {
-    while value >= 128 {
-        out.push(value as u8 | 128);
-        value >>= 7;
-    }
-    out.push(value as u8);
-}
-
 /// Version 0: the number of points, the moves, odd only where they are negative, and two bytes.
 fn plain(points: &[(i32, i32)]) -> Vec<u8> {
-    let mut out = vec![];
-    varint(&mut out, points.len() as u64);
+    let mut out = varint(points.len() as u64);
     let mut last = (0, 0);
     for &(lat, lon) in points {
         for step in [lat as i64 - last.0 as i64, lon as i64 - last.1 as i64] {
-            varint(&mut out, 2 * step.unsigned_abs() + u64::from(step < 0));
+            out.extend(signed(step));
         }
         last = (lat, lon);
     }

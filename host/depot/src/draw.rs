@@ -4,6 +4,7 @@ use crate::fault::{Fault, Said};
 use crate::words::count;
 use crate::zone::title;
 use crate::{output, source};
+use rayon::prelude::*;
 use std::collections::{BTreeMap, BTreeSet};
 use std::fmt::Write;
 use std::path::Path;
@@ -124,20 +125,19 @@ impl Answer {
 }
 
 impl Picture {
-    /// Asks the library at the middle of each pixel; several threads share the rows.
+    /// Asks the library at the middle of each pixel, many at once and on all processors.
     fn ask(map: &Map<Vec<u8>>, columns: u32, frame: Frame) -> Picture {
         let rows = frame.rows(columns);
         let mut picture = Picture { columns, rows, answers: vec![Answer::Refused; columns as usize * rows as usize] };
         let bar = output::progress(picture.answers.len(), "fixes");
-        let threads = std::thread::available_parallelism().map_or(1, usize::from);
-        let share = (rows as usize).div_ceil(threads) * columns as usize;
-        let fixes = |index: usize| picture_fix(frame, columns, rows, index);
-        std::thread::scope(|scope| {
-            for (part, answers) in picture.answers.chunks_mut(share).enumerate() {
-                let (bar, fixes) = (&bar, &fixes);
-                scope.spawn(move || ask_part(map.bytes(), answers, |index| fixes(part * share + index), bar));
-            }
-        });
+        picture.answers.par_chunks_mut(MOST_FIXES).enumerate().for_each_init(
+            || Room::of(HITS),
+            |room, (part, answers)| {
+                let fix = |index| picture_fix(frame, columns, rows, part * MOST_FIXES + index);
+                ask_part(room, map.bytes(), answers, fix);
+                bar.inc(answers.len() as u64);
+            },
+        );
         bar.finish_and_clear();
         picture
     }
@@ -252,14 +252,14 @@ impl Room {
     }
 }
 
-fn ask_part(file: &[u8], answers: &mut [Answer], fix: impl Fn(usize) -> (f32, f32), bar: &indicatif::ProgressBar) {
-    let (mut room, mut done) = (Room::of(HITS), 0);
+/// The answers of at most 4,096 fixes, in as many calls as their refusals make.
+fn ask_part(room: &mut Room, file: &[u8], answers: &mut [Answer], fix: impl Fn(usize) -> (f32, f32)) {
+    let mut done = 0;
     while done < answers.len() {
-        let fixes: Vec<(f32, f32)> = (done..answers.len().min(done + MOST_FIXES)).map(&fix).collect();
+        let fixes: Vec<(f32, f32)> = (done..answers.len()).map(&fix).collect();
         let told = room.ask(file, &fixes);
         answers[done..done + told.len()].copy_from_slice(&told);
         done += told.len();
-        bar.inc(told.len() as u64);
     }
 }
 

@@ -5,8 +5,12 @@ use crate::words::count;
 use crate::{output, source};
 use chrono::DateTime;
 use csv::{ReaderBuilder, StringRecord, Trim, Writer};
+use rayon::prelude::*;
 use std::path::Path;
-use uskelzar::{raw, Hour, NotStamped, Printer, Slip};
+use uskelzar::{Hour, NotStamped, Printer, Slip};
+
+/// So many slips are asked for at once; the same on every machine, however many processors share them.
+const AT_ONCE: usize = 512;
 
 /// The columns of a stamped slip, behind those of its line.
 const HOUR: [&str; 5] = ["local", "offset", "daylight", "abbreviation", "zone"];
@@ -50,16 +54,18 @@ pub fn run(day: &Path, output: &Path, map: &Path, folder: &Path) -> Result<Said,
 /// The hours of a line's slip, or the way of not stamping it and its words.
 type Stamped = Result<Vec<Hour>, (usize, String)>;
 
-/// Every line's slip; those that can be read are asked for many at once.
+/// Every line's slip, in the lines' order; those that can be read are asked for many at once, on all processors.
 fn stamped(printer: &Printer<Vec<u8>>, day: &Day) -> Vec<Stamped> {
     let bar = output::progress(day.lines.len(), "slips");
     let slips: Vec<Result<Slip, String>> = day.lines.iter().map(|line| day.columns.slip(line)).collect();
     let good: Vec<Slip> = slips.iter().flatten().copied().collect();
-    let told = good.chunks(raw::MOST_FIXES).flat_map(|some| {
+    let some_told = |some: &[Slip]| {
+        let told = printer.stamp_many(some);
         bar.inc(some.len() as u64);
-        printer.stamp_many(some)
-    });
-    let mut told = told.map(|hours| hours.map_err(|why| (way(&why), why.to_string())));
+        told.into_iter().map(|hours| hours.map_err(|why| (way(&why), why.to_string()))).collect()
+    };
+    let told: Vec<Vec<Stamped>> = good.par_chunks(AT_ONCE).map(some_told).collect();
+    let mut told = told.into_iter().flatten();
     let all = slips.into_iter().map(|slip| slip.map_err(|words| (0, words)).and_then(|_| told.next().expect("one for each")));
     let all = all.collect();
     bar.finish_and_clear();
