@@ -30,6 +30,14 @@ build_archive() {
     [ -f "$archive" ] || stop "no archive $archive"
 }
 
+# Needs $work, a folder. The time zones of the world, precision 21, with a line for each city: latitude, longitude, zone.
+make_map() {
+    [ ! -s "$work/world-21.plb" ] || [ ! -s "$work/cities" ] || return 0
+    [ -f "$kit/make-db" ] || stop "no $kit/make-db: run ../shared/bench/setup FOLDER and give --kit FOLDER"
+    printf 'making the map\n'
+    python3 "$kit/make-db" --type T --version 1 --precision 21 -o "$work/world-21.plb" --points "$work/cities" >"$work/map.txt"
+}
+
 # Rust's crates come from Debian's packages.
 crates=/usr/share/cargo/registry
 need_crate() { ls -d "$crates/$1"-* >/dev/null 2>&1 || stop "the crate $1 is missing: Debian's $2"; }
@@ -37,7 +45,7 @@ need_crate memmap2 librust-memmap2-dev
 
 # what host/depot takes besides
 need_depot_crates() {
-    for each in chrono clap csv indicatif png; do
+    for each in base64 chrono clap csv indicatif png sha2 tera; do
         need_crate "$each" "librust-$each-dev"
     done
     need_crate clap_derive librust-clap-derive-dev
