@@ -38,6 +38,14 @@ need_count() {
     [ -f "$kit/count/insn.so" ] || stop "no $kit/count/insn.so: tools/kit bench builds it (--kit FOLDER: in another folder)"
 }
 
+# Needs $work, a folder. The time zones of the world, precision 21, with a line for each city: latitude, longitude, zone.
+make_map() {
+    [ ! -s "$work/world-21.plb" ] || [ ! -s "$work/cities" ] || return 0
+    [ -d "$kit/root" ] || stop "no map data in $kit/root: tools/kit host fetches it (--kit FOLDER: into another folder)"
+    printf 'making the map\n'
+    python3 "$root/tools/make-map" --data "$kit/root" --type T --version 1 --precision 21 -o "$work/world-21.plb" --points "$work/cities" >"$work/map.txt"
+}
+
 # Rust's crates come from Debian's packages.
 crates=/usr/share/cargo/registry
 need_crate() { ls -d "$crates/$1"-* >/dev/null 2>&1 || stop "the crate $1 is missing: Debian's $2 (tools/kit installs it)"; }
@@ -45,7 +53,7 @@ need_crate memmap2 librust-memmap2-dev
 
 # what host/depot takes besides
 need_depot_crates() {
-    for each in chrono clap csv indicatif png rayon; do
+    for each in base64 chrono clap csv indicatif png rayon sha2 tera; do
         need_crate "$each" "librust-$each-dev"
     done
     need_crate clap_derive librust-clap-derive-dev

@@ -11,12 +11,12 @@ use std::path::Path;
 use uskelzar::raw::{self, ANSWER_WORDS, HIT_WORDS, MOST_FIXES};
 use uskelzar::{Map, Number};
 
-type Colour = [u8; 3];
+pub(crate) type Colour = [u8; 3];
 const NOTHING: Colour = [233, 240, 245];
 const REFUSED: Colour = [150, 150, 150];
 const FAULT: Colour = [214, 30, 40];
 const BORDER: Colour = [58, 74, 94];
-const SOFT: [(Colour, &str); 10] = [
+pub(crate) const SOFT: [(Colour, &str); 10] = [
     ([242, 181, 167], "salmon"),
     ([246, 212, 146], "sand"),
     ([207, 224, 155], "lime"),
@@ -41,17 +41,17 @@ pub struct Frame {
 
 /// What a pixel's fix got: end mark, kind and zone of the first match, or a refusal.
 #[derive(Clone, Copy, PartialEq)]
-enum Answer {
+pub(crate) enum Answer {
     Found { end: u64, kind: u32, zone: u32 },
     Nothing { end: u64 },
     Refused,
 }
 
 /// A picture's fixes, from north to south, in a row from west to east.
-struct Picture {
-    columns: u32,
-    rows: u32,
-    answers: Vec<Answer>,
+pub(crate) struct Picture {
+    pub columns: u32,
+    pub rows: u32,
+    pub answers: Vec<Answer>,
 }
 
 impl Frame {
@@ -65,7 +65,7 @@ impl Frame {
     }
 
     /// About all boxes of a file, with a margin.
-    fn around(map: &Map<Vec<u8>>) -> Option<Frame> {
+    pub(crate) fn around(map: &Map<Vec<u8>>) -> Option<Frame> {
         let entries = map.entries().ok()?.map_while(Result::ok);
         let boxes = entries.map(|entry| Frame { south: entry.lower.0, west: entry.lower.1, north: entry.upper.0, east: entry.upper.1 });
         let all = boxes.reduce(|a, b| Frame { south: a.south.min(b.south), west: a.west.min(b.west), north: a.north.max(b.north), east: a.east.max(b.east) })?;
@@ -78,10 +78,14 @@ impl Frame {
         })
     }
 
+    /// How wide a degree of longitude is in the middle, in degrees of latitude.
+    pub(crate) fn width(self) -> f64 {
+        ((self.south + self.north) / 2.0).to_radians().cos().max(0.2)
+    }
+
     /// So many rows that a degree is as long upward as a degree of longitude is wide in the middle.
-    fn rows(self, columns: u32) -> u32 {
-        let middle = ((self.south + self.north) / 2.0).to_radians().cos().max(0.2);
-        let high = (self.north - self.south) / ((self.east - self.west) * middle);
+    pub(crate) fn rows(self, columns: u32) -> u32 {
+        let high = (self.north - self.south) / ((self.east - self.west) * self.width());
         (f64::from(columns) * high).round().clamp(1.0, f64::from(MOST_ROWS)) as u32
     }
 }
@@ -143,7 +147,7 @@ impl Picture {
     }
 
     /// A colour for each zone: of those that no neighbour has, the one used least.
-    fn colours(&self) -> BTreeMap<u32, usize> {
+    pub(crate) fn colours(&self) -> BTreeMap<u32, usize> {
         let touching = self.neighbours();
         let (mut colours, mut used) = (BTreeMap::new(), [0; SOFT.len()]);
         for (zone, others) in &touching {
@@ -194,7 +198,7 @@ impl Picture {
 }
 
 /// The middle of a pixel.
-fn picture_fix(frame: Frame, columns: u32, rows: u32, index: usize) -> (f32, f32) {
+pub(crate) fn picture_fix(frame: Frame, columns: u32, rows: u32, index: usize) -> (f32, f32) {
     let (column, row) = (index % columns as usize, index / columns as usize);
     let part = |place: usize, of: u32| (place as f64 + 0.5) / f64::from(of);
     let lat = frame.north - (frame.north - frame.south) * part(row, rows);

@@ -8,6 +8,7 @@ pub mod geojson;
 pub mod grid;
 pub mod index;
 pub mod output;
+pub mod page;
 pub mod pieces;
 pub mod plan;
 pub mod salvage;

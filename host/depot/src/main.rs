@@ -6,7 +6,7 @@ use depot::draw::{self, Frame};
 use depot::fault::{Fault, Said};
 use depot::plan::Form;
 use depot::zone::Way;
-use depot::{check, index, salvage, show, stamp, zone};
+use depot::{check, index, page, salvage, show, stamp, zone};
 use std::io::Write;
 use std::path::PathBuf;
 use std::process::ExitCode;
@@ -147,6 +147,25 @@ enum Verb {
         #[arg(long, allow_hyphen_values = true, value_name = "SOUTH,WEST,NORTH,EAST", value_parser = Frame::of)]
         frame: Option<Frame>,
     },
+    /// Write a page for any browser: the borders, the library's answers, faults, a day's slips
+    ///
+    /// One HTML file that stands alone: it needs no network and no other file.
+    #[command(after_help = "Examples:\n  depot page examples/world-9.plb -o world.html\n  depot page yards.plb -o yards.html --day slips.csv --drawn examples/yards.geojson")]
+    Page {
+        file: PathBuf,
+        /// The page to write
+        #[arg(short, long)]
+        output: PathBuf,
+        /// Slips that depot stamp has written: each is a dot and a line of a table
+        #[arg(long, value_name = "SLIPS")]
+        day: Option<PathBuf>,
+        /// The polygons that the file was built of: the page says what was dropped or moved
+        #[arg(long, value_name = "GEOJSON")]
+        drawn: Option<PathBuf>,
+        /// Points in a row at which the library is asked; a tall view has as many in a column
+        #[arg(long, default_value_t = 800, value_parser = clap::value_parser!(u32).range(1..=4096))]
+        columns: u32,
+    },
 }
 
 fn latitude(word: &str) -> Result<f64, String> {
@@ -182,6 +201,7 @@ fn run(verb: Verb) -> Result<Said, Fault> {
         Verb::Salvage { file, output } => salvage::run(&file, &output),
         Verb::Stamp { day, output, map, folder } => stamp::run(&day, &output, &map, &folder),
         Verb::Draw { file, output, columns, frame } => draw::run(&file, &output, columns, frame),
+        Verb::Page { file, output, day, drawn, columns } => page::run(&file, &output, columns, day.as_deref(), drawn.as_deref()),
     }
 }
 

@@ -11,27 +11,27 @@ use std::path::Path;
 use uskelzar::{Entry, Field, Map, Table, Unread};
 
 /// A border of a file.
-struct Border {
-    entry: Entry,
-    points: Result<Vec<Point>, Unread>,
+pub(crate) struct Border {
+    pub entry: Entry,
+    pub points: Result<Vec<Point>, Unread>,
 }
 
 impl Border {
     /// It turns the way that takes a fix out of its zone.
-    fn is_hole(&self) -> bool {
+    pub fn is_hole(&self) -> bool {
         self.points.as_ref().is_ok_and(|points| doubled_area(points) > 0)
     }
 }
 
 /// A zone: its number, its fields, and its borders in the order of the data.
-struct Zone {
-    metadata: u32,
-    fields: Result<Vec<Field>, Unread>,
-    borders: Vec<Border>,
+pub(crate) struct Zone {
+    pub metadata: u32,
+    pub fields: Result<Vec<Field>, Unread>,
+    pub borders: Vec<Border>,
 }
 
 /// A file's zones in the order of their first borders, and why the table can't be read further, if so.
-fn zones_of(map: &Map<Vec<u8>>) -> (Vec<Zone>, Option<Unread>) {
+pub(crate) fn zones_of(map: &Map<Vec<u8>>) -> (Vec<Zone>, Option<Unread>) {
     let (mut entries, mut stop) = (vec![], None);
     match map.entries() {
         Err(why) => stop = Some(why),
@@ -76,7 +76,7 @@ pub fn run(path: &Path) -> Result<Said, Fault> {
     Ok(Said { yes: stop.is_none(), text })
 }
 
-fn head(path: &Path, map: &Map<Vec<u8>>) -> String {
+pub(crate) fn head(path: &Path, map: &Map<Vec<u8>>) -> String {
     let header = map.header();
     let kind = match header.table {
         Table::TimeZones => "time zones (type T)",
@@ -161,7 +161,7 @@ fn polygons_of(borders: &[Border]) -> Vec<Vec<&[Point]>> {
 }
 
 /// By the first of its points that is not on the other's border; with none, by the area.
-fn lies_in(inner: &[Point], outer: &[Point]) -> bool {
+pub(crate) fn lies_in(inner: &[Point], outer: &[Point]) -> bool {
     let place = inner.iter().find_map(|point| side(*point, outer));
     place.unwrap_or_else(|| doubled_area(inner).unsigned_abs() <= doubled_area(outer).unsigned_abs())
 }

@@ -13,23 +13,23 @@ use uskelzar::{Hour, NotStamped, Printer, Slip};
 const AT_ONCE: usize = 512;
 
 /// The columns of a stamped slip, behind those of its line.
-const HOUR: [&str; 5] = ["local", "offset", "daylight", "abbreviation", "zone"];
+pub(crate) const HOUR: [&str; 5] = ["local", "offset", "daylight", "abbreviation", "zone"];
 /// A column for each way of not stamping.
-const WAYS: [&str; 12] =
+pub(crate) const WAYS: [&str; 12] =
     ["unreadable line", "map refused", "not whole", "no zone", "zone unnamed", "bad zone name", "no zone file", "zone file refused", "hour unknown", "outside the years", "hours differ", "no place"];
 
 /// Which columns a line's numbers stand in.
-struct Columns {
+pub(crate) struct Columns {
     lat: usize,
     lon: usize,
     instant: usize,
 }
 
 /// A file's lines, with the names of the columns if the first line has them.
-struct Day {
-    names: StringRecord,
-    columns: Columns,
-    lines: Vec<StringRecord>,
+pub(crate) struct Day {
+    pub names: StringRecord,
+    pub columns: Columns,
+    pub lines: Vec<StringRecord>,
 }
 
 /// Stamps every line of a file, and writes the slips.
@@ -124,7 +124,7 @@ fn way(why: &NotStamped) -> usize {
     }
 }
 
-fn read(path: &Path) -> Result<Day, Fault> {
+pub(crate) fn read(path: &Path) -> Result<Day, Fault> {
     let mut reader = ReaderBuilder::new().has_headers(false).flexible(true).trim(Trim::All).from_path(path).map_err(|error| Fault::file(path, error))?;
     let lines: Result<Vec<StringRecord>, csv::Error> = reader.records().collect();
     let mut lines = lines.map_err(|error| Fault::file(path, error))?;
@@ -156,7 +156,7 @@ impl Columns {
         Ok(Columns { lat: column(&["latitude", "lat"])?, lon: column(&["longitude", "lon", "lng"])?, instant: column(&["instant", "time", "timestamp"])? })
     }
 
-    fn slip(&self, line: &StringRecord) -> Result<Slip, String> {
+    pub fn slip(&self, line: &StringRecord) -> Result<Slip, String> {
         let word = |column: usize| line.get(column).unwrap_or_default();
         let degrees = |column: usize, most: f32, what: &str| {
             let value = word(column).parse::<f32>().ok().filter(|value| value.abs() <= most);

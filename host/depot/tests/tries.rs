@@ -20,8 +20,8 @@ fn said(ran: &Ran, status: i32, words: &[&str]) {
 
 #[test]
 fn help_has_an_example_for_each_verb() {
-    said(&depot(&["--help"]), 0, &["build", "show", "zone", "check", "salvage", "index", "stamp", "draw", "Exit status"]);
-    for verb in ["build", "show", "zone", "check", "salvage", "index", "stamp", "draw"] {
+    said(&depot(&["--help"]), 0, &["build", "show", "zone", "check", "salvage", "index", "stamp", "draw", "page", "Exit status"]);
+    for verb in ["build", "show", "zone", "check", "salvage", "index", "stamp", "draw", "page"] {
         said(&depot(&[verb, "--help"]), 0, &["Example", &format!("depot {verb} ")]);
     }
 }
