@@ -25,7 +25,7 @@ pub fn run(input: &Path, output: Option<&Path>, form: Form) -> Result<Said, Faul
     let mut said = report(&plan);
     if let Some(output) = output {
         let file = file_of(&plan).map_err(|why| Fault::No(format!("{said}{}", not_built(&plan, &why))))?;
-        write_whole(output, |out| out.write_all(&file))?;
+        write_whole(output, &[input], |out| out.write_all(&file))?;
         let _ = writeln!(said, "{}: {}", output.display(), count(file.len(), "byte"));
     }
     Ok(Said::yes(said))

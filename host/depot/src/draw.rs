@@ -97,7 +97,7 @@ pub fn run(path: &Path, output: &Path, columns: u32, frame: Option<Frame>) -> Re
     let picture = Picture::ask(&map, columns, frame);
     let colours = picture.colours();
     let pixels = picture.pixels(&colours);
-    output::write_whole(output, |out| {
+    output::write_whole(output, &[path], |out| {
         let mut encoder = png::Encoder::new(out, picture.columns, picture.rows);
         encoder.set_color(png::ColorType::Rgb);
         encoder.set_depth(png::BitDepth::Eight);

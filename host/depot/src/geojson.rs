@@ -1,6 +1,7 @@
 //! Polygons and their properties, out of GeoJSON (RFC 7946).
 
 use crate::fault::Fault;
+use crate::source;
 use serde_json::{Map as Object, Value};
 use std::fmt;
 use std::path::Path;
@@ -48,8 +49,8 @@ pub struct Collection {
 
 /// Reads a file.
 pub fn read(path: &Path) -> Result<Collection, Fault> {
-    let text = std::fs::read(path).map_err(|error| Fault::file(path, error))?;
-    let value: Value = serde_json::from_slice(&text).map_err(|error| Fault::file(path, format!("is no JSON: {error}")))?;
+    let text = source::bytes(path)?;
+    let value: Value = serde_json::from_slice(source::unmarked(&text)).map_err(|error| Fault::file(path, format!("is no JSON: {error}")))?;
     collect(&value).map_err(|words| Fault::file(path, words))
 }
 

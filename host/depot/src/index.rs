@@ -11,7 +11,7 @@ pub fn run(path: &Path, output: &Path) -> Result<Said, Fault> {
     let map = source::open(path, false)?;
     let index = Index::build(&map).map_err(|error| Fault::map(path, error))?;
     let bytes = index.to_bytes();
-    output::write_whole(output, |out| out.write_all(&bytes))?;
+    output::write_whole(output, &[path], |out| out.write_all(&bytes))?;
     let most = index.in_tiles().max().unwrap_or(0);
     let some = index.in_tiles().sum::<usize>() as f64 / index.in_tiles().count() as f64;
     Ok(Said::yes(format!(

@@ -2,6 +2,7 @@
 
 pub mod build;
 pub mod check;
+pub mod day;
 pub mod draw;
 pub mod fault;
 pub mod geojson;

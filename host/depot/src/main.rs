@@ -5,15 +5,18 @@ use depot::build;
 use depot::draw::{self, Frame};
 use depot::fault::{Fault, Said};
 use depot::plan::Form;
+use depot::source::STANDARD;
+use depot::words::shown;
 use depot::zone::Way;
 use depot::{check, index, page, salvage, show, stamp, zone};
 use std::io::Write;
-use std::path::PathBuf;
+use std::path::{Path, PathBuf};
 use std::process::ExitCode;
 
 /// Builds, shows, checks, salvages and draws files of yards, and stamps a day's slips by them.
 ///
-/// Exit status: 0 done, or answered yes; 1 answered no; 2 not run. What is written is written whole or not at all.
+/// Exit status: 0 done, or answered yes; 1 answered no; 2 not run. What is written is written whole or not at all, and never over what is read; `-` is standard
+/// input and output.
 #[derive(Parser)]
 #[command(name = "depot", version, arg_required_else_help = true)]
 struct Depot {
@@ -168,6 +171,17 @@ enum Verb {
     },
 }
 
+impl Verb {
+    /// Where it writes to.
+    fn output(&self) -> Option<&Path> {
+        match self {
+            Verb::Build { output, .. } | Verb::Show { output, .. } => output.as_deref(),
+            Verb::Index { output, .. } | Verb::Salvage { output, .. } | Verb::Stamp { output, .. } | Verb::Draw { output, .. } | Verb::Page { output, .. } => Some(output),
+            Verb::Zone { .. } | Verb::Check { .. } => None,
+        }
+    }
+}
+
 fn latitude(word: &str) -> Result<f64, String> {
     degrees(word, 90.0)
 }
@@ -205,15 +219,22 @@ fn run(verb: Verb) -> Result<Said, Fault> {
     }
 }
 
+/// Says what a verb has to say: beside standard output where that is what the verb wrote to. Nobody may be reading on.
+fn say(said: &Said, beside: bool) {
+    let text = shown(&said.text);
+    let _ = if beside { std::io::stderr().lock().write_all(text.as_bytes()) } else { std::io::stdout().lock().write_all(text.as_bytes()) };
+}
+
 fn main() -> ExitCode {
-    match run(Depot::parse().verb) {
+    let verb = Depot::parse().verb;
+    let beside = verb.output().is_some_and(|output| output == Path::new(STANDARD));
+    match run(verb) {
         Ok(said) => {
-            // nobody may be reading on
-            let _ = std::io::stdout().lock().write_all(said.text.as_bytes());
+            say(&said, beside);
             ExitCode::from(u8::from(!said.yes))
         }
         Err(fault) => {
-            eprintln!("depot: {fault}");
+            eprintln!("depot: {}", shown(&fault.to_string()));
             ExitCode::from(fault.status())
         }
     }

@@ -1,23 +1,58 @@
 //! Output that is there whole or not at all.
 
 use crate::fault::Fault;
+use crate::source::STANDARD;
 use indicatif::{ProgressBar, ProgressStyle};
 use std::ffi::OsString;
-use std::fs::{self, File};
+use std::fs::{self, File, Permissions};
 use std::io::{self, BufWriter, Write};
+use std::os::unix::fs::MetadataExt;
 use std::path::{Path, PathBuf};
 
-/// Writes a file under a temporary name beside its own, and renames it when it is whole. On a fault nothing is left.
-pub fn write_whole(path: &Path, fill: impl FnOnce(&mut dyn Write) -> io::Result<()>) -> Result<(), Fault> {
-    let part = Part(part_name(path)?);
+/// Writes a file under a temporary name beside its own, and renames it when it is whole. On a fault nothing is left. It may take the place of a file, but
+/// of nothing else, and never of one of these inputs; it then keeps that file's mode. `-` is standard output.
+pub fn write_whole(path: &Path, inputs: &[&Path], fill: impl FnOnce(&mut dyn Write) -> io::Result<()>) -> Result<(), Fault> {
+    let fault = |error: io::Error| Fault::file(path, format!("{error}; nothing was written"));
+    if path == Path::new(STANDARD) {
+        let mut whole = vec![];
+        return fill(&mut whole).and_then(|()| io::stdout().lock().write_all(&whole)).map_err(fault);
+    }
+    let place = Place::of(path, inputs).map_err(|words| Fault::file(path, format!("{words}; nothing was written")))?;
+    let part = Part(part_name(&place.path)?);
     let write = || {
         let file = File::options().write(true).create_new(true).open(&part.0)?;
         let mut out = BufWriter::new(file);
         fill(&mut out)?;
-        out.into_inner().map_err(io::IntoInnerError::into_error)?.sync_all()?;
-        fs::rename(&part.0, path)
+        let file = out.into_inner().map_err(io::IntoInnerError::into_error)?;
+        place.mode.iter().try_for_each(|mode| file.set_permissions(mode.clone()))?;
+        file.sync_all()?;
+        fs::rename(&part.0, &place.path)
     };
-    write().map_err(|error| Fault::file(path, format!("{error}; nothing was written")))
+    write().map_err(fault)
+}
+
+/// Where a file is to be written: behind all links, and with the mode of the file that is there.
+struct Place {
+    path: PathBuf,
+    mode: Option<Permissions>,
+}
+
+impl Place {
+    fn of(path: &Path, inputs: &[&Path]) -> Result<Place, String> {
+        if fs::symlink_metadata(path).is_err() {
+            return Ok(Place { path: path.to_path_buf(), mode: None });
+        }
+        let there = fs::metadata(path).map_err(|_| "is a link to nothing: give another name with -o")?;
+        if !there.is_file() {
+            return Err("is there and is no file: give another name with -o".into());
+        }
+        let same = |input: &&&Path| fs::metadata(input).is_ok_and(|input| (input.dev(), input.ino()) == (there.dev(), there.ino()));
+        if let Some(input) = inputs.iter().find(same) {
+            return Err(format!("is {}, which is read: give another name with -o", input.display()));
+        }
+        let path = fs::canonicalize(path).map_err(|error| error.to_string())?;
+        Ok(Place { path, mode: Some(there.permissions()) })
+    }
 }
 
 /// A file that goes away unless it was renamed.

@@ -49,10 +49,11 @@ struct Page<'a> {
 /// Writes the page of a file, with a day's slips and with what became of a drawing, if they are given.
 pub fn run(path: &Path, output: &Path, columns: u32, day: Option<&Path>, drawn: Option<&Path>) -> Result<Said, Fault> {
     let map = source::open(path, false)?;
+    let inputs: Vec<&Path> = [Some(path), day, drawn].into_iter().flatten().collect();
     let day = day.map(day::read).transpose()?;
     let page = Page::ask(path, &map, columns, day, drawn)?;
     let text = view::html(&page).map_err(|words| Fault::NotRun(format!("{}: {words}", output.display())))?;
-    output::write_whole(output, |out| out.write_all(text.as_bytes()))?;
+    output::write_whole(output, &inputs, |out| out.write_all(text.as_bytes()))?;
     Ok(Said::yes(page.summary(output, text.len())))
 }
 

@@ -2,17 +2,17 @@
 
 use crate::fault::{Fault, Said};
 use crate::output::write_whole;
+use crate::source;
 use crate::words::count;
 use std::fmt::Write;
-use std::fs;
 use std::path::Path;
 use uskelzar::{Reason, Salvaged};
 
 /// Writes each entry that is whole into a new file, and says why the others are not.
 pub fn run(path: &Path, output: &Path) -> Result<Said, Fault> {
-    let file = fs::read(path).map_err(|error| Fault::file(path, error))?;
+    let file = source::bytes(path)?;
     let salvaged = uskelzar::salvage(&file).map_err(|error| Fault::map(path, error))?;
-    write_whole(output, |out| out.write_all(&salvaged.file))?;
+    write_whole(output, &[path], |out| out.write_all(&salvaged.file))?;
     Ok(Said { yes: salvaged.dropped.is_empty(), text: report(output, &salvaged) })
 }
 

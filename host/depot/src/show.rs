@@ -131,7 +131,7 @@ pub fn geojson(path: &Path, output: Option<&Path>) -> Result<Said, Fault> {
     let Some(output) = output else {
         return Ok(Said::yes(format!("{all}\n")));
     };
-    output::write_whole(output, |out| writeln!(out, "{all}"))?;
+    output::write_whole(output, &[path], |out| writeln!(out, "{all}"))?;
     Ok(Said::yes(format!("{}: {}\n", output.display(), count(zones.len(), "feature"))))
 }
 

@@ -21,6 +21,12 @@ pub fn kind(kind: Kind) -> &'static str {
     }
 }
 
+/// A text for a terminal: a control character, which a yard's name may hold, is shown and not obeyed.
+pub fn shown(text: &str) -> String {
+    let shown = |c: char| if c.is_control() && c != '\n' && c != '\t' { c.escape_default().to_string() } else { c.to_string() };
+    text.chars().map(shown).collect()
+}
+
 /// A count with its noun.
 pub fn count(number: usize, noun: &str) -> String {
     let noun = if number == 1 { noun.to_string() } else { plural(noun) };
@@ -66,6 +72,11 @@ pub fn entry(entry: &Entry) -> String {
 #[cfg(test)]
 mod tests {
     use super::*;
+
+    #[test]
+    fn control_characters_are_shown() {
+        assert_eq!(shown("Gate\x1b[2J 7\n\u{9b}x\tB\u{e9}"), "Gate\\u{1b}[2J 7\n\\u{9b}x\tB\u{e9}");
+    }
 
     #[test]
     fn counts() {

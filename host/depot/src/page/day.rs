@@ -1,8 +1,9 @@
 //! The slips of a day, as `depot stamp` wrote them.
 
 use super::answers::Fix;
+use crate::day;
 use crate::fault::Fault;
-use crate::stamp::{self, HOUR, WAYS};
+use crate::stamp::{HOUR, WAYS};
 use csv::StringRecord;
 use std::path::Path;
 
@@ -32,13 +33,13 @@ pub fn way_words(way: usize) -> &'static str {
 }
 
 pub fn read(path: &Path) -> Result<Day, Fault> {
-    let day = stamp::read(path)?;
+    let day = day::read(path)?;
     let own = day.names.len().saturating_sub(HOUR.len() + WAYS.len());
-    if !day.names.iter().skip(own).eq(HOUR.into_iter().chain(WAYS)) {
+    if !day.names.iter().skip(own).map(String::as_str).eq(HOUR.into_iter().chain(WAYS)) {
         return Err(Fault::file(path, "has not the columns of stamped slips: give what `depot stamp day.csv -o slips.csv MAP TZDIR` wrote"));
     }
-    let slip = |line: &StringRecord| slip_of(line, own, day.columns.slip(line).ok().map(|(lat, lon, _)| (lat, lon)));
-    Ok(Day { names: day.names.iter().take(own).map(str::to_string).collect(), slips: day.lines.iter().map(slip).collect() })
+    let slip = |line: &StringRecord| slip_of(line, own, day.slip(line).ok().map(|(lat, lon, _)| (lat, lon)));
+    Ok(Day { names: day.names.iter().take(own).cloned().collect(), slips: day.lines.iter().map(slip).collect() })
 }
 
 fn slip_of(line: &StringRecord, own: usize, fix: Option<Fix>) -> Slip {

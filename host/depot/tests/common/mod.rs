@@ -6,8 +6,9 @@ use depot::geojson;
 use depot::grid::Point;
 use depot::plan::{plan, Form, Plan};
 use std::fs;
+use std::io::Write;
 use std::path::{Path, PathBuf};
-use std::process::Command;
+use std::process::{Command, Stdio};
 use uskelzar::Zones;
 
 pub const WORLD: &str = concat!(env!("CARGO_MANIFEST_DIR"), "/../../examples/world-9.plb");
@@ -58,9 +59,18 @@ pub struct Ran {
 
 /// Runs the program, as cargo runs the tests.
 pub fn depot(words: &[&str]) -> Ran {
+    depot_of(words, &[])
+}
+
+/// Runs it with this standard input.
+pub fn depot_of(words: &[&str], input: &[u8]) -> Ran {
     let runner = std::env::var("CARGO_TARGET_X86_64_UNKNOWN_LINUX_GNU_RUNNER").unwrap_or_default();
     let all: Vec<&str> = runner.split_whitespace().chain([env!("CARGO_BIN_EXE_depot")]).chain(words.iter().copied()).collect();
-    let ran = Command::new(all[0]).args(&all[1..]).output().unwrap();
+    let pipes = Command::new(all[0]).args(&all[1..]).stdin(Stdio::piped()).stdout(Stdio::piped()).stderr(Stdio::piped()).spawn();
+    let mut running = pipes.unwrap();
+    // it may end without reading
+    let _ = running.stdin.take().unwrap().write_all(input);
+    let ran = running.wait_with_output().unwrap();
     let text = |bytes| String::from_utf8(bytes).unwrap();
     Ran { status: ran.status.code().unwrap(), out: text(ran.stdout), err: text(ran.stderr) }
 }

@@ -1,0 +1,272 @@
+//! A day's lines: CSV in, fixes and instants out. No line is lost: what can't be read as a line stops the run, with its number.
+
+use crate::fault::Fault;
+use crate::source;
+use crate::words::count;
+use chrono::DateTime;
+use csv::{ReaderBuilder, StringRecord, Trim};
+use std::path::Path;
+use uskelzar::Slip;
+
+/// A file's lines, with the names of its columns.
+pub struct Day {
+    pub names: Vec<String>,
+    pub lines: Vec<StringRecord>,
+    /// What was taken for granted, in words.
+    pub notes: Vec<String>,
+    columns: Columns,
+    decimal_comma: bool,
+}
+
+/// Which columns a line's numbers stand in.
+#[derive(Debug)]
+struct Columns {
+    lat: usize,
+    lon: usize,
+    instant: usize,
+}
+
+/// Reads a file, or standard input where the path is `-`.
+pub fn read(path: &Path) -> Result<Day, Fault> {
+    day_of(&source::bytes(path)?).map_err(|words| Fault::file(path, words))
+}
+
+fn day_of(bytes: &[u8]) -> Result<Day, String> {
+    let text = text_of(bytes)?;
+    let separator = separator_of(text);
+    check_quotes(text, separator)?;
+    let mut lines = records(text, separator)?;
+    let first = lines.first().ok_or("is empty: lines of latitude, longitude, instant are wanted")?;
+    let decimal_comma = separator != b',';
+    let unnamed = first.get(0).is_some_and(|word| number(word, decimal_comma).is_some());
+    let (names, columns) = if unnamed { (numbered(&lines), Columns { lat: 0, lon: 1, instant: 2 }) } else { (named(first), Columns::of(first)?) };
+    if !unnamed {
+        lines.remove(0);
+    }
+    check_widths(&lines, names.len())?;
+    let lines: Vec<StringRecord> = lines.iter().map(|line| widened(line, names.len())).collect();
+    Ok(Day { notes: notes(separator, &lines, &columns), names, lines, columns, decimal_comma })
+}
+
+/// The text of a file, without a byte order mark.
+fn text_of(bytes: &[u8]) -> Result<&str, String> {
+    let bytes = source::unmarked(bytes);
+    std::str::from_utf8(bytes).map_err(|error| {
+        let line = 1 + bytes[..error.valid_up_to()].iter().filter(|byte| **byte == b'\n').count();
+        format!("line {line} is not UTF-8: save the file as UTF-8, or turn it with `iconv -f latin1 -t utf8`")
+    })
+}
+
+/// What parts the cells, by the first line: a comma, a semicolon or a tab, whichever stands there most often.
+fn separator_of(text: &str) -> u8 {
+    let first = text.lines().next().unwrap_or_default();
+    let often = |separator: &u8| first.bytes().filter(|byte| byte == separator).count();
+    // of two that stand there as often, the comma
+    [b';', b'\t', b','].into_iter().max_by_key(often).unwrap_or(b',')
+}
+
+/// A quote that nothing closes would take every line behind it into one cell.
+fn check_quotes(text: &str, separator: u8) -> Result<(), String> {
+    let (mut line, mut opened, mut quoted, mut begins) = (1, 1, false, true);
+    let mut bytes = text.bytes().peekable();
+    while let Some(byte) = bytes.next() {
+        match byte {
+            b'"' if quoted && bytes.peek() == Some(&b'"') => {
+                bytes.next();
+            }
+            b'"' if quoted => quoted = false,
+            b'"' if begins => (quoted, opened) = (true, line),
+            _ => (),
+        }
+        line += usize::from(byte == b'\n');
+        begins = !quoted && (byte == separator || byte == b'\n');
+    }
+    if quoted {
+        return Err(format!("line {opened}: a quote is opened and never closed; close it, or take it out"));
+    }
+    Ok(())
+}
+
+fn records(text: &str, separator: u8) -> Result<Vec<StringRecord>, String> {
+    let mut reader = ReaderBuilder::new().has_headers(false).flexible(true).trim(Trim::All).delimiter(separator).from_reader(text.as_bytes());
+    reader.records().collect::<Result<_, csv::Error>>().map_err(|error| error.to_string())
+}
+
+/// The first line's names; of columns that have one name the later ones get their number.
+fn named(first: &StringRecord) -> Vec<String> {
+    let mut names: Vec<String> = vec![];
+    for name in first {
+        names.push(unlike(name, &names));
+    }
+    names
+}
+
+/// A name that none of these has.
+pub fn unlike(name: &str, others: &[String]) -> String {
+    let taken = |name: &String| others.contains(name);
+    if !taken(&name.to_string()) {
+        return name.to_string();
+    }
+    (2..).map(|i| format!("{name} ({i})")).find(|name| !taken(name)).expect("there are enough numbers")
+}
+
+fn numbered(lines: &[StringRecord]) -> Vec<String> {
+    let width = lines.iter().map(StringRecord::len).max().unwrap_or(0).max(3);
+    let names = ["latitude", "longitude", "instant"].into_iter().map(str::to_string);
+    names.chain((4..=width).map(|i| format!("column {i}"))).collect()
+}
+
+/// A cell without a column would be lost.
+fn check_widths(lines: &[StringRecord], width: usize) -> Result<(), String> {
+    let wide = lines.iter().find(|line| line.iter().skip(width).any(|cell| !cell.is_empty()));
+    let Some(wide) = wide else { return Ok(()) };
+    let line = wide.position().map_or(0, csv::Position::line);
+    Err(format!("line {line} has {} cells, and the first line names {width} columns: name them all, or take the others out", wide.len()))
+}
+
+/// The line with as many cells as there are columns.
+fn widened(line: &StringRecord, width: usize) -> StringRecord {
+    line.iter().chain(std::iter::repeat("")).take(width).collect::<Vec<_>>().into()
+}
+
+/// What was taken for granted, in words.
+fn notes(separator: u8, lines: &[StringRecord], columns: &Columns) -> Vec<String> {
+    let parted = match separator {
+        b';' => Some("semicolons"),
+        b'\t' => Some("tabs"),
+        _ => None,
+    };
+    let parted = parted.map(|by| format!("cells are parted by {by}; a comma in a number is read as its point"));
+    let cut = lines.iter().filter(|line| line.get(columns.instant).is_some_and(|word| word.contains('.'))).count();
+    let cut = (cut > 0).then(|| format!("{}: the second that has begun is taken", count(cut, "instant with parts of a second")));
+    parted.into_iter().chain(cut).collect()
+}
+
+impl Columns {
+    fn of(names: &StringRecord) -> Result<Columns, String> {
+        let column = |known: &[&str]| {
+            let place = names.iter().position(|name| known.contains(&name.to_lowercase().as_str()));
+            place.ok_or_else(|| format!("its first line names no column {:?}; columns latitude, longitude, instant are wanted", known[0]))
+        };
+        Ok(Columns {
+            lat: column(&["latitude", "lat"])?,
+            lon: column(&["longitude", "long", "lon", "lng"])?,
+            instant: column(&["instant", "time", "timestamp"])?,
+        })
+    }
+}
+
+impl Day {
+    /// A line's fix and instant, or why there is none.
+    pub fn slip(&self, line: &StringRecord) -> Result<Slip, String> {
+        let word = |column: usize| line.get(column).unwrap_or_default();
+        let degrees = |column: usize, most: f32, what: &str| {
+            let value = number(word(column), self.decimal_comma).filter(|value| value.abs() <= most);
+            value.ok_or_else(|| format!("{what} {:?} is no number from -{most} to {most}", word(column)))
+        };
+        let columns = &self.columns;
+        Ok((degrees(columns.lat, 90.0, "latitude")?, degrees(columns.lon, 180.0, "longitude")?, instant_of(word(columns.instant))?))
+    }
+}
+
+fn number(word: &str, decimal_comma: bool) -> Option<f32> {
+    if decimal_comma {
+        return word.replacen(',', ".", 1).parse().ok();
+    }
+    word.parse().ok()
+}
+
+/// Seconds from 1970, or a date and time with its offset, such as 2026-07-01T11:59:59Z. Parts of a second are cut.
+fn instant_of(word: &str) -> Result<i64, String> {
+    if let Ok(seconds) = word.parse() {
+        return Ok(seconds);
+    }
+    let (clock, offset) = offset_of(word)?;
+    let clock = clock.split_once('.').map_or(clock, |(whole, _)| whole);
+    if clock.ends_with(":60") {
+        return Err(format!("instant {word:?} is a leap second, which has no instant of its own: take the second before or behind it"));
+    }
+    let read = DateTime::parse_from_rfc3339(&format!("{}{offset}", clock.replacen(' ', "T", 1)));
+    read.map(|time| time.timestamp()).map_err(|_| no_instant(word))
+}
+
+fn no_instant(word: &str) -> String {
+    format!("instant {word:?} is neither seconds from 1970 nor like 2026-07-01T11:59:59Z")
+}
+
+/// A time apart from its offset, which may be written +02:00, +0200 or Z.
+fn offset_of(word: &str) -> Result<(&str, String), String> {
+    if let Some(clock) = word.strip_suffix(['Z', 'z']) {
+        return Ok((clock, "Z".into()));
+    }
+    // a sign behind the date is that of an offset
+    let sign = word.rfind(['+', '-']).filter(|place| *place > 10);
+    let Some(sign) = sign else {
+        let dated = word.len() >= 16 && word.contains(':');
+        return Err(if dated { format!("instant {word:?} has no offset: add Z for UTC, or one such as +02:00") } else { no_instant(word) });
+    };
+    let (clock, offset) = word.split_at(sign);
+    let digits: String = offset.chars().filter(|c| *c != ':').collect();
+    if digits.len() != 5 {
+        return Err(no_instant(word));
+    }
+    Ok((clock, format!("{}:{}", &digits[..3], &digits[3..])))
+}
+
+#[cfg(test)]
+mod tests {
+    use super::*;
+
+    #[test]
+    fn instants() {
+        for word in ["1782907199", "2026-07-01T11:59:59Z", "2026-07-01T13:59:59+02:00", "2026-07-01 13:59:59+0200", "2026-07-01T11:59:59.999Z", "2026-07-01 06:59:59.5-05:00"] {
+            assert_eq!(instant_of(word), Ok(1_782_907_199), "{word}");
+        }
+        assert!(instant_of("noon").unwrap_err().contains("like 2026"));
+        assert!(instant_of("2026-07-01T11:59:59").unwrap_err().contains("has no offset: add Z"));
+        assert!(instant_of("2016-12-31T23:59:60Z").unwrap_err().contains("leap second"));
+        for word in ["2026-07-01", "2026-02-30T00:00:00Z", "2026-07-01T11:59:59+2", "2026-07-01T11:59:59+02:00:00", "+", "\u{e9}\u{e9}\u{e9}\u{e9}\u{e9}\u{e9}+0200"] {
+            assert!(instant_of(word).is_err(), "{word}");
+        }
+    }
+
+    fn fault(text: &str) -> String {
+        day_of(text.as_bytes()).err().expect("a fault")
+    }
+
+    #[test]
+    fn a_quote_that_is_never_closed() {
+        let day = "lat,lon,time,note\n1,2,3,\"stray\n1,2,3,x\n";
+        assert!(fault(day).contains("line 2: a quote is opened and never closed"));
+        // an inch in the middle of a cell opens nothing, and a quoted cell may hold quotes and line ends
+        let good = "lat,lon,time,note\n1,2,3,5\" hose\n1,2,3,\"two\nlines and \"\"quotes\"\"\"\n";
+        assert_eq!(day_of(good.as_bytes()).unwrap().lines.len(), 2);
+    }
+
+    #[test]
+    fn cells_without_a_column() {
+        assert!(fault("lat,lon,time\n1,2,3\n1,2,3,4\n").contains("line 3 has 4 cells, and the first line names 3 columns"));
+        // a separator at a line's end is no cell
+        assert_eq!(day_of(b"lat,lon,time\n1,2,3,\n").unwrap().lines[0].len(), 3);
+    }
+
+    #[test]
+    fn files_of_the_world() {
+        let day = day_of("\u{feff}Time;Long;Latitude\n2026-07-01T11:59:59Z;13,40;52,52\n".as_bytes()).unwrap();
+        assert_eq!(day.slip(&day.lines[0]), Ok((52.52, 13.40, 1_782_907_199)));
+        assert!(day.notes[0].contains("semicolons"));
+        let day = day_of(b"lat\tlon\ttime\n52.52\t13.40\t2026-07-01 11:59:59.5Z\n").unwrap();
+        assert_eq!(day.slip(&day.lines[0]), Ok((52.52, 13.40, 1_782_907_199)));
+        assert_eq!(day.notes, ["cells are parted by tabs; a comma in a number is read as its point", "1 instant with parts of a second: the second that has begun is taken"]);
+        assert!(day_of(b"lat,lon,time,depot\n1,2,3,M\xfcnchen\n").err().unwrap().contains("line 2 is not UTF-8"));
+    }
+
+    #[test]
+    fn columns_by_name() {
+        let columns = Columns::of(&vec!["slip", "Time", "lon", "Latitude"].into()).unwrap();
+        assert_eq!((columns.lat, columns.lon, columns.instant), (3, 2, 1));
+        assert!(Columns::of(&vec!["slip", "lat", "lon"].into()).unwrap_err().contains("no column \"instant\""));
+        let day = day_of(b"note,lat,lon,time,note\na,1,2,3,b\n").unwrap();
+        assert_eq!(day.names, ["note", "lat", "lon", "time", "note (2)"]);
+    }
+}
