@@ -1,0 +1,36 @@
+-- `bundle::bytes::byte_of` meets its contract. Assumes nothing.
+use borrow.Author.Needs.{needs}
+use Rattle.bundle.proofs.Entries.{byte-first, byte-second, byte-none}
+use Rattle.bundle.proofs.bytes.byte_of.Statement.{statement}
+use Rattle.bundle.proofs.bytes.byte_of.Tie as tie
+
+-- `bundle::bytes::byte_of` meets its contract. Assumes nothing.
+
+shared-slice-read-result : tie.Need-shared-slice-read-result
+shared-slice-read-result c = search needs
+
+returns : tie.Need-returns
+returns c =
+    let args = c .before .before .args in
+    let if1 = c .before .if1 in
+    byte-first (args .prefix .now) (args .id .now) (args .at) (if1 .taken)
+
+shared-slice-read-result-2 : tie.Need-shared-slice-read-result-2
+shared-slice-read-result-2 c = search needs
+
+returns-2 : tie.Need-returns-2
+returns-2 c =
+    let args = c .before .before .before .args in
+    let if1 = c .before .before .if1 in
+    byte-second (args .prefix .now) (args .id .now) (args .at) (if1 .left)
+
+returns-3 : tie.Need-returns-3
+returns-3 c =
+    let args = c .before .before .args in
+    let if1 = c .before .if1 in
+    byte-none (args .prefix .now) (args .id .now) (args .at) (if1 .left) (c .if2 .left)
+
+pub byte-of-spec : {M : Type 1} → statement M
+byte-of-spec =
+    tie.close
+    (tie.spec shared-slice-read-result returns shared-slice-read-result-2 returns-2 returns-3)

@@ -1,0 +1,30 @@
+-- `bundle::head::is_bundle` meets its contract. Assumes nothing.
+use borrow.Author.Needs.{needs}
+use mathlib.Core.Path.{_∙_}
+use native.Mathlib.Omega.{arith}
+use Rattle.bundle.proofs.Entries.{short-bundle, long-bundle}
+use Rattle.bundle.proofs.head.is_bundle.Statement.{statement}
+use Rattle.bundle.proofs.head.is_bundle.Tie as tie
+
+returns : tie.Need-returns
+returns c = short-bundle (c .before .before .args .bundle .now) (c .if1 .taken)
+
+slice-aggregate-agrees : tie.Need-slice-aggregate-agrees
+slice-aggregate-agrees c = search needs
+
+slice-aggregate-agrees-2 : tie.Need-slice-aggregate-agrees-2
+slice-aggregate-agrees-2 c = search needs
+
+agrees-requires : tie.Need-agrees-requires
+agrees-requires c κs = omega arith
+
+returns-2 : tie.Need-returns-2
+returns-2 c =
+    let args = c .before .before .before .before .before .args in
+    let if1 = c .before .before .before .if1 in
+    c .agrees .ensures ∙ long-bundle (args .bundle .now) (if1 .left)
+
+pub is-bundle-spec : {M : Type 1} → statement M
+is-bundle-spec =
+    tie.close
+    (tie.spec returns slice-aggregate-agrees slice-aggregate-agrees-2 agrees-requires returns-2)

@@ -1,0 +1,81 @@
+// A zone's file in a bundle. Its name comes in two parts, so that nobody needs room to join them.
+ghost use mathlib.Core.{Path.{_≡_}, List.{_++_}};
+ghost use Prim.Native.Nat.{_+_, _*_, _≤_};
+ghost use lib.ListN.{length};
+ghost use Rattle.bundle.specs.{Bundle.{isEntry, seekOf, findOf}, Told.{toldSought, told}};
+use crate::bytes::agrees;
+use crate::bytes::word_at;
+use crate::head::Headed;
+use crate::head::read_head;
+use numbers::refusal::Refusal;
+use numbers::refusal::plain;
+use numbers::refusal::refuse;
+
+// Where a file begins in the bundle, and its length.
+pub struct File {
+    pub start: u64,
+    pub length: u64,
+}
+
+pub enum Found {
+    At(File),
+    Refused(Refusal),
+}
+
+// The place of an entry.
+pub enum Sought {
+    Entry(usize),
+    Nothing,
+}
+
+fn is_entry(bundle: &[u8], place: usize, prefix: &[u8], id: &[u8]) -> bool
+    requires { ⌜ place + 40 ≤ length (now bundle) ⌝ }
+    ensures { λ r. ⌜ r ≡ isEntry (now (bundle .entry)) (now (prefix .entry) ++ now (id .entry)) place ⌝ }
+{
+    if 40 < prefix.len() {
+        return false;
+    }
+    if 40 - prefix.len() < id.len() {
+        return false;
+    }
+    agrees(bundle, place, prefix, id, 40)
+}
+
+// The first entry of the name, of so many from a place on.
+fn seek(bundle: &[u8], place: usize, count: usize, prefix: &[u8], id: &[u8]) -> Sought
+    requires { ⌜ place + 52 * count ≤ length (now bundle) ⌝ }
+    ensures { λ r. ⌜ toldSought r ≡ seekOf count (now (bundle .entry)) (now (prefix .entry) ++ now (id .entry)) place ⌝ }
+{
+    let mut at = place;
+    let mut left = count;
+    while 0 < left {
+        if is_entry(bundle, at, prefix, id) {
+            return Sought::Entry(at);
+        }
+        at += 52;
+        left -= 1;
+    }
+    Sought::Nothing
+}
+
+// The file of a zone whose name is the prefix and the id, joined.
+pub fn find(bundle: &[u8], prefix: &[u8], id: &[u8]) -> Found
+    ensures { λ r. ⌜ told r ≡ findOf (now (bundle .entry)) (now (prefix .entry) ++ now (id .entry)) ⌝ }
+{
+    let head = match read_head(bundle) {
+        Headed::Head(head) => head,
+        Headed::Refused(why) => return Found::Refused(why),
+    };
+    let index = head.index as usize;
+    let count = ((head.start - head.index) / 52) as usize;
+    let place = match seek(bundle, index, count, prefix, id) {
+        Sought::Entry(place) => place,
+        Sought::Nothing => return Found::Refused(plain(88)),
+    };
+    let start = head.start + word_at(bundle, place + 40);
+    let length = word_at(bundle, place + 44);
+    if head.end < start + length {
+        return Found::Refused(refuse(89, 0, place as u64));
+    }
+    Found::At(File { start, length })
+}

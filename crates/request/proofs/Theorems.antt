@@ -1,0 +1,78 @@
+-- What the request promises, by name. Assumes nothing.
+use mathlib.Core.{Path.{_≡_, refl, ap, sym, subst, _∙_}, Bool.{true}, List.{List}}
+use Prim.Native.Nat.{ℕ}
+use lib.IntN.{ℤ, pos, _+ℤ_, +ℤ-idr}
+use Rattle.calendar.specs.{Calendar.{weekdayOf, dayNumber}, Civil.{Shows, CivilOf}, declared.civil.{Civil.the-variants.{Shown}, Reading.{Reading}}}
+use Rattle.numbers.proofs.{Refusals.{Listed}, Replies.{number-of}}
+use Rattle.numbers.specs.{Reply.{Reply, given, refused}, declared.refusal.Refusal.{Refusal}}
+use Rattle.request.proofs.{Meanings.{Civilly, Ranged, spelt-meant}, Nearing.{nearest-to}, Refusing.{fiveNumbers, request-told}, Replied.{shown-from}, Times.{in-date, in-time}}
+use Rattle.request.specs.{Nearest.{Nearest}, Text.{lineOf}, Clock.{Date, Time, When, utc, instantAt}, Request.{Spelt, spelltOf, meaning, requestOf}, Told.{told}, declared.read.{Fix.{Fix}, Asked.{Asked}}}
+use Rattle.request.specs.declared.read.Asked.the-variants as R
+
+-- ---- same-request
+untold : Reply Fix → Asked
+untold (given fix) = R.Fix fix
+untold (refused why) = R.Refused why
+
+untold-told : (r : Asked) → untold (told r) ≡ r
+unfolding untold
+untold-told (R.Fix fix) = refl
+untold-told (R.Refused why) = refl
+
+-- two replies that the promise of `read_request` permits are equal
+pub same-request : (text : List ℕ) (r s : Asked) → told r ≡ requestOf text → told s ≡ requestOf text → r ≡ s
+same-request text r s p q = sym (untold-told r) ∙ ap untold (p ∙ sym q) ∙ untold-told s
+
+-- ---- request-refusals
+-- a request is refused with 80 to 84 alone
+pub request-refusals : (text : List ℕ) {why : Refusal} → told (R.Refused why) ≡ requestOf text → Listed fiveNumbers (why .number)
+request-refusals text e = number-of (request-told text) (sym e)
+
+-- ---- request-instant
+-- what a clock shows at a date and a time
+abbrev pub readingOf : Date → Time → Reading
+readingOf d t =
+    record {
+      year = d .year;
+      month = d .month;
+      day = d .day;
+      hour = t .hour;
+      minute = t .minute;
+      second = t .second;
+      weekday = weekdayOf (dayNumber (d .year) (d .month) (d .day));
+    }
+
+-- at this instant, and at no other, a clock in UTC shows this date and time
+pub record OnlyAt (date : Date) (time : Time) (instant : ℤ) : Type 0 where
+  pub shown : CivilOf instant (pos 0) (Shown (readingOf date time))
+  pub alone : (other : ℤ) → CivilOf other (pos 0) (Shown (readingOf date time)) → other ≡ instant
+
+only-at : (date : Date) (time : Time) → Ranged date time → OnlyAt date time (instantAt (utc date time))
+unfolding CivilOf instantAt
+only-at date time r =
+    let t = in-time time (r .time-is) in
+    record {
+      shown = record { date = in-date date (r .date-is); hour = t .0; minute = t .1; second = t .2; weekday = refl; back = sym (+ℤ-idr _) };
+      alone = λ other s. sym (s .back ∙ +ℤ-idr other);
+    }
+
+-- the instant of a fix is the one whose civil reading in UTC is the date and time that the request spells
+pub request-instant : (text : List ℕ) {fix : Fix} {spelt : Spelt} {date : Date} {time : Time} → told (R.Fix fix) ≡ requestOf text → given spelt ≡ spelltOf (lineOf text) → spelt .when ≡ utc date time → OnlyAt date time (fix .instant)
+unfolding requestOf meaning Civilly
+request-instant text {fix = fix} {spelt = spelt} {date = date} {time = time} e s w =
+    let f = shown-from (spelltOf (lineOf text)) meaning e in
+    let same : spelt ≡ f .it = cc in
+    let at : fix .instant ≡ instantAt (utc date time) = ap (λ (x : Fix). x .instant) (f .shows) ∙ ap (λ (x : Spelt). instantAt (x .when)) (sym same) ∙ ap instantAt w in
+    let civil : Civilly (utc date time) = subst Civilly w (spelt-meant (lineOf text) s .civil) in
+    subst (OnlyAt date time) (sym at) (only-at date time civil)
+
+-- ---- request-nearest
+-- the two floats of a fix are the f32 nearest to the fractions that the request spells, ties to even
+pub request-nearest : (text : List ℕ) {fix : Fix} {spelt : Spelt} → told (R.Fix fix) ≡ requestOf text → given spelt ≡ spelltOf (lineOf text) → Nearest (spelt .lat) (fix .lat) × Nearest (spelt .lon) (fix .lon)
+unfolding requestOf meaning
+request-nearest text {fix = fix} {spelt = spelt} e s =
+    let f = shown-from (spelltOf (lineOf text)) meaning e in
+    let same : spelt ≡ f .it = cc in
+    let m = spelt-meant (lineOf text) s in
+    let is : fix ≡ meaning spelt = f .shows ∙ ap meaning (sym same) in
+    (subst (λ (x : Fix). Nearest (spelt .lat) (x .lat)) (sym is) (nearest-to (spelt .lat) (m .lat-fair .some) (m .lat-fair .small)), subst (λ (x : Fix). Nearest (spelt .lon) (x .lon)) (sym is) (nearest-to (spelt .lon) (m .lon-fair .some) (m .lon-fair .small)))

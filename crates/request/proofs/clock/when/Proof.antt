@@ -1,0 +1,47 @@
+-- `request::clock::when` meets its contract. Assumes nothing.
+use borrow.Author.Needs.{needs}
+use mathlib.Core.Path.{ap, sym, _∙_}
+use Rattle.numbers.specs.Answer.{Answer}
+use Rattle.request.proofs.Times.{when-moment, when-seconds}
+use Rattle.request.proofs.clock.when.Statement.{statement}
+use Rattle.request.specs.Clock.{When, instantAt}
+use Rattle.request.specs.Request.{at}
+use Rattle.request.specs.Told.{shown}
+use Rattle.request.proofs.clock.when.Tie as tie
+
+slice-aggregate-formed : tie.Need-slice-aggregate-formed
+slice-aggregate-formed c = search needs
+
+formed-requires : tie.Need-formed-requires
+formed-requires c κs = search needs
+
+moment-requires : tie.Need-moment-requires
+moment-requires c κs = sym (c .before .formed .ensures) ∙ c .if1 .taken
+
+returns : tie.Need-returns
+returns c =
+    let args = c .before .before .before .before .before .args in
+    let formed = c .before .before .formed in
+    let if1 = c .before .if1 in
+    c .moment .ensures ∙ ap (λ (a : Answer When). shown (at (args .place) a) instantAt) (when-moment (args .text .now) (sym (formed .ensures) ∙ if1 .taken))
+
+seconds-requires : tie.Need-seconds-requires
+seconds-requires c κs = search needs
+
+returns-2 : tie.Need-returns-2
+returns-2 c =
+    let args = c .before .before .before .before .before .args in
+    let formed = c .before .before .formed in
+    let if1 = c .before .if1 in
+    c .seconds .ensures ∙ ap (λ (a : Answer When). shown (at (args .place) a) instantAt) (when-seconds (args .text .now) (sym (formed .ensures) ∙ if1 .left))
+
+pub when-spec : {M : Type 1} → statement M
+when-spec =
+    tie.close
+    (tie.spec
+    slice-aggregate-formed
+    formed-requires
+    moment-requires
+    returns
+    seconds-requires
+    returns-2)

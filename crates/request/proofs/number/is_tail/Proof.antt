@@ -1,0 +1,75 @@
+-- `request::number::is_tail` meets its contract. Assumes nothing.
+use Prim.Native.Nat.{_-_}
+use borrow.Author.Needs.{needs}
+use mathlib.Core.Bool.{false}
+use mathlib.Core.Path.{ap, _∙_}
+use native.Mathlib.Omega.{arith}
+use Rattle.request.proofs.Numerals.{tail-none, tail-point, tail-empty, tail-long, tail-is}
+use Rattle.request.proofs.Texts.{rest-is}
+use Rattle.request.proofs.number.is_tail.Statement.{statement}
+use Rattle.request.specs.Text.{every}
+use Rattle.request.proofs.number.is_tail.Tie as tie
+
+returns : tie.Need-returns
+returns c = tail-none (c .before .before .args .most) (c .before .before .args .text .now) (c .if1 .taken)
+
+shared-slice-read-if2 : tie.Need-shared-slice-read-if2
+shared-slice-read-if2 c = omega arith
+
+returns-2 : tie.Need-returns-2
+returns-2 c =
+    let args = c .before .before .before .before .args in
+    let if1 = c .before .before .if1 in
+    tail-point (args .most) (args .text .now) (if1 .left) (c .if2 .taken)
+
+returns-3 : tie.Need-returns-3
+returns-3 c =
+    let args = c .before .before .before .before .before .args in
+    let if1 = c .before .before .before .if1 in
+    tail-empty (args .most) (args .text .now) (if1 .left) (c .if3 .taken)
+
+sub-if4 : tie.Need-sub-if4
+sub-if4 c = omega arith
+
+returns-4 : tie.Need-returns-4
+returns-4 c =
+    let args = c .before .before .before .before .before .before .args in
+    let if1 = c .before .before .before .before .if1 in
+    tail-long (args .most) (args .text .now) (if1 .left) (c .if4 .taken)
+
+sub-every : tie.Need-sub-every
+sub-every c = search needs
+
+part-every-start : tie.Need-part-every-start
+part-every-start c = search needs
+
+part-every-end : tie.Need-part-every-end
+part-every-end c = search needs
+
+every-requires : tie.Need-every-requires
+every-requires c κs = search needs
+
+returns-5 : tie.Need-returns-5
+returns-5 c =
+    let args = c .before .before .before .before .before .before .before .before .args in
+    let if1 = c .before .before .before .before .before .before .if1 in
+    let if2 = c .before .before .before .before .if2 in
+    let if3 = c .before .before .before .if3 in
+    let if4 = c .before .before .if4 in
+    c .every .ensures ∙ ap (every false) (rest-is (args .text .now) 1) ∙ tail-is (args .most) (args .text .now) (if1 .left) (if2 .left) (if3 .left) (if4 .left)
+
+pub is-tail-spec : {M : Type 1} → statement M
+is-tail-spec =
+    tie.close
+    (tie.spec
+    returns
+    shared-slice-read-if2
+    returns-2
+    returns-3
+    sub-if4
+    returns-4
+    sub-every
+    part-every-start
+    part-every-end
+    every-requires
+    returns-5)

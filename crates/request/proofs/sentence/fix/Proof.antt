@@ -1,0 +1,136 @@
+-- `request::sentence::fix` meets its contract. Assumes nothing.
+use borrow.Author.Needs.{sfits-of, needs}
+use mathlib.Core.Path.{ap, sym, _∙_}
+use mir.Syntax.{w64}
+use mir.ValLaws.{toZ-ofZ}
+use native.Mathlib.Omega.{arith}
+use Rattle.request.proofs.Replied.{fix-time, fix-lat, fix-lon, fix-date, fix-is, below-held}
+use Rattle.request.proofs.sentence.fix.Statement.{statement}
+use Rattle.request.specs.Told.{toldWhole, toldDegrees}
+use Rattle.request.proofs.sentence.fix.Tie as tie
+
+time-in-requires : tie.Need-time-in-requires
+time-in-requires c κs = c .before .pre
+
+enum-known-second : tie.Need-enum-known-second
+enum-known-second c = search needs
+
+enum-known-why : tie.Need-enum-known-why
+enum-known-why c = search needs
+
+returns : tie.Need-returns
+returns c =
+    let args = c .before .before .before .before .before .args in
+    let why = c .before .why in
+    let time-in = c .before .before .before .time-in in
+    fix-time (args .body .now) (sym (ap toldWhole (why .given .1)) ∙ time-in .ensures .0)
+
+turned-in-requires : tie.Need-turned-in-requires
+turned-in-requires c κs =
+    let pre = c .before .before .before .before .before .pre in
+    (pre, omega arith, omega arith, omega arith)
+
+enum-known-lat : tie.Need-enum-known-lat
+enum-known-lat c = search needs
+
+enum-known-why-2 : tie.Need-enum-known-why-2
+enum-known-why-2 c = search needs
+
+returns-2 : tie.Need-returns-2
+returns-2 c =
+    let args = c .before .before .before .before .before .before .before .before .before .args in
+    let second = c .before .before .before .before .before .second in
+    let time-in = c .before .before .before .before .before .before .before .time-in in
+    let why2 = c .before .why2 in
+    let turned-in = c .before .before .before .turned-in in
+    fix-lat (args .body .now) (sym (ap toldWhole (second .given .1)) ∙ time-in .ensures .0) (sym (ap toldDegrees (why2 .given .1)) ∙ turned-in .ensures)
+
+turned-in-requires-2 : tie.Need-turned-in-requires-2
+turned-in-requires-2 c κs =
+    let pre = c .before .before .before .before .before .before .before .before .before .pre in
+    (pre, omega arith, omega arith, omega arith)
+
+enum-known-lon : tie.Need-enum-known-lon
+enum-known-lon c = search needs
+
+enum-known-why-3 : tie.Need-enum-known-why-3
+enum-known-why-3 c = search needs
+
+returns-3 : tie.Need-returns-3
+returns-3 c =
+    let args = c .before .before .before .before .before .before .before .before .before .before .before .before .before .args in
+    let second = c .before .before .before .before .before .before .before .before .before .second in
+    let time-in = c .before .before .before .before .before .before .before .before .before .before .before .time-in in
+    let lat = c .before .before .before .before .before .lat in
+    let turned-in = c .before .before .before .before .before .before .before .turned-in in
+    let why3 = c .before .why3 in
+    let turned-in2 = c .before .before .before .turned-in2 in
+    fix-lon (args .body .now) (sym (ap toldWhole (second .given .1)) ∙ time-in .ensures .0) (sym (ap toldDegrees (lat .given .1)) ∙ turned-in .ensures) (sym (ap toldDegrees (why3 .given .1)) ∙ turned-in2 .ensures)
+
+date-in-requires : tie.Need-date-in-requires
+date-in-requires c κs =
+    let pre = c .before .before .before .before .before .before .before .before .before .before .before .before .before .pre in
+    pre
+
+enum-known-day : tie.Need-enum-known-day
+enum-known-day c = search needs
+
+enum-known-why-4 : tie.Need-enum-known-why-4
+enum-known-why-4 c = search needs
+
+returns-4 : tie.Need-returns-4
+returns-4 c =
+    let args = c .before .before .before .before .before .before .before .before .before .before .before .before .before .before .before .before .before .args in
+    let second = c .before .before .before .before .before .before .before .before .before .before .before .before .before .second in
+    let time-in = c .before .before .before .before .before .before .before .before .before .before .before .before .before .before .before .time-in in
+    let lat = c .before .before .before .before .before .before .before .before .before .lat in
+    let turned-in = c .before .before .before .before .before .before .before .before .before .before .before .turned-in in
+    let lon = c .before .before .before .before .before .lon in
+    let turned-in2 = c .before .before .before .before .before .before .before .turned-in2 in
+    let why4 = c .before .why4 in
+    let date-in = c .before .before .before .date-in in
+    fix-date (args .body .now) (sym (ap toldWhole (second .given .1)) ∙ time-in .ensures .0) (sym (ap toldDegrees (lat .given .1)) ∙ turned-in .ensures) (sym (ap toldDegrees (lon .given .1)) ∙ turned-in2 .ensures) (sym (ap toldWhole (why4 .given .1)) ∙ date-in .ensures .0)
+
+instant-of-requires : tie.Need-instant-of-requires
+instant-of-requires c κs =
+    let day = c .before .day in
+    let date-in = c .before .before .before .date-in in
+    let second = c .before .before .before .before .before .before .before .before .before .before .before .before .before .second in
+    let time-in = c .before .before .before .before .before .before .before .before .before .before .before .before .before .before .before .time-in in
+    (below-held 3652059 (day .given .1) (date-in .ensures .1), below-held 86400 (second .given .1) (time-in .ensures .1))
+
+returns-5 : tie.Need-returns-5
+returns-5 c =
+    let args = c .before .before .before .before .before .before .before .before .before .before .before .before .before .before .before .before .before .before .args in
+    let second = c .before .before .before .before .before .before .before .before .before .before .before .before .before .before .second in
+    let time-in = c .before .before .before .before .before .before .before .before .before .before .before .before .before .before .before .before .time-in in
+    let lat = c .before .before .before .before .before .before .before .before .before .before .lat in
+    let turned-in = c .before .before .before .before .before .before .before .before .before .before .before .before .turned-in in
+    let lon = c .before .before .before .before .before .before .lon in
+    let turned-in2 = c .before .before .before .before .before .before .before .before .turned-in2 in
+    let day = c .before .before .day in
+    let date-in = c .before .before .before .before .date-in in
+    fix-is (args .body .now) (sym (ap toldWhole (second .given .1)) ∙ time-in .ensures .0) (sym (ap toldDegrees (lat .given .1)) ∙ turned-in .ensures) (sym (ap toldDegrees (lon .given .1)) ∙ turned-in2 .ensures) (sym (ap toldWhole (day .given .1)) ∙ date-in .ensures .0) (toZ-ofZ w64 (c .instant-of .result) (sfits-of (c .instant-of .ok)) ∙ c .instant-of .ensures)
+
+pub fix-spec : {M : Type 1} → statement M
+fix-spec =
+    tie.close
+    (tie.spec
+    time-in-requires
+    enum-known-second
+    enum-known-why
+    returns
+    turned-in-requires
+    enum-known-lat
+    enum-known-why-2
+    returns-2
+    turned-in-requires-2
+    enum-known-lon
+    enum-known-why-3
+    returns-3
+    date-in-requires
+    enum-known-day
+    enum-known-why-4
+    returns-4
+    instant-of-requires
+    returns-5)

@@ -1,0 +1,80 @@
+-- `request::text::formed` meets its contract. Assumes nothing.
+use Prim.Native.Nat.{_-_, _≤_}
+use borrow.Author.Needs.{needs}
+use borrow.Author.Tests.{not-true, not-false}
+use lib.ListN.{length, drop}
+use mathlib.Core.Path.{_≡_, refl, sym, _∙_}
+use native.Mathlib.Omega.{arith}
+use Rattle.request.proofs.Texts.{form-length, formed-end, formed-stop, formed-on}
+use Rattle.request.proofs.text.formed.Statement.{statement}
+use Rattle.request.specs.Text.{formed}
+use Rattle.request.proofs.text.formed.Tie as tie
+
+abbrev Inv-loop : tie.InvT-loop
+Inv-loop form text at₀ at = (formed (drop at form) (drop at text) ≡ formed form text) × (at ≤ length text)
+
+abbrev μ-loop : tie.MeasureT-loop
+μ-loop form text at₀ at = length text - at
+
+returns : tie.Need-returns Inv-loop μ-loop
+returns c = form-length (c .before .before .before .args .form .now) (c .before .before .before .args .text .now) (c .if1 .taken)
+
+loop-holds : tie.Need-loop-holds Inv-loop μ-loop
+loop-holds c = (refl, omega arith)
+
+shared-slice-read-mark : tie.Need-shared-slice-read-mark Inv-loop μ-loop
+shared-slice-read-mark c = omega (arith, c .before .before .before .if1 .left)
+
+shared-slice-read-byte : tie.Need-shared-slice-read-byte Inv-loop μ-loop
+shared-slice-read-byte c = omega arith
+
+likened-requires : tie.Need-likened-requires Inv-loop μ-loop
+likened-requires c κs = search needs
+
+returns-2 : tie.Need-returns-2 Inv-loop μ-loop
+returns-2 c =
+    let args = c .before .before .before .before .before .before .before .before .before .args in
+    let loop = c .before .before .before .before .before .loop in
+    let if1 = c .before .before .before .before .before .before .if1 in
+    let loop-test = c .before .before .before .before .loop-test in
+    let likened = c .before .likened in
+    formed-stop (args .form .now) (args .text .now) (loop .at) (if1 .left) (loop-test .taken) (sym (likened .ensures) ∙ not-true _ (c .if2 .taken)) ∙ loop .inv .0
+
+add-at : tie.Need-add-at Inv-loop μ-loop
+add-at c = omega arith
+
+loop-less : tie.Need-loop-less Inv-loop μ-loop
+loop-less c = omega arith
+
+loop-again : tie.Need-loop-again Inv-loop μ-loop
+loop-again c =
+    let args = c .before .before .before .before .before .before .before .before .before .args in
+    let loop = c .before .before .before .before .before .loop in
+    let if1 = c .before .before .before .before .before .before .if1 in
+    let loop-test = c .before .before .before .before .loop-test in
+    let likened = c .before .likened in
+    (formed-on (args .form .now) (args .text .now) (loop .at) (if1 .left) (loop-test .taken) (sym (likened .ensures) ∙ not-false _ (c .if2 .left)) ∙ loop .inv .0, omega arith)
+
+returns-3 : tie.Need-returns-3 Inv-loop μ-loop
+returns-3 c =
+    let args = c .before .before .before .before .before .args in
+    let loop = c .before .loop in
+    let if1 = c .before .before .if1 in
+    formed-end (args .form .now) (args .text .now) (loop .at) (if1 .left) (c .loop-test .left) ∙ loop .inv .0
+
+pub formed-spec : {M : Type 1} → statement M
+formed-spec =
+    tie.close
+    (tie.spec
+    Inv-loop
+    μ-loop
+    returns
+    loop-holds
+    shared-slice-read-mark
+    shared-slice-read-byte
+    likened-requires
+    returns-2
+    add-at
+    loop-less
+    loop-again
+    returns-3)

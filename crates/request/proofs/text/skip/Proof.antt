@@ -1,0 +1,69 @@
+-- `request::text::skip` meets its contract. Assumes nothing.
+use Prim.Native.Nat.{_-_, _≤_}
+use borrow.Author.Needs.{needs}
+use borrow.Author.Tests.{not-true, not-false}
+use lib.ListN.{length, drop}
+use mathlib.Core.Path.{_≡_, refl, sym, _∙_}
+use native.Mathlib.Omega.{arith}
+use Rattle.request.proofs.Texts.{blank-end, blank-stop, blank-on}
+use Rattle.request.proofs.text.skip.Statement.{statement}
+use Rattle.request.specs.Text.{unblanked}
+use Rattle.request.proofs.text.skip.Tie as tie
+
+abbrev Inv-loop : tie.InvT-loop
+Inv-loop text from at₀ at = (unblanked (drop at text) ≡ unblanked (drop from text)) × (at ≤ length text)
+
+abbrev μ-loop : tie.MeasureT-loop
+μ-loop text from at₀ at = length text - at
+
+loop-holds : tie.Need-loop-holds Inv-loop μ-loop
+loop-holds c = (refl, c .before .pre)
+
+shared-slice-read-byte : tie.Need-shared-slice-read-byte Inv-loop μ-loop
+shared-slice-read-byte c = omega arith
+
+is-either-requires : tie.Need-is-either-requires Inv-loop μ-loop
+is-either-requires c κs = search needs
+
+returns : tie.Need-returns Inv-loop μ-loop
+returns c =
+    let args = c .before .before .before .before .before .before .args in
+    let loop = c .before .before .before .before .loop in
+    let loop-test = c .before .before .before .loop-test in
+    let is-either = c .before .is-either in
+    (blank-stop (args .text .now) (loop .at) (loop-test .taken) (sym (is-either .ensures) ∙ not-true _ (c .if1 .taken)) ∙ loop .inv .0, omega arith)
+
+add-at : tie.Need-add-at Inv-loop μ-loop
+add-at c = omega arith
+
+loop-less : tie.Need-loop-less Inv-loop μ-loop
+loop-less c = omega arith
+
+loop-again : tie.Need-loop-again Inv-loop μ-loop
+loop-again c =
+    let args = c .before .before .before .before .before .before .args in
+    let loop = c .before .before .before .before .loop in
+    let loop-test = c .before .before .before .loop-test in
+    let is-either = c .before .is-either in
+    (blank-on (args .text .now) (loop .at) (loop-test .taken) (sym (is-either .ensures) ∙ not-false _ (c .if1 .left)) ∙ loop .inv .0, omega arith)
+
+returns-2 : tie.Need-returns-2 Inv-loop μ-loop
+returns-2 c =
+    let args = c .before .before .before .args in
+    let loop = c .before .loop in
+    (blank-end (args .text .now) (loop .at) (c .loop-test .left) ∙ loop .inv .0, loop .inv .1)
+
+pub skip-spec : {M : Type 1} → statement M
+skip-spec =
+    tie.close
+    (tie.spec
+    Inv-loop
+    μ-loop
+    loop-holds
+    shared-slice-read-byte
+    is-either-requires
+    returns
+    add-at
+    loop-less
+    loop-again
+    returns-2)

@@ -1,0 +1,33 @@
+-- `request::text::without` meets its contract. Assumes nothing.
+use Prim.Native.Nat.{ℕ}
+use lib.ListN.{take}
+use mathlib.Core.Path.{_≡_, ap, _∙_}
+use native.Mathlib.Omega.{arith}
+use Rattle.request.proofs.Texts.{none-ended, last-ended, last-kept}
+use Rattle.request.proofs.text.without.Statement.{statement}
+use Rattle.request.specs.Text.{unended}
+use Rattle.request.proofs.text.without.Tie as tie
+
+returns : tie.Need-returns
+returns c = (none-ended (c .before .args .byte) (c .before .args .text .now) ∙ ap (λ (n : ℕ). unended (c .before .args .byte) (take n (c .before .args .text .now))) (let z : 0 ≡ c .before .args .size = omega arith in z), omega arith)
+
+sub-less : tie.Need-sub-less
+sub-less c = omega arith
+
+shared-slice-read-if2 : tie.Need-shared-slice-read-if2
+shared-slice-read-if2 c = omega arith
+
+returns-2 : tie.Need-returns-2
+returns-2 c =
+    let args = c .before .before .before .args in
+    let pre = c .before .before .before .pre in
+    (last-ended (args .byte) (args .text .now) (args .size) (omega arith) (pre) (c .if2 .taken), omega arith)
+
+returns-3 : tie.Need-returns-3
+returns-3 c =
+    let args = c .before .before .before .args in
+    let pre = c .before .before .before .pre in
+    (last-kept (args .byte) (args .text .now) (args .size) (omega arith) (pre) (c .if2 .left), pre)
+
+pub without-spec : {M : Type 1} → statement M
+without-spec = tie.close (tie.spec returns sub-less shared-slice-read-if2 returns-2 returns-3)
