@@ -140,7 +140,8 @@ plain-meant line e =
     let b = given-from (inWord line (nextWord line) (degreesOf 180)) _ (a .onto) in
     let c = given-from (inWord line (nextWord (nextWord line)) whenOf) _ (b .onto) in
     let d = demanded (eqb (length (pastWord (nextWord (nextWord line)))) 0) (refusal 80 0 (placeIn line (nextWord (nextWord (nextWord line))))) (c .onto) in
-    whens {lat = a .it} {lon = b .it} (c .it) (degrees-fair 90 (word line) (omega arith) (at-found _ _ (a .is))) (degrees-fair 180 (word (nextWord line)) (omega arith) (at-found _ _ (b .is))) (when-found (word (nextWord (nextWord line))) (at-found _ _ (c .is))) (d .1)
+    whens {lat = a .it} {lon = b .it} (c .it) (degrees-fair 90 (word line) (omega arith) (at-found _ _ (a .is))) (degrees-fair 180 (word (nextWord line)) (omega arith) (at-found _ _ (b .is)))
+    (when-found (word (nextWord (nextWord line))) (at-found _ _ (c .is))) (d .1)
 
 pub spelt-meant : (line : List ℕ) {s : Spelt} → given s ≡ spelltOf line → Meant s
 unfolding spelltOf

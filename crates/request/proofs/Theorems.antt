@@ -57,7 +57,8 @@ only-at date time r =
     }
 
 -- the instant of a fix is the one whose civil reading in UTC is the date and time that the request spells
-pub request-instant : (text : List ℕ) {fix : Fix} {spelt : Spelt} {date : Date} {time : Time} → told (R.Fix fix) ≡ requestOf text → given spelt ≡ spelltOf (lineOf text) → spelt .when ≡ utc date time → OnlyAt date time (fix .instant)
+pub request-instant : (text : List ℕ) {fix : Fix} {spelt : Spelt} {date : Date} {time : Time} → told (R.Fix fix) ≡ requestOf text → given spelt ≡ spelltOf (lineOf text)
+    → spelt .when ≡ utc date time → OnlyAt date time (fix .instant)
 unfolding requestOf meaning Civilly
 request-instant text {fix = fix} {spelt = spelt} {date = date} {time = time} e s w =
     let f = shown-from (spelltOf (lineOf text)) meaning e in
@@ -68,11 +69,15 @@ request-instant text {fix = fix} {spelt = spelt} {date = date} {time = time} e s
 
 -- ---- request-nearest
 -- the two floats of a fix are the f32 nearest to the fractions that the request spells, ties to even
-pub request-nearest : (text : List ℕ) {fix : Fix} {spelt : Spelt} → told (R.Fix fix) ≡ requestOf text → given spelt ≡ spelltOf (lineOf text) → Nearest (spelt .lat) (fix .lat) × Nearest (spelt .lon) (fix .lon)
+pub request-nearest : (text : List ℕ) {fix : Fix} {spelt : Spelt} → told (R.Fix fix) ≡ requestOf text → given spelt ≡ spelltOf (lineOf text)
+    → Nearest (spelt .lat) (fix .lat) × Nearest (spelt .lon) (fix .lon)
 unfolding requestOf meaning
 request-nearest text {fix = fix} {spelt = spelt} e s =
     let f = shown-from (spelltOf (lineOf text)) meaning e in
     let same : spelt ≡ f .it = cc in
     let m = spelt-meant (lineOf text) s in
-    let is : fix ≡ meaning spelt = f .shows ∙ ap meaning (sym same) in
-    (subst (λ (x : Fix). Nearest (spelt .lat) (x .lat)) (sym is) (nearest-to (spelt .lat) (m .lat-fair .some) (m .lat-fair .small)), subst (λ (x : Fix). Nearest (spelt .lon) (x .lon)) (sym is) (nearest-to (spelt .lon) (m .lon-fair .some) (m .lon-fair .small)))
+    let is : fix ≡ meaning spelt = f .shows ∙ ap meaning (sym same) in (
+      subst (λ (x : Fix). Nearest (spelt .lat) (x .lat)) (sym is) (nearest-to (spelt .lat) (m .lat-fair .some) (m .lat-fair .small)),
+      subst (λ (x : Fix). Nearest (spelt .lon) (x .lon)) (sym is)
+          (nearest-to (spelt .lon) (m .lon-fair .some) (m .lon-fair .small)),
+    )
