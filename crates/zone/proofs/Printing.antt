@@ -7,7 +7,8 @@ use native.Mathlib.{Numerals.{add-one}, Omega.{arith}}
 use Rattle.line.{proofs.Puts.{put-none, put-then, put-as, put-length, same-put}, specs.Put.{Put}}
 use Rattle.numbers.specs.{Reply.{Reply, given, refused}, declared.refusal.Refusal.{Refusal}}
 use Rattle.table.{proofs.Words.{slots-size}, specs.{Hits.{width, slots, noHit}, declared.hits.Hit.{Hit}}}
-use Rattle.zone.specs.{Answer.{answerOf}, Lines.{hexByte, digitsText, bytesText, sizeOf, fieldLine, fieldLines, behindFields, Behind, matchLine, matchLines, refusedLine, linesOf}, Printed.{countOf, printedOf, Printed}}
+use Rattle.zone.specs.Lines.{hexByte, digitsText, bytesText, sizeOf, fieldLine, fieldLines, behindFields, Behind, matchLine, matchLines, refusedLine, linesOf}
+use Rattle.zone.specs.{Answer.{answerOf}, Printed.{countOf, printedOf, Printed}}
 use Rattle.zones.specs.{Lent.{Replied, replied}, Lookup.{toldLooked}, declared.lookup.{Zones.{Zones}, Looked.{Looked}}}
 use Rattle.zones.specs.declared.lookup.Looked.the-variants as L
 
@@ -135,8 +136,10 @@ no-match-yet before at count hits text = record { partly = none-yet before at (m
 
 module _ {before : List ℕ} {at count : ℕ} {hits : List Hit} {text now : List ℕ} {next : ℕ} where
   -- one match more, and its fields
-  pub one-match : {middle after tail : List ℕ} {fields further : ℕ} (place i far : ℕ) (hit : Hit) → i < length hits → hit ≡ getD hits i noHit → tail ≡ drop place text → Matching before at count hits text now next place i
-      → Put now next (matchLine hit) middle fields → Put middle fields (fieldLines count tail) after further → Behind count tail far → Matching before at count hits text after further (place + far) (i + 1)
+  pub one-match : {middle after tail : List ℕ} {fields further : ℕ} (place i far : ℕ) (hit : Hit)
+      → i < length hits → hit ≡ getD hits i noHit → tail ≡ drop place text → Matching before at count hits text now next place i
+      → Put now next (matchLine hit) middle fields → Put middle fields (fieldLines count tail) after further → Behind count tail far
+      → Matching before at count hits text after further (place + far) (i + 1)
   unfolding matchLines
   one-match {middle} {after} {tail} {fields} {further} place i far hit h e t m p q b =
       let here = drop place text in
@@ -177,11 +180,13 @@ module _ (input : List ℕ) (n room : ℕ) {before hits text after : List ℕ} {
   printed-zones {looked} {zones} is e c p =
       printed (given zones) (ap (λ (l : Looked). replied (toldLooked l) hits text) (sym is) ∙ e) (c ∙ sym (getD-drop 8 input 6 0)) p
 
-  printed-by : (why : Refusal) → replied (refused why) hits text ≡ answerOf input n room → count ≡ countOf input → Put before 0 (refusedLine why) after used → Printed input n room before hits text after used
+  printed-by : (why : Refusal) → replied (refused why) hits text ≡ answerOf input n room → count ≡ countOf input → Put before 0 (refusedLine why) after used
+      → Printed input n room before hits text after used
   unfolding linesOf
   printed-by why e c p = printed (refused why) e c p
 
-pub printed-refused : (input : List ℕ) (n room : ℕ) {before hits text after : List ℕ} {used : ℕ} {looked : Looked} {why : Refusal} → looked ≡ L.Refused why → replied (toldLooked looked) hits text ≡ answerOf input n room
+pub printed-refused : (input : List ℕ) (n room : ℕ) {before hits text after : List ℕ} {used : ℕ} {looked : Looked} {why : Refusal}
+    → looked ≡ L.Refused why → replied (toldLooked looked) hits text ≡ answerOf input n room
     → Put before 0 (refusedLine why) after used → Printed input n room before hits text after used
 printed-refused input n room {hits = hits} {text = text} {why = why} is e p =
     printed-by input n room why (ap (λ (l : Looked). replied (toldLooked l) hits text) (sym is) ∙ e) refl p

@@ -48,7 +48,8 @@ loop-again c =
     let loop-test = c .before .before .before .before .before .before .before .loop-test in
     let args = c .before .before .before .before .before .before .before .before .before .before .before .args in
     let put-field = c .before .before .put-field in
-    one-field (loop .place) (loop .more) (field-end .result) _ _ (loop-test .taken) (tail-lent (loop .place) (args .text .now)) (tail-lent (loop .place) (args .text .now)) (field-end .ensures) (loop .inv) (put-field .ensures)
+    let lent = tail-lent (loop .place) (args .text .now) in
+    one-field (loop .place) (loop .more) (field-end .result) _ _ (loop-test .taken) lent lent (field-end .ensures) (loop .inv) (put-field .ensures)
 
 returns : tie.Need-returns Inv-loop μ-loop
 returns c = all-fields (c .before .loop .place) (c .before .loop .more) (omega (arith, c .loop-test .left)) (c .before .loop .inv)

@@ -14,7 +14,8 @@ returns c =
     let put-number3 = c .before .before .before .before .before .before .before .before .before .before .before .put-number3 in
     let put-number4 = c .before .before .before .before .before .before .put-number4 in
     let put = c .before .before .put in
-    put-then _ _ (put-all .ensures) (put-then _ _ (put-number .ensures) (put-then _ _ (put-number2 .ensures) (put-then _ _ (put-number3 .ensures) (put-then _ _ (put-number4 .ensures) (put .ensures)))))
+    put-then _ _ (put-all .ensures) (put-then _ _ (put-number .ensures) (put-then _ _ (put-number2 .ensures)
+    (put-then _ _ (put-number3 .ensures) (put-then _ _ (put-number4 .ensures) (put .ensures)))))
 
 pub put-match-spec : {M : Type 1} → statement M
 put-match-spec =

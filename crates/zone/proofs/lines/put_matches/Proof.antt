@@ -66,7 +66,11 @@ loop-again c =
     let put-match = c .before .before .before .before .before .before .before .before .put-match in
     let put-fields = c .before .before .before .put-fields in
     let fits : least .result ≤ length (args .hits .now) / width = omega (arith, least .ensures, room .ensures) in
-    (one-match (loop .place) (loop .i) _ (hit-at .result) (omega (arith, loop-test .taken, count-slots (args .hits .now) (least .result) fits)) (slot-is (args .hits .now) (least .result) fits _ _ (loop-test .taken) (hit-at .ensures)) (tail-lent (loop .place) (args .text .now)) (loop .inv .0) (put-match .ensures) (put-fields .ensures .0) (put-fields .ensures .1), omega (arith, loop-test .taken))
+    let many = count-slots (args .hits .now) (least .result) fits in
+    let is = slot-is (args .hits .now) (least .result) fits (hit-at .result) (loop .i) (loop-test .taken) (hit-at .ensures) in (
+      one-match (loop .place) (loop .i) _ (hit-at .result) (omega (arith, loop-test .taken, many)) is (tail-lent (loop .place) (args .text .now)) (loop .inv .0) (put-match .ensures) (put-fields .ensures .0) (put-fields .ensures .1),
+      omega (arith, loop-test .taken),
+    )
 
 returns : tie.Need-returns Inv-loop μ-loop
 returns c =
@@ -75,7 +79,8 @@ returns c =
     let room = c .before .before .before .room in
     let loop = c .before .loop in
     let fits : least .result ≤ length (args .hits .now) / width = omega (arith, least .ensures, room .ensures) in
-    put-as (ap (λ (hs : List Hit). matchLines (args .count) hs (args .text .now)) (all-slots (args .hits .now) (args .matches) (least .result) (least .ensures ∙ ap (min (args .matches)) (room .ensures))))
+    let all = all-slots (args .hits .now) (args .matches) (least .result) (least .ensures ∙ ap (min (args .matches)) (room .ensures)) in
+    put-as (ap (λ (hs : List Hit). matchLines (args .count) hs (args .text .now)) all)
     (all-matches (loop .place) (loop .i) (omega (arith, c .loop-test .left, count-slots (args .hits .now) (least .result) fits)) (loop .inv .0))
 
 pub put-matches-spec : {M : Type 1} → statement M
