@@ -6,7 +6,7 @@ use Rattle.numbers.proofs.{Refusals.{Listed, Numbered, as-found, as-failed, as-
 use Rattle.numbers.specs.{Answer.{Answer, found, failed}, Reply.{Reply, given, refusal, plain}}
 use Rattle.numbers.specs.Answer as A
 use Rattle.request.specs.{Text.{formed, count, field, pastWord, nextWord, lineOf}, Number.{spelled, angleOf, sideOf, decimalOf, degreesOf, unsigned}, Clock.{timeOf, dateOf, momentForm, momentOf, secondsOf, whenOf}}
-use Rattle.request.specs.Request.{at, starOf, bodyOf, placeOf, placeIn, isSealed, isAddress, isRmc, isMode, turned, fixOf, fieldsOf, sentenceOf, plainOf, spelltOf, meaning, requestOf}
+use Rattle.request.specs.Request.{at, starOf, bodyOf, placeOf, placeIn, isSealed, isAddress, isRmc, isMode, turned, fixOf, fieldsOf, sentenceOf, plainOf, speltOf, meaning, requestOf}
 
 abbrev pub fiveNumbers : List ℕ
 fiveNumbers = 80 ∷ 81 ∷ 82 ∷ 83 ∷ 84 ∷ []
@@ -84,7 +84,7 @@ plain-told line =
     (pastWord (nextWord (nextWord line)))) 0) (refusal 80 0 (placeIn line (nextWord (nextWord (nextWord line))))) refl) answers)))
 
 pub request-told : (text : List ℕ) → NumberedReply (Listed fiveNumbers) (requestOf text)
-unfolding requestOf spelltOf
+unfolding requestOf speltOf
 request-told text =
     then-reply (and-then (demands (leb (length (lineOf text)) 255) (refusal 80 0 255) refl) (either Told (eqb (getD (lineOf text) 0 0) 36) (sentence-told (lineOf text)) (plain-told
     (lineOf text)))) (λ spelt. answers)

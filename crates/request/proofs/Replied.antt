@@ -10,7 +10,7 @@ use Rattle.calendar.specs.Moments.{instantOf}
 use lib.{ListN.{length-drop}, Seq.{drop-drop, take-length}}
 use Rattle.request.proofs.Texts.{form-length, behind-on, behind-end, until-take, part-is, place-is}
 use Rattle.request.specs.{Text.{every, formed, count, xors, until, behind, field, toComma, word, unblanked, pastWord, nextWord, unended, lineOf}, Number.{Size, Fraction, angleOf, sideOf, degreesOf, nearestTo}}
-use Rattle.request.specs.{Clock.{Date, Time, When, utc, timeOf, dateOf, whenOf, dayOf, secondOf, instantAt}, Request.{Spelt, at, starOf, bodyOf, isHex, isSealed, isAddress, isRmc, isMode, placeOf, inField, turned, fixOf, fieldsOf, sentenceOf, placeIn, inWord, plainOf, spelltOf, meaning, requestOf}}
+use Rattle.request.specs.{Clock.{Date, Time, When, utc, timeOf, dateOf, whenOf, dayOf, secondOf, instantAt}, Request.{Spelt, at, starOf, bodyOf, isHex, isSealed, isAddress, isRmc, isMode, placeOf, inField, turned, fixOf, fieldsOf, sentenceOf, placeIn, inWord, plainOf, speltOf, meaning, requestOf}}
 use Rattle.request.specs.{Told.{shown, Below}, declared.{read.Fix.{Fix}, clock.Whole.{Whole}}}
 use Rattle.request.specs.declared.clock.Whole.the-variants as W
 
@@ -367,14 +367,14 @@ line-is text size end e f = f ∙ ap (unended 13) (e ∙ ap (unended 10) (take-l
 
 module _ (text line : List ℕ) (l : line ≡ lineOf text) where
   pub too-long : 255 < length line → refused (refusal 80 0 255) ≡ requestOf text
-  unfolding requestOf spelltOf
+  unfolding requestOf speltOf
   too-long h = rw (← l) (simp (lt-leb (length line) 255 h))
 
   module _ (h : length line ≤ 255) where
     pub as-sentence : getD line 0 0 ≡ 36 → shown (sentenceOf line) meaning ≡ requestOf text
-    unfolding requestOf spelltOf
+    unfolding requestOf speltOf
     as-sentence e = rw (← l) (sym (simp (le-leb (length line) 255 h, eq-eqb (getD line 0 0) 36 e)))
 
     pub as-plain : (getD line 0 0 ≡ 36 → ⊥) → shown (plainOf line) meaning ≡ requestOf text
-    unfolding requestOf spelltOf
+    unfolding requestOf speltOf
     as-plain n = rw (← l) (sym (simp (le-leb (length line) 255 h, ne-eqb (getD line 0 0) 36 n)))
