@@ -28,8 +28,8 @@
 #include <stdint.h>
 
 /* ---- the release of this header, and of the archive that goes with it */
-#define USKELZAR_RELEASE "0.5.0"
-#define USKELZAR_RELEASE_NUMBER 500 /* major * 10,000 + minor * 100 + patch */
+#define USKELZAR_RELEASE "0.6.0"
+#define USKELZAR_RELEASE_NUMBER 600 /* major * 10,000 + minor * 100 + patch */
 
 #ifdef __cplusplus
 extern "C" {

@@ -278,7 +278,7 @@ mod tests {
 
     #[test]
     fn the_table_is_in_order() {
-        let numbers: Vec<u8> = (1..=36).chain(40..=61).collect();
+        let numbers: Vec<u8> = (1..=36).chain(40..=61).chain([84, 91]).collect();
         assert_eq!(TABLE.map(|(number, _)| number as u8).to_vec(), numbers);
         for (number, words) in TABLE {
             assert_eq!(Number::of(number as u8), number);

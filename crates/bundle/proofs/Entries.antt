@@ -23,7 +23,8 @@ module _ (p q : List ℕ) (at : ℕ) where
 first-of : (text : List ℕ) (at : ℕ) → getD (drop at text) 0 0 ≡ getD text at 0
 first-of text at = getD-drop at text 0 0 ∙ ap (λ (k : ℕ). getD text k 0) (let e : at + 0 ≡ at = omega arith in e)
 
-agree-step : (n : ℕ) (bundle name : List ℕ) (from at : ℕ) → agrees (suc n) (drop from bundle) (drop at name) ≡ (eqb (getD bundle from 0) (getD name at 0) && agrees n (drop (from + 1) bundle) (drop (at + 1) name))
+agree-step : (n : ℕ) (bundle name : List ℕ) (from at : ℕ)
+    → agrees (suc n) (drop from bundle) (drop at name) ≡ (eqb (getD bundle from 0) (getD name at 0) && agrees n (drop (from + 1) bundle) (drop (at + 1) name))
 unfolding agrees
 agree-step n bundle name from at = simp (first-of bundle from, first-of name at, drop-drop 1 from bundle, drop-drop 1 at name)
 
@@ -175,7 +176,8 @@ unfolding seekOf
 seek-inside zero bundle name at e = absurd (let z : _≡_ {A = ℕ} 0 1 = cc in omega arith)
 seek-inside (suc n) bundle name at e = go (isEntry bundle name at) (λ p q. seek-inside n bundle name (at + 52) {place = p} q) e
   where
-    go : (t : Bool) {place : ℕ} → ((p : ℕ) → found p ≡ seekOf n bundle name (at + 52) → (at + 52 ≤ p) × (p + 52 ≤ at + 52 + 52 * n)) → found place ≡ (if t then found at else seekOf n bundle name (at + 52)) → (at ≤ place) × (place + 52 ≤ at + 52 * suc n)
+    go : (t : Bool) {place : ℕ} → ((p : ℕ) → found p ≡ seekOf n bundle name (at + 52) → (at + 52 ≤ p) × (p + 52 ≤ at + 52 + 52 * n))
+        → found place ≡ (if t then found at else seekOf n bundle name (at + 52)) → (at ≤ place) × (place + 52 ≤ at + 52 * suc n)
     go true {place = place} k e = let s : place ≡ at = cc in (omega arith, omega arith)
     go false {place = place} k e = let h = k place e in (omega (arith, h), omega (arith, h))
 
@@ -195,7 +197,8 @@ module _ (bundle name : List ℕ) where
       unfolding findOf
       find-out l = rw (← h, ← s) (simp (lt-leb (head .start + wordAt bundle (place + 40) + wordAt bundle (place + 44)) (head .end) l))
 
-      pub find-in : head .start + wordAt bundle (place + 40) + wordAt bundle (place + 44) ≤ head .end → given (record { start = head .start + wordAt bundle (place + 40); length = wordAt bundle (place + 44) }) ≡ findOf bundle name
+      pub find-in : head .start + wordAt bundle (place + 40) + wordAt bundle (place + 44) ≤ head .end
+          → given (record { start = head .start + wordAt bundle (place + 40); length = wordAt bundle (place + 44) }) ≡ findOf bundle name
       unfolding findOf
       find-in l = rw (← h, ← s) (simp (le-leb (head .start + wordAt bundle (place + 40) + wordAt bundle (place + 44)) (head .end) l))
 

@@ -51,7 +51,8 @@ seek-told (suc n) bundle name place = go (isEntry bundle name place) (seek-told 
 find-told : (bundle name : List ℕ) → NumberedReply Two (findOf bundle name)
 unfolding findOf
 find-told bundle name =
-    then-reply (head-told bundle) (λ head. then-reply (or-else (plain 88) (seek-told _ bundle name (head .index)) refl) (λ place. and-then (demands (leb (head .start + wordAt bundle (place + 40) + wordAt bundle (place + 44)) (head .end)) (refusal 89 0 place) refl) answers))
+    then-reply (head-told bundle) (λ head. then-reply (or-else (plain 88) (seek-told _ bundle name (head .index)) refl) (λ place. and-then (demands (leb (head .start + wordAt bundle
+    (place + 40) + wordAt bundle (place + 44)) (head .end)) (refusal 89 0 place) refl) answers))
 
 -- a search is refused with 88 and 89 alone
 pub found-refusals : (bundle name : List ℕ) {why : Refusal} → told (F.Refused why) ≡ findOf bundle name → Two (why .number)
@@ -83,7 +84,8 @@ seek-first (suc n) bundle name at e = go (isEntry bundle name at) refl (λ p q. 
           none = λ k l. each f h k l;
         }
 
-    go : (t : Bool) {place : ℕ} → isEntry bundle name at ≡ t → ((p : ℕ) → found p ≡ seekOf n bundle name (at + 52) → First bundle name (at + 52) p) → found place ≡ (if t then found at else seekOf n bundle name (at + 52)) → First bundle name at place
+    go : (t : Bool) {place : ℕ} → isEntry bundle name at ≡ t → ((p : ℕ) → found p ≡ seekOf n bundle name (at + 52) → First bundle name (at + 52) p)
+        → found place ≡ (if t then found at else seekOf n bundle name (at + 52)) → First bundle name at place
     go true {place = place} f k e = let s : place ≡ at = cc in subst (First bundle name at) (sym s) (record { before = 0; there = omega arith; has = f; none = λ j l. absurd (omega arith) })
     go false {place = place} f k e = later f (k place e)
 

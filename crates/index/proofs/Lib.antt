@@ -24,6 +24,7 @@ pub mod Thinning
 pub mod LaidOut
 pub mod Through
 pub mod ThroughIsPlain
+pub mod NumberedThrough
 pub mod Same
 pub mod Standing
 pub mod Comparing

@@ -1,17 +1,17 @@
--- Document 01's printed file: it opens, its index is built, and a lookup through that is the plain one. Its table has one row, whose box, (2,2) to (10,10), is in the list of the tile of (5,5)
--- and in no other. Assumes nothing.
+-- Document 01's printed file: it opens, its index is built, and a lookup through that is the plain one; through no words it is refused. Its table has one row, whose box, (2,2) to (10,10), is in the
+-- list of the tile of (5,5) and in no other. Assumes nothing.
 use Prim.Native.Nat.{ℕ}
 use lib.IntN.{pos}
-use mathlib.Core.{Bool.{Bool, false}, List.{List, [], _∷_}, Path.{_≡_, refl}}
+use mathlib.Core.{Bool.{Bool, false}, List.{List, [], _∷_}, Path.{_≡_, refl, sym, ap}}
 use Rattle.border.specs.declared.place.Point.{Point}
-use Rattle.numbers.specs.{Point.{signedOf}, Reply.{given}, Varint.{readingOf, forwardAt, valueOf, sizeOf, tooLong}}
+use Rattle.numbers.specs.{Point.{signedOf}, Reply.{given, refused, plain}, Varint.{readingOf, forwardAt, valueOf, sizeOf, tooLong}}
 use Rattle.table.specs.{Rows.{rowsThen, rowBy, rowsWithin, rowsFrom, rowsIn}, Table.{stepsBy, entryBy}, declared.{location.Location.{Location}, rows.Row.{Row}}}
 use Rattle.header.specs.{Header.{preambleOf, textsFrom, sectionsFrom, sectionsAt, contentsBy, headBy, headOf}, declared.header.Head.{Head}}
 use Rattle.header.specs.{Text.{within, remoteAt, stringAt, bytesOf, textAt}, Utf8.{characters, startedBy, begunBy, followed, goesOn, isUtf8}}
-use Rattle.zones.specs.Lookup.{lookedUp}
-use Rattle.index.proofs.{Owned.{built-is-index}, ThroughIsPlain.{indexed-is-plain, own-front}}
+use Rattle.zones.specs.{Lent.{Replied, repliedOf}, Lookup.{lookedUp}, declared.lookup.Zones.{Zones}}
+use Rattle.index.proofs.{Owned.{built-is-index}, Through.{through-opened, indexed-untied}, ThroughIsPlain.{indexed-is-plain, own-front}}
 use Rattle.index.specs.Index.{recordsOf, packedFrom, listFrom, listOf, listsFrom, joined, startsFrom, indexOf, indexWith, indexIn, indexedBy, indexedOf}
-use Rattle.index.specs.{Own.{isIndexOf}, Table.{tableFrom, tableOf}, Through.{lookedIndexed}, Tiles.{spanOf, tileAlong, tileOf, meets}}
+use Rattle.index.specs.{Own.{isIndexOf}, Table.{tableFrom, tableOf}, Through.{placeOf, zonesThrough, lookedThrough, lookedIndexed}, Tied.{isTied}, Tiles.{spanOf, tileAlong, tileOf, meets}}
 
 abbrev printed : List ℕ
 printed =
@@ -63,3 +63,13 @@ printed-is-index = built-is-index printed 2066 printed-index
 -- and a lookup through them is the plain one
 pub printed-is-plain : (location : Location) (asked : Bool) (n room : ℕ) → lookedIndexed printed (indexedOf printed 2066 .words) location asked n room ≡ lookedUp printed location asked n room
 printed-is-plain = indexed-is-plain printed printed 2066 printed-index printed-opens printed-opens (own-front 22 printed)
+
+-- through no words it is refused with 36, without a comparison and with one: a case of `through-refusals` and of `indexed-refusals`
+module _ (location : Location) (asked : Bool) (n room : ℕ) where
+  pub printed-no-words : lookedThrough printed [] location asked n room .reply ≡ refused (plain 36)
+  unfolding repliedOf placeOf zonesThrough
+  printed-no-words = ap (λ (r : Replied Zones). r .reply) (sym (through-opened n room printed [] location asked printed-opens))
+
+  pub printed-untied : lookedIndexed printed [] location asked n room .reply ≡ refused (plain 36)
+  unfolding isTied
+  printed-untied = ap (λ (r : Replied Zones). r .reply) (sym (indexed-untied n room printed [] location asked printed-opens refl refl refl))

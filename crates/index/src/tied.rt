@@ -90,7 +90,7 @@ pub(crate) fn tied_with(file: &[u8], head: Head, index: &[u32]) -> Tied
     Tied::Refused(plain(BAD_PRECISION))
 }
 
-// Whether words are an index of this file, or of one with the same length, header and table. Refused: opening's numbers, 16, 36.
+// Whether words have the length of this file and its bytes up to the metadata; their records, starts and lists are not looked at. Refused: opening's numbers, 16, 36.
 pub fn index_tied(file: &[u8], index: &[u32]) -> Tied
     ensures { λ r. ⌜ toldTied r ≡ tiedOf (now (file .entry)) (now (index .entry)) ⌝ }
 {

@@ -9,7 +9,7 @@ use Rattle.numbers.specs.{Answer.{Answer, found, failed, if_then_else_, _>>=_},
 use Rattle.numbers.specs.Answer as A
 use Rattle.request.proofs.{Numerals.{ten-some, small-size}, Times.{both}}
 use Rattle.request.specs.{Text.{formed, until, count, field, word, pastWord, nextWord}, Number.{Size, Fraction, spelled, partOf, angleOf, sideOf, decimalOf, unsigned, isMinus, degreesOf}, Clock.{Date, Time, When, utc, since, isDate, isTime, timeOf, dateOf, momentForm, momentDate, momentTime, momentOf, secondsOf, whenOf}}
-use Rattle.request.specs.Request.{Spelt, at, starOf, bodyOf, isSealed, isAddress, isRmc, isMode, placeOf, placeIn, inField, inWord, turned, fixOf, fieldsOf, sentenceOf, plainOf, spelltOf, meaning, requestOf}
+use Rattle.request.specs.Request.{Spelt, at, starOf, bodyOf, isSealed, isAddress, isRmc, isMode, placeOf, placeIn, inField, inWord, turned, fixOf, fieldsOf, sentenceOf, plainOf, speltOf, meaning, requestOf}
 
 -- what was given was found
 pub at-found : {A : Type 0} {a : A} (place : ℕ) (answer : Answer A) → given a ≡ at place answer → found a ≡ answer
@@ -140,10 +140,11 @@ plain-meant line e =
     let b = given-from (inWord line (nextWord line) (degreesOf 180)) _ (a .onto) in
     let c = given-from (inWord line (nextWord (nextWord line)) whenOf) _ (b .onto) in
     let d = demanded (eqb (length (pastWord (nextWord (nextWord line)))) 0) (refusal 80 0 (placeIn line (nextWord (nextWord (nextWord line))))) (c .onto) in
-    whens {lat = a .it} {lon = b .it} (c .it) (degrees-fair 90 (word line) (omega arith) (at-found _ _ (a .is))) (degrees-fair 180 (word (nextWord line)) (omega arith) (at-found _ _ (b .is))) (when-found (word (nextWord (nextWord line))) (at-found _ _ (c .is))) (d .1)
+    whens {lat = a .it} {lon = b .it} (c .it) (degrees-fair 90 (word line) (omega arith) (at-found _ _ (a .is))) (degrees-fair 180 (word (nextWord line)) (omega arith) (at-found _ _ (b .is)))
+    (when-found (word (nextWord (nextWord line))) (at-found _ _ (c .is))) (d .1)
 
-pub spelt-meant : (line : List ℕ) {s : Spelt} → given s ≡ spelltOf line → Meant s
-unfolding spelltOf
+pub spelt-meant : (line : List ℕ) {s : Spelt} → given s ≡ speltOf line → Meant s
+unfolding speltOf
 spelt-meant line e = go (eqb (getD line 0 0) 36) (demanded (leb (length line) 255) (refusal 80 0 255) e .1)
   where
     go : (b : Bool) {s : Spelt} → given s ≡ (if b then sentenceOf line else plainOf line) → Meant s

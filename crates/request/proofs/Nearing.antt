@@ -37,7 +37,8 @@ module _ (n u w r : ℕ) (e : w * u + r ≡ n) (l : r < u) (c : ℕ) where
       elim (le-or-lt c w) [
         | inl a ↦ elim (eq-or-lt-of-le a) [
           | inl same ↦ same
-          | inr b ↦ absurd (let p : suc c * u ≤ w * u = mul-le-mul-right u b in let q : suc c * u ≡ c * u + u = ap (λ (x : ℕ). x * u) (let s : suc c ≡ c + 1 = omega arith in s) ∙ add-mul c 1 u ∙ ap (λ (x : ℕ). c * u + x) (one-mul u) in omega arith)
+          | inr b ↦ absurd (let p : suc c * u ≤ w * u = mul-le-mul-right u b in let q : suc c * u ≡ c * u + u = ap (λ (x : ℕ). x * u) (let s : suc c ≡ c + 1 = omega arith in s) ∙ add-mul c 1 u
+              ∙ ap (λ (x : ℕ). c * u + x) (one-mul u) in omega arith)
         ]
         | inr a ↦ absurd (let p : suc w * u ≤ c * u = mul-le-mul-right u a in let m = more in omega arith)
       ]
@@ -49,7 +50,8 @@ module _ (n u w r : ℕ) (e : w * u + r ≡ n) (l : r < u) (c : ℕ) where
         | inl a ↦ absurd (let p = mul-le-mul-right u a in let m = more in omega arith)
         | inr a ↦ elim (eq-or-lt-of-le a) [
           | inl same ↦ sym same
-          | inr b ↦ absurd (let p : suc (suc w) * u ≤ c * u = mul-le-mul-right u b in let q : suc (suc w) * u ≡ w * u + u + u = ap (λ (x : ℕ). x * u) (let s : suc (suc w) ≡ suc w + 1 = omega arith in s) ∙ add-mul (suc w) 1 u ∙ ap (λ (x : ℕ). suc w * u + x) (one-mul u) ∙ ap (λ (x : ℕ). x + u) more in let m = more in omega arith)
+          | inr b ↦ absurd (let p : suc (suc w) * u ≤ c * u = mul-le-mul-right u b in let q : suc (suc w) * u ≡ w * u + u + u = ap (λ (x : ℕ). x * u) (let s : suc
+              (suc w) ≡ suc w + 1 = omega arith in s) ∙ add-mul (suc w) 1 u ∙ ap (λ (x : ℕ). suc w * u + x) (one-mul u) ∙ ap (λ (x : ℕ). x + u) more in let m = more in omega arith)
         ]
       ]
 
@@ -80,9 +82,17 @@ close n u c U =
     let e = div-add-mod' n u in
     let l = mod-lt n U in
     elim (order (r * 2) u) [
-      | inl h ↦ subst (λ (q : ℕ). Close n u q c) (ap (nearest w) (sym (order-is (r * 2) u Ordering·lt h))) (record { near = low-near n u w r e l c (omega arith); alone = λ t d. absurd (d (low-alone n u w r e l c h t)) })
+      | inl h ↦ subst (λ (q : ℕ). Close n u q c) (ap (nearest w) (sym (order-is (r * 2) u Ordering·lt h))) (record {
+        near = low-near n u w r e l c (omega arith);
+        alone = λ t d. absurd (d
+            (low-alone n u w r e l c h t));
+      })
       | inr (inl h) ↦ subst (λ (q : ℕ). Close n u q c) (ap (nearest w) (sym (order-is (r * 2) u Ordering·eq h))) (tied w r e l h)
-      | inr (inr h) ↦ subst (λ (q : ℕ). Close n u q c) (ap (nearest w) (sym (order-is (r * 2) u Ordering·gt h))) (record { near = high-near n u w r e l c (omega arith); alone = λ t d. absurd (d (high-alone n u w r e l c h t)) })
+      | inr (inr h) ↦ subst (λ (q : ℕ). Close n u q c) (ap (nearest w) (sym (order-is (r * 2) u Ordering·gt h))) (record {
+        near = high-near n u w r e l c (omega arith);
+        alone = λ t d. absurd (d
+            (high-alone n u w r e l c h t));
+      })
     ]
   where
     tied : (w r : ℕ) → w * u + r ≡ n → r < u → r * 2 ≡ u → Close n u (w + w % 2) c
@@ -108,13 +118,16 @@ even-digits q k e hi place =
 
     full : q < 2 ^ 24 → 2 ^ 23 ≤ q → (q * 2 ^ k) / 2 ^ (size (q * 2 ^ k) - 24) % 2 ≡ 0
     full l g =
-        let s = size-is (23 + k) (q * 2 ^ k) (subst (λ (y : ℕ). y ≤ q * 2 ^ k) (sym (pow-add 2 23 k)) (mul-le-mul-right (2 ^ k) g)) (subst (λ (y : ℕ). q * 2 ^ k < 2 ^ y) (let u : 24 + k ≡ suc (23 + k) = omega arith in u) (shl-lt 24 k l)) in
+        let s = size-is (23 + k) (q * 2 ^ k) (subst (λ (y : ℕ). y ≤ q * 2 ^ k) (sym (pow-add 2 23 k)) (mul-le-mul-right (2 ^ k) g)) (subst (λ (y : ℕ). q * 2 ^ k < 2 ^ y) (let u : 24 + k ≡ suc
+        (23 + k) = omega arith in u) (shl-lt 24 k l)) in
         last k (omega arith) q (mul-div-cancel q (pow-pos k)) e
 
     carried : q ≡ 2 ^ 24 → (q * 2 ^ k) / 2 ^ (size (q * 2 ^ k) - 24) % 2 ≡ 0
     carried c =
-        let a : q * 2 ^ k ≡ 2 ^ 23 * 2 ^ (k + 1) = ap (λ (x : ℕ). x * 2 ^ k) c ∙ sym (pow-add 2 24 k) ∙ ap (λ (x : ℕ). 2 ^ x) (let u : 24 + k ≡ 23 + (k + 1) = omega arith in u) ∙ pow-add 2 23 (k + 1) in
-        let s = size-is (24 + k) (q * 2 ^ k) (subst (λ (y : ℕ). y ≤ q * 2 ^ k) (sym (pow-add 2 24 k)) (mul-le-mul-right (2 ^ k) (le-of-eq (sym c)))) (subst (λ (y : ℕ). q * 2 ^ k < 2 ^ y) (let u : 25 + k ≡ suc (24 + k) = omega arith in u) (shl-lt 25 k (omega arith))) in
+        let a : q * 2 ^ k ≡ 2 ^ 23 * 2 ^ (k + 1) = ap (λ (x : ℕ). x * 2 ^ k) c ∙ sym (pow-add 2 24 k) ∙ ap (λ (x : ℕ). 2 ^ x) (let u : 24 + k ≡ 23 + (k + 1) = omega arith in u)
+        ∙ pow-add 2 23 (k + 1) in
+        let s = size-is (24 + k) (q * 2 ^ k) (subst (λ (y : ℕ). y ≤ q * 2 ^ k) (sym (pow-add 2 24 k)) (mul-le-mul-right (2 ^ k) (le-of-eq (sym c)))) (subst (λ (y : ℕ). q * 2 ^ k < 2 ^ y)
+        (let u : 25 + k ≡ suc (24 + k) = omega arith in u) (shl-lt 25 k (omega arith))) in
         last (k + 1) (omega arith) (2 ^ 23) (ap (λ (x : ℕ). x / 2 ^ (k + 1)) a ∙ mul-div-cancel (2 ^ 23) (pow-pos (k + 1))) refl
 
     short : q < 2 ^ 24 → k ≡ 0 → (q * 2 ^ k) / 2 ^ (size (q * 2 ^ k) - 24) % 2 ≡ 0
@@ -181,7 +194,8 @@ module _ (s : Bool) (num den : ℕ) (D : 0 < den) (under : num / den < 16777216)
 
   lower : (c i : ℕ) → c < 2 ^ 24 → i < k → c * 2 ^ i < n / u * 2 ^ k
   unfolding k
-  lower c i h l = lt-of-lt-of-le (shl-lt 24 i h) (le-trans (pow-mono (let s : 24 + i ≤ 23 + k = omega arith in s)) (le-trans (le-of-eq (pow-add 2 23 k)) (mul-le-mul-right (2 ^ k) (subst (λ (x : ℕ). 2 ^ 23 ≤ x) whole (kept-least (n / den) (let s : 24 < size (n / den) = omega arith in s))))))
+  lower c i h l = lt-of-lt-of-le (shl-lt 24 i h) (le-trans (pow-mono (let s : 24 + i ≤ 23 + k = omega arith in s)) (le-trans (le-of-eq (pow-add 2 23 k)) (mul-le-mul-right (2 ^ k) (subst (λ
+      (x : ℕ). 2 ^ 23 ≤ x) whole (kept-least (n / den) (let s : 24 < size (n / den) = omega arith in s))))))
 
   -- any other f32 is a multiple of 2 ^ k too, or below what is kept of the fraction
   placed : (y : Float) → T (fits binary32 y) → (Close n u q (unitsOf y * den / u) × (unitsOf y * den / u * u ≡ unitsOf y * den)) ⊎ (unitsOf y * den < n / u * u)
@@ -190,9 +204,11 @@ module _ (s : Bool) (num den : ℕ) (D : 0 < den) (under : num / den < 16777216)
       let f32 = shape y f in
       elim (le-or-lt k (f32 .place)) [
         | inl h ↦
-            let e : unitsOf y * den ≡ f32 .digits * 2 ^ (f32 .place - k) * u = ap (λ (x : ℕ). x * den) (f32 .whole ∙ multiple (f32 .digits) (f32 .place) h) ∙ over (f32 .digits * 2 ^ (f32 .place - k)) in
+            let e : unitsOf y * den ≡ f32 .digits * 2 ^ (f32 .place - k) * u = ap (λ (x : ℕ). x * den) (f32 .whole ∙ multiple (f32 .digits) (f32 .place) h)
+            ∙ over (f32 .digits * 2 ^ (f32 .place - k)) in
             inl (close n u (unitsOf y * den / u) U, ap (λ (x : ℕ). x / u * u) e ∙ ap (λ (x : ℕ). x * u) (mul-div-cancel (f32 .digits * 2 ^ (f32 .place - k)) U) ∙ sym e)
-        | inr h ↦ inr (subst (λ (x : ℕ). x * den < n / u * u) (sym (f32 .whole)) (subst (λ (x : ℕ). f32 .digits * 2 ^ f32 .place * den < x) (over (n / u)) (mul-lt-mul-of-pos-right (lower (f32 .digits) (f32 .place) (f32 .small) h) D)))
+        | inr h ↦ inr (subst (λ (x : ℕ). x * den < n / u * u) (sym (f32 .whole)) (subst (λ (x : ℕ). f32 .digits * 2 ^ f32 .place * den < x) (over (n / u)) (mul-lt-mul-of-pos-right (lower
+            (f32 .digits) (f32 .place) (f32 .small) h) D)))
       ]
 
   kept-near : gap n (q * u) ≤ gap n (n / u * u)
@@ -325,10 +341,13 @@ module _ (fraction : Fraction) (D : 0 < fraction .size .den) (under : fraction .
       same : (y : Float) → unitsOf y * den ≡ unitsOf x * den → unitsOf y ≡ unitsOf x
       same y e = cancel (unitsOf y) (unitsOf x) den D e
 
-      none : (y : Float) → num * 2 ^ 149 + unitsOf y * den ≡ gap (num * 2 ^ 149) (q (fraction .minus) num den D under * u (fraction .minus) num den D under) → (unitsOf y ≡ unitsOf x → ⊥) → q (fraction .minus) num den D under % 2 ≡ 0
+      none : (y : Float) → num * 2 ^ 149 + unitsOf y * den ≡ gap (num * 2 ^ 149) (q (fraction .minus) num den D under * u (fraction .minus) num den D under) → (unitsOf y ≡ unitsOf x → ⊥)
+          → q (fraction .minus) num den D under % 2 ≡ 0
       none y e d =
-          let z = settled (num * 2 ^ 149) (unitsOf y * den) (gap (num * 2 ^ 149) (q (fraction .minus) num den D under * u (fraction .minus) num den D under)) e (no-farther (fraction .minus) num den D under) in
-          zero-even (fraction .minus) num den D under (z .1) (λ w. d (same y (z .0 ∙ sym (at-x (fraction .minus) num den D under ∙ ap (λ (m : ℕ). m * u (fraction .minus) num den D under) w ∙ zero-mul (u (fraction .minus) num den D under)))))
+          let z = settled (num * 2 ^ 149) (unitsOf y * den) (gap (num * 2 ^ 149) (q (fraction .minus) num den D under * u (fraction .minus) num den D under)) e (no-farther
+          (fraction .minus) num den D under) in
+          zero-even (fraction .minus) num den D under (z .1) (λ w. d (same y (z .0 ∙ sym (at-x (fraction .minus) num den D under ∙ ap (λ (m : ℕ). m * u (fraction .minus) num den D under) w
+          ∙ zero-mul (u (fraction .minus) num den D under)))))
 
 -- of zero
 zero-nearest : (fraction : Fraction) → fraction .size .num ≡ 0 → Nearest fraction (fin false 0 (pos 0))

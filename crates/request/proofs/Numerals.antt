@@ -38,12 +38,14 @@ value-least n (b ∷ bs) = omega (arith, value-least (10 * n + digitOf b) bs)
 
 bound-step : (n d p q v : ℕ) → d ≤ 9 → q ≡ 10 * p → v < (10 * n + d + 1) * p → v < (n + 1) * q
 bound-step n d p q v h e l =
-    le-trans l (le-trans (mul-le-mul-right p (let s : 10 * n + d + 1 ≤ (n + 1) * 10 = omega arith in s)) (subst (λ (x : ℕ). (n + 1) * 10 * p ≤ (n + 1) * x) (sym e) (subst (λ (x : ℕ). (n + 1) * 10 * p ≤ x) (mul-assoc (n + 1) 10 p) (omega arith))))
+    le-trans l (le-trans (mul-le-mul-right p (let s : 10 * n + d + 1 ≤ (n + 1) * 10 = omega arith in s)) (subst (λ (x : ℕ). (n + 1) * 10 * p ≤ (n + 1) * x) (sym e) (subst (λ (x : ℕ).
+    (n + 1) * 10 * p ≤ x) (mul-assoc (n + 1) 10 p) (omega arith))))
 
 pub value-bound : (n : ℕ) (text : List ℕ) → valueFrom n text < (n + 1) * 10 ^ length text
 unfolding valueFrom
 value-bound n [] = omega arith
-value-bound n (b ∷ bs) = bound-step n (digitOf b) (10 ^ length bs) (10 ^ suc (length bs)) _ (digit-small b) (pow-suc 10 (length bs) ∙ mul-comm (10 ^ length bs) 10) (value-bound (10 * n + digitOf b) bs)
+value-bound n (b ∷ bs) = bound-step n (digitOf b) (10 ^ length bs) (10 ^ suc (length bs)) _ (digit-small b) (pow-suc 10 (length bs)
+    ∙ mul-comm (10 ^ length bs) 10) (value-bound (10 * n + digitOf b) bs)
 
 -- so many digits and no more
 pub value-short : (n m k : ℕ) (text : List ℕ) → n < m → length text ≤ k → valueFrom n text < m * 10 ^ k
@@ -90,14 +92,16 @@ module _ (most : ℕ) where
         go false q r e = refl
 
     pub tail-long : most < length text - 1 → false ≡ isTail most text
-    tail-long h = sym (tail-some text some ∙ go (eqb (getD text 0 0) 46 && digits (drop 1 text) && leb 1 (length (drop 1 text))) (leb (length (drop 1 text)) most) (lt-leb (length (drop 1 text)) most (omega (arith, rest-long))))
+    tail-long h = sym (tail-some text some ∙ go (eqb (getD text 0 0) 46 && digits (drop 1 text) && leb 1 (length (drop 1 text))) (leb (length (drop 1 text)) most) (lt-leb (length
+        (drop 1 text)) most (omega (arith, rest-long))))
       where
         go : (p r : Bool) → r ≡ false → (p && r) ≡ false
         go true r e = e
         go false r e = refl
 
     pub tail-is : getD text 0 0 ≡ 46 → 2 ≤ length text → length text - 1 ≤ most → digits (drop 1 text) ≡ isTail most text
-    tail-is p l h = sym (tail-some text some ∙ go (digits (drop 1 text)) (eq-eqb (getD text 0 0) 46 p) (le-leb 1 (length (drop 1 text)) (omega (arith, rest-long))) (le-leb (length (drop 1 text)) most (omega (arith, rest-long))))
+    tail-is p l h = sym (tail-some text some ∙ go (digits (drop 1 text)) (eq-eqb (getD text 0 0) 46 p) (le-leb 1 (length (drop 1 text)) (omega (arith, rest-long))) (le-leb (length
+        (drop 1 text)) most (omega (arith, rest-long))))
       where
         go : (q : Bool) {a b d : Bool} → a ≡ true → b ≡ true → d ≡ true → (a && q && b && d) ≡ q
         go true e f g = rw (e, f, g) refl
@@ -148,7 +152,8 @@ pub limit-in : (limit num den place : ℕ) → num ≤ limit * den → given (re
 limit-in limit num den place h = simp (le-leb num (limit * den) h)
 
 pub small-size : (limit num den : ℕ) → 1 ≤ den → limit ≤ 180 → num ≤ limit * den → num / den < 16777216
-small-size limit num den d l h = div-lt-iff-lt-mul d .1 (le-trans (let s : num < 181 * den = omega (arith, mul-le-mul-right den l) in s) (mul-le-mul-right den (let s : 181 ≤ 16777216 = omega arith in s)))
+small-size limit num den d l h = div-lt-iff-lt-mul d .1 (le-trans (let s : num < 181 * den = omega (arith, mul-le-mul-right den l) in s) (mul-le-mul-right den
+    (let s : 181 ≤ 16777216 = omega arith in s)))
 
 module _ (width limit : ℕ) (text : List ℕ) where
   pub angle-formless : hasForm (width + 2) 9 text ≡ false → failed ≡ angleOf width limit text
@@ -160,7 +165,8 @@ module _ (width limit : ℕ) (text : List ℕ) where
     unfolding angleOf spelled
     angle-over h place = simp (e, lt-leb (partOf width 2 text) 59 h)
 
-    pub angle-limited : partOf width 2 text ≤ 59 → {num den : ℕ} → den ≡ 60 * 10 ^ length (drop (width + 3) text) → num ≡ partOf 0 width text * den + valueFrom (partOf width 2 text) (drop (width + 3) text)
+    pub angle-limited : partOf width 2 text ≤ 59 → {num den : ℕ} → den ≡ 60 * 10 ^ length (drop (width + 3) text)
+        → num ≡ partOf 0 width text * den + valueFrom (partOf width 2 text) (drop (width + 3) text)
         → limitedTo limit num den ≡ angleOf width limit text
     unfolding angleOf spelled
     angle-limited h f g = simp (e, le-leb (partOf width 2 text) 59 h, g, f)
@@ -190,7 +196,8 @@ pub record Small (value scale : ℕ) : Type 0 where
   pub short : scale ≤ 1000000000
   pub small : value < 1000000000000
 
-pub decimals-small : (text : List ℕ) (from start : ℕ) → start < 1000 → length text ≤ from + 9 → {value scale : ℕ} → value ≡ valueFrom start (drop from text) → scale ≡ 10 ^ length (drop from text) → Small value scale
+pub decimals-small : (text : List ℕ) (from start : ℕ) → start < 1000 → length text ≤ from + 9 → {value scale : ℕ} → value ≡ valueFrom start (drop from text)
+    → scale ≡ 10 ^ length (drop from text) → Small value scale
 decimals-small text from start h l v s =
     let few : length (drop from text) ≤ 9 = omega (arith, length-drop from text) in
     record {
@@ -202,7 +209,8 @@ decimals-small text from start h l v s =
 pub degrees-small : (degrees width den : ℕ) → degrees < 10 ^ width → width ≤ 3 → den ≤ 60000000000 → degrees * den ≤ 60000000000000
 degrees-small degrees width den h w d = le-trans (mul-le-mul-right den (let s : degrees ≤ 1000 = omega (arith, tens w) in s)) (omega arith)
 
-pub no-decimals : (text : List ℕ) (from start : ℕ) → length text ≤ from → _≡_ {A = Digits} (record { value = start; scale = 1 }) (record { value = valueFrom start (drop from text); scale = 10 ^ length (drop from text) })
+pub no-decimals : (text : List ℕ) (from start : ℕ) → length text ≤ from
+    → _≡_ {A = Digits} (record { value = start; scale = 1 }) (record { value = valueFrom start (drop from text); scale = 10 ^ length (drop from text) })
 unfolding valueFrom
 no-decimals text from start h = rw (ended text from h)
 
@@ -240,11 +248,14 @@ module _ (text : List ℕ) where
 
 -- ---- degrees of a word
 module _ (limit : ℕ) (text : List ℕ) (place : ℕ) {r : Sized} (e : toldSize r ≡ at place (decimalOf limit (unsigned text))) where
-  pub degrees-are : {num den : ℕ} → r ≡ S.Is num den → {x : Float} → x ≡ nearestTo (record { minus = isMinus text; size = record { num = num; den = den } }) → given x ≡ shown (at place (degreesOf limit text)) nearestTo
+  pub degrees-are : {num den : ℕ} → r ≡ S.Is num den → {x : Float} → x ≡ nearestTo (record { minus = isMinus text; size = record { num = num; den = den } })
+      → given x ≡ shown (at place (degreesOf limit text)) nearestTo
   unfolding degreesOf
   degrees-are is f = ap given f ∙ go (decimalOf limit (unsigned text)) (rw is at e)
     where
-      go : (a : Answer Size) {num den : ℕ} → given (record { num = num; den = den }) ≡ at place a → given (nearestTo (record { minus = isMinus text; size = record { num = num; den = den } })) ≡ shown (at place (a >>= λ size. found (record { minus = isMinus text; size = size }))) nearestTo
+      go : (a : Answer Size) {num den : ℕ} → given (record { num = num; den = den }) ≡ at place a
+          → given (nearestTo (record { minus = isMinus text; size = record { num = num; den = den } })) ≡ shown (at place (a >>= λ size. found
+          (record { minus = isMinus text; size = size }))) nearestTo
       go (found a) e = cc
       go failed e = absurd (let z : _≡_ {A = ℕ} 0 1 = cc in omega arith)
       go (A.refused n) e = absurd (let z : _≡_ {A = ℕ} 0 1 = cc in omega arith)

@@ -6,7 +6,7 @@ use Rattle.numbers.proofs.{Refusals.{Listed, Numbered, as-found, as-failed, as-
 use Rattle.numbers.specs.{Answer.{Answer, found, failed}, Reply.{Reply, given, refusal, plain}}
 use Rattle.numbers.specs.Answer as A
 use Rattle.request.specs.{Text.{formed, count, field, pastWord, nextWord, lineOf}, Number.{spelled, angleOf, sideOf, decimalOf, degreesOf, unsigned}, Clock.{timeOf, dateOf, momentForm, momentOf, secondsOf, whenOf}}
-use Rattle.request.specs.Request.{at, starOf, bodyOf, placeOf, placeIn, isSealed, isAddress, isRmc, isMode, turned, fixOf, fieldsOf, sentenceOf, plainOf, spelltOf, meaning, requestOf}
+use Rattle.request.specs.Request.{at, starOf, bodyOf, placeOf, placeIn, isSealed, isAddress, isRmc, isMode, turned, fixOf, fieldsOf, sentenceOf, plainOf, speltOf, meaning, requestOf}
 
 abbrev pub fiveNumbers : List ℕ
 fiveNumbers = 80 ∷ 81 ∷ 82 ∷ 83 ∷ 84 ∷ []
@@ -59,7 +59,8 @@ turned-told n width limit plus minus body = then-reply (at-told _ _ (angle-says 
 fix-told : (body : List ℕ) → Told (fixOf body)
 unfolding fixOf
 fix-told body =
-    then-reply (at-told _ _ (time-says _)) (λ time. then-reply (turned-told 3 2 90 78 83 body) (λ lat. then-reply (turned-told 5 3 180 69 87 body) (λ lon. then-reply (at-told _ _ (date-says _)) (λ date. answers))))
+    then-reply (at-told _ _ (time-says _)) (λ time. then-reply (turned-told 3 2 90 78 83 body) (λ lat. then-reply (turned-told 5 3 180 69 87 body) (λ lon. then-reply (at-told _ _ (date-says _))
+    (λ date. answers))))
 
 fields-told : (body : List ℕ) (star : ℕ) → Told (fieldsOf body star)
 unfolding fieldsOf
@@ -79,9 +80,11 @@ sentence-told line = and-then (demands (isSealed line) (refusal 82 0 (starOf lin
 plain-told : (line : List ℕ) → Told (plainOf line)
 unfolding plainOf
 plain-told line =
-    then-reply (at-told _ _ (degrees-says 90 _)) (λ lat. then-reply (at-told _ _ (degrees-says 180 _)) (λ lon. then-reply (at-told _ _ (when-says _)) (λ when. and-then (demands (eqb (length (pastWord (nextWord (nextWord line)))) 0) (refusal 80 0 (placeIn line (nextWord (nextWord (nextWord line))))) refl) answers)))
+    then-reply (at-told _ _ (degrees-says 90 _)) (λ lat. then-reply (at-told _ _ (degrees-says 180 _)) (λ lon. then-reply (at-told _ _ (when-says _)) (λ when. and-then (demands (eqb (length
+    (pastWord (nextWord (nextWord line)))) 0) (refusal 80 0 (placeIn line (nextWord (nextWord (nextWord line))))) refl) answers)))
 
 pub request-told : (text : List ℕ) → NumberedReply (Listed fiveNumbers) (requestOf text)
-unfolding requestOf spelltOf
+unfolding requestOf speltOf
 request-told text =
-    then-reply (and-then (demands (leb (length (lineOf text)) 255) (refusal 80 0 255) refl) (either Told (eqb (getD (lineOf text) 0 0) 36) (sentence-told (lineOf text)) (plain-told (lineOf text)))) (λ spelt. answers)
+    then-reply (and-then (demands (leb (length (lineOf text)) 255) (refusal 80 0 255) refl) (either Told (eqb (getD (lineOf text) 0 0) 36) (sentence-told (lineOf text)) (plain-told
+    (lineOf text)))) (λ spelt. answers)

@@ -10,7 +10,7 @@ use Rattle.calendar.specs.Moments.{instantOf}
 use lib.{ListN.{length-drop}, Seq.{drop-drop, take-length}}
 use Rattle.request.proofs.Texts.{form-length, behind-on, behind-end, until-take, part-is, place-is}
 use Rattle.request.specs.{Text.{every, formed, count, xors, until, behind, field, toComma, word, unblanked, pastWord, nextWord, unended, lineOf}, Number.{Size, Fraction, angleOf, sideOf, degreesOf, nearestTo}}
-use Rattle.request.specs.{Clock.{Date, Time, When, utc, timeOf, dateOf, whenOf, dayOf, secondOf, instantAt}, Request.{Spelt, at, starOf, bodyOf, isHex, isSealed, isAddress, isRmc, isMode, placeOf, inField, turned, fixOf, fieldsOf, sentenceOf, placeIn, inWord, plainOf, spelltOf, meaning, requestOf}}
+use Rattle.request.specs.{Clock.{Date, Time, When, utc, timeOf, dateOf, whenOf, dayOf, secondOf, instantAt}, Request.{Spelt, at, starOf, bodyOf, isHex, isSealed, isAddress, isRmc, isMode, placeOf, inField, turned, fixOf, fieldsOf, sentenceOf, placeIn, inWord, plainOf, speltOf, meaning, requestOf}}
 use Rattle.request.specs.{Told.{shown, Below}, declared.{read.Fix.{Fix}, clock.Whole.{Whole}}}
 use Rattle.request.specs.declared.clock.Whole.the-variants as W
 
@@ -22,7 +22,8 @@ module _ (n : ℕ) (body : List ℕ) (from to : ℕ) (b : drop from body ≡ beh
   pub field-place : from ≤ length body → 1 + from ≡ placeOf n body
   field-place h = ap (λ (k : ℕ). 1 + k) (place-is body (behind n body) from b h)
 
-  pub in-field : to ≡ from + length (toComma (drop from body)) → from ≤ length body → {A : Type 0} (reading : List ℕ → Answer A) → at (1 + from) (reading (take (to - from) (drop from body))) ≡ inField n body reading
+  pub in-field : to ≡ from + length (toComma (drop from body)) → from ≤ length body → {A : Type 0} (reading : List ℕ → Answer A)
+      → at (1 + from) (reading (take (to - from) (drop from body))) ≡ inField n body reading
   in-field e h reading = ap (λ (l : List ℕ). at (1 + from) (reading l)) (field-is e) ∙ ap (λ (k : ℕ). at k (reading (field n body))) (field-place h)
 
 -- the first field
@@ -114,19 +115,23 @@ module _ (body : List ℕ) where
   module _ {second : ℕ} (e : given second ≡ shown (inField 1 body timeOf) secondOf) where
     pub fix-lat : {why : Refusal} → refused why ≡ shown (turned 3 2 90 78 83 body) nearestTo → refused why ≡ shown (fixOf body) meaning
     unfolding fixOf
-    fix-lat f = fix-2 (inField 1 body timeOf) (turned 3 2 90 78 83 body) (turned 5 3 180 69 87 body) (inField 9 body dateOf) (shown-from (inField 1 body timeOf) secondOf e .is) (stopped (turned 3 2 90 78 83 body) nearestTo f)
+    fix-lat f = fix-2 (inField 1 body timeOf) (turned 3 2 90 78 83 body) (turned 5 3 180 69 87 body) (inField 9 body dateOf) (shown-from (inField 1 body timeOf) secondOf e .is) (stopped
+        (turned 3 2 90 78 83 body) nearestTo f)
 
     module _ {lat : Float} (f : given lat ≡ shown (turned 3 2 90 78 83 body) nearestTo) where
       pub fix-lon : {why : Refusal} → refused why ≡ shown (turned 5 3 180 69 87 body) nearestTo → refused why ≡ shown (fixOf body) meaning
       unfolding fixOf
-      fix-lon g = fix-3 (inField 1 body timeOf) (turned 3 2 90 78 83 body) (turned 5 3 180 69 87 body) (inField 9 body dateOf) (shown-from (inField 1 body timeOf) secondOf e .is) (shown-from (turned 3 2 90 78 83 body) nearestTo f .is) (stopped (turned 5 3 180 69 87 body) nearestTo g)
+      fix-lon g = fix-3 (inField 1 body timeOf) (turned 3 2 90 78 83 body) (turned 5 3 180 69 87 body) (inField 9 body dateOf) (shown-from (inField 1 body timeOf) secondOf e .is) (shown-from
+          (turned 3 2 90 78 83 body) nearestTo f .is) (stopped (turned 5 3 180 69 87 body) nearestTo g)
 
       module _ {lon : Float} (g : given lon ≡ shown (turned 5 3 180 69 87 body) nearestTo) where
         pub fix-date : {why : Refusal} → refused why ≡ shown (inField 9 body dateOf) dayOf → refused why ≡ shown (fixOf body) meaning
         unfolding fixOf
-        fix-date h = fix-4 (inField 1 body timeOf) (turned 3 2 90 78 83 body) (turned 5 3 180 69 87 body) (inField 9 body dateOf) (shown-from (inField 1 body timeOf) secondOf e .is) (shown-from (turned 3 2 90 78 83 body) nearestTo f .is) (shown-from (turned 5 3 180 69 87 body) nearestTo g .is) (stopped (inField 9 body dateOf) dayOf h)
+        fix-date h = fix-4 (inField 1 body timeOf) (turned 3 2 90 78 83 body) (turned 5 3 180 69 87 body) (inField 9 body dateOf) (shown-from (inField 1 body timeOf) secondOf e .is) (shown-from
+            (turned 3 2 90 78 83 body) nearestTo f .is) (shown-from (turned 5 3 180 69 87 body) nearestTo g .is) (stopped (inField 9 body dateOf) dayOf h)
 
-        pub fix-is : {day : ℕ} → given day ≡ shown (inField 9 body dateOf) dayOf → {z : ℤ} → z ≡ instantOf day second → given (record { lat = lat; lon = lon; instant = z }) ≡ shown (fixOf body) meaning
+        pub fix-is : {day : ℕ} → given day ≡ shown (inField 9 body dateOf) dayOf → {z : ℤ} → z ≡ instantOf day second
+            → given (record { lat = lat; lon = lon; instant = z }) ≡ shown (fixOf body) meaning
         unfolding fixOf meaning instantAt
         fix-is h i =
             let t = shown-from (inField 1 body timeOf) secondOf e in
@@ -155,7 +160,8 @@ mode-long [] h = absurd (omega arith)
 mode-long (b ∷ []) h = absurd (omega arith)
 mode-long (b ∷ d ∷ more) h = refl
 
-pub mode-one : (text : List ℕ) → (length text ≡ 0 → ⊥) → length text ≤ 1 → isMode text ≡ ((eqb (getD text 0 0) 65 || eqb (getD text 0 0) 68) || (eqb (getD text 0 0) 70 || eqb (getD text 0 0) 80) || eqb (getD text 0 0) 82)
+pub mode-one : (text : List ℕ) → (length text ≡ 0 → ⊥) → length text ≤ 1
+    → isMode text ≡ ((eqb (getD text 0 0) 65 || eqb (getD text 0 0) 68) || (eqb (getD text 0 0) 70 || eqb (getD text 0 0) 80) || eqb (getD text 0 0) 82)
 unfolding isMode
 mode-one [] n h = absurd (n refl)
 mode-one (b ∷ []) n h = refl
@@ -192,7 +198,8 @@ module _ (line : List ℕ) {star : ℕ} (s : star ≡ starOf line) where
 
       pub seal-low : isHex (sum / 16) (getD line (star + 1) 0) ≡ true → isHex (sum % 16) (getD line (star + 2) 0) ≡ isSealed line
       unfolding isSealed
-      seal-low e = ap (λ (n : ℕ). isHex (n % 16) (getD line (star + 2) 0)) x ∙ ap (λ (k : ℕ). isHex (xors (bodyOf line) % 16) (getD line (k + 2) 0)) s ∙ sym (simp (eq-eqb (getD line (starOf line) 0) 42 (sym there ∙ a), eq-eqb (count 42 line) 1 b, rw (x, s) at e))
+      seal-low e = ap (λ (n : ℕ). isHex (n % 16) (getD line (star + 2) 0)) x ∙ ap (λ (k : ℕ). isHex (xors (bodyOf line) % 16) (getD line (k + 2) 0)) s
+          ∙ sym (simp (eq-eqb (getD line (starOf line) 0) 42 (sym there ∙ a), eq-eqb (count 42 line) 1 b, rw (x, s) at e))
 
 pub body-is : (line : List ℕ) {star : ℕ} → star ≡ starOf line → take (star - 1) (drop 1 line) ≡ bodyOf line
 body-is line s = ap (λ (k : ℕ). take (k - 1) (drop 1 line)) s
@@ -276,7 +283,8 @@ module _ (line left : List ℕ) (from end : ℕ) (l : drop from line ≡ left) (
   pub in-word : from ≤ length line → {A B : Type 0} (reading : List ℕ → Answer A) (f : A → B) → shown (at from (reading (take (end - from) (drop from line)))) f ≡ shown (inWord line left reading) f
   in-word h reading f = ap (λ (t : List ℕ). shown (at from (reading t)) f) word-is ∙ ap (λ (k : ℕ). shown (at k (reading (word left))) f) (place-is line left from l h)
 
-pub in-first : (line : List ℕ) (end : ℕ) → end ≡ 0 + length (word line) → {A B : Type 0} (reading : List ℕ → Answer A) (f : A → B) → shown (at 0 (reading (take end line))) f ≡ shown (inWord line line reading) f
+pub in-first : (line : List ℕ) (end : ℕ) → end ≡ 0 + length (word line) → {A B : Type 0} (reading : List ℕ → Answer A) (f : A → B)
+    → shown (at 0 (reading (take end line))) f ≡ shown (inWord line line reading) f
 in-first line end e reading f =
     ap (λ (t : List ℕ). shown (at 0 (reading t)) f) (ap (λ (k : ℕ). take k line) (let z : end ≡ length (word line) = omega arith in z) ∙ until-take 32 9 line)
     ∙ ap (λ (k : ℕ). shown (at k (reading (word line))) f) (place-is line line 0 refl (omega arith))
@@ -322,26 +330,36 @@ module _ (line : List ℕ) where
 
   pub plain-lat : {why : Refusal} → refused why ≡ shown (inWord line line (degreesOf 90)) nearestTo → refused why ≡ shown (plainOf line) meaning
   unfolding plainOf
-  plain-lat e = plain-1 (inWord line line (degreesOf 90)) (inWord line second (degreesOf 180)) (inWord line third whenOf) (eqb (length (pastWord third)) 0) (refusal 80 0 (placeIn line (nextWord third))) (stopped (inWord line line (degreesOf 90)) nearestTo e)
+  plain-lat e = plain-1 (inWord line line (degreesOf 90)) (inWord line second (degreesOf 180)) (inWord line third whenOf) (eqb (length (pastWord third)) 0) (refusal 80 0 (placeIn line
+      (nextWord third))) (stopped (inWord line line (degreesOf 90)) nearestTo e)
 
   module _ {lat : Float} (e : given lat ≡ shown (inWord line line (degreesOf 90)) nearestTo) where
     pub plain-lon : {why : Refusal} → refused why ≡ shown (inWord line second (degreesOf 180)) nearestTo → refused why ≡ shown (plainOf line) meaning
     unfolding plainOf
-    plain-lon f = plain-2 (inWord line line (degreesOf 90)) (inWord line second (degreesOf 180)) (inWord line third whenOf) (eqb (length (pastWord third)) 0) (refusal 80 0 (placeIn line (nextWord third))) (shown-from (inWord line line (degreesOf 90)) nearestTo e .is) (stopped (inWord line second (degreesOf 180)) nearestTo f)
+    plain-lon f = plain-2 (inWord line line (degreesOf 90)) (inWord line second (degreesOf 180)) (inWord line third whenOf) (eqb (length (pastWord third)) 0) (refusal 80 0 (placeIn line
+        (nextWord third))) (shown-from (inWord line line (degreesOf 90)) nearestTo e .is) (stopped (inWord line second (degreesOf 180)) nearestTo f)
 
     module _ {lon : Float} (f : given lon ≡ shown (inWord line second (degreesOf 180)) nearestTo) where
       pub plain-when : {why : Refusal} → refused why ≡ shown (inWord line third whenOf) instantAt → refused why ≡ shown (plainOf line) meaning
       unfolding plainOf
-      plain-when g = plain-3 (inWord line line (degreesOf 90)) (inWord line second (degreesOf 180)) (inWord line third whenOf) (eqb (length (pastWord third)) 0) (refusal 80 0 (placeIn line (nextWord third))) (shown-from (inWord line line (degreesOf 90)) nearestTo e .is) (shown-from (inWord line second (degreesOf 180)) nearestTo f .is) (stopped (inWord line third whenOf) instantAt g)
+      plain-when g = plain-3 (inWord line line (degreesOf 90)) (inWord line second (degreesOf 180)) (inWord line third whenOf) (eqb (length (pastWord third)) 0) (refusal 80 0 (placeIn line
+          (nextWord third))) (shown-from (inWord line line (degreesOf 90)) nearestTo e .is) (shown-from (inWord line second (degreesOf 180)) nearestTo f .is) (stopped
+          (inWord line third whenOf) instantAt g)
 
       module _ {z : ℤ} (g : given z ≡ shown (inWord line third whenOf) instantAt) where
         pub plain-more : (length (pastWord third) ≡ 0 → ⊥) → refused (refusal 80 0 (placeIn line (nextWord third))) ≡ shown (plainOf line) meaning
         unfolding plainOf
-        plain-more n = plain-4 (inWord line line (degreesOf 90)) (inWord line second (degreesOf 180)) (inWord line third whenOf) (eqb (length (pastWord third)) 0) (refusal 80 0 (placeIn line (nextWord third))) (shown-from (inWord line line (degreesOf 90)) nearestTo e .is) (shown-from (inWord line second (degreesOf 180)) nearestTo f .is) (shown-from (inWord line third whenOf) instantAt g .is) (ne-eqb (length (pastWord third)) 0 n)
+        plain-more n = plain-4 (inWord line line (degreesOf 90)) (inWord line second (degreesOf 180)) (inWord line third whenOf) (eqb (length (pastWord third)) 0) (refusal 80 0 (placeIn line
+            (nextWord third))) (shown-from (inWord line line (degreesOf 90)) nearestTo e .is) (shown-from (inWord line second (degreesOf 180)) nearestTo f .is) (shown-from
+            (inWord line third whenOf) instantAt g .is) (ne-eqb (length (pastWord third)) 0 n)
 
         pub plain-is : length (pastWord third) ≡ 0 → {w : ℤ} → w ≡ z → given (record { lat = lat; lon = lon; instant = w }) ≡ shown (plainOf line) meaning
         unfolding plainOf meaning
-        plain-is h i = ap given (same-fix (shown-from (inWord line line (degreesOf 90)) nearestTo e .shows) (shown-from (inWord line second (degreesOf 180)) nearestTo f .shows) (i ∙ shown-from (inWord line third whenOf) instantAt g .shows)) ∙ plain-5 (inWord line line (degreesOf 90)) (inWord line second (degreesOf 180)) (inWord line third whenOf) (eqb (length (pastWord third)) 0) (refusal 80 0 (placeIn line (nextWord third))) (shown-from (inWord line line (degreesOf 90)) nearestTo e .is) (shown-from (inWord line second (degreesOf 180)) nearestTo f .is) (shown-from (inWord line third whenOf) instantAt g .is) (eq-eqb (length (pastWord third)) 0 h)
+        plain-is h i = ap given (same-fix (shown-from (inWord line line (degreesOf 90)) nearestTo e .shows) (shown-from (inWord line second (degreesOf 180)) nearestTo f .shows) (i
+            ∙ shown-from (inWord line third whenOf) instantAt g .shows))
+            ∙ plain-5 (inWord line line (degreesOf 90)) (inWord line second (degreesOf 180)) (inWord line third whenOf) (eqb (length (pastWord third)) 0) (refusal 80 0 (placeIn line
+            (nextWord third))) (shown-from (inWord line line (degreesOf 90)) nearestTo e .is) (shown-from (inWord line second (degreesOf 180)) nearestTo f .is) (shown-from
+            (inWord line third whenOf) instantAt g .is) (eq-eqb (length (pastWord third)) 0 h)
 
 -- ---- the request
 pub line-is : (text : List ℕ) (size end : ℕ) → take size text ≡ unended 10 (take (length text) text) → take end text ≡ unended 13 (take size text) → take end text ≡ lineOf text
@@ -349,14 +367,14 @@ line-is text size end e f = f ∙ ap (unended 13) (e ∙ ap (unended 10) (take-l
 
 module _ (text line : List ℕ) (l : line ≡ lineOf text) where
   pub too-long : 255 < length line → refused (refusal 80 0 255) ≡ requestOf text
-  unfolding requestOf spelltOf
+  unfolding requestOf speltOf
   too-long h = rw (← l) (simp (lt-leb (length line) 255 h))
 
   module _ (h : length line ≤ 255) where
     pub as-sentence : getD line 0 0 ≡ 36 → shown (sentenceOf line) meaning ≡ requestOf text
-    unfolding requestOf spelltOf
+    unfolding requestOf speltOf
     as-sentence e = rw (← l) (sym (simp (le-leb (length line) 255 h, eq-eqb (getD line 0 0) 36 e)))
 
     pub as-plain : (getD line 0 0 ≡ 36 → ⊥) → shown (plainOf line) meaning ≡ requestOf text
-    unfolding requestOf spelltOf
+    unfolding requestOf speltOf
     as-plain n = rw (← l) (sym (simp (le-leb (length line) 255 h, ne-eqb (getD line 0 0) 36 n)))

@@ -140,7 +140,8 @@ behind-none (suc n) = behind-none n
 module _ (body : List ℕ) (at comma : ℕ) (e : comma ≡ at + length (toComma (drop at body))) where
   pub behind-on : (n : ℕ) → behind n (drop (comma + 1) body) ≡ behind (suc n) (drop at body)
   unfolding behind
-  behind-on n = ap (behind n) (ap (λ (k : ℕ). drop k body) (let s : comma + 1 ≡ at + (length (toComma (drop at body)) + 1) = omega arith in s) ∙ sym (drop-drop (length (toComma (drop at body)) + 1) at body))
+  behind-on n = ap (behind n) (ap (λ (k : ℕ). drop k body) (let s : comma + 1 ≡ at + (length (toComma (drop at body)) + 1) = omega arith in s)
+      ∙ sym (drop-drop (length (toComma (drop at body)) + 1) at body))
 
   pub behind-end : comma ≡ length body → (n : ℕ) → drop comma body ≡ behind (suc n) (drop at body)
   behind-end f n = ended body comma (omega arith) ∙ sym (ap (behind n) (ended body (comma + 1) (omega arith)) ∙ behind-none n) ∙ behind-on n
@@ -171,7 +172,8 @@ module _ (text : List ℕ) (at : ℕ) (h : 0 < at) (l : at ≤ length text) wher
 
   pub count-back : (byte sum : ℕ) → sum ≡ count byte (drop at text) → sum + (if eqb (getD text (at - 1) 0) byte then 1 else 0) ≡ count byte (drop (at - 1) text)
   count-back byte sum e =
-      let s : count byte (drop (at - 1) text) ≡ (if eqb (getD text (at - 1) 0) byte then 1 else 0) + count byte (drop at text) = count-on byte text (at - 1) (omega arith) ∙ ap (λ (k : ℕ). (if eqb (getD text (at - 1) 0) byte then 1 else 0) + count byte (drop k text)) back in
+      let s : count byte (drop (at - 1) text) ≡ (if eqb (getD text (at - 1) 0) byte then 1 else 0) + count byte (drop at text) = count-on byte text (at - 1) (omega arith)
+      ∙ ap (λ (k : ℕ). (if eqb (getD text (at - 1) 0) byte then 1 else 0) + count byte (drop k text)) back in
       omega arith
 
   pub xors-back : (sum : ℕ) → sum ≡ xors (drop at text) → bitXor (getD text (at - 1) 0) sum ≡ xors (drop (at - 1) text)

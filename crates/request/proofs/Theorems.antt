@@ -6,7 +6,7 @@ use Rattle.calendar.specs.{Calendar.{weekdayOf, dayNumber}, Civil.{Shows, Civil
 use Rattle.numbers.proofs.{Refusals.{Listed}, Replies.{number-of}}
 use Rattle.numbers.specs.{Reply.{Reply, given, refused}, declared.refusal.Refusal.{Refusal}}
 use Rattle.request.proofs.{Meanings.{Civilly, Ranged, spelt-meant}, Nearing.{nearest-to}, Refusing.{fiveNumbers, request-told}, Replied.{shown-from}, Times.{in-date, in-time}}
-use Rattle.request.specs.{Nearest.{Nearest}, Text.{lineOf}, Clock.{Date, Time, When, utc, instantAt}, Request.{Spelt, spelltOf, meaning, requestOf}, Told.{told}, declared.read.{Fix.{Fix}, Asked.{Asked}}}
+use Rattle.request.specs.{Nearest.{Nearest}, Text.{lineOf}, Clock.{Date, Time, When, utc, instantAt}, Request.{Spelt, speltOf, meaning, requestOf}, Told.{told}, declared.read.{Fix.{Fix}, Asked.{Asked}}}
 use Rattle.request.specs.declared.read.Asked.the-variants as R
 
 -- ---- same-request
@@ -57,10 +57,11 @@ only-at date time r =
     }
 
 -- the instant of a fix is the one whose civil reading in UTC is the date and time that the request spells
-pub request-instant : (text : List ℕ) {fix : Fix} {spelt : Spelt} {date : Date} {time : Time} → told (R.Fix fix) ≡ requestOf text → given spelt ≡ spelltOf (lineOf text) → spelt .when ≡ utc date time → OnlyAt date time (fix .instant)
+pub request-instant : (text : List ℕ) {fix : Fix} {spelt : Spelt} {date : Date} {time : Time} → told (R.Fix fix) ≡ requestOf text → given spelt ≡ speltOf (lineOf text)
+    → spelt .when ≡ utc date time → OnlyAt date time (fix .instant)
 unfolding requestOf meaning Civilly
 request-instant text {fix = fix} {spelt = spelt} {date = date} {time = time} e s w =
-    let f = shown-from (spelltOf (lineOf text)) meaning e in
+    let f = shown-from (speltOf (lineOf text)) meaning e in
     let same : spelt ≡ f .it = cc in
     let at : fix .instant ≡ instantAt (utc date time) = ap (λ (x : Fix). x .instant) (f .shows) ∙ ap (λ (x : Spelt). instantAt (x .when)) (sym same) ∙ ap instantAt w in
     let civil : Civilly (utc date time) = subst Civilly w (spelt-meant (lineOf text) s .civil) in
@@ -68,11 +69,15 @@ request-instant text {fix = fix} {spelt = spelt} {date = date} {time = time} e s
 
 -- ---- request-nearest
 -- the two floats of a fix are the f32 nearest to the fractions that the request spells, ties to even
-pub request-nearest : (text : List ℕ) {fix : Fix} {spelt : Spelt} → told (R.Fix fix) ≡ requestOf text → given spelt ≡ spelltOf (lineOf text) → Nearest (spelt .lat) (fix .lat) × Nearest (spelt .lon) (fix .lon)
+pub request-nearest : (text : List ℕ) {fix : Fix} {spelt : Spelt} → told (R.Fix fix) ≡ requestOf text → given spelt ≡ speltOf (lineOf text)
+    → Nearest (spelt .lat) (fix .lat) × Nearest (spelt .lon) (fix .lon)
 unfolding requestOf meaning
 request-nearest text {fix = fix} {spelt = spelt} e s =
-    let f = shown-from (spelltOf (lineOf text)) meaning e in
+    let f = shown-from (speltOf (lineOf text)) meaning e in
     let same : spelt ≡ f .it = cc in
     let m = spelt-meant (lineOf text) s in
-    let is : fix ≡ meaning spelt = f .shows ∙ ap meaning (sym same) in
-    (subst (λ (x : Fix). Nearest (spelt .lat) (x .lat)) (sym is) (nearest-to (spelt .lat) (m .lat-fair .some) (m .lat-fair .small)), subst (λ (x : Fix). Nearest (spelt .lon) (x .lon)) (sym is) (nearest-to (spelt .lon) (m .lon-fair .some) (m .lon-fair .small)))
+    let is : fix ≡ meaning spelt = f .shows ∙ ap meaning (sym same) in (
+      subst (λ (x : Fix). Nearest (spelt .lat) (x .lat)) (sym is) (nearest-to (spelt .lat) (m .lat-fair .some) (m .lat-fair .small)),
+      subst (λ (x : Fix). Nearest (spelt .lon) (x .lon)) (sym is)
+          (nearest-to (spelt .lon) (m .lon-fair .some) (m .lon-fair .small)),
+    )

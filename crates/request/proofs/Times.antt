@@ -126,7 +126,8 @@ module _ (text : List ℕ) (place : ℕ) where
   unfolding dateOf spelled
   date-formless e = simp e
 
-  pub date-dated : hasForm 6 0 text ≡ true → {y : ℕ} → y ≡ fullYear (partOf 4 2 text) → at place (dated (record { year = y; month = partOf 2 2 text; day = partOf 0 2 text })) ≡ shown (at place (dateOf text)) C.dayOf
+  pub date-dated : hasForm 6 0 text ≡ true → {y : ℕ} → y ≡ fullYear (partOf 4 2 text)
+      → at place (dated (record { year = y; month = partOf 2 2 text; day = partOf 0 2 text })) ≡ shown (at place (dateOf text)) C.dayOf
   unfolding dateOf spelled
   date-dated e f = simp (e, f) (go (isDate date))
     where
@@ -242,7 +243,8 @@ module _ (text : List ℕ) (place : ℕ) where
       unfolding secondsOf instantAt spelled
       seconds-signed e = simp (le-leb 1 (length (unsigned text)) l, le-leb (length (unsigned text)) 19 h, e) (go (leb (valueOf (unsigned text)) (if isMinus text then 2 ^ 63 else 2 ^ 63 - 1)))
         where
-          go : (t : Bool) → at place (if t then found (signedOf (isMinus text) (valueOf (unsigned text))) else A.refused 84) ≡ shown (at place (if t then found (C.since (signedOf (isMinus text) (valueOf (unsigned text)))) else A.refused 84)) instantAt
+          go : (t : Bool) → at place (if t then found (signedOf (isMinus text) (valueOf (unsigned text))) else A.refused 84) ≡ shown (at place (if t then found (C.since (signedOf (isMinus text)
+              (valueOf (unsigned text)))) else A.refused 84)) instantAt
           go true = refl
           go false = refl
 

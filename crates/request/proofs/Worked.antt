@@ -6,7 +6,7 @@ use Rattle.calendar.specs.{Calendar.{isLeap, yearLength, daysOfYears, monthLeng
 use Rattle.numbers.specs.Reply.{Reply, given, refused, refusal}
 use Rattle.request.specs.{Text.{every, formed, count, xors, until, behind, unblanked}, Number.{spelled, valueFrom, partOf, isTail, hasForm, angleOf, sideOf, decimalOf, degreesOf, nearestTo}}
 use Rattle.request.specs.Clock.{isDate, isTime, timeOf, fullYear, dateOf, momentOf, secondsOf, whenOf, instantAt}
-use Rattle.request.specs.Request.{isSealed, isAddress, isMode, turned, fixOf, fieldsOf, sentenceOf, plainOf, spelltOf, meaning, requestOf}
+use Rattle.request.specs.Request.{isSealed, isAddress, isMode, turned, fixOf, fieldsOf, sentenceOf, plainOf, speltOf, meaning, requestOf}
 use Rattle.request.specs.declared.read.Fix.{Fix}
 
 -- latitude and longitude as bits, and the instant; or number and detail
@@ -68,5 +68,5 @@ worked =
 
 -- the definitions and the document agree on every row
 pub worked-hold : map computed worked ≡ worked
-unfolding worked computed row shownAs every formed count xors until behind unblanked spelled valueFrom partOf isTail hasForm angleOf sideOf decimalOf degreesOf nearestTo isDate isTime timeOf fullYear dateOf momentOf secondsOf whenOf instantAt isSealed isAddress isMode turned fixOf fieldsOf sentenceOf plainOf spelltOf meaning requestOf isLeap yearLength daysOfYears monthLength daysOfMonths dayNumber secondsTo instantOf toBits round
+unfolding worked computed row shownAs every formed count xors until behind unblanked spelled valueFrom partOf isTail hasForm angleOf sideOf decimalOf degreesOf nearestTo isDate isTime timeOf fullYear dateOf momentOf secondsOf whenOf instantAt isSealed isAddress isMode turned fixOf fieldsOf sentenceOf plainOf speltOf meaning requestOf isLeap yearLength daysOfYears monthLength daysOfMonths dayNumber secondsTo instantOf toBits round
 worked-hold = refl

@@ -111,8 +111,8 @@ plainOf line = let second = nextWord line in let third = nextWord second in do
 
 -- ---- the request
 -- at most 255 bytes; a sentence begins with `$`
-unfoldable pub spelltOf : List ℕ → Reply Spelt
-spelltOf line = do
+unfoldable pub speltOf : List ℕ → Reply Spelt
+speltOf line = do
   demand (leb (length line) 255) (refusal 80 0 255)
   if eqb (getD line 0 0) 36 then sentenceOf line else plainOf line
 
@@ -121,4 +121,4 @@ unfoldable pub meaning : Spelt → Fix
 meaning spelt = record { lat = nearestTo (spelt .lat); lon = nearestTo (spelt .lon); instant = instantAt (spelt .when) }
 
 unfoldable pub requestOf : List ℕ → Reply Fix
-requestOf text = spelltOf (lineOf text) >>= λ spelt. given (meaning spelt)
+requestOf text = speltOf (lineOf text) >>= λ spelt. given (meaning spelt)

@@ -118,7 +118,7 @@ begun-right xs before (y ∷ ys) =
         taken true = rest
         taken false = ap (λ (l : List Group). begun y ys ∷ l) rest
 
--- the groups of one search are those of its two halves joined
+-- the groups of two hit lists, one behind the other, are theirs joined
 pub groups-joined : (xs ys : List Hit) → groupsOf (xs ++ ys) ≡ groupsOf xs ⋈ groupsOf ys
 unfolding groupsAfter seen
 groups-joined xs ys =
@@ -141,7 +141,7 @@ merged-groups before (x ∷ xs) = go (seen (x .metadata) before) (merged-groups 
     go true rest = rest
     go false rest = ap (λ (l : List Hit). matchOf x (groupKind (summary (x .metadata) (x ∷ xs))) ++ l) rest
 
--- the matches of one search are those of its two halves joined: groups, order, polygon ids and kinds
+-- the matches of two hit lists, one behind the other, are those of their groups joined: groups, order, polygon ids and kinds (of searches: Halves.antt)
 pub halves-joined : (xs ys : List Hit) → merged (xs ++ ys) ≡ matchesOf (groupsOf xs ⋈ groupsOf ys)
 unfolding merged
 halves-joined xs ys = merged-groups [] (xs ++ ys) ∙ ap matchesOf (groups-joined xs ys)

@@ -18,7 +18,9 @@ use Rattle.tzif.specs.declared.refusal.Refusal as T
 use Rattle.header.{proofs.Numbered.{openingNumbers, opening-refusals, strict-opening-refusals}, specs.Opening.{openedOf, openedStrictly}}
 use Rattle.zones.proofs.NumberedLookup.{lookupNumbers, lookup-refusals, strict-lookup-refusals, simple-lookup-refusals}
 use Rattle.zones.specs.{Lookup.{lookedUp, lookedStrictly}, Simple.{simplyLooked}}
-use Rattle.index.{proofs.{Owned.{owningNumbers, is-index-refusals}, Refusing.{buildingNumbers, tyingNumbers, index-refusals, tied-refusals}}, specs.{Index.{indexedOf}, Own.{isIndexOf}, Tied.{tiedOf}}}
+use Rattle.index.proofs.{NumberedThrough.{throughNumbers, through-refusals, indexed-refusals}, Owned.{owningNumbers, is-index-refusals}}
+use Rattle.index.proofs.Refusing.{buildingNumbers, tyingNumbers, index-refusals, tied-refusals}
+use Rattle.index.specs.{Index.{indexedOf}, Own.{isIndexOf}, Through.{lookedThrough, lookedIndexed}, Tied.{tiedOf}}
 use Rattle.salvage.proofs.rescue.NumberedSalvage.{salvageNumbers, salvage-refusals}
 use Rattle.salvage.specs.Salvage.{salvaged}
 use Rattle.table.specs.declared.location.Location.{Location}
@@ -92,6 +94,20 @@ index-tied-zero file words = zero-said noValues (tiedOf file words) (λ why is. 
 -- `uskelzar_is_index`
 pub is-index-zero : (file words : List ℕ) → (saidOf noValues (isIndexOf file words) .number ≡ 0) ↔ Answered (isIndexOf file words)
 is-index-zero file words = zero-said noValues (isIndexOf file words) (λ why is. never-zero owningNumbers (λ z. z) (why .number) (is-index-refusals file words why is))
+
+-- `uskelzar_lookup_through`
+pub lookup-through-zero : (file words : List ℕ) (location : Location) (asked : Bool) (n room : ℕ)
+    → (foundSpoken zonesValues (lookedThrough file words location asked n room) .said .number ≡ 0) ↔ Answered (lookedThrough file words location asked n room .reply)
+lookup-through-zero file words location asked n room =
+    zero-said zonesValues (lookedThrough file words location asked n room .reply)
+    (λ why is. never-zero throughNumbers (λ z. z) (why .number) (through-refusals file words location asked n room why is))
+
+-- `uskelzar_lookup_indexed`
+pub lookup-indexed-zero : (file words : List ℕ) (location : Location) (asked : Bool) (n room : ℕ)
+    → (foundSpoken zonesValues (lookedIndexed file words location asked n room) .said .number ≡ 0) ↔ Answered (lookedIndexed file words location asked n room .reply)
+lookup-indexed-zero file words location asked n room =
+    zero-said zonesValues (lookedIndexed file words location asked n room .reply)
+    (λ why is. never-zero throughNumbers (λ z. z) (why .number) (indexed-refusals file words location asked n room why is))
 
 -- `uskelzar_simple_lookup`
 pub simple-lookup-zero : (file : List ℕ) (location : Location) (n room : ℕ)

@@ -1,2 +1,4 @@
 pub mod Asking
 pub mod Digits
+pub mod Printing
+mod Worked

@@ -3,13 +3,15 @@ mod answer;
 mod lines;
 
 ghost use mathlib.Core.Path.{_≡_};
-ghost use Prim.Native.Nat.{_*_, _≤_};
+ghost use Prim.Native.Nat.{_*_};
 ghost use lib.ListN.{length};
 ghost use Rattle.table.specs.Hits.{width};
+ghost use Rattle.zone.specs.Printed.{Printed};
 use answer::answer;
 use libc::STDIN_FILENO;
 use libc::STDOUT_FILENO;
 use line::bytes::byte_at;
+use lines::least;
 use lines::put_refusal;
 use lines::put_zones;
 use table::hits::WIDTH;
@@ -44,18 +46,15 @@ fn line_space() -> [u8; 131072]
     [0; 131072]
 }
 
-// The lines for an input, and how many bytes they take. The file's seventh byte is its field count.
-fn zone(input: &[u8], hits: &mut [u32], text: &mut [u8], out: &mut [u8]) -> usize {
+// The lines for an input, as many of their bytes as fit, and how many that are.
+fn zone(input: &[u8], hits: &mut [u32], text: &mut [u8], out: &mut [u8]) -> usize
+    ensures { λ r. ⌜ Printed (now (input .entry)) (length (now (hits .entry))) (length (now (text .entry))) (now (out .entry))
+        (now (hits .exit)) (now (text .exit)) (now (out .exit)) r ⌝ }
+{
     match answer(input, hits, text) {
         Looked::Zones(zones) => put_zones(out, zones, byte_at(input, 14), hits, text),
         Looked::Refused(why) => put_refusal(out, why),
     }
-}
-
-fn least(a: usize, b: usize) -> usize
-    ensures { λ r. ⌜ (r ≤ a) × (r ≤ b) ⌝ }
-{
-    if a < b { a } else { b }
 }
 
 // So many bytes, or as many as there are.

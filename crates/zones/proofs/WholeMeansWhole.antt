@@ -1,4 +1,4 @@
--- Mark 1 means that nothing was missed: the whole reply is that of a search which never stops early. Mark 4 means that something may have been. Assumes nothing.
+-- Mark 1 means that the whole reply is that of a search which never stops early. Mark 4 means that a row behind the stop holds the location. Assumes nothing.
 use Prim.Native.Nat.{ℕ, _/_}
 use mathlib.Core.{Bool.{Bool, false}, List.{List}, Path.{_≡_, sym, ap, subst, _∙_}}
 use Rattle.header.specs.{Header.{headOf}, declared.header.Head.{Head}}

@@ -219,7 +219,10 @@ def the_day(driver):
     for button in driver.find_elements(By.CSS_SELECTOR, "[data-slip]"):
         driver.execute_script("arguments[0].click()", button)
         settle(driver)
-        check("yards: a slip's answer is exact", by(driver, "#place").get_attribute("data-exact") == "true")
+        place = by(driver, "#place")
+        row = button.find_element(By.XPATH, "./ancestor::tr").get_attribute("textContent")
+        line = place.find_element(By.CSS_SELECTOR, ".stamped, .unstamped").text
+        check("yards: a slip's answer is exact, with its line", place.get_attribute("data-exact") == "true" and line[:4] in row and line[-12:] in row, line, row)
         same_answer(driver, "yards.plb", "slip at")
 
 

@@ -62,8 +62,7 @@
     }
     return { columns, rows, answers };
   };
-  const yards = readYards();
-  const raster = readRaster();
+  const [yards, raster] = [readYards(), readRaster()];
 
   // ---- places
   // The least digits that give the same 32 bits again.
@@ -410,9 +409,11 @@
     const zones = answer[1].length ? answer[1].map(zoneCard) : [made('p', 'no zone holds the fix')];
     return [...zones, made('p', `search: ${data.ends[answer[0]]}`, answer[0] === 1 ? 'soft' : 'note')];
   };
+  const slipLine = (row) => made('p', [...row.cells].map((cell) => cell.textContent).join(', '), row.dataset.way === '0' ? 'stamped' : 'unstamped');
   const tell = (told) => {
     clocks = [];
-    const parts = [made('h3', placeWords(told)), howKnown(told)];
+    const slips = exact.filter((one) => one.slip !== undefined && told.exact && samePlace(one, told)).map((one) => slipLine(slipRows[one.slip]));
+    const parts = [made('h3', placeWords(told)), howKnown(told), ...slips];
     if (!told.outside) parts.push(...answerParts(data.answers[told.answer]));
     if (!told.exact && !told.outside && bordersNear(told)) parts.push(made('p', 'The points about it got different answers: a border is near.', 'note'));
     if (!told.exact) parts.push(made('p', 'The exact answer:', 'soft'), made('code', data.command.replace('LAT LON', placeWords(told))));
@@ -591,7 +592,6 @@
   listen(canvas, 'blur', () => { crosshair = false; redraw(); });
 
   readInk();
-  byId('at').textContent = '';
   new ResizeObserver(resize).observe(canvas);
   const scheme = matchMedia('(prefers-color-scheme: dark)');
   scheme.addEventListener('change', () => { readInk(); redraw(); });

@@ -192,8 +192,8 @@ fn a_day_of_slips() {
     let lines: Vec<&str> = slips.lines().collect();
     assert_eq!(lines.len(), 8);
     assert!(lines[0].starts_with("slip,latitude,longitude,instant,local,offset,daylight,abbreviation,zone,unreadable line,map refused,not whole,"));
-    assert_eq!(lines[1], "1001,52.52,13.40,2026-07-01T11:59:59Z,2026-07-01 13:59:59,+02:00,1,CEST,Europe/Berlin,,,,,,,,,,,");
-    assert!(lines[5].ends_with("no zone holds the fix,,,,,,,"));
+    assert_eq!(lines[1], "1001,52.52,13.40,2026-07-01T11:59:59Z,2026-07-01 13:59:59,+02:00,1,CEST,Europe/Berlin,,,,,,,,,,,,");
+    assert!(lines[5].ends_with("no zone holds the fix,,,,,,,,"));
     assert!(lines[7].contains("latitude \"\"95.0\"\" is no number from -90 to 90"));
     assert_eq!(folder.names(), ["slips.csv"]);
     // lines without names, all of them stamped

@@ -1,4 +1,4 @@
-// A yard more by a sure step, which costs the same however many yards are held. The notes may be forged: then what is said may be wrong, and no more.
+// A yard more by a sure step, which sums nothing afresh: beside its own yard it looks at the box of each held one. The notes may be forged: then what is said may be wrong, and no more.
 ghost use mathlib.Core.Path.{_≡_};
 ghost use Prim.Native.Nat.{_+_, _-_, _*_, _^_, _≤_, _<_};
 ghost use lib.{ListN.{length, take, drop, set}, Seq.{sets}};

@@ -21,9 +21,6 @@ abbrev μ-loop : tie.MeasureT-loop
 loop-holds : tie.Need-loop-holds Inv-loop μ-loop
 loop-holds c = (from-start (c .before .before .before .args .size) (c .before .before .before .args .bundle .now) _ (c .before .before .before .args .place), omega arith)
 
-byte-of-requires : tie.Need-byte-of-requires Inv-loop μ-loop
-byte-of-requires c κs = search needs
-
 add-if1 : tie.Need-add-if1 Inv-loop μ-loop
 add-if1 c =
     let pre = c .before .before .before .before .before .before .pre in
@@ -42,7 +39,8 @@ returns c =
     let args = c .before .before .before .before .before .before .before .before .args in
     let loop-test = c .before .before .before .loop-test in
     let byte-of = c .before .before .byte-of in
-    agree-stop (loop .left) (args .bundle .now) (args .prefix .now ++ args .id .now) (args .place + loop .at) (loop .at) (loop-test .taken) (λ e. c .if1 .taken (e ∙ sym (byte-of .ensures))) ∙ loop .inv .0
+    agree-stop (loop .left) (args .bundle .now) (args .prefix .now ++ args .id .now) (args .place + loop .at) (loop .at) (loop-test .taken) (λ e. c .if1 .taken (e ∙ sym (byte-of .ensures)))
+    ∙ loop .inv .0
 
 add-at : tie.Need-add-at Inv-loop μ-loop
 add-at c =
@@ -50,19 +48,17 @@ add-at c =
     let loop = c .before .before .before .before .loop in
     omega (arith, pre, loop .inv .1)
 
-sub-left : tie.Need-sub-left Inv-loop μ-loop
-sub-left c = omega arith
-
-loop-less : tie.Need-loop-less Inv-loop μ-loop
-loop-less c = omega arith
-
 loop-again : tie.Need-loop-again Inv-loop μ-loop
 loop-again c =
     let loop = c .before .before .before .before .loop in
     let args = c .before .before .before .before .before .before .before .before .args in
     let loop-test = c .before .before .before .loop-test in
-    let byte-of = c .before .before .byte-of in
-    (next-place (loop .left - 1) (args .bundle .now) _ (args .place) (loop .at) ∙ agree-on (loop .left) (args .bundle .now) (args .prefix .now ++ args .id .now) (args .place + loop .at) (loop .at) (loop-test .taken) (c .if1 .left ∙ byte-of .ensures) ∙ loop .inv .0, omega (arith, loop .inv .1))
+    let byte-of = c .before .before .byte-of in (
+      next-place (loop .left - 1) (args .bundle .now) _ (args .place) (loop .at)
+          ∙ agree-on (loop .left) (args .bundle .now) (args .prefix .now ++ args .id .now) (args .place + loop .at) (loop .at) (loop-test .taken) (c .if1 .left ∙ byte-of .ensures)
+          ∙ loop .inv .0,
+      omega (arith, loop .inv .1),
+    )
 
 returns-2 : tie.Need-returns-2 Inv-loop μ-loop
 returns-2 c = agree-end (c .before .loop .left) _ _ (omega arith) ∙ c .before .loop .inv .0
@@ -74,12 +70,12 @@ agrees-spec =
     Inv-loop
     μ-loop
     loop-holds
-    byte-of-requires
+    (λ c κs. search needs)
     add-if1
     shared-slice-read-if1
     returns
     add-at
-    sub-left
-    loop-less
+    (λ c. omega arith)
+    (λ c. omega arith)
     loop-again
     returns-2)

@@ -6,17 +6,11 @@ use Rattle.bundle.proofs.bytes.byte_of.Tie as tie
 
 -- `bundle::bytes::byte_of` meets its contract. Assumes nothing.
 
-shared-slice-read-result : tie.Need-shared-slice-read-result
-shared-slice-read-result c = search needs
-
 returns : tie.Need-returns
 returns c =
     let args = c .before .before .args in
     let if1 = c .before .if1 in
     byte-first (args .prefix .now) (args .id .now) (args .at) (if1 .taken)
-
-shared-slice-read-result-2 : tie.Need-shared-slice-read-result-2
-shared-slice-read-result-2 c = search needs
 
 returns-2 : tie.Need-returns-2
 returns-2 c =
@@ -33,4 +27,4 @@ returns-3 c =
 pub byte-of-spec : {M : Type 1} → statement M
 byte-of-spec =
     tie.close
-    (tie.spec shared-slice-read-result returns shared-slice-read-result-2 returns-2 returns-3)
+    (tie.spec (λ c. search needs) returns (λ c. search needs) returns-2 returns-3)

@@ -10,9 +10,6 @@ use Rattle.bundle.proofs.bytes.word_at.Tie as tie
 shared-slice-read-wide : tie.Need-shared-slice-read-wide
 shared-slice-read-wide c = omega (arith, c .before .before .pre)
 
-wide-requires : tie.Need-wide-requires
-wide-requires c κs = search needs
-
 add-wide : tie.Need-add-wide
 add-wide c = omega (arith, c .before .before .before .pre)
 
@@ -20,9 +17,6 @@ shared-slice-read-wide-2 : tie.Need-shared-slice-read-wide-2
 shared-slice-read-wide-2 c =
     let pre = c .before .before .before .before .pre in
     omega (arith, pre)
-
-wide-requires-2 : tie.Need-wide-requires-2
-wide-requires-2 c κs = search needs
 
 add-wide-2 : tie.Need-add-wide-2
 add-wide-2 c =
@@ -34,9 +28,6 @@ shared-slice-read-wide-3 c =
     let pre = c .before .before .before .before .before .before .pre in
     omega (arith, pre)
 
-wide-requires-3 : tie.Need-wide-requires-3
-wide-requires-3 c κs = search needs
-
 add-wide-3 : tie.Need-add-wide-3
 add-wide-3 c =
     let pre = c .before .before .before .before .before .before .before .pre in
@@ -46,9 +37,6 @@ shared-slice-read-wide-4 : tie.Need-shared-slice-read-wide-4
 shared-slice-read-wide-4 c =
     let pre = c .before .before .before .before .before .before .before .before .pre in
     omega (arith, pre)
-
-wide-requires-4 : tie.Need-wide-requires-4
-wide-requires-4 c κs = search needs
 
 mul-result : tie.Need-mul-result
 mul-result c =
@@ -96,16 +84,16 @@ word-at-spec =
     tie.close
     (tie.spec
     shared-slice-read-wide
-    wide-requires
+    (λ c κs. search needs)
     add-wide
     shared-slice-read-wide-2
-    wide-requires-2
+    (λ c κs. search needs)
     add-wide-2
     shared-slice-read-wide-3
-    wide-requires-3
+    (λ c κs. search needs)
     add-wide-3
     shared-slice-read-wide-4
-    wide-requires-4
+    (λ c κs. search needs)
     mul-result
     mul-result-2
     add-result

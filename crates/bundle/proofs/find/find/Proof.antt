@@ -10,15 +10,6 @@ use Rattle.bundle.specs.Told.{toldHead, toldSought}
 use Rattle.numbers.specs.Reply.{given, refused}
 use Rattle.bundle.proofs.find.find.Tie as tie
 
-read-head-requires : tie.Need-read-head-requires
-read-head-requires c κs = search needs
-
-enum-known-head : tie.Need-enum-known-head
-enum-known-head c = search needs
-
-enum-known-why : tie.Need-enum-known-why
-enum-known-why c = search needs
-
 returns : tie.Need-returns
 returns c =
     let args = c .before .before .before .before .before .before .before .args in
@@ -40,14 +31,8 @@ seek-requires c κs =
     let read-head = c .before .before .before .before .read-head in
     omega (arith, head-good (args .bundle .now) (sym (ap toldHead (head .given .1)) ∙ read-head .ensures))
 
-enum-known-place : tie.Need-enum-known-place
-enum-known-place c = search needs
-
 enum-told : tie.Need-enum-told
 enum-told c = search needs
-
-plain-requires : tie.Need-plain-requires
-plain-requires c κs = search needs
 
 returns-2 : tie.Need-returns-2
 returns-2 c =
@@ -56,7 +41,8 @@ returns-2 c =
     let read-head = c .before .before .before .before .before .before .before .before .read-head in
     let enum-told = c .before .enum-told in
     let seek = c .before .before .before .seek in
-    ap refused (c .plain .ensures) ∙ find-none (args .bundle .now) (args .prefix .now ++ args .id .now) (sym (ap toldHead (head .given .1)) ∙ read-head .ensures) (sym (ap toldSought (enum-told .given .1)) ∙ seek .ensures)
+    ap refused (c .plain .ensures) ∙ find-none (args .bundle .now) (args .prefix .now ++ args .id .now) (sym (ap toldHead (head .given .1))
+    ∙ read-head .ensures) (sym (ap toldSought (enum-told .given .1)) ∙ seek .ensures)
 
 add-word-at : tie.Need-add-word-at
 add-word-at c =
@@ -66,7 +52,12 @@ add-word-at c =
     let place = c .before .place in
     let seek = c .before .before .before .seek in
     let good = head-good (args .bundle .now) (sym (ap toldHead (head .given .1)) ∙ read-head .ensures) in
-    omega (arith, good, seek-inside ((head .given .0 .0 .start - head .given .0 .0 .index) / 52) (args .bundle .now) (args .prefix .now ++ args .id .now) (head .given .0 .0 .index) (sym (ap toldSought (place .given .1)) ∙ seek .ensures))
+    omega (
+      arith,
+      good,
+      seek-inside ((head .given .0 .0 .start - head .given .0 .0 .index) / 52) (args .bundle .now) (args .prefix .now ++ args .id .now) (head .given .0 .0 .index) (sym
+          (ap toldSought (place .given .1)) ∙ seek .ensures),
+    )
 
 word-at-requires : tie.Need-word-at-requires
 word-at-requires c κs =
@@ -76,7 +67,12 @@ word-at-requires c κs =
     let place = c .before .place in
     let seek = c .before .before .before .seek in
     let good = head-good (args .bundle .now) (sym (ap toldHead (head .given .1)) ∙ read-head .ensures) in
-    omega (arith, good, seek-inside ((head .given .0 .0 .start - head .given .0 .0 .index) / 52) (args .bundle .now) (args .prefix .now ++ args .id .now) (head .given .0 .0 .index) (sym (ap toldSought (place .given .1)) ∙ seek .ensures))
+    omega (
+      arith,
+      good,
+      seek-inside ((head .given .0 .0 .start - head .given .0 .0 .index) / 52) (args .bundle .now) (args .prefix .now ++ args .id .now) (head .given .0 .0 .index) (sym
+          (ap toldSought (place .given .1)) ∙ seek .ensures),
+    )
 
 add-start : tie.Need-add-start
 add-start c =
@@ -94,7 +90,12 @@ add-word-at-2 c =
     let place = c .before .before .before .place in
     let seek = c .before .before .before .before .before .seek in
     let good = head-good (args .bundle .now) (sym (ap toldHead (head .given .1)) ∙ read-head .ensures) in
-    omega (arith, good, seek-inside ((head .given .0 .0 .start - head .given .0 .0 .index) / 52) (args .bundle .now) (args .prefix .now ++ args .id .now) (head .given .0 .0 .index) (sym (ap toldSought (place .given .1)) ∙ seek .ensures))
+    omega (
+      arith,
+      good,
+      seek-inside ((head .given .0 .0 .start - head .given .0 .0 .index) / 52) (args .bundle .now) (args .prefix .now ++ args .id .now) (head .given .0 .0 .index) (sym
+          (ap toldSought (place .given .1)) ∙ seek .ensures),
+    )
 
 word-at-requires-2 : tie.Need-word-at-requires-2
 word-at-requires-2 c κs =
@@ -104,7 +105,12 @@ word-at-requires-2 c κs =
     let place = c .before .before .before .place in
     let seek = c .before .before .before .before .before .seek in
     let good = head-good (args .bundle .now) (sym (ap toldHead (head .given .1)) ∙ read-head .ensures) in
-    omega (arith, good, seek-inside ((head .given .0 .0 .start - head .given .0 .0 .index) / 52) (args .bundle .now) (args .prefix .now ++ args .id .now) (head .given .0 .0 .index) (sym (ap toldSought (place .given .1)) ∙ seek .ensures))
+    omega (
+      arith,
+      good,
+      seek-inside ((head .given .0 .0 .start - head .given .0 .0 .index) / 52) (args .bundle .now) (args .prefix .now ++ args .id .now) (head .given .0 .0 .index) (sym
+          (ap toldSought (place .given .1)) ∙ seek .ensures),
+    )
 
 add-if1 : tie.Need-add-if1
 add-if1 c =
@@ -113,9 +119,6 @@ add-if1 c =
     let read-head = c .before .before .before .before .before .before .before .before .before .before .before .read-head in
     let word-at = c .before .before .word-at in
     omega (arith, head-good (args .bundle .now) (sym (ap toldHead (head .given .1)) ∙ read-head .ensures), word-at .ensures .1, c .word-at2 .ensures .1)
-
-refuse-requires : tie.Need-refuse-requires
-refuse-requires c κs = search needs
 
 returns-3 : tie.Need-returns-3
 returns-3 c =
@@ -127,7 +130,8 @@ returns-3 c =
     let if1 = c .before .if1 in
     let word-at = c .before .before .before .before .before .word-at in
     let word-at2 = c .before .before .before .word-at2 in
-    ap refused (c .refuse .ensures) ∙ find-out (args .bundle .now) (args .prefix .now ++ args .id .now) (sym (ap toldHead (head .given .1)) ∙ read-head .ensures) (sym (ap toldSought (place .given .1)) ∙ seek .ensures) (omega (arith, if1 .taken, word-at .ensures .0, word-at2 .ensures .0))
+    ap refused (c .refuse .ensures) ∙ find-out (args .bundle .now) (args .prefix .now ++ args .id .now) (sym (ap toldHead (head .given .1))
+    ∙ read-head .ensures) (sym (ap toldSought (place .given .1)) ∙ seek .ensures) (omega (arith, if1 .taken, word-at .ensures .0, word-at2 .ensures .0))
 
 returns-4 : tie.Need-returns-4
 returns-4 c =
@@ -138,21 +142,23 @@ returns-4 c =
     let read-head = c .before .before .before .before .before .before .before .before .before .before .before .before .before .read-head in
     let place = c .before .before .before .before .before .before .place in
     let seek = c .before .before .before .before .before .before .before .before .seek in
-    ap given (same-file (ap (λ (n : ℕ). head .given .0 .0 .start + n) (word-at .ensures .0)) (word-at2 .ensures .0)) ∙ find-in (args .bundle .now) (args .prefix .now ++ args .id .now) (sym (ap toldHead (head .given .1)) ∙ read-head .ensures) (sym (ap toldSought (place .given .1)) ∙ seek .ensures) (omega (arith, c .if1 .left, word-at .ensures .0, word-at2 .ensures .0))
+    ap given (same-file (ap (λ (n : ℕ). head .given .0 .0 .start + n) (word-at .ensures .0)) (word-at2 .ensures .0))
+    ∙ find-in (args .bundle .now) (args .prefix .now ++ args .id .now) (sym (ap toldHead (head .given .1)) ∙ read-head .ensures) (sym (ap toldSought (place .given .1))
+    ∙ seek .ensures) (omega (arith, c .if1 .left, word-at .ensures .0, word-at2 .ensures .0))
 
 pub find-spec : {M : Type 1} → statement M
 find-spec =
     tie.close
     (tie.spec
-    read-head-requires
-    enum-known-head
-    enum-known-why
+    (λ c κs. search needs)
+    (λ c. search needs)
+    (λ c. search needs)
     returns
     sub-count
     seek-requires
-    enum-known-place
+    (λ c. search needs)
     enum-told
-    plain-requires
+    (λ c κs. search needs)
     returns-2
     add-word-at
     word-at-requires
@@ -160,6 +166,6 @@ find-spec =
     add-word-at-2
     word-at-requires-2
     add-if1
-    refuse-requires
+    (λ c κs. search needs)
     returns-3
     returns-4)

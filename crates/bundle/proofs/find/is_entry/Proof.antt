@@ -10,9 +10,6 @@ returns c =
     let args = c .before .before .before .before .args in
     long-prefix (args .bundle .now) (args .prefix .now) (args .id .now) (args .place) (c .if1 .taken)
 
-sub-if2 : tie.Need-sub-if2
-sub-if2 c = search needs
-
 returns-2 : tie.Need-returns-2
 returns-2 c =
     let args = c .before .before .before .before .before .args in
@@ -32,4 +29,4 @@ returns-3 c =
     c .agrees .ensures ∙ entry-is (args .bundle .now) (args .prefix .now) (args .id .now) (args .place) (if1 .left) (if2 .left)
 
 pub is-entry-spec : {M : Type 1} → statement M
-is-entry-spec = tie.close (tie.spec returns sub-if2 returns-2 agrees-requires returns-3)
+is-entry-spec = tie.close (tie.spec returns (λ c. search needs) returns-2 agrees-requires returns-3)

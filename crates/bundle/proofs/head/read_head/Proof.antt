@@ -8,12 +8,6 @@ use Rattle.bundle.proofs.head.read_head.Statement.{statement}
 use Rattle.numbers.specs.Reply.{refused}
 use Rattle.bundle.proofs.head.read_head.Tie as tie
 
-is-bundle-requires : tie.Need-is-bundle-requires
-is-bundle-requires c κs = search needs
-
-refuse-requires : tie.Need-refuse-requires
-refuse-requires c κs = search needs
-
 returns : tie.Need-returns
 returns c =
     let args = c .before .before .before .before .args in
@@ -27,9 +21,6 @@ shared-slice-read-if2 c =
     let is-bundle = c .before .before .is-bundle in
     let if1 = c .before .if1 in
     omega (arith, bundle-long (args .bundle .now) (sym (is-bundle .ensures) ∙ not-false _ (if1 .left)))
-
-refuse-requires-2 : tie.Need-refuse-requires-2
-refuse-requires-2 c κs = search needs
 
 returns-2 : tie.Need-returns-2
 returns-2 c =
@@ -46,12 +37,6 @@ word-at-requires c κs =
     let if1 = c .before .before .if1 in
     omega (arith, bundle-long (args .bundle .now) (sym (is-bundle .ensures) ∙ not-false _ (if1 .left)))
 
-is-index-requires : tie.Need-is-index-requires
-is-index-requires c κs = search needs
-
-refuse-requires-3 : tie.Need-refuse-requires-3
-refuse-requires-3 c κs = search needs
-
 returns-3 : tie.Need-returns-3
 returns-3 c =
     let args = c .before .before .before .before .before .before .before .before .before .args in
@@ -61,7 +46,8 @@ returns-3 c =
     let word-at = c .before .before .before .word-at in
     let is-index = c .before .before .is-index in
     let if3 = c .before .if3 in
-    ap refused (c .refuse3 .ensures) ∙ head-3 (args .bundle .now) (sym (is-bundle .ensures) ∙ not-false _ (if1 .left)) (if2 .left) (word-at .ensures .0) (sym (is-index .ensures) ∙ not-true _ (if3 .taken))
+    ap refused (c .refuse3 .ensures) ∙ head-3 (args .bundle .now) (sym (is-bundle .ensures) ∙ not-false _ (if1 .left)) (if2 .left) (word-at .ensures .0) (sym (is-index .ensures)
+    ∙ not-true _ (if3 .taken))
 
 word-at-requires-2 : tie.Need-word-at-requires-2
 word-at-requires-2 c κs =
@@ -69,12 +55,6 @@ word-at-requires-2 c κs =
     let is-bundle = c .before .before .before .before .before .before .is-bundle in
     let if1 = c .before .before .before .before .before .if1 in
     omega (arith, bundle-long (args .bundle .now) (sym (is-bundle .ensures) ∙ not-false _ (if1 .left)))
-
-is-data-requires : tie.Need-is-data-requires
-is-data-requires c κs = search needs
-
-refuse-requires-4 : tie.Need-refuse-requires-4
-refuse-requires-4 c κs = search needs
 
 returns-4 : tie.Need-returns-4
 returns-4 c =
@@ -88,7 +68,8 @@ returns-4 c =
     let word-at2 = c .before .before .before .word-at2 in
     let is-data = c .before .before .is-data in
     let if4 = c .before .if4 in
-    ap refused (c .refuse4 .ensures) ∙ head-4 (args .bundle .now) (sym (is-bundle .ensures) ∙ not-false _ (if1 .left)) (if2 .left) (word-at .ensures .0) (sym (is-index .ensures) ∙ not-false _ (if3 .left)) (word-at2 .ensures .0) (sym (is-data .ensures) ∙ not-true _ (if4 .taken))
+    ap refused (c .refuse4 .ensures) ∙ head-4 (args .bundle .now) (sym (is-bundle .ensures) ∙ not-false _ (if1 .left)) (if2 .left) (word-at .ensures .0) (sym (is-index .ensures)
+    ∙ not-false _ (if3 .left)) (word-at2 .ensures .0) (sym (is-data .ensures) ∙ not-true _ (if4 .taken))
 
 word-at-requires-3 : tie.Need-word-at-requires-3
 word-at-requires-3 c κs =
@@ -96,12 +77,6 @@ word-at-requires-3 c κs =
     let is-bundle = c .before .before .before .before .before .before .before .before .before .is-bundle in
     let if1 = c .before .before .before .before .before .before .before .before .if1 in
     omega (arith, bundle-long (args .bundle .now) (sym (is-bundle .ensures) ∙ not-false _ (if1 .left)))
-
-is-end-requires : tie.Need-is-end-requires
-is-end-requires c κs = search needs
-
-refuse-requires-5 : tie.Need-refuse-requires-5
-refuse-requires-5 c κs = search needs
 
 returns-5 : tie.Need-returns-5
 returns-5 c =
@@ -118,7 +93,8 @@ returns-5 c =
     let word-at3 = c .before .before .before .word-at3 in
     let is-end = c .before .before .is-end in
     let if5 = c .before .if5 in
-    ap refused (c .refuse5 .ensures) ∙ head-5 (args .bundle .now) (sym (is-bundle .ensures) ∙ not-false _ (if1 .left)) (if2 .left) (word-at .ensures .0) (sym (is-index .ensures) ∙ not-false _ (if3 .left)) (word-at2 .ensures .0) (sym (is-data .ensures) ∙ not-false _ (if4 .left)) (word-at3 .ensures .0) (sym (is-end .ensures) ∙ not-true _ (if5 .taken))
+    ap refused (c .refuse5 .ensures) ∙ head-5 (args .bundle .now) (sym (is-bundle .ensures) ∙ not-false _ (if1 .left)) (if2 .left) (word-at .ensures .0) (sym (is-index .ensures)
+    ∙ not-false _ (if3 .left)) (word-at2 .ensures .0) (sym (is-data .ensures) ∙ not-false _ (if4 .left)) (word-at3 .ensures .0) (sym (is-end .ensures) ∙ not-true _ (if5 .taken))
 
 returns-6 : tie.Need-returns-6
 returns-6 c =
@@ -134,28 +110,29 @@ returns-6 c =
     let if4 = c .before .before .before .if4 in
     let word-at3 = c .before .before .word-at3 in
     let is-end = c .before .is-end in
-    head-6 (args .bundle .now) (sym (is-bundle .ensures) ∙ not-false _ (if1 .left)) (if2 .left) (word-at .ensures .0) (sym (is-index .ensures) ∙ not-false _ (if3 .left)) (word-at2 .ensures .0) (sym (is-data .ensures) ∙ not-false _ (if4 .left)) (word-at3 .ensures .0) (sym (is-end .ensures) ∙ not-false _ (c .if5 .left))
+    head-6 (args .bundle .now) (sym (is-bundle .ensures) ∙ not-false _ (if1 .left)) (if2 .left) (word-at .ensures .0) (sym (is-index .ensures)
+    ∙ not-false _ (if3 .left)) (word-at2 .ensures .0) (sym (is-data .ensures) ∙ not-false _ (if4 .left)) (word-at3 .ensures .0) (sym (is-end .ensures) ∙ not-false _ (c .if5 .left))
 
 pub read-head-spec : {M : Type 1} → statement M
 read-head-spec =
     tie.close
     (tie.spec
-    is-bundle-requires
-    refuse-requires
+    (λ c κs. search needs)
+    (λ c κs. search needs)
     returns
     shared-slice-read-if2
-    refuse-requires-2
+    (λ c κs. search needs)
     returns-2
     word-at-requires
-    is-index-requires
-    refuse-requires-3
+    (λ c κs. search needs)
+    (λ c κs. search needs)
     returns-3
     word-at-requires-2
-    is-data-requires
-    refuse-requires-4
+    (λ c κs. search needs)
+    (λ c κs. search needs)
     returns-4
     word-at-requires-3
-    is-end-requires
-    refuse-requires-5
+    (λ c κs. search needs)
+    (λ c κs. search needs)
     returns-5
     returns-6)

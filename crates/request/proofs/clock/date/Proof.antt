@@ -12,12 +12,6 @@ use Rattle.request.specs.Request.{at}
 use Rattle.request.specs.Told.{dated, Below}
 use Rattle.request.proofs.clock.date.Tie as tie
 
-has-form-requires : tie.Need-has-form-requires
-has-form-requires c κs = search needs
-
-refuse-requires : tie.Need-refuse-requires
-refuse-requires c κs = search needs
-
 returns : tie.Need-returns
 unfolding Below
 returns c =
@@ -49,9 +43,6 @@ part-requires-3 c κs =
 full-year-requires : tie.Need-full-year-requires
 full-year-requires c κs = omega (arith, c .part3 .ensures .1)
 
-day-number-requires : tie.Need-day-number-requires
-day-number-requires c κs = search needs
-
 returns-2 : tie.Need-returns-2
 returns-2 c =
     let args = c .before .before .before .before .before .before .before .before .args in
@@ -60,19 +51,22 @@ returns-2 c =
     let has-form = c .before .before .before .before .before .before .has-form in
     let if1 = c .before .before .before .before .before .if1 in
     let full-year = c .before .full-year in
-    let part3 = c .before .before .part3 in
-    (c .day-number .ensures .0 ∙ ap (λ (d : Date). at (args .place) (dated d)) (same-date refl (part2 .ensures .0) (part .ensures .0)) ∙ date-dated (args .text .now) (args .place) (sym (has-form .ensures) ∙ not-false _ (if1 .left)) (full-year .ensures ∙ ap fullYear (part3 .ensures .0)), c .day-number .ensures .1)
+    let part3 = c .before .before .part3 in (
+      c .day-number .ensures .0 ∙ ap (λ (d : Date). at (args .place) (dated d)) (same-date refl (part2 .ensures .0) (part .ensures .0))
+          ∙ date-dated (args .text .now) (args .place) (sym (has-form .ensures) ∙ not-false _ (if1 .left)) (full-year .ensures ∙ ap fullYear (part3 .ensures .0)),
+      c .day-number .ensures .1,
+    )
 
 pub date-spec : {M : Type 1} → statement M
 date-spec =
     tie.close
     (tie.spec
-    has-form-requires
-    refuse-requires
+    (λ c κs. search needs)
+    (λ c κs. search needs)
     returns
     part-requires
     part-requires-2
     part-requires-3
     full-year-requires
-    day-number-requires
+    (λ c κs. search needs)
     returns-2)

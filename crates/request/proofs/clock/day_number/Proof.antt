@@ -10,12 +10,6 @@ use Rattle.request.proofs.clock.day_number.Statement.{statement}
 use Rattle.request.specs.Told.{Below}
 use Rattle.request.proofs.clock.day_number.Tie as tie
 
-is-month-requires : tie.Need-is-month-requires
-is-month-requires c κs = search needs
-
-refuse-requires : tie.Need-refuse-requires
-refuse-requires c κs = search needs
-
 returns : tie.Need-returns
 unfolding Below
 returns c =
@@ -23,9 +17,6 @@ returns c =
     let is-month = c .before .before .is-month in
     let if1 = c .before .if1 in
     (ap refused (c .refuse .ensures) ∙ no-month _ (args .place) (sym (is-month .ensures) ∙ not-true _ (if1 .taken)), tt)
-
-is-leap-requires : tie.Need-is-leap-requires
-is-leap-requires c κs = search needs
 
 sub-days-of-months : tie.Need-sub-days-of-months
 sub-days-of-months c =
@@ -52,10 +43,8 @@ sub-if2 c =
     let args = c .before .before .before .before .before .args in
     let is-leap = c .before .before .is-leap in
     let days-of-months = c .before .days-of-months in
-    let m = in-month _ (sym (is-month .ensures) ∙ not-false _ (if1 .left)) in omega (arith, length-is (args .year) (args .month) (is-leap .ensures) (days-of-months .ensures .0) (c .days-of-months2 .ensures .0) (m .2))
-
-refuse-requires-2 : tie.Need-refuse-requires-2
-refuse-requires-2 c κs = search needs
+    let m = in-month _ (sym (is-month .ensures)
+    ∙ not-false _ (if1 .left)) in omega (arith, length-is (args .year) (args .month) (is-leap .ensures) (days-of-months .ensures .0) (c .days-of-months2 .ensures .0) (m .2))
 
 returns-2 : tie.Need-returns-2
 unfolding Below
@@ -130,15 +119,15 @@ pub day-number-spec : {M : Type 1} → statement M
 day-number-spec =
     tie.close
     (tie.spec
-    is-month-requires
-    refuse-requires
+    (λ c κs. search needs)
+    (λ c κs. search needs)
     returns
-    is-leap-requires
+    (λ c κs. search needs)
     sub-days-of-months
     days-of-months-requires
     days-of-months-requires-2
     sub-if2
-    refuse-requires-2
+    (λ c κs. search needs)
     returns-2
     sub-day-of
     add-day-of

@@ -5,26 +5,14 @@ use Rattle.calendar.proofs.Months.{in-january, in-leap, in-common}
 use Rattle.request.proofs.clock.days_of_months.Statement.{statement}
 use Rattle.request.proofs.clock.days_of_months.Tie as tie
 
-mul-days : tie.Need-mul-days
-mul-days c = search needs
-
-add-days : tie.Need-add-days
-add-days c = search needs
-
 returns : tie.Need-returns
 returns c = (in-january _ _ (c .before .pre) (c .if1 .taken), omega arith)
-
-sub-result : tie.Need-sub-result
-sub-result c = search needs
 
 returns-2 : tie.Need-returns-2
 returns-2 c =
     let pre = c .before .before .pre in
     let if1 = c .before .if1 in
     (in-leap _ _ (pre) (if1 .left) (c .if2 .taken), omega (arith, pre))
-
-sub-result-2 : tie.Need-sub-result-2
-sub-result-2 c = search needs
 
 returns-3 : tie.Need-returns-3
 returns-3 c =
@@ -34,4 +22,4 @@ returns-3 c =
 
 pub days-of-months-spec : {M : Type 1} → statement M
 days-of-months-spec =
-    tie.close (tie.spec mul-days add-days returns sub-result returns-2 sub-result-2 returns-3)
+    tie.close (tie.spec (λ c. search needs) (λ c. search needs) returns (λ c. search needs) returns-2 (λ c. search needs) returns-3)

@@ -4,17 +4,11 @@ use Rattle.request.proofs.Times.{year-new, year-old}
 use Rattle.request.proofs.clock.full_year.Statement.{statement}
 use Rattle.request.proofs.clock.full_year.Tie as tie
 
-add-result : tie.Need-add-result
-add-result c = search needs
-
 returns : tie.Need-returns
 returns c = year-new (c .before .args .year) (c .if1 .taken)
-
-add-result-2 : tie.Need-add-result-2
-add-result-2 c = search needs
 
 returns-2 : tie.Need-returns-2
 returns-2 c = year-old (c .before .args .year) (c .if1 .left)
 
 pub full-year-spec : {M : Type 1} → statement M
-full-year-spec = tie.close (tie.spec add-result returns add-result-2 returns-2)
+full-year-spec = tie.close (tie.spec (λ c. search needs) returns (λ c. search needs) returns-2)

@@ -51,15 +51,6 @@ part-requires-6 c κs =
     let pre = c .before .before .before .before .before .before .pre in
     let held = form-lengths momentForm (args .text .now) (pre) in (omega arith, omega arith)
 
-day-number-requires : tie.Need-day-number-requires
-day-number-requires c κs = search needs
-
-enum-known-days : tie.Need-enum-known-days
-enum-known-days c = search needs
-
-enum-known-why : tie.Need-enum-known-why
-enum-known-why c = search needs
-
 returns : tie.Need-returns
 returns c =
     let args = c .before .before .before .before .before .before .before .before .before .before .before .args in
@@ -72,15 +63,6 @@ returns c =
     let date : _ ≡ momentDate (args .text .now) = same-date (part .ensures .0) (part2 .ensures .0) (part3 .ensures .0) in
     let no = dated-refused (momentDate (args .text .now)) (args .place) (sym (ap toldWhole (why .given .1)) ∙ day-number .ensures .0 ∙ ap (λ (d : Date). at (args .place) (dated d)) date) in
     ap refused (no .1) ∙ moment-day (args .text .now) (args .place) (pre) (no .0)
-
-second-of-requires : tie.Need-second-of-requires
-second-of-requires c κs = search needs
-
-enum-known-seconds : tie.Need-enum-known-seconds
-enum-known-seconds c = search needs
-
-enum-known-why-2 : tie.Need-enum-known-why-2
-enum-known-why-2 c = search needs
 
 returns-2 : tie.Need-returns-2
 returns-2 c =
@@ -142,7 +124,8 @@ returns-3 c =
     let time : _ ≡ momentTime text = same-time (part4 .ensures .0) (part5 .ensures .0) (part6 .ensures .0) in
     let day = dated-given (momentDate text) (args .place) (sym (ap toldWhole (days .given .1)) ∙ day-number .ensures .0 ∙ ap (λ (d : Date). at (args .place) (dated d)) date) in
     let second = timely-given (momentTime text) (args .place) (sym (ap toldWhole (seconds .given .1)) ∙ second-of .ensures .0 ∙ ap (λ (d : Time). at (args .place) (timely d)) time) in
-    moment-is text (args .place) (pre) (day .0) (second .0) (toZ-ofZ w64 _ (sfits-of (c .instant-of .ok)) ∙ c .instant-of .ensures ∙ ap (λ (n : ℕ). instantOf n (seconds .given .0 .0)) (day .1) ∙ ap (instantOf _) (second .1))
+    moment-is text (args .place) (pre) (day .0) (second .0) (toZ-ofZ w64 _ (sfits-of (c .instant-of .ok)) ∙ c .instant-of .ensures ∙ ap (λ (n : ℕ). instantOf n (seconds .given .0 .0)) (day .1)
+    ∙ ap (instantOf _) (second .1))
 
 pub moment-spec : {M : Type 1} → statement M
 moment-spec =
@@ -154,13 +137,13 @@ moment-spec =
     part-requires-4
     part-requires-5
     part-requires-6
-    day-number-requires
-    enum-known-days
-    enum-known-why
+    (λ c κs. search needs)
+    (λ c. search needs)
+    (λ c. search needs)
     returns
-    second-of-requires
-    enum-known-seconds
-    enum-known-why-2
+    (λ c κs. search needs)
+    (λ c. search needs)
+    (λ c. search needs)
     returns-2
     instant-of-requires
     returns-3)

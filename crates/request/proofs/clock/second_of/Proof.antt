@@ -9,12 +9,6 @@ use Rattle.request.proofs.clock.second_of.Statement.{statement}
 use Rattle.request.specs.Told.{Below}
 use Rattle.request.proofs.clock.second_of.Tie as tie
 
-is-time-requires : tie.Need-is-time-requires
-is-time-requires c κs = search needs
-
-refuse-requires : tie.Need-refuse-requires
-refuse-requires c κs = search needs
-
 returns : tie.Need-returns
 unfolding Below
 returns c =
@@ -45,4 +39,4 @@ returns-2 c =
 pub second-of-spec : {M : Type 1} → statement M
 second-of-spec =
     tie.close
-    (tie.spec is-time-requires refuse-requires returns mul-t9 mul-t10 add-t11 add-t12 returns-2)
+    (tie.spec (λ c κs. search needs) (λ c κs. search needs) returns mul-t9 mul-t10 add-t11 add-t12 returns-2)

@@ -19,24 +19,6 @@ use Rattle.request.specs.Told.{signedTo}
 use Rattle.request.specs.declared.number.Digits.{Digits}
 use Rattle.request.proofs.clock.seconds.Tie as tie
 
-sign-size-requires : tie.Need-sign-size-requires
-sign-size-requires c κs = search needs
-
-first-requires : tie.Need-first-requires
-first-requires c κs = search needs
-
-sub-digits : tie.Need-sub-digits
-sub-digits c = search needs
-
-part-digits-start : tie.Need-part-digits-start
-part-digits-start c = search needs
-
-part-digits-end : tie.Need-part-digits-end
-part-digits-end c = search needs
-
-refuse-requires : tie.Need-refuse-requires
-refuse-requires c κs = search needs
-
 returns : tie.Need-returns
 returns c =
     let args = c .before .before .before .before .before .before .args in
@@ -44,9 +26,6 @@ returns c =
     let if1 = c .before .if1 in
     let rest = rest-is (args .text .now) (sign-size .result) ∙ sign-size .ensures .0 in
     ap refused (c .refuse .ensures) ∙ seconds-none (args .text .now) (args .place) (subst (λ (l : List ℕ). length l < 1) rest (if1 .taken))
-
-refuse-requires-2 : tie.Need-refuse-requires-2
-refuse-requires-2 c κs = search needs
 
 returns-2 : tie.Need-returns-2
 returns-2 c =
@@ -57,12 +36,6 @@ returns-2 c =
     let rest = rest-is (args .text .now) (sign-size .result) ∙ sign-size .ensures .0 in
     ap refused (c .refuse2 .ensures) ∙ seconds-long (args .text .now) (args .place) (subst (λ (l : List ℕ). 1 ≤ length l) rest (if1 .left)) (subst (λ (l : List ℕ). 19 < length l) rest (if2 .taken))
 
-every-requires : tie.Need-every-requires
-every-requires c κs = search needs
-
-refuse-requires-3 : tie.Need-refuse-requires-3
-refuse-requires-3 c κs = search needs
-
 returns-3 : tie.Need-returns-3
 returns-3 c =
     let args = c .before .before .before .before .before .before .before .before .before .args in
@@ -72,7 +45,8 @@ returns-3 c =
     let every = c .before .before .every in
     let if3 = c .before .if3 in
     let rest = rest-is (args .text .now) (sign-size .result) ∙ sign-size .ensures .0 in
-    ap refused (c .refuse3 .ensures) ∙ seconds-formless (args .text .now) (args .place) (subst (λ (l : List ℕ). 1 ≤ length l) rest (if1 .left)) (subst (λ (l : List ℕ). length l ≤ 19) rest (if2 .left)) (ap digits (sym rest) ∙ sym (every .ensures) ∙ not-true _ (if3 .taken))
+    ap refused (c .refuse3 .ensures) ∙ seconds-formless (args .text .now) (args .place) (subst (λ (l : List ℕ). 1 ≤ length l) rest (if1 .left)) (subst (λ (l : List ℕ). length l ≤ 19) rest
+    (if2 .left)) (ap digits (sym rest) ∙ sym (every .ensures) ∙ not-true _ (if3 .taken))
 
 value-requires : tie.Need-value-requires
 value-requires c κs =
@@ -80,9 +54,6 @@ value-requires c κs =
     let args = c .before .before .before .before .before .before .before .before .args in
     let sign-size = c .before .before .before .before .before .before .sign-size in
     (if2 .left, omega (arith, value-short 0 1 19 (take (length (args .text .now) - sign-size .result) (drop (sign-size .result) (args .text .now))) (omega arith) (if2 .left)))
-
-signed-requires : tie.Need-signed-requires
-signed-requires c κs = search needs
 
 returns-4 : tie.Need-returns-4
 returns-4 c =
@@ -99,24 +70,25 @@ returns-4 c =
     c .signed .ensures
     ∙ ap (λ (n : ℕ). at (args .place) (signedTo (eqb n 45) (value .result .value))) (first .ensures)
     ∙ ap (λ (n : ℕ). at (args .place) (signedTo (isMinus (args .text .now)) n)) size
-    ∙ seconds-signed (args .text .now) (args .place) (subst (λ (l : List ℕ). 1 ≤ length l) rest (if1 .left)) (subst (λ (l : List ℕ). length l ≤ 19) rest (if2 .left)) (ap digits (sym rest) ∙ sym (every .ensures) ∙ not-false _ (if3 .left))
+    ∙ seconds-signed (args .text .now) (args .place) (subst (λ (l : List ℕ). 1 ≤ length l) rest (if1 .left)) (subst (λ (l : List ℕ). length l ≤ 19) rest (if2 .left)) (ap digits (sym rest)
+    ∙ sym (every .ensures) ∙ not-false _ (if3 .left))
 
 pub seconds-spec : {M : Type 1} → statement M
 seconds-spec =
     tie.close
     (tie.spec
-    sign-size-requires
-    first-requires
-    sub-digits
-    part-digits-start
-    part-digits-end
-    refuse-requires
+    (λ c κs. search needs)
+    (λ c κs. search needs)
+    (λ c. search needs)
+    (λ c. search needs)
+    (λ c. search needs)
+    (λ c κs. search needs)
     returns
-    refuse-requires-2
+    (λ c κs. search needs)
     returns-2
-    every-requires
-    refuse-requires-3
+    (λ c κs. search needs)
+    (λ c κs. search needs)
     returns-3
     value-requires
-    signed-requires
+    (λ c κs. search needs)
     returns-4)

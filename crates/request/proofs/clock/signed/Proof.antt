@@ -17,21 +17,12 @@ returns c =
     let if1 = c .before .if1 in
     minus-none (args .minus) (args .size) (args .place) (if1 .taken) (c .if2 .taken)
 
-refuse-requires : tie.Need-refuse-requires
-refuse-requires c κs = search needs
-
 returns-2 : tie.Need-returns-2
 returns-2 c =
     let args = c .before .before .before .before .args in
     let if1 = c .before .before .before .if1 in
     let if3 = c .before .if3 in
     ap refused (c .refuse .ensures) ∙ minus-over (args .minus) (args .size) (args .place) (if1 .taken) (if3 .taken)
-
-sub-t8 : tie.Need-sub-t8
-sub-t8 c = search needs
-
-cast-t9 : tie.Need-cast-t9
-cast-t9 c = search needs
 
 sub-t10 : tie.Need-sub-t10
 sub-t10 c =
@@ -44,10 +35,8 @@ returns-3 c =
     let args = c .before .before .before .args in
     let if1 = c .before .before .if1 in
     let if2 = c .before .if2 in
-    minus-is (args .minus) (args .size) (args .place) (if1 .taken) (if2 .left) (c .if3 .left) (toZ-ofZ w64 _ (complement-fits w64 (args .size - 1) (omega (arith, if2 .left, c .if3 .left))) ∙ complement w64 (args .size - 1) (omega (arith, if2 .left, c .if3 .left)))
-
-refuse-requires-2 : tie.Need-refuse-requires-2
-refuse-requires-2 c κs = search needs
+    minus-is (args .minus) (args .size) (args .place) (if1 .taken) (if2 .left) (c .if3 .left) (toZ-ofZ w64 _ (complement-fits w64 (args .size - 1) (omega (arith, if2 .left, c .if3 .left)))
+    ∙ complement w64 (args .size - 1) (omega (arith, if2 .left, c .if3 .left)))
 
 returns-4 : tie.Need-returns-4
 returns-4 c =
@@ -55,9 +44,6 @@ returns-4 c =
     let if1 = c .before .before .if1 in
     let if4 = c .before .if4 in
     ap refused (c .refuse2 .ensures) ∙ plus-over (args .minus) (args .size) (args .place) (if1 .left) (if4 .taken)
-
-cast-t13 : tie.Need-cast-t13
-cast-t13 c = search needs
 
 returns-5 : tie.Need-returns-5
 returns-5 c =
@@ -70,13 +56,13 @@ signed-spec =
     tie.close
     (tie.spec
     returns
-    refuse-requires
+    (λ c κs. search needs)
     returns-2
-    sub-t8
-    cast-t9
+    (λ c. search needs)
+    (λ c. search needs)
     sub-t10
     returns-3
-    refuse-requires-2
+    (λ c κs. search needs)
     returns-4
-    cast-t13
+    (λ c. search needs)
     returns-5)

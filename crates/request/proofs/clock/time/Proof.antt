@@ -12,12 +12,6 @@ use Rattle.request.specs.Request.{at}
 use Rattle.request.specs.Told.{timely, Below}
 use Rattle.request.proofs.clock.time.Tie as tie
 
-has-form-requires : tie.Need-has-form-requires
-has-form-requires c κs = search needs
-
-refuse-requires : tie.Need-refuse-requires
-refuse-requires c κs = search needs
-
 returns : tie.Need-returns
 unfolding Below
 returns c =
@@ -46,9 +40,6 @@ part-requires-3 c κs =
     let if1 = c .before .before .if1 in
     let held = form-holds 6 255 (args .text .now) (sym (has-form .ensures) ∙ not-false _ (if1 .left)) in (omega arith, omega arith)
 
-second-of-requires : tie.Need-second-of-requires
-second-of-requires c κs = search needs
-
 returns-2 : tie.Need-returns-2
 returns-2 c =
     let args = c .before .before .before .before .before .before .before .args in
@@ -56,18 +47,21 @@ returns-2 c =
     let part2 = c .before .before .part2 in
     let part3 = c .before .part3 in
     let has-form = c .before .before .before .before .before .has-form in
-    let if1 = c .before .before .before .before .if1 in
-    (c .second-of .ensures .0 ∙ ap (λ (t : Time). at (args .place) (timely t)) (same-time (part .ensures .0) (part2 .ensures .0) (part3 .ensures .0)) ∙ time-timely (args .text .now) (args .place) (sym (has-form .ensures) ∙ not-false _ (if1 .left)), c .second-of .ensures .1)
+    let if1 = c .before .before .before .before .if1 in (
+      c .second-of .ensures .0 ∙ ap (λ (t : Time). at (args .place) (timely t)) (same-time (part .ensures .0) (part2 .ensures .0) (part3 .ensures .0))
+          ∙ time-timely (args .text .now) (args .place) (sym (has-form .ensures) ∙ not-false _ (if1 .left)),
+      c .second-of .ensures .1,
+    )
 
 pub time-spec : {M : Type 1} → statement M
 time-spec =
     tie.close
     (tie.spec
-    has-form-requires
-    refuse-requires
+    (λ c κs. search needs)
+    (λ c κs. search needs)
     returns
     part-requires
     part-requires-2
     part-requires-3
-    second-of-requires
+    (λ c κs. search needs)
     returns-2)

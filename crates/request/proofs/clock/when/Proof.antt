@@ -9,12 +9,6 @@ use Rattle.request.specs.Request.{at}
 use Rattle.request.specs.Told.{shown}
 use Rattle.request.proofs.clock.when.Tie as tie
 
-slice-aggregate-formed : tie.Need-slice-aggregate-formed
-slice-aggregate-formed c = search needs
-
-formed-requires : tie.Need-formed-requires
-formed-requires c κs = search needs
-
 moment-requires : tie.Need-moment-requires
 moment-requires c κs = sym (c .before .formed .ensures) ∙ c .if1 .taken
 
@@ -24,9 +18,6 @@ returns c =
     let formed = c .before .before .formed in
     let if1 = c .before .if1 in
     c .moment .ensures ∙ ap (λ (a : Answer When). shown (at (args .place) a) instantAt) (when-moment (args .text .now) (sym (formed .ensures) ∙ if1 .taken))
-
-seconds-requires : tie.Need-seconds-requires
-seconds-requires c κs = search needs
 
 returns-2 : tie.Need-returns-2
 returns-2 c =
@@ -39,9 +30,9 @@ pub when-spec : {M : Type 1} → statement M
 when-spec =
     tie.close
     (tie.spec
-    slice-aggregate-formed
-    formed-requires
+    (λ c. search needs)
+    (λ c κs. search needs)
     moment-requires
     returns
-    seconds-requires
+    (λ c κs. search needs)
     returns-2)

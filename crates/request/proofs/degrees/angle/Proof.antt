@@ -14,15 +14,6 @@ use Rattle.request.specs.Told.{IsSize}
 use Rattle.request.specs.declared.number.Digits.{Digits}
 use Rattle.request.proofs.degrees.angle.Tie as tie
 
-add-has-form : tie.Need-add-has-form
-add-has-form c = search needs
-
-has-form-requires : tie.Need-has-form-requires
-has-form-requires c κs = search needs
-
-refuse-requires : tie.Need-refuse-requires
-refuse-requires c κs = search needs
-
 returns : tie.Need-returns
 unfolding IsSize
 returns c =
@@ -37,9 +28,6 @@ part-requires c κs =
     let has-form = c .before .has-form in
     let held = form-holds (args .width + 2) 9 (args .text .now) (sym (has-form .ensures) ∙ not-false _ (c .if1 .left)) in (omega arith, held .0)
 
-refuse-requires-2 : tie.Need-refuse-requires-2
-refuse-requires-2 c κs = search needs
-
 returns-2 : tie.Need-returns-2
 unfolding IsSize
 returns-2 c =
@@ -47,8 +35,11 @@ returns-2 c =
     let has-form = c .before .before .before .before .has-form in
     let if1 = c .before .before .before .if1 in
     let part = c .before .before .part in
-    let if2 = c .before .if2 in
-    (ap refused (c .refuse2 .ensures) ∙ angle-over (args .width) (args .limit) (args .text .now) (sym (has-form .ensures) ∙ not-false _ (if1 .left)) (omega (arith, part .ensures .0, if2 .taken)) (args .place), tt)
+    let if2 = c .before .if2 in (
+      ap refused (c .refuse2 .ensures) ∙ angle-over (args .width) (args .limit) (args .text .now) (sym (has-form .ensures)
+          ∙ not-false _ (if1 .left)) (omega (arith, part .ensures .0, if2 .taken)) (args .place),
+      tt,
+    )
 
 part-requires-2 : tie.Need-part-requires-2
 part-requires-2 c κs =
@@ -57,9 +48,6 @@ part-requires-2 c κs =
     let if1 = c .before .before .if1 in
     let pre = c .before .before .before .before .before .pre in
     let held = form-holds (args .width + 2) 9 (args .text .now) (sym (has-form .ensures) ∙ not-false _ (if1 .left)) in (omega (arith, pre), omega arith)
-
-add-decimals : tie.Need-add-decimals
-add-decimals c = search needs
 
 decimals-requires : tie.Need-decimals-requires
 decimals-requires c κs =
@@ -78,7 +66,8 @@ mul-den c =
     let if2 = c .before .before .before .if2 in
     let decimals = c .before .decimals in
     let held = form-holds (args .width + 2) 9 (args .text .now) (sym (has-form .ensures) ∙ not-false _ (if1 .left)) in
-    let s = decimals-small (args .text .now) (args .width + 3) (part .result) (omega (arith, if2 .left)) (omega arith) (ap (λ (d : Digits). d .value) (decimals .ensures)) (ap (λ (d : Digits). d .scale) (decimals .ensures)) in
+    let s = decimals-small (args .text .now) (args .width + 3) (part .result) (omega (arith, if2 .left)) (omega arith) (ap (λ (d : Digits). d .value) (decimals .ensures)) (ap (λ
+    (d : Digits). d .scale) (decimals .ensures)) in
     omega (arith, s)
 
 mul-num : tie.Need-mul-num
@@ -92,7 +81,8 @@ mul-num c =
     let part2 = c .before .before .part2 in
     let pre = c .before .before .before .before .before .before .before .before .pre in
     let held = form-holds (args .width + 2) 9 (args .text .now) (sym (has-form .ensures) ∙ not-false _ (if1 .left)) in
-    let s = decimals-small (args .text .now) (args .width + 3) (part .result) (omega (arith, if2 .left)) (omega arith) (ap (λ (d : Digits). d .value) (decimals .ensures)) (ap (λ (d : Digits). d .scale) (decimals .ensures)) in
+    let s = decimals-small (args .text .now) (args .width + 3) (part .result) (omega (arith, if2 .left)) (omega arith) (ap (λ (d : Digits). d .value) (decimals .ensures)) (ap (λ
+    (d : Digits). d .scale) (decimals .ensures)) in
     omega (arith, degrees-small (part2 .result) (args .width) (60 * decimals .result .scale) (part2 .ensures .1) (pre .0) (omega (arith, s)))
 
 add-num : tie.Need-add-num
@@ -106,7 +96,8 @@ add-num c =
     let part2 = c .before .before .before .part2 in
     let pre = c .before .before .before .before .before .before .before .before .before .pre in
     let held = form-holds (args .width + 2) 9 (args .text .now) (sym (has-form .ensures) ∙ not-false _ (if1 .left)) in
-    let s = decimals-small (args .text .now) (args .width + 3) (part .result) (omega (arith, if2 .left)) (omega arith) (ap (λ (d : Digits). d .value) (decimals .ensures)) (ap (λ (d : Digits). d .scale) (decimals .ensures)) in
+    let s = decimals-small (args .text .now) (args .width + 3) (part .result) (omega (arith, if2 .left)) (omega arith) (ap (λ (d : Digits). d .value) (decimals .ensures)) (ap (λ
+    (d : Digits). d .scale) (decimals .ensures)) in
     omega (arith, s .small, degrees-small (part2 .result) (args .width) (60 * decimals .result .scale) (part2 .ensures .1) (pre .0) (omega (arith, s)))
 
 limited-requires : tie.Need-limited-requires
@@ -119,7 +110,8 @@ limited-requires c κs =
     let decimals = c .before .before .decimals in
     let pre = c .before .before .before .before .before .before .before .before .before .pre in
     let held = form-holds (args .width + 2) 9 (args .text .now) (sym (has-form .ensures) ∙ not-false _ (if1 .left)) in
-    let s = decimals-small (args .text .now) (args .width + 3) (part .result) (omega (arith, if2 .left)) (omega arith) (ap (λ (d : Digits). d .value) (decimals .ensures)) (ap (λ (d : Digits). d .scale) (decimals .ensures)) in
+    let s = decimals-small (args .text .now) (args .width + 3) (part .result) (omega (arith, if2 .left)) (omega arith) (ap (λ (d : Digits). d .value) (decimals .ensures)) (ap (λ
+    (d : Digits). d .scale) (decimals .ensures)) in
     (omega (arith, s), omega (arith, s), pre .1)
 
 returns-3 : tie.Need-returns-3
@@ -135,22 +127,25 @@ returns-3 c =
     let width = args .width in
     let value = ap (λ (d : Digits). d .value) (decimals .ensures) ∙ ap (λ (n : ℕ). valueFrom n (drop (width + 3) text)) (part .ensures .0) in
     let den = ap (λ (d : Digits). 60 * d .scale) (decimals .ensures) in
-    let num = ap (λ (n : ℕ). n * (60 * decimals .result .scale) + decimals .result .value) (part2 .ensures .0) ∙ ap (λ (n : ℕ). partOf 0 width text * (60 * decimals .result .scale) + n) value in
-    (c .limited .ensures .0 ∙ ap (at (args .place)) (angle-limited width (args .limit) text (sym (has-form .ensures) ∙ not-false _ (if1 .left)) (omega (arith, part .ensures .0, if2 .left)) den num), c .limited .ensures .1)
+    let num = ap (λ (n : ℕ). n * (60 * decimals .result .scale) + decimals .result .value) (part2 .ensures .0) ∙ ap (λ (n : ℕ). partOf 0 width text * (60 * decimals .result .scale) + n) value in (
+      c .limited .ensures .0 ∙ ap (at (args .place)) (angle-limited width (args .limit) text (sym (has-form .ensures)
+          ∙ not-false _ (if1 .left)) (omega (arith, part .ensures .0, if2 .left)) den num),
+      c .limited .ensures .1,
+    )
 
 pub angle-spec : {M : Type 1} → statement M
 angle-spec =
     tie.close
     (tie.spec
-    add-has-form
-    has-form-requires
-    refuse-requires
+    (λ c. search needs)
+    (λ c κs. search needs)
+    (λ c κs. search needs)
     returns
     part-requires
-    refuse-requires-2
+    (λ c κs. search needs)
     returns-2
     part-requires-2
-    add-decimals
+    (λ c. search needs)
     decimals-requires
     mul-den
     mul-num

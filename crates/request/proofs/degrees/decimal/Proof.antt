@@ -14,12 +14,6 @@ use Rattle.request.specs.Told.{IsSize}
 use Rattle.request.specs.declared.number.Digits.{Digits}
 use Rattle.request.proofs.degrees.decimal.Tie as tie
 
-find-requires : tie.Need-find-requires
-find-requires c κs = search needs
-
-refuse-requires : tie.Need-refuse-requires
-refuse-requires c κs = search needs
-
 returns : tie.Need-returns
 unfolding IsSize
 returns c =
@@ -27,9 +21,6 @@ returns c =
     let find = c .before .before .find in
     let if1 = c .before .if1 in
     (ap refused (c .refuse .ensures) ∙ ap (at (args .place)) (decimal-none (args .limit) (args .text .now) (whole-is _ _ (find .ensures .0)) (if1 .taken)), tt)
-
-refuse-requires-2 : tie.Need-refuse-requires-2
-refuse-requires-2 c κs = search needs
 
 returns-2 : tie.Need-returns-2
 unfolding IsSize
@@ -40,12 +31,6 @@ returns-2 c =
     let if2 = c .before .if2 in
     (ap refused (c .refuse2 .ensures) ∙ ap (at (args .place)) (decimal-long (args .limit) (args .text .now) (whole-is _ _ (find .ensures .0)) (if1 .left) (if2 .taken)), tt)
 
-has-form-requires : tie.Need-has-form-requires
-has-form-requires c κs = search needs
-
-refuse-requires-3 : tie.Need-refuse-requires-3
-refuse-requires-3 c κs = search needs
-
 returns-3 : tie.Need-returns-3
 unfolding IsSize
 returns-3 c =
@@ -54,8 +39,11 @@ returns-3 c =
     let if1 = c .before .before .before .before .if1 in
     let if2 = c .before .before .before .if2 in
     let has-form = c .before .before .has-form in
-    let if3 = c .before .if3 in
-    (ap refused (c .refuse3 .ensures) ∙ ap (at (args .place)) (decimal-formless (args .limit) (args .text .now) (whole-is _ _ (find .ensures .0)) (if1 .left) (if2 .left) (sym (has-form .ensures) ∙ not-true _ (if3 .taken))), tt)
+    let if3 = c .before .if3 in (
+      ap refused (c .refuse3 .ensures) ∙ ap (at (args .place)) (decimal-formless (args .limit) (args .text .now) (whole-is _ _ (find .ensures .0)) (if1 .left) (if2 .left) (sym
+          (has-form .ensures) ∙ not-true _ (if3 .taken))),
+      tt,
+    )
 
 part-requires : tie.Need-part-requires
 part-requires c κs =
@@ -64,9 +52,6 @@ part-requires c κs =
     let has-form = c .before .has-form in
     let if2 = c .before .before .if2 in
     let held = form-holds (find .result) 9 (args .text .now) (sym (has-form .ensures) ∙ not-false _ (c .if3 .left)) in (omega (arith, if2 .left), omega arith)
-
-add-decimals : tie.Need-add-decimals
-add-decimals c = search needs
 
 decimals-requires : tie.Need-decimals-requires
 decimals-requires c κs =
@@ -87,7 +72,8 @@ limited-requires c κs =
     let if2 = c .before .before .before .before .if2 in
     let pre = c .before .before .before .before .before .before .before .before .pre in
     let held = form-holds (find .result) 9 (args .text .now) (sym (has-form .ensures) ∙ not-false _ (if3 .left)) in
-    let s = decimals-small (args .text .now) (find .result + 1) (part .result) (omega (arith, part .ensures .1, tens (if2 .left))) (omega arith) (ap (λ (d : Digits). d .value) (c .decimals .ensures)) (ap (λ (d : Digits). d .scale) (c .decimals .ensures)) in
+    let s = decimals-small (args .text .now) (find .result + 1) (part .result) (omega (arith, part .ensures .1, tens (if2 .left))) (omega arith) (ap (λ (d : Digits). d .value)
+    (c .decimals .ensures)) (ap (λ (d : Digits). d .scale) (c .decimals .ensures)) in
     (s .some, omega (arith, s), pre)
 
 returns-4 : tie.Need-returns-4
@@ -101,23 +87,26 @@ returns-4 c =
     let has-form = c .before .before .before .before .has-form in
     let if3 = c .before .before .before .if3 in
     let text = args .text .now in
-    let value = ap (λ (d : Digits). d .value) (decimals .ensures) ∙ ap (λ (n : ℕ). valueFrom n (drop (find .result + 1) text)) (part .ensures .0) in
-    (c .limited .ensures .0 ∙ ap (at (args .place)) (decimal-limited (args .limit) text (whole-is _ _ (find .ensures .0)) (if1 .left) (if2 .left) (sym (has-form .ensures) ∙ not-false _ (if3 .left)) (ap (λ (d : Digits). d .scale) (decimals .ensures)) value), c .limited .ensures .1)
+    let value = ap (λ (d : Digits). d .value) (decimals .ensures) ∙ ap (λ (n : ℕ). valueFrom n (drop (find .result + 1) text)) (part .ensures .0) in (
+      c .limited .ensures .0 ∙ ap (at (args .place)) (decimal-limited (args .limit) text (whole-is _ _ (find .ensures .0)) (if1 .left) (if2 .left) (sym (has-form .ensures)
+          ∙ not-false _ (if3 .left)) (ap (λ (d : Digits). d .scale) (decimals .ensures)) value),
+      c .limited .ensures .1,
+    )
 
 pub decimal-spec : {M : Type 1} → statement M
 decimal-spec =
     tie.close
     (tie.spec
-    find-requires
-    refuse-requires
+    (λ c κs. search needs)
+    (λ c κs. search needs)
     returns
-    refuse-requires-2
+    (λ c κs. search needs)
     returns-2
-    has-form-requires
-    refuse-requires-3
+    (λ c κs. search needs)
+    (λ c κs. search needs)
     returns-3
     part-requires
-    add-decimals
+    (λ c. search needs)
     decimals-requires
     limited-requires
     returns-4)

@@ -15,15 +15,6 @@ use Rattle.request.proofs.degrees.decimals.Tie as tie
 returns : tie.Need-returns
 returns c = no-decimals (c .before .before .args .text .now) (c .before .before .args .from) (c .before .before .args .start) (c .if1 .taken)
 
-sub-value : tie.Need-sub-value
-sub-value c = search needs
-
-part-value-start : tie.Need-part-value-start
-part-value-start c = search needs
-
-part-value-end : tie.Need-part-value-end
-part-value-end c = search needs
-
 value-requires : tie.Need-value-requires
 value-requires c κs =
     let args = c .before .before .before .args in
@@ -39,4 +30,4 @@ returns-2 c =
 
 pub decimals-spec : {M : Type 1} → statement M
 decimals-spec =
-    tie.close (tie.spec returns sub-value part-value-start part-value-end value-requires returns-2)
+    tie.close (tie.spec returns (λ c. search needs) (λ c. search needs) (λ c. search needs) value-requires returns-2)

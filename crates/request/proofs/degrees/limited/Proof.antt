@@ -12,9 +12,6 @@ use Rattle.request.proofs.degrees.limited.Tie as tie
 mul-if1 : tie.Need-mul-if1
 mul-if1 c = omega (arith, c .pre .1, mul-le-mul-right (c .args .den) (c .pre .2))
 
-refuse-requires : tie.Need-refuse-requires
-refuse-requires c κs = search needs
-
 returns : tie.Need-returns
 unfolding IsSize
 returns c =
@@ -30,4 +27,4 @@ returns-2 c =
     (limit-in (args .limit) (args .num) (args .den) (args .place) (c .if1 .left), (pre .0, small-size (args .limit) (args .num) (args .den) (pre .0) (pre .2) (c .if1 .left)))
 
 pub limited-spec : {M : Type 1} → statement M
-limited-spec = tie.close (tie.spec mul-if1 refuse-requires returns returns-2)
+limited-spec = tie.close (tie.spec mul-if1 (λ c κs. search needs) returns returns-2)

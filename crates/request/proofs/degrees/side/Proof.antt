@@ -6,23 +6,11 @@ use Rattle.request.proofs.Numerals.{side-plus, side-minus, side-none}
 use Rattle.request.proofs.degrees.side.Statement.{statement}
 use Rattle.request.proofs.degrees.side.Tie as tie
 
-slice-aggregate-formed : tie.Need-slice-aggregate-formed
-slice-aggregate-formed c = search needs
-
-formed-requires : tie.Need-formed-requires
-formed-requires c κs = search needs
-
 returns : tie.Need-returns
 returns c =
     let args = c .before .before .before .before .args in
     let formed = c .before .formed in
     side-plus (args .plus) (args .minus) (args .text .now) (args .place) (sym (formed .ensures) ∙ c .if1 .taken)
-
-slice-aggregate-formed-2 : tie.Need-slice-aggregate-formed-2
-slice-aggregate-formed-2 c = search needs
-
-formed-requires-2 : tie.Need-formed-requires-2
-formed-requires-2 c κs = search needs
 
 returns-2 : tie.Need-returns-2
 returns-2 c =
@@ -31,9 +19,6 @@ returns-2 c =
     let if1 = c .before .before .before .if1 in
     let formed2 = c .before .formed2 in
     side-minus (args .plus) (args .minus) (args .text .now) (args .place) (sym (formed .ensures) ∙ if1 .left) (sym (formed2 .ensures) ∙ c .if2 .taken)
-
-refuse-requires : tie.Need-refuse-requires
-refuse-requires c κs = search needs
 
 returns-3 : tie.Need-returns-3
 returns-3 c =
@@ -48,11 +33,11 @@ pub side-spec : {M : Type 1} → statement M
 side-spec =
     tie.close
     (tie.spec
-    slice-aggregate-formed
-    formed-requires
+    (λ c. search needs)
+    (λ c κs. search needs)
     returns
-    slice-aggregate-formed-2
-    formed-requires-2
+    (λ c. search needs)
+    (λ c κs. search needs)
     returns-2
-    refuse-requires
+    (λ c κs. search needs)
     returns-3)

@@ -6,9 +6,6 @@ use Rattle.request.proofs.Numerals.{first-some, plus-sign, minus-sign, 
 use Rattle.request.proofs.degrees.sign_size.Statement.{statement}
 use Rattle.request.proofs.degrees.sign_size.Tie as tie
 
-first-requires : tie.Need-first-requires
-first-requires c κs = search needs
-
 returns : tie.Need-returns
 returns c =
     let args = c .before .before .before .args in
@@ -30,4 +27,4 @@ returns-3 c =
     (no-sign (args .text .now) (λ e. if1 .left (first .ensures ∙ e)) (λ e. c .if2 .left (first .ensures ∙ e)), omega arith)
 
 pub sign-size-spec : {M : Type 1} → statement M
-sign-size-spec = tie.close (tie.spec first-requires returns returns-2 returns-3)
+sign-size-spec = tie.close (tie.spec (λ c κs. search needs) returns returns-2 returns-3)

@@ -11,35 +11,11 @@ use Rattle.request.specs.Number.{decimalOf, nearestTo}
 use Rattle.request.specs.Request.{at}
 use Rattle.request.proofs.degrees.signed_degrees.Tie as tie
 
-sign-size-requires : tie.Need-sign-size-requires
-sign-size-requires c κs = search needs
-
-first-requires : tie.Need-first-requires
-first-requires c κs = search needs
-
-sub-decimal : tie.Need-sub-decimal
-sub-decimal c = search needs
-
-part-decimal-start : tie.Need-part-decimal-start
-part-decimal-start c = search needs
-
-part-decimal-end : tie.Need-part-decimal-end
-part-decimal-end c = search needs
-
-decimal-requires : tie.Need-decimal-requires
-decimal-requires c κs = search needs
-
-enum-known-size : tie.Need-enum-known-size
-enum-known-size c = search needs
-
 nearest-to-requires : tie.Need-nearest-to-requires
 nearest-to-requires c κs =
     let size = c .before .size in
     let decimal = c .before .before .before .decimal in
     size-held (size .given .1) (decimal .ensures .1)
-
-enum-known-size-2 : tie.Need-enum-known-size-2
-enum-known-size-2 c = search needs
 
 returns : tie.Need-returns
 returns c =
@@ -50,7 +26,8 @@ returns c =
     let first = c .before .before .before .before .before .before .first in
     let text = args .text .now in
     let read = decimal .ensures .0 ∙ ap (λ (l : List ℕ). at (args .place) (decimalOf (args .limit) l)) (rest-is text (sign-size .result) ∙ sign-size .ensures .0) in
-    degrees-are (args .limit) text (args .place) read (size .given .1) (c .nearest-to .ensures ∙ ap (λ (n : ℕ). nearestTo (record { minus = eqb n 45; size = record { num = size .given .0 .0; den = size .given .0 .1 .0 } })) (first .ensures))
+    degrees-are (args .limit) text (args .place) read (size .given .1) (c .nearest-to .ensures
+    ∙ ap (λ (n : ℕ). nearestTo (record { minus = eqb n 45; size = record { num = size .given .0 .0; den = size .given .0 .1 .0 } })) (first .ensures))
 
 returns-2 : tie.Need-returns-2
 returns-2 c =
@@ -66,14 +43,14 @@ pub signed-degrees-spec : {M : Type 1} → statement M
 signed-degrees-spec =
     tie.close
     (tie.spec
-    sign-size-requires
-    first-requires
-    sub-decimal
-    part-decimal-start
-    part-decimal-end
-    decimal-requires
-    enum-known-size
+    (λ c κs. search needs)
+    (λ c κs. search needs)
+    (λ c. search needs)
+    (λ c. search needs)
+    (λ c. search needs)
+    (λ c κs. search needs)
+    (λ c. search needs)
     nearest-to-requires
-    enum-known-size-2
+    (λ c. search needs)
     returns
     returns-2)

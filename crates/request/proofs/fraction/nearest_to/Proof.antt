@@ -6,9 +6,6 @@ use Rattle.request.proofs.Quotients.{nearest-zero, nearest-minus, neare
 use Rattle.request.proofs.fraction.nearest_to.Statement.{statement}
 use Rattle.request.proofs.fraction.nearest_to.Tie as tie
 
-of-bits-requires : tie.Need-of-bits-requires
-of-bits-requires c κs = search needs
-
 returns : tie.Need-returns
 returns c =
     let args = c .before .before .args in
@@ -34,4 +31,4 @@ returns-3 c =
 
 pub nearest-to-spec : {M : Type 1} → statement M
 nearest-to-spec =
-    tie.close (tie.spec of-bits-requires returns nearest-fraction-requires returns-2 returns-3)
+    tie.close (tie.spec (λ c κs. search needs) returns nearest-fraction-requires returns-2 returns-3)

@@ -13,9 +13,6 @@ returns-2 c =
     let if1 = c .before .if1 in
     simp (le-leb 48 (args .byte) (if1 .left), lt-leb (args .byte) 57 (c .if2 .taken))
 
-cast-result : tie.Need-cast-result
-cast-result c = search needs
-
 returns-3 : tie.Need-returns-3
 returns-3 c =
     let args = c .before .before .args in
@@ -23,4 +20,4 @@ returns-3 c =
     simp (le-leb 48 (args .byte) (if1 .left), le-leb (args .byte) 57 (c .if2 .left))
 
 pub digit-spec : {M : Type 1} → statement M
-digit-spec = tie.close (tie.spec returns returns-2 cast-result returns-3)
+digit-spec = tie.close (tie.spec returns returns-2 (λ c. search needs) returns-3)

@@ -19,9 +19,6 @@ slice-aggregate-every c =
     let if1 = c .before .if1 in
     sym (length-take-le (args .width) (args .text .now) (if1 .left))
 
-every-requires : tie.Need-every-requires
-every-requires c κs = search needs
-
 returns-2 : tie.Need-returns-2
 returns-2 c =
     let args = c .before .before .before .before .before .args in
@@ -29,25 +26,14 @@ returns-2 c =
     let every = c .before .every in
     form-other (args .width) (args .most) (args .text .now) (if1 .left) (sym (every .ensures) ∙ not-true _ (c .if2 .taken))
 
-sub-is-tail : tie.Need-sub-is-tail
-sub-is-tail c = search needs
-
-part-is-tail-start : tie.Need-part-is-tail-start
-part-is-tail-start c = search needs
-
-part-is-tail-end : tie.Need-part-is-tail-end
-part-is-tail-end c = search needs
-
-is-tail-requires : tie.Need-is-tail-requires
-is-tail-requires c κs = search needs
-
 returns-3 : tie.Need-returns-3
 returns-3 c =
     let args = c .before .before .before .before .before .before .before .args in
     let if1 = c .before .before .before .before .before .if1 in
     let every = c .before .before .before .every in
     let if2 = c .before .before .if2 in
-    c .is-tail .ensures ∙ ap (isTail (args .most)) (rest-is (args .text .now) (args .width)) ∙ form-is (args .width) (args .most) (args .text .now) (if1 .left) (sym (every .ensures) ∙ not-false _ (if2 .left))
+    c .is-tail .ensures ∙ ap (isTail (args .most)) (rest-is (args .text .now) (args .width)) ∙ form-is (args .width) (args .most) (args .text .now) (if1 .left) (sym (every .ensures)
+    ∙ not-false _ (if2 .left))
 
 pub has-form-spec : {M : Type 1} → statement M
 has-form-spec =
@@ -55,10 +41,10 @@ has-form-spec =
     (tie.spec
     returns
     slice-aggregate-every
-    every-requires
+    (λ c κs. search needs)
     returns-2
-    sub-is-tail
-    part-is-tail-start
-    part-is-tail-end
-    is-tail-requires
+    (λ c. search needs)
+    (λ c. search needs)
+    (λ c. search needs)
+    (λ c κs. search needs)
     returns-3)

@@ -13,9 +13,6 @@ use Rattle.request.proofs.number.is_tail.Tie as tie
 returns : tie.Need-returns
 returns c = tail-none (c .before .before .args .most) (c .before .before .args .text .now) (c .if1 .taken)
 
-shared-slice-read-if2 : tie.Need-shared-slice-read-if2
-shared-slice-read-if2 c = omega arith
-
 returns-2 : tie.Need-returns-2
 returns-2 c =
     let args = c .before .before .before .before .args in
@@ -28,26 +25,11 @@ returns-3 c =
     let if1 = c .before .before .before .if1 in
     tail-empty (args .most) (args .text .now) (if1 .left) (c .if3 .taken)
 
-sub-if4 : tie.Need-sub-if4
-sub-if4 c = omega arith
-
 returns-4 : tie.Need-returns-4
 returns-4 c =
     let args = c .before .before .before .before .before .before .args in
     let if1 = c .before .before .before .before .if1 in
     tail-long (args .most) (args .text .now) (if1 .left) (c .if4 .taken)
-
-sub-every : tie.Need-sub-every
-sub-every c = search needs
-
-part-every-start : tie.Need-part-every-start
-part-every-start c = search needs
-
-part-every-end : tie.Need-part-every-end
-part-every-end c = search needs
-
-every-requires : tie.Need-every-requires
-every-requires c κs = search needs
 
 returns-5 : tie.Need-returns-5
 returns-5 c =
@@ -63,13 +45,13 @@ is-tail-spec =
     tie.close
     (tie.spec
     returns
-    shared-slice-read-if2
+    (λ c. omega arith)
     returns-2
     returns-3
-    sub-if4
+    (λ c. omega arith)
     returns-4
-    sub-every
-    part-every-start
-    part-every-end
-    every-requires
+    (λ c. search needs)
+    (λ c. search needs)
+    (λ c. search needs)
+    (λ c κs. search needs)
     returns-5)

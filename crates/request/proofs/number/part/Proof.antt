@@ -10,23 +10,16 @@ use Rattle.request.specs.Number.{valueFrom, partOf}
 use Rattle.request.specs.declared.number.Digits.{Digits}
 use Rattle.request.proofs.number.part.Tie as tie
 
-add-to : tie.Need-add-to
-add-to c = search needs
-
-sub-value : tie.Need-sub-value
-sub-value c = search needs
-
-part-value-start : tie.Need-part-value-start
-part-value-start c = search needs
-
-part-value-end : tie.Need-part-value-end
-part-value-end c = search needs
-
 value-requires : tie.Need-value-requires
 value-requires c κs =
     let args = c .before .before .args in
     let pre = c .before .before .pre in
-    let few : length (take (args .from + args .n - args .from) (drop (args .from) (args .text .now))) ≤ 4 = omega (arith, pre, length-take (args .from + args .n - args .from) (drop (args .from) (args .text .now))) in
+    let few : length (take (args .from + args .n - args .from) (drop (args .from) (args .text .now))) ≤ 4 = omega (
+      arith,
+      pre,
+      length-take (args .from + args .n - args .from) (drop (args .from)
+          (args .text .now)),
+    ) in
     (omega arith, omega (arith, value-short 0 1 4 (take (args .from + args .n - args .from) (drop (args .from) (args .text .now))) (omega arith) few))
 
 returns : tie.Need-returns
@@ -34,9 +27,17 @@ unfolding partOf
 returns c =
     let text = c .before .before .before .args .text .now in
     let same : c .before .before .before .args .from + c .before .before .before .args .n - c .before .before .before .args .from ≡ c .before .before .before .args .n = omega arith in
-    let value : c .value .result .value ≡ partOf (c .before .before .before .args .from) (c .before .before .before .args .n) text = ap (λ (d : Digits). d .value) (c .value .ensures) ∙ ap (λ (k : ℕ). valueFrom 0 (take k (drop (c .before .before .before .args .from) text))) same in
-    (value, omega (arith, value, value-short 0 1 (c .before .before .before .args .n) (take (c .before .before .before .args .n) (drop (c .before .before .before .args .from) text)) (omega arith) (omega (arith, length-take (c .before .before .before .args .n) (drop (c .before .before .before .args .from) text)))))
+    let value : c .value .result .value ≡ partOf (c .before .before .before .args .from) (c .before .before .before .args .n) text = ap (λ (d : Digits). d .value) (c .value .ensures)
+    ∙ ap (λ (k : ℕ). valueFrom 0 (take k (drop (c .before .before .before .args .from) text))) same in (
+      value,
+      omega (
+        arith,
+        value,
+        value-short 0 1 (c .before .before .before .args .n) (take (c .before .before .before .args .n) (drop (c .before .before .before .args .from) text))
+            (omega arith) (omega (arith, length-take (c .before .before .before .args .n) (drop (c .before .before .before .args .from) text))),
+      ),
+    )
 
 pub part-spec : {M : Type 1} → statement M
 part-spec =
-    tie.close (tie.spec add-to sub-value part-value-start part-value-end value-requires returns)
+    tie.close (tie.spec (λ c. search needs) (λ c. search needs) (λ c. search needs) (λ c. search needs) value-requires returns)

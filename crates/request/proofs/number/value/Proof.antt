@@ -26,12 +26,6 @@ mul-value c =
     let on = value-on (args .text .now) (loop .at) (loop .value) (c .loop-test .taken) in
     omega (arith, on, loop .inv .0, pre .1, value-least (10 * loop .value + digitOf (getD (args .text .now) (loop .at) 0)) (drop (loop .at + 1) (args .text .now)))
 
-shared-slice-read-digit : tie.Need-shared-slice-read-digit Inv-loop μ-loop
-shared-slice-read-digit c = omega arith
-
-digit-requires : tie.Need-digit-requires Inv-loop μ-loop
-digit-requires c κs = search needs
-
 add-value : tie.Need-add-value Inv-loop μ-loop
 add-value c =
     let args = c .before .before .before .before .before .args in
@@ -48,25 +42,24 @@ mul-scale c =
     let few : loop .at + 1 ≤ 19 = omega (arith, pre .0) in
     omega (arith, tens few, ten-more (loop .at), loop .inv .1)
 
-add-at : tie.Need-add-at Inv-loop μ-loop
-add-at c = omega arith
-
-loop-less : tie.Need-loop-less Inv-loop μ-loop
-loop-less c = omega arith
-
 loop-again : tie.Need-loop-again Inv-loop μ-loop
 loop-again c =
     let args = c .before .before .before .before .before .args in
     let loop = c .before .before .before .loop in
     let loop-test = c .before .before .loop-test in
-    let text = args .text .now in
-    (ap (λ (d : ℕ). valueFrom (10 * loop .value + d) (drop (loop .at + 1) text)) (c .digit .ensures) ∙ value-on text (loop .at) (loop .value) (loop-test .taken) ∙ loop .inv .0, ap (λ (s : ℕ). 10 * s) (loop .inv .1) ∙ sym (ten-more (loop .at)), omega arith)
+    let text = args .text .now in (
+      ap (λ (d : ℕ). valueFrom (10 * loop .value + d) (drop (loop .at + 1) text)) (c .digit .ensures) ∙ value-on text (loop .at) (loop .value) (loop-test .taken)
+          ∙ loop .inv .0,
+      ap (λ (s : ℕ). 10 * s) (loop .inv .1) ∙ sym (ten-more (loop .at)),
+      omega arith,
+    )
 
 returns : tie.Need-returns Inv-loop μ-loop
 returns c =
     let args = c .before .before .before .args in
     let loop = c .before .loop in
-    same-digits (value-end (args .text .now) (loop .at) (loop .value) (c .loop-test .left) ∙ loop .inv .0) (loop .inv .1 ∙ ap (λ (k : ℕ). 10 ^ k) (let z : loop .at ≡ length (args .text .now) = omega (arith, loop .inv) in z))
+    same-digits (value-end (args .text .now) (loop .at) (loop .value) (c .loop-test .left) ∙ loop .inv .0) (loop .inv .1
+    ∙ ap (λ (k : ℕ). 10 ^ k) (let z : loop .at ≡ length (args .text .now) = omega (arith, loop .inv) in z))
 
 pub value-spec : {M : Type 1} → statement M
 value-spec =
@@ -76,11 +69,11 @@ value-spec =
     μ-loop
     loop-holds
     mul-value
-    shared-slice-read-digit
-    digit-requires
+    (λ c. omega arith)
+    (λ c κs. search needs)
     add-value
     mul-scale
-    add-at
-    loop-less
+    (λ c. omega arith)
+    (λ c. omega arith)
     loop-again
     returns)

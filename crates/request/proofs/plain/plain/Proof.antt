@@ -16,23 +16,11 @@ use Rattle.request.specs.Number.{degreesOf, nearestTo}
 use Rattle.request.specs.Told.{toldDegrees, toldInstant}
 use Rattle.request.proofs.plain.plain.Tie as tie
 
-find-requires : tie.Need-find-requires
-find-requires c κs = search needs
-
 slice-aggregate-signed-degrees : tie.Need-slice-aggregate-signed-degrees
 slice-aggregate-signed-degrees c =
     let find = c .before .find in
     let args = c .before .before .before .args in
     sym (length-take-le (find .result) (args .line .now) (find .ensures .1))
-
-signed-degrees-requires : tie.Need-signed-degrees-requires
-signed-degrees-requires c κs = search needs
-
-enum-known-lat : tie.Need-enum-known-lat
-enum-known-lat c = search needs
-
-enum-known-why : tie.Need-enum-known-why
-enum-known-why c = search needs
 
 returns : tie.Need-returns
 returns c =
@@ -50,24 +38,6 @@ skip-requires c κs =
 find-requires-2 : tie.Need-find-requires-2
 find-requires-2 c κs = c .skip .ensures .1
 
-sub-signed-degrees : tie.Need-sub-signed-degrees
-sub-signed-degrees c = search needs
-
-part-signed-degrees-start : tie.Need-part-signed-degrees-start
-part-signed-degrees-start c = search needs
-
-part-signed-degrees-end : tie.Need-part-signed-degrees-end
-part-signed-degrees-end c = search needs
-
-signed-degrees-requires-2 : tie.Need-signed-degrees-requires-2
-signed-degrees-requires-2 c κs = search needs
-
-enum-known-lon : tie.Need-enum-known-lon
-enum-known-lon c = search needs
-
-enum-known-why-2 : tie.Need-enum-known-why-2
-enum-known-why-2 c = search needs
-
 returns-2 : tie.Need-returns-2
 returns-2 c =
     let args = c .before .before .before .before .before .before .before .before .before .before .before .before .before .before .args in
@@ -81,7 +51,8 @@ returns-2 c =
     let line = args .line .now in
     let first = sym (ap toldDegrees (lat .given .1)) ∙ signed-degrees .ensures ∙ in-first line (find .result) (find .ensures .0) (degreesOf 90) nearestTo in
     let next = next-is line line 0 (find .result) refl (find .ensures .0) (skip .result) (skip .ensures .0) in
-    plain-lon line first (sym (ap toldDegrees (why2 .given .1)) ∙ signed-degrees2 .ensures ∙ in-word line _ (skip .result) (find2 .result) next (find2 .ensures .0) (skip .ensures .1) (degreesOf 180) nearestTo)
+    plain-lon line first (sym (ap toldDegrees (why2 .given .1)) ∙ signed-degrees2 .ensures
+    ∙ in-word line _ (skip .result) (find2 .result) next (find2 .ensures .0) (skip .ensures .1) (degreesOf 180) nearestTo)
 
 skip-requires-2 : tie.Need-skip-requires-2
 skip-requires-2 c κs =
@@ -90,24 +61,6 @@ skip-requires-2 c κs =
 
 find-requires-3 : tie.Need-find-requires-3
 find-requires-3 c κs = c .skip2 .ensures .1
-
-sub-when : tie.Need-sub-when
-sub-when c = search needs
-
-part-when-start : tie.Need-part-when-start
-part-when-start c = search needs
-
-part-when-end : tie.Need-part-when-end
-part-when-end c = search needs
-
-when-requires : tie.Need-when-requires
-when-requires c κs = search needs
-
-enum-known-instant : tie.Need-enum-known-instant
-enum-known-instant c = search needs
-
-enum-known-why-3 : tie.Need-enum-known-why-3
-enum-known-why-3 c = search needs
 
 returns-3 : tie.Need-returns-3
 returns-3 c =
@@ -126,7 +79,8 @@ returns-3 c =
     let line = args .line .now in
     let first = sym (ap toldDegrees (lat .given .1)) ∙ signed-degrees .ensures ∙ in-first line (find .result) (find .ensures .0) (degreesOf 90) nearestTo in
     let next = next-is line line 0 (find .result) refl (find .ensures .0) (skip .result) (skip .ensures .0) in
-    let second = sym (ap toldDegrees (lon .given .1)) ∙ signed-degrees2 .ensures ∙ in-word line _ (skip .result) (find2 .result) next (find2 .ensures .0) (skip .ensures .1) (degreesOf 180) nearestTo in
+    let second = sym (ap toldDegrees (lon .given .1)) ∙ signed-degrees2 .ensures
+    ∙ in-word line _ (skip .result) (find2 .result) next (find2 .ensures .0) (skip .ensures .1) (degreesOf 180) nearestTo in
     let last = next-is line _ (skip .result) (find2 .result) next (find2 .ensures .0) (skip2 .result) (skip2 .ensures .0) in
     plain-when line first second (sym (ap toldInstant (why3 .given .1)) ∙ when .ensures ∙ in-word line _ (skip2 .result) (find3 .result) last (find3 .ensures .0) (skip2 .ensures .1) whenOf instantAt)
 
@@ -134,9 +88,6 @@ skip-requires-3 : tie.Need-skip-requires-3
 skip-requires-3 c κs =
     let find3 = c .before .before .before .before .before .before .find3 in
     find3 .ensures .1
-
-refuse-requires : tie.Need-refuse-requires
-refuse-requires c κs = search needs
 
 returns-4 : tie.Need-returns-4
 returns-4 c =
@@ -157,7 +108,8 @@ returns-4 c =
     let line = args .line .now in
     let first = sym (ap toldDegrees (lat .given .1)) ∙ signed-degrees .ensures ∙ in-first line (find .result) (find .ensures .0) (degreesOf 90) nearestTo in
     let next = next-is line line 0 (find .result) refl (find .ensures .0) (skip .result) (skip .ensures .0) in
-    let second = sym (ap toldDegrees (lon .given .1)) ∙ signed-degrees2 .ensures ∙ in-word line _ (skip .result) (find2 .result) next (find2 .ensures .0) (skip .ensures .1) (degreesOf 180) nearestTo in
+    let second = sym (ap toldDegrees (lon .given .1)) ∙ signed-degrees2 .ensures
+    ∙ in-word line _ (skip .result) (find2 .result) next (find2 .ensures .0) (skip .ensures .1) (degreesOf 180) nearestTo in
     let last = next-is line _ (skip .result) (find2 .result) next (find2 .ensures .0) (skip2 .result) (skip2 .ensures .0) in
     let third = sym (ap toldInstant (instant .given .1)) ∙ when .ensures ∙ in-word line _ (skip2 .result) (find3 .result) last (find3 .ensures .0) (skip2 .ensures .1) whenOf instantAt in
     let past = past-is line _ (skip2 .result) (find3 .result) last (find3 .ensures .0) in
@@ -184,41 +136,43 @@ returns-5 c =
     let line = args .line .now in
     let first = sym (ap toldDegrees (lat .given .1)) ∙ signed-degrees .ensures ∙ in-first line (find .result) (find .ensures .0) (degreesOf 90) nearestTo in
     let next = next-is line line 0 (find .result) refl (find .ensures .0) (skip .result) (skip .ensures .0) in
-    let second = sym (ap toldDegrees (lon .given .1)) ∙ signed-degrees2 .ensures ∙ in-word line _ (skip .result) (find2 .result) next (find2 .ensures .0) (skip .ensures .1) (degreesOf 180) nearestTo in
+    let second = sym (ap toldDegrees (lon .given .1)) ∙ signed-degrees2 .ensures
+    ∙ in-word line _ (skip .result) (find2 .result) next (find2 .ensures .0) (skip .ensures .1) (degreesOf 180) nearestTo in
     let last = next-is line _ (skip .result) (find2 .result) next (find2 .ensures .0) (skip2 .result) (skip2 .ensures .0) in
     let third = sym (ap toldInstant (instant .given .1)) ∙ when .ensures ∙ in-word line _ (skip2 .result) (find3 .result) last (find3 .ensures .0) (skip2 .ensures .1) whenOf instantAt in
     let past = past-is line _ (skip2 .result) (find3 .result) last (find3 .ensures .0) in
-    plain-is line first second third (omega (arith, c .if1 .left, ap length past, length-drop (find3 .result) line)) (toZ-ofZ w64 (instant .given .0 .0) (let told = known-told5 .given in search needs))
+    plain-is line first second third (omega (arith, c .if1 .left, ap length past, length-drop (find3 .result) line)) (toZ-ofZ w64 (instant .given .0 .0)
+    (let told = known-told5 .given in search needs))
 
 pub plain-spec : {M : Type 1} → statement M
 plain-spec =
     tie.close
     (tie.spec
-    find-requires
+    (λ c κs. search needs)
     slice-aggregate-signed-degrees
-    signed-degrees-requires
-    enum-known-lat
-    enum-known-why
+    (λ c κs. search needs)
+    (λ c. search needs)
+    (λ c. search needs)
     returns
     skip-requires
     find-requires-2
-    sub-signed-degrees
-    part-signed-degrees-start
-    part-signed-degrees-end
-    signed-degrees-requires-2
-    enum-known-lon
-    enum-known-why-2
+    (λ c. search needs)
+    (λ c. search needs)
+    (λ c. search needs)
+    (λ c κs. search needs)
+    (λ c. search needs)
+    (λ c. search needs)
     returns-2
     skip-requires-2
     find-requires-3
-    sub-when
-    part-when-start
-    part-when-end
-    when-requires
-    enum-known-instant
-    enum-known-why-3
+    (λ c. search needs)
+    (λ c. search needs)
+    (λ c. search needs)
+    (λ c κs. search needs)
+    (λ c. search needs)
+    (λ c. search needs)
     returns-3
     skip-requires-3
-    refuse-requires
+    (λ c κs. search needs)
     returns-4
     returns-5)

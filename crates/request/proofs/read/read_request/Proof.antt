@@ -8,14 +8,8 @@ use Rattle.request.proofs.Replied.{line-is, too-long, as-sentence, as-p
 use Rattle.request.proofs.read.read_request.Statement.{statement}
 use Rattle.request.proofs.read.read_request.Tie as tie
 
-without-requires : tie.Need-without-requires
-without-requires c κs = omega arith
-
 without-requires-2 : tie.Need-without-requires-2
 without-requires-2 c κs = c .without .ensures .1
-
-refuse-requires : tie.Need-refuse-requires
-refuse-requires c κs = search needs
 
 returns : tie.Need-returns
 returns c =
@@ -31,9 +25,6 @@ slice-aggregate-line c =
     let without2 = c .before .before .without2 in
     let args = c .before .before .before .before .before .args in
     sym (length-take-le (without2 .result) (args .text .now) (without2 .ensures .1))
-
-first-requires : tie.Need-first-requires
-first-requires c κs = search needs
 
 sentence-requires : tie.Need-sentence-requires
 sentence-requires c κs =
@@ -52,10 +43,8 @@ returns-2 c =
     let first = c .before .before .first in
     let if2 = c .before .if2 in
     let line = line-is (args .text .now) (without .result) (without2 .result) (without .ensures .0) (without2 .ensures .0) in
-    c .sentence .ensures ∙ as-sentence (args .text .now) _ line (omega (arith, length-take-le (without2 .result) (args .text .now) (without2 .ensures .1), if1 .left)) (sym (first .ensures) ∙ if2 .taken)
-
-plain-requires : tie.Need-plain-requires
-plain-requires c κs = search needs
+    c .sentence .ensures ∙ as-sentence (args .text .now) _ line (omega (arith, length-take-le (without2 .result) (args .text .now) (without2 .ensures .1), if1 .left)) (sym (first .ensures)
+    ∙ if2 .taken)
 
 returns-3 : tie.Need-returns-3
 returns-3 c =
@@ -72,13 +61,13 @@ pub read-request-spec : {M : Type 1} → statement M
 read-request-spec =
     tie.close
     (tie.spec
-    without-requires
+    (λ c κs. omega arith)
     without-requires-2
-    refuse-requires
+    (λ c κs. search needs)
     returns
     slice-aggregate-line
-    first-requires
+    (λ c κs. search needs)
     sentence-requires
     returns-2
-    plain-requires
+    (λ c κs. search needs)
     returns-3)

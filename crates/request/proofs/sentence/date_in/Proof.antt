@@ -9,29 +9,11 @@ use Rattle.request.specs.Clock.{Date, dateOf, dayOf}
 use Rattle.request.specs.Told.{shown}
 use Rattle.request.proofs.sentence.date_in.Tie as tie
 
-field-start-requires : tie.Need-field-start-requires
-field-start-requires c κs = search needs
-
-find-requires : tie.Need-find-requires
-find-requires c κs = search needs
-
-sub-date : tie.Need-sub-date
-sub-date c = search needs
-
-part-date-start : tie.Need-part-date-start
-part-date-start c = search needs
-
-part-date-end : tie.Need-part-date-end
-part-date-end c = search needs
-
 add-date : tie.Need-add-date
 add-date c =
     let field-start = c .before .before .field-start in
     let pre = c .before .before .before .before .pre in
     omega (arith, field-start .ensures .1, pre)
-
-date-requires : tie.Need-date-requires
-date-requires c κs = search needs
 
 returns : tie.Need-returns
 returns c =
@@ -45,11 +27,11 @@ pub date-in-spec : {M : Type 1} → statement M
 date-in-spec =
     tie.close
     (tie.spec
-    field-start-requires
-    find-requires
-    sub-date
-    part-date-start
-    part-date-end
+    (λ c κs. search needs)
+    (λ c κs. search needs)
+    (λ c. search needs)
+    (λ c. search needs)
+    (λ c. search needs)
     add-date
-    date-requires
+    (λ c κs. search needs)
     returns)

@@ -31,12 +31,6 @@ returns c =
 add-at : tie.Need-add-at Inv-loop μ-loop
 add-at c = omega (arith, c .before .find .ensures .1)
 
-sub-left : tie.Need-sub-left Inv-loop μ-loop
-sub-left c = omega arith
-
-loop-less : tie.Need-loop-less Inv-loop μ-loop
-loop-less c = omega arith
-
 loop-again : tie.Need-loop-again Inv-loop μ-loop
 loop-again c =
     let args = c .before .before .before .before .before .args in
@@ -61,7 +55,7 @@ field-start-spec =
     find-requires
     returns
     add-at
-    sub-left
-    loop-less
+    (λ c. omega arith)
+    (λ c. omega arith)
     loop-again
     returns-2)

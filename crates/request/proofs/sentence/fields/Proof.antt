@@ -11,20 +11,11 @@ use Rattle.request.proofs.sentence.fields.Statement.{statement}
 use Rattle.request.specs.Request.{isAddress, isRmc}
 use Rattle.request.proofs.sentence.fields.Tie as tie
 
-find-requires : tie.Need-find-requires
-find-requires c κs = search needs
-
 slice-aggregate-address : tie.Need-slice-aggregate-address
 slice-aggregate-address c =
     let find = c .before .find in
     let args = c .before .before .before .args in
     sym (length-take-le (find .result) (args .body .now) (find .ensures .1))
-
-is-address-requires : tie.Need-is-address-requires
-is-address-requires c κs = search needs
-
-refuse-requires : tie.Need-refuse-requires
-refuse-requires c κs = search needs
 
 returns : tie.Need-returns
 returns c =
@@ -34,12 +25,6 @@ returns c =
     let if1 = c .before .if1 in
     let first = field-first (args .body .now) (find .result) (find .ensures .0) in
     ap refused (c .refuse .ensures) ∙ no-address (args .body .now) (args .star) (ap isAddress (sym first) ∙ sym (is-address .ensures) ∙ not-true _ (if1 .taken))
-
-is-rmc-requires : tie.Need-is-rmc-requires
-is-rmc-requires c κs = search needs
-
-plain-requires : tie.Need-plain-requires
-plain-requires c κs = search needs
 
 returns-2 : tie.Need-returns-2
 returns-2 c =
@@ -52,12 +37,6 @@ returns-2 c =
     let first = field-first (args .body .now) (find .result) (find .ensures .0) in
     let address = ap isAddress (sym first) ∙ sym (is-address .ensures) ∙ not-false _ (if1 .left) in
     ap refused (c .plain .ensures) ∙ no-rmc (args .body .now) (args .star) address (ap isRmc (sym first) ∙ sym (is-rmc .ensures) ∙ not-true _ (if2 .taken))
-
-count-requires : tie.Need-count-requires
-count-requires c κs = search needs
-
-refuse-requires-2 : tie.Need-refuse-requires-2
-refuse-requires-2 c κs = search needs
 
 returns-3 : tie.Need-returns-3
 returns-3 c =
@@ -73,15 +52,6 @@ returns-3 c =
     let address = ap isAddress (sym first) ∙ sym (is-address .ensures) ∙ not-false _ (if1 .left) in
     let rmc = ap isRmc (sym first) ∙ sym (is-rmc .ensures) ∙ not-false _ (if2 .left) in
     ap refused (c .refuse2 .ensures) ∙ few-fields (args .body .now) (args .star) address rmc (omega (arith, count .ensures, if3 .taken))
-
-slice-aggregate-field-formed : tie.Need-slice-aggregate-field-formed
-slice-aggregate-field-formed c = search needs
-
-field-formed-requires : tie.Need-field-formed-requires
-field-formed-requires c κs = search needs
-
-plain-requires-2 : tie.Need-plain-requires-2
-plain-requires-2 c κs = search needs
 
 returns-4 : tie.Need-returns-4
 returns-4 c =
@@ -100,22 +70,10 @@ returns-4 c =
     let rmc = ap isRmc (sym first) ∙ sym (is-rmc .ensures) ∙ not-false _ (if2 .left) in
     ap refused (c .plain2 .ensures) ∙ no-fix (args .body .now) (args .star) address rmc (omega (arith, count .ensures, if3 .left)) (sym (field-formed .ensures) ∙ if4 .taken)
 
-slice-aggregate-field-formed-2 : tie.Need-slice-aggregate-field-formed-2
-slice-aggregate-field-formed-2 c = search needs
-
-field-formed-requires-2 : tie.Need-field-formed-requires-2
-field-formed-requires-2 c κs = search needs
-
-field-start-requires : tie.Need-field-start-requires
-field-start-requires c κs = search needs
-
 add-place : tie.Need-add-place
 add-place c =
     let pre = c .before .before .before .before .before .before .before .before .before .before .before .before .before .before .before .before .pre in
     omega (arith, pre, c .field-start .ensures .1)
-
-refuse-requires-3 : tie.Need-refuse-requires-3
-refuse-requires-3 c κs = search needs
 
 returns-5 : tie.Need-returns-5
 returns-5 c =
@@ -139,12 +97,6 @@ returns-5 c =
     ∙ ap (λ (n : ℕ). refused (refusal 80 0 n)) (field-place 2 (args .body .now) (field-start .result) (field-start .result) (field-start .ensures .0) (field-start .ensures .1))
     ∙ no-status (args .body .now) (args .star) address rmc (omega (arith, count .ensures, if3 .left)) (sym (field-formed .ensures) ∙ if4 .left) (sym (field-formed2 .ensures) ∙ not-true _ (if5 .taken))
 
-mode-known-requires : tie.Need-mode-known-requires
-mode-known-requires c κs = search needs
-
-plain-requires-3 : tie.Need-plain-requires-3
-plain-requires-3 c κs = search needs
-
 returns-6 : tie.Need-returns-6
 returns-6 c =
     let args = c .before .before .before .before .before .before .before .before .before .before .before .before .before .before .before .before .before .before .args in
@@ -164,7 +116,8 @@ returns-6 c =
     let first = field-first (args .body .now) (find .result) (find .ensures .0) in
     let address = ap isAddress (sym first) ∙ sym (is-address .ensures) ∙ not-false _ (if1 .left) in
     let rmc = ap isRmc (sym first) ∙ sym (is-rmc .ensures) ∙ not-false _ (if2 .left) in
-    ap refused (c .plain3 .ensures) ∙ no-mode (args .body .now) (args .star) address rmc (omega (arith, count .ensures, if3 .left)) (sym (field-formed .ensures) ∙ if4 .left) (sym (field-formed2 .ensures) ∙ not-false _ (if5 .left)) (sym (mode-known .ensures) ∙ not-true _ (if6 .taken))
+    ap refused (c .plain3 .ensures) ∙ no-mode (args .body .now) (args .star) address rmc (omega (arith, count .ensures, if3 .left)) (sym (field-formed .ensures)
+    ∙ if4 .left) (sym (field-formed2 .ensures) ∙ not-false _ (if5 .left)) (sym (mode-known .ensures) ∙ not-true _ (if6 .taken))
 
 fix-requires : tie.Need-fix-requires
 fix-requires c κs =
@@ -190,35 +143,36 @@ returns-7 c =
     let first = field-first (args .body .now) (find .result) (find .ensures .0) in
     let address = ap isAddress (sym first) ∙ sym (is-address .ensures) ∙ not-false _ (if1 .left) in
     let rmc = ap isRmc (sym first) ∙ sym (is-rmc .ensures) ∙ not-false _ (if2 .left) in
-    c .fix .ensures ∙ fields-are (args .body .now) (args .star) address rmc (omega (arith, count .ensures, if3 .left)) (sym (field-formed .ensures) ∙ if4 .left) (sym (field-formed2 .ensures) ∙ not-false _ (if5 .left)) (sym (mode-known .ensures) ∙ not-false _ (if6 .left))
+    c .fix .ensures ∙ fields-are (args .body .now) (args .star) address rmc (omega (arith, count .ensures, if3 .left)) (sym (field-formed .ensures) ∙ if4 .left) (sym (field-formed2 .ensures)
+    ∙ not-false _ (if5 .left)) (sym (mode-known .ensures) ∙ not-false _ (if6 .left))
 
 pub fields-spec : {M : Type 1} → statement M
 fields-spec =
     tie.close
     (tie.spec
-    find-requires
+    (λ c κs. search needs)
     slice-aggregate-address
-    is-address-requires
-    refuse-requires
+    (λ c κs. search needs)
+    (λ c κs. search needs)
     returns
-    is-rmc-requires
-    plain-requires
+    (λ c κs. search needs)
+    (λ c κs. search needs)
     returns-2
-    count-requires
-    refuse-requires-2
+    (λ c κs. search needs)
+    (λ c κs. search needs)
     returns-3
-    slice-aggregate-field-formed
-    field-formed-requires
-    plain-requires-2
+    (λ c. search needs)
+    (λ c κs. search needs)
+    (λ c κs. search needs)
     returns-4
-    slice-aggregate-field-formed-2
-    field-formed-requires-2
-    field-start-requires
+    (λ c. search needs)
+    (λ c κs. search needs)
+    (λ c κs. search needs)
     add-place
-    refuse-requires-3
+    (λ c κs. search needs)
     returns-5
-    mode-known-requires
-    plain-requires-3
+    (λ c κs. search needs)
+    (λ c κs. search needs)
     returns-6
     fix-requires
     returns-7)

@@ -12,12 +12,6 @@ use Rattle.request.proofs.sentence.fix.Tie as tie
 time-in-requires : tie.Need-time-in-requires
 time-in-requires c κs = c .before .pre
 
-enum-known-second : tie.Need-enum-known-second
-enum-known-second c = search needs
-
-enum-known-why : tie.Need-enum-known-why
-enum-known-why c = search needs
-
 returns : tie.Need-returns
 returns c =
     let args = c .before .before .before .before .before .args in
@@ -29,12 +23,6 @@ turned-in-requires : tie.Need-turned-in-requires
 turned-in-requires c κs =
     let pre = c .before .before .before .before .before .pre in
     (pre, omega arith, omega arith, omega arith)
-
-enum-known-lat : tie.Need-enum-known-lat
-enum-known-lat c = search needs
-
-enum-known-why-2 : tie.Need-enum-known-why-2
-enum-known-why-2 c = search needs
 
 returns-2 : tie.Need-returns-2
 returns-2 c =
@@ -50,12 +38,6 @@ turned-in-requires-2 c κs =
     let pre = c .before .before .before .before .before .before .before .before .before .pre in
     (pre, omega arith, omega arith, omega arith)
 
-enum-known-lon : tie.Need-enum-known-lon
-enum-known-lon c = search needs
-
-enum-known-why-3 : tie.Need-enum-known-why-3
-enum-known-why-3 c = search needs
-
 returns-3 : tie.Need-returns-3
 returns-3 c =
     let args = c .before .before .before .before .before .before .before .before .before .before .before .before .before .args in
@@ -65,18 +47,13 @@ returns-3 c =
     let turned-in = c .before .before .before .before .before .before .before .turned-in in
     let why3 = c .before .why3 in
     let turned-in2 = c .before .before .before .turned-in2 in
-    fix-lon (args .body .now) (sym (ap toldWhole (second .given .1)) ∙ time-in .ensures .0) (sym (ap toldDegrees (lat .given .1)) ∙ turned-in .ensures) (sym (ap toldDegrees (why3 .given .1)) ∙ turned-in2 .ensures)
+    fix-lon (args .body .now) (sym (ap toldWhole (second .given .1)) ∙ time-in .ensures .0) (sym (ap toldDegrees (lat .given .1)) ∙ turned-in .ensures) (sym (ap toldDegrees (why3 .given .1))
+    ∙ turned-in2 .ensures)
 
 date-in-requires : tie.Need-date-in-requires
 date-in-requires c κs =
     let pre = c .before .before .before .before .before .before .before .before .before .before .before .before .before .pre in
     pre
-
-enum-known-day : tie.Need-enum-known-day
-enum-known-day c = search needs
-
-enum-known-why-4 : tie.Need-enum-known-why-4
-enum-known-why-4 c = search needs
 
 returns-4 : tie.Need-returns-4
 returns-4 c =
@@ -89,7 +66,8 @@ returns-4 c =
     let turned-in2 = c .before .before .before .before .before .before .before .turned-in2 in
     let why4 = c .before .why4 in
     let date-in = c .before .before .before .date-in in
-    fix-date (args .body .now) (sym (ap toldWhole (second .given .1)) ∙ time-in .ensures .0) (sym (ap toldDegrees (lat .given .1)) ∙ turned-in .ensures) (sym (ap toldDegrees (lon .given .1)) ∙ turned-in2 .ensures) (sym (ap toldWhole (why4 .given .1)) ∙ date-in .ensures .0)
+    fix-date (args .body .now) (sym (ap toldWhole (second .given .1)) ∙ time-in .ensures .0) (sym (ap toldDegrees (lat .given .1)) ∙ turned-in .ensures) (sym (ap toldDegrees (lon .given .1))
+    ∙ turned-in2 .ensures) (sym (ap toldWhole (why4 .given .1)) ∙ date-in .ensures .0)
 
 instant-of-requires : tie.Need-instant-of-requires
 instant-of-requires c κs =
@@ -110,27 +88,28 @@ returns-5 c =
     let turned-in2 = c .before .before .before .before .before .before .before .before .turned-in2 in
     let day = c .before .before .day in
     let date-in = c .before .before .before .before .date-in in
-    fix-is (args .body .now) (sym (ap toldWhole (second .given .1)) ∙ time-in .ensures .0) (sym (ap toldDegrees (lat .given .1)) ∙ turned-in .ensures) (sym (ap toldDegrees (lon .given .1)) ∙ turned-in2 .ensures) (sym (ap toldWhole (day .given .1)) ∙ date-in .ensures .0) (toZ-ofZ w64 (c .instant-of .result) (sfits-of (c .instant-of .ok)) ∙ c .instant-of .ensures)
+    fix-is (args .body .now) (sym (ap toldWhole (second .given .1)) ∙ time-in .ensures .0) (sym (ap toldDegrees (lat .given .1)) ∙ turned-in .ensures) (sym (ap toldDegrees (lon .given .1))
+    ∙ turned-in2 .ensures) (sym (ap toldWhole (day .given .1)) ∙ date-in .ensures .0) (toZ-ofZ w64 (c .instant-of .result) (sfits-of (c .instant-of .ok)) ∙ c .instant-of .ensures)
 
 pub fix-spec : {M : Type 1} → statement M
 fix-spec =
     tie.close
     (tie.spec
     time-in-requires
-    enum-known-second
-    enum-known-why
+    (λ c. search needs)
+    (λ c. search needs)
     returns
     turned-in-requires
-    enum-known-lat
-    enum-known-why-2
+    (λ c. search needs)
+    (λ c. search needs)
     returns-2
     turned-in-requires-2
-    enum-known-lon
-    enum-known-why-3
+    (λ c. search needs)
+    (λ c. search needs)
     returns-3
     date-in-requires
-    enum-known-day
-    enum-known-why-4
+    (λ c. search needs)
+    (λ c. search needs)
     returns-4
     instant-of-requires
     returns-5)

@@ -19,9 +19,6 @@ returns-2 c =
     let if1 = c .before .if1 in
     simp (le-leb 2 (length (args .text .now)) (if1 .left), lt-leb (length (args .text .now)) 8 (c .if2 .taken))
 
-every-requires : tie.Need-every-requires
-every-requires c κs = search needs
-
 returns-3 : tie.Need-returns-3
 returns-3 c =
     let args = c .before .before .before .before .args in
@@ -30,4 +27,4 @@ returns-3 c =
     c .every .ensures ∙ address-is (args .text .now) (if1 .left) (if2 .left)
 
 pub is-address-spec : {M : Type 1} → statement M
-is-address-spec = tie.close (tie.spec returns returns-2 every-requires returns-3)
+is-address-spec = tie.close (tie.spec returns returns-2 (λ c κs. search needs) returns-3)

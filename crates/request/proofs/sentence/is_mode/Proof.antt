@@ -12,12 +12,6 @@ returns c = mode-none (c .before .before .args .text .now) (c .if1 .taken)
 returns-2 : tie.Need-returns-2
 returns-2 c = mode-long (c .before .before .before .args .text .now) (c .if2 .taken)
 
-shared-slice-read-byte : tie.Need-shared-slice-read-byte
-shared-slice-read-byte c = omega arith
-
-is-either-requires : tie.Need-is-either-requires
-is-either-requires c κs = search needs
-
 returns-3 : tie.Need-returns-3
 returns-3 c =
     let args = c .before .before .before .before .before .before .args in
@@ -25,9 +19,6 @@ returns-3 c =
     let if2 = c .before .before .before .if2 in
     let is-either = c .before .is-either in
     sym (mode-one (args .text .now) (if1 .left) (if2 .left) ∙ or-first _ _ _ (sym (is-either .ensures) ∙ c .if3 .taken))
-
-is-either-requires-2 : tie.Need-is-either-requires-2
-is-either-requires-2 c κs = search needs
 
 returns-4 : tie.Need-returns-4
 returns-4 c =
@@ -55,9 +46,9 @@ is-mode-spec =
     (tie.spec
     returns
     returns-2
-    shared-slice-read-byte
-    is-either-requires
+    (λ c. omega arith)
+    (λ c κs. search needs)
     returns-3
-    is-either-requires-2
+    (λ c κs. search needs)
     returns-4
     returns-5)

@@ -11,21 +11,6 @@ use Rattle.request.proofs.sentence.is_rmc.Tie as tie
 returns : tie.Need-returns
 returns c = rmc-short (c .before .before .args .text .now) (c .if1 .taken)
 
-slice-aggregate-formed : tie.Need-slice-aggregate-formed
-slice-aggregate-formed c = search needs
-
-sub-formed : tie.Need-sub-formed
-sub-formed c = search needs
-
-part-formed-start : tie.Need-part-formed-start
-part-formed-start c = search needs
-
-part-formed-end : tie.Need-part-formed-end
-part-formed-end c = search needs
-
-formed-requires : tie.Need-formed-requires
-formed-requires c κs = search needs
-
 returns-2 : tie.Need-returns-2
 returns-2 c =
     let args = c .before .before .before .before .before .args in
@@ -36,9 +21,9 @@ is-rmc-spec =
     tie.close
     (tie.spec
     returns
-    slice-aggregate-formed
-    sub-formed
-    part-formed-start
-    part-formed-end
-    formed-requires
+    (λ c. search needs)
+    (λ c. search needs)
+    (λ c. search needs)
+    (λ c. search needs)
+    (λ c κs. search needs)
     returns-2)

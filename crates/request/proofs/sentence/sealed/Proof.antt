@@ -8,9 +8,6 @@ use Rattle.request.proofs.sentence.sealed.Statement.{statement}
 use Rattle.request.specs.Text.{xors}
 use Rattle.request.proofs.sentence.sealed.Tie as tie
 
-star-of-requires : tie.Need-star-of-requires
-star-of-requires c κs = search needs
-
 returns : tie.Need-returns
 returns c =
     let args = c .before .before .before .args in
@@ -27,9 +24,6 @@ returns-2 c =
     let star-of = c .before .before .before .star-of in
     seal-star (args .line .now) (star-of .ensures) (c .if2 .taken)
 
-count-requires : tie.Need-count-requires
-count-requires c κs = search needs
-
 returns-3 : tie.Need-returns-3
 returns-3 c =
     let args = c .before .before .before .before .before .before .before .args in
@@ -38,16 +32,10 @@ returns-3 c =
     let count = c .before .count in
     seal-count (args .line .now) (star-of .ensures) (if2 .left) (λ e. c .if3 .taken (count .ensures ∙ e))
 
-part-xors-start : tie.Need-part-xors-start
-part-xors-start c = omega arith
-
 part-xors-end : tie.Need-part-xors-end
 part-xors-end c =
     let star-of = c .before .before .before .before .before .star-of in
     omega (arith, star-of .ensures)
-
-xors-requires : tie.Need-xors-requires
-xors-requires c κs = search needs
 
 add-is-hex : tie.Need-add-is-hex
 add-is-hex c =
@@ -59,9 +47,6 @@ shared-slice-read-is-hex c =
     let star-of = c .before .before .before .before .before .before .before .before .star-of in
     omega (arith, star-of .ensures)
 
-is-hex-requires : tie.Need-is-hex-requires
-is-hex-requires c κs = omega arith
-
 returns-4 : tie.Need-returns-4
 returns-4 c =
     let args = c .before .before .before .before .before .before .before .before .before .before .before .before .args in
@@ -71,7 +56,8 @@ returns-4 c =
     let if3 = c .before .before .before .before .before .if3 in
     let sum = c .before .before .before .xors in
     let is-hex = c .before .is-hex in
-    seal-high (args .line .now) (star-of .ensures) (if2 .left) (sym (count .ensures) ∙ if3 .left) (sum .ensures ∙ ap xors (body-is (args .line .now) (star-of .ensures))) (sym (is-hex .ensures) ∙ not-true _ (c .if4 .taken))
+    seal-high (args .line .now) (star-of .ensures) (if2 .left) (sym (count .ensures) ∙ if3 .left) (sum .ensures ∙ ap xors (body-is (args .line .now) (star-of .ensures))) (sym (is-hex .ensures)
+    ∙ not-true _ (c .if4 .taken))
 
 add-is-hex-2 : tie.Need-add-is-hex-2
 add-is-hex-2 c =
@@ -83,9 +69,6 @@ shared-slice-read-is-hex-2 c =
     let star-of = c .before .before .before .before .before .before .before .before .before .before .before .star-of in
     omega (arith, star-of .ensures)
 
-is-hex-requires-2 : tie.Need-is-hex-requires-2
-is-hex-requires-2 c κs = omega arith
-
 returns-5 : tie.Need-returns-5
 returns-5 c =
     let args = c .before .before .before .before .before .before .before .before .before .before .before .before .before .before .args in
@@ -96,26 +79,27 @@ returns-5 c =
     let sum = c .before .before .before .before .before .xors in
     let is-hex = c .before .before .before .is-hex in
     let if4 = c .before .before .if4 in
-    c .is-hex2 .ensures ∙ seal-low (args .line .now) (star-of .ensures) (if2 .left) (sym (count .ensures) ∙ if3 .left) (sum .ensures ∙ ap xors (body-is (args .line .now) (star-of .ensures))) (sym (is-hex .ensures) ∙ not-false _ (if4 .left))
+    c .is-hex2 .ensures ∙ seal-low (args .line .now) (star-of .ensures) (if2 .left) (sym (count .ensures) ∙ if3 .left) (sum .ensures
+    ∙ ap xors (body-is (args .line .now) (star-of .ensures))) (sym (is-hex .ensures) ∙ not-false _ (if4 .left))
 
 pub sealed-spec : {M : Type 1} → statement M
 sealed-spec =
     tie.close
     (tie.spec
-    star-of-requires
+    (λ c κs. search needs)
     returns
     shared-slice-read-if2
     returns-2
-    count-requires
+    (λ c κs. search needs)
     returns-3
-    part-xors-start
+    (λ c. omega arith)
     part-xors-end
-    xors-requires
+    (λ c κs. search needs)
     add-is-hex
     shared-slice-read-is-hex
-    is-hex-requires
+    (λ c κs. omega arith)
     returns-4
     add-is-hex-2
     shared-slice-read-is-hex-2
-    is-hex-requires-2
+    (λ c κs. omega arith)
     returns-5)

@@ -13,14 +13,8 @@ use Rattle.request.specs.Request.{bodyOf, fieldsOf, meaning}
 use Rattle.request.specs.Told.{shown}
 use Rattle.request.proofs.sentence.sentence.Tie as tie
 
-star-of-requires : tie.Need-star-of-requires
-star-of-requires c κs = search needs
-
 sealed-requires : tie.Need-sealed-requires
 sealed-requires c κs = c .before .before .pre .1
-
-refuse-requires : tie.Need-refuse-requires
-refuse-requires c κs = search needs
 
 returns : tie.Need-returns
 returns c =
@@ -71,9 +65,9 @@ pub sentence-spec : {M : Type 1} → statement M
 sentence-spec =
     tie.close
     (tie.spec
-    star-of-requires
+    (λ c κs. search needs)
     sealed-requires
-    refuse-requires
+    (λ c κs. search needs)
     returns
     sub-fields
     part-fields-start

@@ -9,29 +9,11 @@ use Rattle.request.specs.Clock.{Time, timeOf, secondOf}
 use Rattle.request.specs.Told.{shown}
 use Rattle.request.proofs.sentence.time_in.Tie as tie
 
-field-start-requires : tie.Need-field-start-requires
-field-start-requires c κs = search needs
-
-find-requires : tie.Need-find-requires
-find-requires c κs = search needs
-
-sub-time : tie.Need-sub-time
-sub-time c = search needs
-
-part-time-start : tie.Need-part-time-start
-part-time-start c = search needs
-
-part-time-end : tie.Need-part-time-end
-part-time-end c = search needs
-
 add-time : tie.Need-add-time
 add-time c =
     let field-start = c .before .before .field-start in
     let pre = c .before .before .before .before .pre in
     omega (arith, field-start .ensures .1, pre)
-
-time-requires : tie.Need-time-requires
-time-requires c κs = search needs
 
 returns : tie.Need-returns
 returns c =
@@ -45,11 +27,11 @@ pub time-in-spec : {M : Type 1} → statement M
 time-in-spec =
     tie.close
     (tie.spec
-    field-start-requires
-    find-requires
-    sub-time
-    part-time-start
-    part-time-end
+    (λ c κs. search needs)
+    (λ c κs. search needs)
+    (λ c. search needs)
+    (λ c. search needs)
+    (λ c. search needs)
     add-time
-    time-requires
+    (λ c κs. search needs)
     returns)

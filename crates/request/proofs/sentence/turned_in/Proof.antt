@@ -10,21 +10,6 @@ use Rattle.request.specs.Number.{angleOf, sideOf}
 use Rattle.request.specs.Told.{toldSize, toldSide}
 use Rattle.request.proofs.sentence.turned_in.Tie as tie
 
-field-start-requires : tie.Need-field-start-requires
-field-start-requires c κs = search needs
-
-find-requires : tie.Need-find-requires
-find-requires c κs = search needs
-
-sub-angle : tie.Need-sub-angle
-sub-angle c = search needs
-
-part-angle-start : tie.Need-part-angle-start
-part-angle-start c = search needs
-
-part-angle-end : tie.Need-part-angle-end
-part-angle-end c = search needs
-
 add-angle : tie.Need-add-angle
 add-angle c =
     let field-start = c .before .before .field-start in
@@ -36,28 +21,10 @@ angle-requires c κs =
     let pre = c .before .before .before .before .pre in
     (pre .2, pre .3)
 
-enum-known-size : tie.Need-enum-known-size
-enum-known-size c = search needs
-
 add-field-start : tie.Need-add-field-start
 add-field-start c =
     let pre = c .before .before .before .before .before .before .before .before .pre in
     omega (arith, pre .1)
-
-field-start-requires-2 : tie.Need-field-start-requires-2
-field-start-requires-2 c κs = search needs
-
-find-requires-2 : tie.Need-find-requires-2
-find-requires-2 c κs = search needs
-
-sub-side : tie.Need-sub-side
-sub-side c = search needs
-
-part-side-start : tie.Need-part-side-start
-part-side-start c = search needs
-
-part-side-end : tie.Need-part-side-end
-part-side-end c = search needs
 
 add-side : tie.Need-add-side
 add-side c =
@@ -65,23 +32,11 @@ add-side c =
     let pre = c .before .before .before .before .before .before .before .before .before .before .before .pre in
     omega (arith, field-start2 .ensures .1, pre .0)
 
-side-requires : tie.Need-side-requires
-side-requires c κs = search needs
-
-enum-known-south : tie.Need-enum-known-south
-enum-known-south c = search needs
-
 nearest-to-requires : tie.Need-nearest-to-requires
 nearest-to-requires c κs =
     let size = c .before .before .before .before .before .before .before .before .size in
     let angle = c .before .before .before .before .before .before .before .before .before .before .angle in
     size-held (size .given .1) (angle .ensures .1)
-
-enum-known-why : tie.Need-enum-known-why
-enum-known-why c = search needs
-
-enum-known-size-2 : tie.Need-enum-known-size-2
-enum-known-size-2 c = search needs
 
 returns : tie.Need-returns
 returns c =
@@ -95,8 +50,10 @@ returns c =
     let field-start2 = c .before .before .before .before .before .before .before .field-start2 in
     let find2 = c .before .before .before .before .before .before .find2 in
     let body = args .body .now in
-    let first = sym (ap toldSize (size .given .1)) ∙ angle .ensures .0 ∙ in-field (args .n) body (field-start .result) (find .result) (field-start .ensures .0) (find .ensures .0) (field-start .ensures .1) (angleOf (args .width) (args .limit)) in
-    let second = sym (ap toldSide (south .given .1)) ∙ side .ensures ∙ in-field (args .n + 1) body (field-start2 .result) (find2 .result) (field-start2 .ensures .0) (find2 .ensures .0) (field-start2 .ensures .1) (sideOf (args .plus) (args .minus)) in
+    let first = sym (ap toldSize (size .given .1)) ∙ angle .ensures .0
+    ∙ in-field (args .n) body (field-start .result) (find .result) (field-start .ensures .0) (find .ensures .0) (field-start .ensures .1) (angleOf (args .width) (args .limit)) in
+    let second = sym (ap toldSide (south .given .1)) ∙ side .ensures
+    ∙ in-field (args .n + 1) body (field-start2 .result) (find2 .result) (field-start2 .ensures .0) (find2 .ensures .0) (field-start2 .ensures .1) (sideOf (args .plus) (args .minus)) in
     turned-are (args .n) (args .width) (args .limit) (args .plus) (args .minus) body first second (c .nearest-to .ensures)
 
 returns-2 : tie.Need-returns-2
@@ -111,8 +68,10 @@ returns-2 c =
     let field-start2 = c .before .before .before .before .before .before .field-start2 in
     let find2 = c .before .before .before .before .before .find2 in
     let body = args .body .now in
-    let first = sym (ap toldSize (size .given .1)) ∙ angle .ensures .0 ∙ in-field (args .n) body (field-start .result) (find .result) (field-start .ensures .0) (find .ensures .0) (field-start .ensures .1) (angleOf (args .width) (args .limit)) in
-    let second = sym (ap toldSide (why .given .1)) ∙ side .ensures ∙ in-field (args .n + 1) body (field-start2 .result) (find2 .result) (field-start2 .ensures .0) (find2 .ensures .0) (field-start2 .ensures .1) (sideOf (args .plus) (args .minus)) in
+    let first = sym (ap toldSize (size .given .1)) ∙ angle .ensures .0
+    ∙ in-field (args .n) body (field-start .result) (find .result) (field-start .ensures .0) (find .ensures .0) (field-start .ensures .1) (angleOf (args .width) (args .limit)) in
+    let second = sym (ap toldSide (why .given .1)) ∙ side .ensures
+    ∙ in-field (args .n + 1) body (field-start2 .result) (find2 .result) (field-start2 .ensures .0) (find2 .ensures .0) (field-start2 .ensures .1) (sideOf (args .plus) (args .minus)) in
     turned-side (args .n) (args .width) (args .limit) (args .plus) (args .minus) body first second
 
 returns-3 : tie.Need-returns-3
@@ -123,33 +82,34 @@ returns-3 c =
     let field-start = c .before .before .before .before .before .before .field-start in
     let find = c .before .before .before .before .before .find in
     let body = args .body .now in
-    let first = sym (ap toldSize (size2 .given .1)) ∙ angle .ensures .0 ∙ in-field (args .n) body (field-start .result) (find .result) (field-start .ensures .0) (find .ensures .0) (field-start .ensures .1) (angleOf (args .width) (args .limit)) in
+    let first = sym (ap toldSize (size2 .given .1)) ∙ angle .ensures .0
+    ∙ in-field (args .n) body (field-start .result) (find .result) (field-start .ensures .0) (find .ensures .0) (field-start .ensures .1) (angleOf (args .width) (args .limit)) in
     turned-size (args .n) (args .width) (args .limit) (args .plus) (args .minus) body first
 
 pub turned-in-spec : {M : Type 1} → statement M
 turned-in-spec =
     tie.close
     (tie.spec
-    field-start-requires
-    find-requires
-    sub-angle
-    part-angle-start
-    part-angle-end
+    (λ c κs. search needs)
+    (λ c κs. search needs)
+    (λ c. search needs)
+    (λ c. search needs)
+    (λ c. search needs)
     add-angle
     angle-requires
-    enum-known-size
+    (λ c. search needs)
     add-field-start
-    field-start-requires-2
-    find-requires-2
-    sub-side
-    part-side-start
-    part-side-end
+    (λ c κs. search needs)
+    (λ c κs. search needs)
+    (λ c. search needs)
+    (λ c. search needs)
+    (λ c. search needs)
     add-side
-    side-requires
-    enum-known-south
+    (λ c κs. search needs)
+    (λ c. search needs)
     nearest-to-requires
-    enum-known-why
-    enum-known-size-2
+    (λ c. search needs)
+    (λ c. search needs)
     returns
     returns-2
     returns-3)

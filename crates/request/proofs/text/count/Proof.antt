@@ -18,14 +18,8 @@ abbrev μ-loop : tie.MeasureT-loop
 loop-holds : tie.Need-loop-holds Inv-loop μ-loop
 loop-holds c = (count-end (c .before .args .byte) (c .before .args .text .now) (length (c .before .args .text .now)) (omega arith), omega arith)
 
-sub-at : tie.Need-sub-at Inv-loop μ-loop
-sub-at c = omega arith
-
 shared-slice-read-same : tie.Need-shared-slice-read-same Inv-loop μ-loop
 shared-slice-read-same c = omega (arith, c .before .before .loop .inv)
-
-same-requires : tie.Need-same-requires Inv-loop μ-loop
-same-requires c κs = search needs
 
 add-sum : tie.Need-add-sum Inv-loop μ-loop
 add-sum c =
@@ -34,9 +28,6 @@ add-sum c =
     let loop-test = c .before .before .loop-test in
     let back = count-back (args .text .now) (loop .at) (loop-test .taken) (loop .inv .1) (args .byte) (loop .sum) (loop .inv .0) in
     omega (arith, back, c .same .ensures, count-le (args .byte) (drop (loop .at - 1) (args .text .now)), length-drop (loop .at - 1) (args .text .now))
-
-loop-less : tie.Need-loop-less Inv-loop μ-loop
-loop-less c = omega arith
 
 loop-again : tie.Need-loop-again Inv-loop μ-loop
 loop-again c =
@@ -58,10 +49,10 @@ count-spec =
     Inv-loop
     μ-loop
     loop-holds
-    sub-at
+    (λ c. omega arith)
     shared-slice-read-same
-    same-requires
+    (λ c κs. search needs)
     add-sum
-    loop-less
+    (λ c. omega arith)
     loop-again
     returns)

@@ -19,12 +19,6 @@ abbrev μ-loop : tie.MeasureT-loop
 loop-holds : tie.Need-loop-holds Inv-loop μ-loop
 loop-holds c = (refl, omega arith)
 
-shared-slice-read-byte : tie.Need-shared-slice-read-byte Inv-loop μ-loop
-shared-slice-read-byte c = omega arith
-
-is-taken-requires : tie.Need-is-taken-requires Inv-loop μ-loop
-is-taken-requires c κs = search needs
-
 returns : tie.Need-returns Inv-loop μ-loop
 returns c =
     let args = c .before .before .before .before .before .before .args in
@@ -32,12 +26,6 @@ returns c =
     let loop-test = c .before .before .before .loop-test in
     let is-taken = c .before .is-taken in
     every-stop (args .letters) (args .text .now) (loop .at) (loop-test .taken) (sym (is-taken .ensures) ∙ not-true _ (c .if1 .taken)) ∙ loop .inv .0
-
-add-at : tie.Need-add-at Inv-loop μ-loop
-add-at c = omega arith
-
-loop-less : tie.Need-loop-less Inv-loop μ-loop
-loop-less c = omega arith
 
 loop-again : tie.Need-loop-again Inv-loop μ-loop
 loop-again c =
@@ -60,10 +48,10 @@ every-spec =
     Inv-loop
     μ-loop
     loop-holds
-    shared-slice-read-byte
-    is-taken-requires
+    (λ c. omega arith)
+    (λ c κs. search needs)
     returns
-    add-at
-    loop-less
+    (λ c. omega arith)
+    (λ c. omega arith)
     loop-again
     returns-2)

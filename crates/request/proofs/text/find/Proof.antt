@@ -18,12 +18,6 @@ abbrev μ-loop : tie.MeasureT-loop
 loop-holds : tie.Need-loop-holds Inv-loop μ-loop
 loop-holds c = (refl, c .before .pre)
 
-shared-slice-read-byte : tie.Need-shared-slice-read-byte Inv-loop μ-loop
-shared-slice-read-byte c = omega arith
-
-is-either-requires : tie.Need-is-either-requires Inv-loop μ-loop
-is-either-requires c κs = search needs
-
 returns : tie.Need-returns Inv-loop μ-loop
 returns c =
     let args = c .before .before .before .before .before .before .args in
@@ -32,12 +26,6 @@ returns c =
     let is-either = c .before .is-either in
     let stop = until-stop (args .a) (args .b) (args .text .now) (loop .at) (loop-test .taken) (sym (is-either .ensures) ∙ c .if1 .taken) in
     (omega (arith, stop, loop .inv), omega arith)
-
-add-at : tie.Need-add-at Inv-loop μ-loop
-add-at c = omega arith
-
-loop-less : tie.Need-loop-less Inv-loop μ-loop
-loop-less c = omega arith
 
 loop-again : tie.Need-loop-again Inv-loop μ-loop
 loop-again c =
@@ -61,10 +49,10 @@ find-spec =
     Inv-loop
     μ-loop
     loop-holds
-    shared-slice-read-byte
-    is-either-requires
+    (λ c. omega arith)
+    (λ c κs. search needs)
     returns
-    add-at
-    loop-less
+    (λ c. omega arith)
+    (λ c. omega arith)
     loop-again
     returns-2)

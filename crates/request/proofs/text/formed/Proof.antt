@@ -25,12 +25,6 @@ loop-holds c = (refl, omega arith)
 shared-slice-read-mark : tie.Need-shared-slice-read-mark Inv-loop μ-loop
 shared-slice-read-mark c = omega (arith, c .before .before .before .if1 .left)
 
-shared-slice-read-byte : tie.Need-shared-slice-read-byte Inv-loop μ-loop
-shared-slice-read-byte c = omega arith
-
-likened-requires : tie.Need-likened-requires Inv-loop μ-loop
-likened-requires c κs = search needs
-
 returns-2 : tie.Need-returns-2 Inv-loop μ-loop
 returns-2 c =
     let args = c .before .before .before .before .before .before .before .before .before .args in
@@ -39,12 +33,6 @@ returns-2 c =
     let loop-test = c .before .before .before .before .loop-test in
     let likened = c .before .likened in
     formed-stop (args .form .now) (args .text .now) (loop .at) (if1 .left) (loop-test .taken) (sym (likened .ensures) ∙ not-true _ (c .if2 .taken)) ∙ loop .inv .0
-
-add-at : tie.Need-add-at Inv-loop μ-loop
-add-at c = omega arith
-
-loop-less : tie.Need-loop-less Inv-loop μ-loop
-loop-less c = omega arith
 
 loop-again : tie.Need-loop-again Inv-loop μ-loop
 loop-again c =
@@ -71,10 +59,10 @@ formed-spec =
     returns
     loop-holds
     shared-slice-read-mark
-    shared-slice-read-byte
-    likened-requires
+    (λ c. omega arith)
+    (λ c κs. search needs)
     returns-2
-    add-at
-    loop-less
+    (λ c. omega arith)
+    (λ c. omega arith)
     loop-again
     returns-3)

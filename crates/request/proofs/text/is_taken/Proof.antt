@@ -5,9 +5,6 @@ use mathlib.Core.Path.{sym, _∙_}
 use Rattle.request.proofs.text.is_taken.Statement.{statement}
 use Rattle.request.proofs.text.is_taken.Tie as tie
 
-is-digit-requires : tie.Need-is-digit-requires
-is-digit-requires c κs = search needs
-
 returns : tie.Need-returns
 returns c = simp (sym (c .before .is-digit .ensures) ∙ c .if1 .taken)
 
@@ -35,4 +32,4 @@ returns-4 c =
     simp (sym (is-digit .ensures) ∙ if1 .left, not-false (args .letters) (if2 .left), le-leb 65 (args .byte) (c .if3 .left))
 
 pub is-taken-spec : {M : Type 1} → statement M
-is-taken-spec = tie.close (tie.spec is-digit-requires returns returns-2 returns-3 returns-4)
+is-taken-spec = tie.close (tie.spec (λ c κs. search needs) returns returns-2 returns-3 returns-4)

@@ -6,9 +6,6 @@ use Rattle.numbers.proofs.Answers.{chosen, other}
 use Rattle.request.proofs.text.likened.Statement.{statement}
 use Rattle.request.proofs.text.likened.Tie as tie
 
-is-digit-requires : tie.Need-is-digit-requires
-is-digit-requires c κs = search needs
-
 returns : tie.Need-returns
 returns c =
     let args = c .before .before .args in
@@ -19,4 +16,4 @@ returns-2 : tie.Need-returns-2
 returns-2 c = other (ne-eqb (c .before .args .mark) 48 (c .if1 .left)) _ _
 
 pub likened-spec : {M : Type 1} → statement M
-likened-spec = tie.close (tie.spec is-digit-requires returns returns-2)
+likened-spec = tie.close (tie.spec (λ c κs. search needs) returns returns-2)

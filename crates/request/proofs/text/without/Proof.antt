@@ -9,13 +9,11 @@ use Rattle.request.specs.Text.{unended}
 use Rattle.request.proofs.text.without.Tie as tie
 
 returns : tie.Need-returns
-returns c = (none-ended (c .before .args .byte) (c .before .args .text .now) ∙ ap (λ (n : ℕ). unended (c .before .args .byte) (take n (c .before .args .text .now))) (let z : 0 ≡ c .before .args .size = omega arith in z), omega arith)
-
-sub-less : tie.Need-sub-less
-sub-less c = omega arith
-
-shared-slice-read-if2 : tie.Need-shared-slice-read-if2
-shared-slice-read-if2 c = omega arith
+returns c = (
+  none-ended (c .before .args .byte) (c .before .args .text .now)
+      ∙ ap (λ (n : ℕ). unended (c .before .args .byte) (take n (c .before .args .text .now))) (let z : 0 ≡ c .before .args .size = omega arith in z),
+  omega arith,
+)
 
 returns-2 : tie.Need-returns-2
 returns-2 c =
@@ -30,4 +28,4 @@ returns-3 c =
     (last-kept (args .byte) (args .text .now) (args .size) (omega arith) (pre) (c .if2 .left), pre)
 
 pub without-spec : {M : Type 1} → statement M
-without-spec = tie.close (tie.spec returns sub-less shared-slice-read-if2 returns-2 returns-3)
+without-spec = tie.close (tie.spec returns (λ c. omega arith) (λ c. omega arith) returns-2 returns-3)

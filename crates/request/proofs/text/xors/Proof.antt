@@ -17,14 +17,8 @@ abbrev μ-loop : tie.MeasureT-loop
 loop-holds : tie.Need-loop-holds Inv-loop μ-loop
 loop-holds c = (xors-end (c .args .text .now) (length (c .args .text .now)) (omega arith), omega arith)
 
-sub-at : tie.Need-sub-at Inv-loop μ-loop
-sub-at c = omega arith
-
 shared-slice-read-sum : tie.Need-shared-slice-read-sum Inv-loop μ-loop
 shared-slice-read-sum c = omega (arith, c .before .before .loop .inv)
-
-loop-less : tie.Need-loop-less Inv-loop μ-loop
-loop-less c = omega arith
 
 loop-again : tie.Need-loop-again Inv-loop μ-loop
 loop-again c =
@@ -42,4 +36,4 @@ returns c =
 pub xors-spec : {M : Type 1} → statement M
 xors-spec =
     tie.close
-    (tie.spec Inv-loop μ-loop loop-holds sub-at shared-slice-read-sum loop-less loop-again returns)
+    (tie.spec Inv-loop μ-loop loop-holds (λ c. omega arith) shared-slice-read-sum (λ c. omega arith) loop-again returns)

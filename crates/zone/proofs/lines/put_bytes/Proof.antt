@@ -1,31 +1,19 @@
--- `zone::lines::put_bytes` is safe and ends. Assumes nothing.
-use Prim.Native.Nat.{_≤_, _-_}
-use lib.ListN.{length}
-use mathlib.Core.Path.{_≡_, refl}
-use native.Mathlib.Omega.{arith}
-use Rattle.zone.proofs.lines.put_bytes.Statement.{statement}
+-- `zone::lines::put_bytes` meets its contract. Assumes nothing.
+use borrow.Author.Needs.{needs}
+use Rattle.line.proofs.Puts.{put-none, put-then, put-as}
+use Rattle.zone.proofs.{Printing.{empty-text, spaced-text}, lines.put_bytes.Statement.{statement}}
 use Rattle.zone.proofs.lines.put_bytes.Tie as tie
 
-abbrev Inv-loop : tie.InvT-loop
-Inv-loop out₀ at text start size next₀ i₀ out next i = (i ≤ size) × (length out ≡ length out₀)
+returns : tie.Need-returns
+returns c = put-as (empty-text (c .before .before .before .args .bytes .now) (c .if1 .taken)) (put-none _ _)
 
-abbrev μ-loop : tie.MeasureT-loop
-μ-loop out₀ at text start size next₀ i₀ out next i = size - i
+returns-2 : tie.Need-returns-2
+returns-2 c =
+    let args = c .before .before .before .before .before .before .before .before .before .before .before .args in
+    let if1 = c .before .before .before .before .before .before .before .before .if1 in
+    let put = c .before .before .before .before .before .before .put in
+    let put-digits = c .before .before .put-digits in
+    put-as (spaced-text (args .bytes .now) (if1 .left)) (put-then _ _ (put .ensures) (put-digits .ensures))
 
 pub put-bytes-spec : {M : Type 1} → statement M
-put-bytes-spec =
-    tie.close
-    (tie.spec
-    Inv-loop
-    μ-loop
-    (λ c. tt)
-    (λ c κs. tt)
-    (λ c. (omega arith, refl))
-    (λ c κs. tt)
-    (λ c κs. tt)
-    (λ c κs. tt)
-    (λ c. omega arith)
-    (λ c. omega arith)
-    (λ c. (omega arith, omega arith))
-    (λ c. omega arith)
-    (λ c. tt))
+put-bytes-spec = tie.close (tie.spec returns (λ c κs. search needs) (λ c κs. search needs) (λ c. search needs) returns-2)

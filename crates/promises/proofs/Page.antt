@@ -1,0 +1,120 @@
+-- The page of promises: the questions of README in its order, each with the theorem that answers it, over what the entry points promise. A statement stands here in full, so that a reader looks up definitions alone; its proof is
+-- the law of the crate where it belongs.
+use Prim.Native.Nat.{ℕ, _*_, _-_, _<_}
+use lib.{Ieee.{Float}, IntN.{ℤ}, ListN.{length, getD, take}, Signed.{ltZ}}
+use mathlib.Core.{Bool.{Bool, true}, List.{List, [], _∷_}, Logic.{_⊎_}, Path.{_≡_}}
+use mir.{Syntax.{w64}, Val.{SFits}}
+use Rattle.border.specs.{Encoding.{encodingOf}, declared.place.{FixedLat.{FixedLat}, FixedLon.{FixedLon}}}
+use Rattle.builder.specs.{File.{Room, builtOf}, Yards.{Lent, Plan, Yard, planOf}}
+use Rattle.calendar.specs.{Civil.{CivilOf}, declared.civil.Civil.{Civil}}
+use Rattle.draft.specs.Held.{Builder.{holding}, Totals.{totalsOf}}
+use Rattle.header.specs.{Header.{headBy, headOf}, declared.header.Head.{Head}}
+use Rattle.index.specs.{Index.{Indexed, indexedOf}, Own.{isIndexOf}, Through.{lookedThrough, lookedIndexed}}
+use Rattle.localtime.specs.{Found.{foundOf}, Local.{rulesIn, localTime}}
+use Rattle.localtime.specs.declared.rule.Rules.the-variants as R
+use Rattle.numbers.specs.{Lists.{zeros}, Reply.{Reply, given}}
+use Rattle.promises.specs.Built.Finds.{FindsInto}
+use Rattle.salvage.specs.{Kept.{keptOf}, Promises.{ListOf, KeptFile}, Salvage.{Counts, salvaged}}
+use Rattle.table.specs.{Rows.{rowsIn}, declared.location.Location.{Location}}
+use Rattle.tzif.specs.{Check.{correctionAt}, Local.{typeBehind, named}, Number.{lift}, Times.{transitionsOf, lastNotAfter}, Zone.{readZone}, declared.{block.Block.{Block}, zone.Zone.{Zone}}}
+use Rattle.tzif.proofs.{Signs.{Octets}, Theorems.{transitionTime, LastNotAfter}}
+use Rattle.tzif.specs.Reply as T
+use Rattle.tzrule.specs.{Ask.{corrected, inYears, clockAt}, Summer.{isSummer, IsSummer, IsRule}, declared.rule.{Rule.{Rule}, Tz.{Tz}}}
+use Rattle.uskelzar.specs.{Calls.{Shelf, Called, Made, TotalsIn}, Spoken.{zonesValues, spoken, foundSpoken}}
+use Rattle.verdict.specs.Verdict.{judgedAt}
+use Rattle.writer.specs.WrittenAt.{WrittenAt}
+use Rattle.zones.specs.{Batch.{Many.{isTaken, fixesOf, lookedUpMany}, OneByOne.{oneByOne}}, Lookup.{lookedUp}, Unstopped.{lookedThroughAll}, declared.lookup.Zones.{Zones}}
+use Rattle.calendar.proofs.SameCivil as calendar
+use Rattle.index.proofs.Owned as index
+use Rattle.localtime.proofs.Theorems as localtime
+use Rattle.promises.proofs.Built.BuiltLookup as built
+use Rattle.promises.proofs.Salvaged.Answered as salvage
+use Rattle.tzif.proofs.Theorems as tzif
+use Rattle.tzrule.proofs.SummerAt as tzrule
+use Rattle.uskelzar.proofs.Made as calls
+use Rattle.uskelzar.proofs.ReturnedWhole as returned
+use Rattle.writer.proofs.OneVerdict as writer
+use Rattle.zones.proofs.WholeMeansWhole as zones
+use Rattle.zones.proofs.batch.ManyIsOneByOne as batch
+
+-- ---- Can a slip carry a zone from a search that stopped halfway?
+-- Under mark 1 reply, hit list and text are those of a search that never stops early.
+pub whole-means-whole : (file : List ℕ) (location : Location) (asked : Bool) (n room : ℕ) (found : Zones) → lookedUp file location asked n room .reply ≡ given found → found .mark ≡ 1
+    → lookedUp file location asked n room ≡ lookedThroughAll file location asked n room
+whole-means-whole = zones.whole-means-whole
+
+-- In C: so is all that a call returned and wrote which returned 0 and left 1 in the reply's second word.
+pub returned-whole : (file : List ℕ) (location : Location) (asked : Bool) (n room : ℕ) {number : ℕ} {reply hits text : List ℕ}
+    → spoken number reply (hits ∷ text ∷ []) ≡ foundSpoken zonesValues (lookedUp file location asked n room) → number ≡ 0 → getD reply 1 0 ≡ 1
+    → spoken number reply (hits ∷ text ∷ []) ≡ foundSpoken zonesValues (lookedThroughAll file location asked n room)
+returned-whole = returned.returned-whole
+
+-- ---- Does a slip that is stamped together with a day's others carry what it would carry alone?
+-- Where the lists go together, and the file opens or there is a fix, many fixes come to what plain lookups come to, each in the room that the earlier ones left.
+pub many-is-one-by-one : (file : List ℕ) (lats lons : List Float) (asked : Bool) (n room third : ℕ) → isTaken (length lats) (length lons) third ≡ true
+    → ((head : Head) × (given head ≡ headOf file)) ⊎ (0 < length lats)
+    → lookedUpMany file lats lons asked n room third ≡ oneByOne file asked n room third (fixesOf lats lons) 0 0 0 (zeros n) (zeros room) (zeros third)
+many-is-one-by-one = batch.many-is-one-by-one
+
+-- ---- Does an index beside the file change an answer?
+-- Not where `is_index` says 0 of its words, whoever wrote them.
+pub is-index-is-plain : (file words : List ℕ) → isIndexOf file words ≡ given tt → (location : Location) (asked : Bool) (n room : ℕ)
+    → lookedIndexed file words location asked n room ≡ lookedUp file location asked n room
+is-index-is-plain file words e location asked n room = index.is-index-is-plain file words e location asked n room
+
+-- ---- When borders move from encoding version 0 to 1, what shows that a yard stays in its zone?
+-- One border, in whichever way it is written, gets one verdict and one distance at every fix.
+pub one-border-one-verdict : {version version′ : ℕ} {lats lons : List ℤ} {file file′ : List ℕ} {base base′ place place′ : ℕ}
+    → WrittenAt version lats lons file base place → WrittenAt version′ lats lons file′ base′ place′
+    → (lat : FixedLat) (lon : FixedLon) (asked : Bool) (least : ℕ)
+    → judgedAt file (encodingOf version base) place lat lon asked least ≡ judgedAt file′ (encodingOf version′ base′) place′ lat lon asked least
+one-border-one-verdict = writer.one-border-one-verdict
+
+-- ---- Does a yard of ours stay what we drew?
+-- Every lookup in a built file that is answered is whole, and has each yard's verdict as its own border gives it, with the yard's values.
+pub lookup-finds : (lists : Lent) (room : Room) (file : List ℕ) → builtOf (planOf lists) room ≡ given file → (location : Location) (asked : Bool) (n space : ℕ) (found : Zones)
+    → lookedUp file location asked n space .reply ≡ given found → FindsInto (planOf lists) room location asked n space (lookedUp file location asked n space) found
+lookup-finds lists room file e location asked n space = built.lookup-finds lists room file e location asked n space
+
+-- ---- Are a builder's sizes right after every change?
+-- After every sequence of exported calls the state's totals are those of the yards that were added and not taken away,
+pub totals-fresh : (plan : Plan) (room : ℕ) (yards : List Yard) (s : Shelf) → Made plan room yards s → TotalsIn (s .state) (totalsOf (holding plan yards))
+totals-fresh = calls.totals-fresh
+
+-- and a call that returns no 0 leaves state, lists and notes.
+pub refused-changes-nothing : (plan : Plan) (room : ℕ) (yards : List Yard) (found left : Shelf) (number : ℕ) (change : List Yard → List Yard) → Made plan room yards found
+    → Called found left number change → (number ≡ 0 → ⊥) → left ≡ found
+refused-changes-nothing = calls.refused-changes-nothing
+
+-- ---- What is left of a damaged file?
+-- The file that was written opens strictly, and its table is that of the old file's whole entries, in the old order, each as it was.
+pub salvage-kept : (file : List ℕ) (words room : ℕ) (counts : Counts) → salvaged file words room .reply ≡ given counts → (head : Head) → headBy true file ≡ given head
+    → KeptFile file head (take (counts .length′) (salvaged file words room .out)) (keptOf file head (rowsIn file head))
+salvage-kept file words room counts e head opens = salvage.lent-kept file words room counts e head opens
+
+-- The words that were written are exactly the old file's entries that do not read whole, each with the first reason met.
+pub salvage-list : (file : List ℕ) (words room : ℕ) (counts : Counts) → salvaged file words room .reply ≡ given counts → (head : Head) → headBy true file ≡ given head
+    → ListOf file head (take (2 * counts .lines) (salvaged file words room .list))
+salvage-list file words room counts e head opens = salvage.lent-list file words room counts e head opens
+
+-- ---- Is the hour that of the zone's file?
+-- The type that answers is that of the last transition not after the instant, and type 0 before the first;
+pub last-not-after : (file : List ℕ) → Octets file → (block : Block) (instant : ℤ) → SFits w64 instant
+    → LastNotAfter file block instant (typeBehind file block (lastNotAfter file (transitionsOf block) (lift instant)))
+last-not-after file octets block instant fits = tzif.last-not-after file octets block instant fits
+
+-- after the last transition local time is the TZ string's clock, in the years 1 to 9999;
+pub after-last-by-string : (file : List ℕ) (instant : ℤ) (room : ℕ) {zone : Zone} → readZone file ≡ T.given zone → {tz : Tz} → rulesIn file zone ≡ T.given (R.By tz) → Octets file → SFits w64 instant
+    → 0 < zone .block .timecnt → ltZ (transitionTime file (zone .block) (zone .block .timecnt - 1)) instant ≡ true
+    → inYears (corrected (lift instant) (correctionAt file (zone .block) (lift instant))) ≡ true
+    → localTime file instant room ≡ named file room (foundOf (clockAt tz (corrected (lift instant) (correctionAt file (zone .block) (lift instant)))))
+after-last-by-string file instant room z r = localtime.after-last-by-string file instant room z r
+
+-- and it is summer exactly if the instant lies in the summer of some year.
+pub summer-some : (rule : Rule) (instant : ℕ) → IsRule rule → (isSummer rule instant ≡ true → IsSummer rule instant) × (IsSummer rule instant → isSummer rule instant ≡ true)
+summer-some rule instant good = tzrule.summer-some rule instant good
+
+-- ---- Is the date?
+-- What a clock shows is the one date and time whose seconds give instant and offset back.
+pub same-civil : (instant offset : ℤ) (a b : Civil) → CivilOf instant offset a → CivilOf instant offset b → a ≡ b
+same-civil = calendar.same-civil
