@@ -1,7 +1,8 @@
 //! What is given to the leaves and to the verdict, the same to both programs.
 
-use crate::{read_cities, watched, Checksum};
+use crate::{read_cities, tell_time, watched, Checksum};
 use std::hint::black_box;
+use std::time::Instant;
 use std::{env, fs};
 
 const NUMBERS: usize = 20_000;
@@ -42,7 +43,11 @@ pub fn run<L: Leaves>() {
 }
 
 fn repeat(rounds: u32, mut round: impl FnMut() -> u64) -> u64 {
-    (0..rounds).fold(0, |_, _| black_box(round()))
+    let first = black_box(round());
+    let from = Instant::now();
+    let last = (1..rounds).fold(first, |_, _| black_box(round()));
+    tell_time(from, rounds - 1);
+    last
 }
 
 /// A number of so many bytes behind a byte 0, read backward.
