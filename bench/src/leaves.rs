@@ -1,8 +1,7 @@
 //! What is given to the leaves and to the verdict, the same to both programs.
 
-use crate::{read_cities, tell_time, watched, Checksum};
+use crate::{read_cities, tell_time, time_spent, watched, Checksum};
 use std::hint::black_box;
-use std::time::Instant;
 use std::{env, fs};
 
 const NUMBERS: usize = 20_000;
@@ -44,7 +43,7 @@ pub fn run<L: Leaves>() {
 
 fn repeat(rounds: u32, mut round: impl FnMut() -> u64) -> u64 {
     let first = black_box(round());
-    let from = Instant::now();
+    let from = time_spent();
     let last = (1..rounds).fold(first, |_, _| black_box(round()));
     tell_time(from, rounds - 1);
     last

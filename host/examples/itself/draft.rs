@@ -49,7 +49,7 @@ fn yard(random: &mut Random, values: Values) -> Yard {
 impl Values {
     fn one(self, random: &mut Random) -> String {
         match (self, random.below(12)) {
-            (Values::Own, 4..) => format!("{:0>1$}", random.next(), 230 + random.below(26)),
+            (Values::Own, 2..) => format!("{:0>1$}", random.next(), 230 + random.below(26)),
             (_, 0) => "x".repeat(250 + random.below(8)),
             (_, 1) => String::new(),
             (_, n) => "abcdef"[..1 + n % 5].to_string(),
