@@ -1,6 +1,6 @@
 //! What is given to the leaves and to the verdict, the same to both programs.
 
-use crate::{read_cities, watched, Checksum};
+use crate::{read_cities, tell_time, time_spent, watched, Checksum};
 use std::hint::black_box;
 use std::{env, fs};
 
@@ -42,7 +42,11 @@ pub fn run<L: Leaves>() {
 }
 
 fn repeat(rounds: u32, mut round: impl FnMut() -> u64) -> u64 {
-    (0..rounds).fold(0, |_, _| black_box(round()))
+    let first = black_box(round());
+    let from = time_spent();
+    let last = (1..rounds).fold(first, |_, _| black_box(round()));
+    tell_time(from, rounds - 1);
+    last
 }
 
 /// A number of so many bytes behind a byte 0, read backward.
