@@ -530,7 +530,7 @@ uint8_t uskelzar_civil_time(int64_t instant, int32_t offset, uint64_t reply[USKE
  * A struct has the lists that belong together: pointers and lengths and nothing else, under the names that the functions above give them, so that what is said there of a
  * list, how long it must be too, is said of the member. It is only read, serves any number of calls, and may be gone after each: none is kept.
  * Each form hands all of it on, as it is, to the one function that its paragraph names, and decides nothing: it returns, answers, writes and refuses what that one does. The
- * archive does not have them: they are compiled where they are called. */
+ * archive does not have them: they are compiled where they are called, and no proof speaks of them; host/tests/header.rs holds each against its function. */
 
 /* A file to look up in. */
 struct uskelzar_file {
