@@ -44,9 +44,8 @@ fn names(text: &str) -> (&str, Vec<&str>) {
 
 /// Each form's prototype, and the call that it is.
 fn forms(header: &str) -> Vec<(&str, &str)> {
-    let form = |text: &'_ str| -> (usize, usize) { (text.find(" { return ").unwrap(), text.find("; }").unwrap()) };
-    let texts = header.split("static inline ").skip(1);
-    texts.map(|text| (&text[..form(text).0], &text[form(text).0 + " { return ".len()..form(text).1])).collect()
+    let parts = header.split("static inline ").skip(1).map(|text| text.split_once(" { return ").unwrap());
+    parts.map(|(form, rest)| (form, rest.split_once("; }").unwrap().0)).collect()
 }
 
 #[test]
