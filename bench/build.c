@@ -16,17 +16,14 @@ int main(int argc, char **argv) {
         put_ring(i, yards, lats + POINTS * i, lons + POINTS * i);
         at = put_values(i, alike, lengths + n, texts, at);
     }
-    size_t room = 600 * yards + 4096;
-    size_t sizes[] = {USKELZAR_BUILD_STARTS(yards, NAMES), USKELZAR_BUILD_KEYS(yards, NAMES), USKELZAR_BUILD_KEPT(yards, NAMES),
-                      USKELZAR_BUILD_HELD(at - behind), USKELZAR_BUILD_PLACES(yards), USKELZAR_BUILD_BOXES(yards), USKELZAR_BUILD_BYTES(room)};
-    uint32_t *starts = lend(sizes[0], 4), *kept = lend(sizes[2], 4), *words = lend(sizes[2], 4), *places = lend(sizes[4], 4);
-    uint64_t *keys = lend(sizes[1], 8), *spare = lend(sizes[1], 8), reply[USKELZAR_REPLY_WORDS] = {0};
-    uint8_t *held = lend(sizes[3], 1), *bytes = lend(sizes[6], 1), *out = lend(room, 1);
-    int32_t *boxes = lend(sizes[5], 4);
+    size_t room = 600 * yards + 4096, boxed = USKELZAR_BUILD_BOXES(yards);
+    struct uskelzar_yards all = {counts, 4 * yards, lats, POINTS * yards, lons, POINTS * yards, counts, 0, lengths, n, texts, at};
+    struct uskelzar_work work = lend_work(yards, USKELZAR_BUILD_HELD(at - behind));
+    struct uskelzar_boxes boxes = {lend(boxed, 4), boxed, lend(USKELZAR_BUILD_BYTES(room), 1), USKELZAR_BUILD_BYTES(room)};
+    struct uskelzar_output output = {lend(room, 1), room};
+    uint64_t reply[USKELZAR_REPLY_WORDS] = {0};
     for (size_t i = 0; i < times; i++) {
-        uint8_t number = uskelzar_build('T', 1, 25, NAMES, counts, 4 * yards, lats, POINTS * yards, lons, POINTS * yards, counts, 0, lengths, n, texts, at,
-                                        starts, sizes[0], keys, sizes[1], spare, sizes[1], kept, sizes[2], held, sizes[3], words, sizes[2], places, sizes[4],
-                                        boxes, sizes[5], bytes, sizes[6], out, room, reply);
+        uint8_t number = uskelzar_yards_build('T', 1, 25, NAMES, &all, &work, &boxes, &output, reply);
         if (number) {
             printf("refused %u\n", number);
             return 1;

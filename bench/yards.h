@@ -15,6 +15,20 @@ static void *lend(size_t count, size_t size) {
     return list;
 }
 
+/* the lists to work in, for so many yards and so many bytes of values */
+static inline struct uskelzar_work lend_work(size_t yards, size_t held) {
+    size_t starts = USKELZAR_BUILD_STARTS(yards, NAMES), keys = USKELZAR_BUILD_KEYS(yards, NAMES), kept = USKELZAR_BUILD_KEPT(yards, NAMES), places = USKELZAR_BUILD_PLACES(yards);
+    struct uskelzar_work work = {lend(starts, 4), starts, lend(keys, 8), keys, lend(keys, 8), keys, lend(kept, 4), kept, lend(held, 1), held, lend(kept, 4), kept, lend(places, 4), places};
+    return work;
+}
+
+/* the notes of so many adds */
+static inline struct uskelzar_notes lend_notes(size_t yards) {
+    size_t marks = USKELZAR_NOTE_MARKS(yards, NAMES), chains = USKELZAR_NOTE_CHAINS(yards, NAMES), groups = USKELZAR_NOTE_GROUPS(yards), begins = USKELZAR_NOTE_BEGINS(yards);
+    struct uskelzar_notes notes = {lend(marks, 4), marks, lend(chains, 4), chains, lend(groups, 4), groups, lend(begins, 4), begins};
+    return notes;
+}
+
 /* so many texts, their lengths and their bytes, behind those that are there; how many bytes there are then */
 static size_t put_texts(const char *const *text, size_t count, uint32_t *lengths, uint8_t *bytes, size_t at) {
     for (size_t i = 0; i < count; i++) {

@@ -31,11 +31,6 @@ static const char *const outcome_words[] = {
     "no TZif file of that name", "the TZif file is refused", "refusal 91: the TZif file counts leap seconds", "unknown",
     "the instant, or the clock at it, is outside the years 1 to 9999"};
 
-struct bytes {
-    uint8_t *at;
-    size_t length;
-};
-
 struct stamp {
     char zone[TEXT + 1];
     uint64_t civil[USKELZAR_CIVIL_WORDS];
@@ -50,15 +45,16 @@ struct stamp {
 static uint32_t hits[HITS];
 static uint8_t text[TEXT];
 static uint64_t reply[USKELZAR_REPLY_WORDS];
+static const struct uskelzar_matches found = {hits, HITS, text, TEXT};
 
 /* A file's bytes; the next call takes the same memory where `room` is the same. */
-static bool read_file(const char *path, uint8_t *room, size_t most, struct bytes *file)
+static bool read_file(const char *path, uint8_t *room, size_t most, struct uskelzar_file *file)
 {
     FILE *stream = fopen(path, "rb");
     if (stream == NULL)
         return false;
-    file->at = room;
-    file->length = fread(room, 1, most, stream);
+    file->file = room;
+    file->file_length = fread(room, 1, most, stream);
     bool whole = !ferror(stream) && fgetc(stream) == EOF;
     fclose(stream);
     return whole;
@@ -80,9 +76,9 @@ static bool is_inside(const char *zone)
     }
 }
 
-static enum outcome find_zone(const struct bytes *map, float lat, float lon, struct stamp *stamp)
+static enum outcome find_zone(const struct uskelzar_file *map, float lat, float lon, struct stamp *stamp)
 {
-    stamp->number = uskelzar_simple_lookup(map->at, map->length, lat, lon, hits, HITS, text, TEXT, reply);
+    stamp->number = uskelzar_file_simple_lookup(map, lat, lon, &found, reply);
     stamp->detail = reply[USKELZAR_REFUSED_DETAIL];
     if (stamp->number != USKELZAR_ANSWERED)
         return MAP_REFUSED;
@@ -97,9 +93,9 @@ static enum outcome find_zone(const struct bytes *map, float lat, float lon, str
     return strlen(stamp->zone) == reply[USKELZAR_SIMPLE_LENGTH] && is_inside(stamp->zone) ? STAMPED : BAD_NAME;
 }
 
-static enum outcome find_hour(const struct bytes *file, int64_t instant, struct stamp *stamp)
+static enum outcome find_hour(const struct uskelzar_file *file, int64_t instant, struct stamp *stamp)
 {
-    stamp->number = uskelzar_local_time(file->at, file->length, instant, text, TEXT, reply);
+    stamp->number = uskelzar_local_time(file->file, file->file_length, instant, text, TEXT, reply);
     stamp->detail = reply[USKELZAR_REFUSED_DETAIL];
     if (stamp->number == USKELZAR_TZIF_YEAR)
         return OUTSIDE_YEARS;
@@ -118,17 +114,17 @@ static enum outcome find_hour(const struct bytes *file, int64_t instant, struct 
     return stamp->number == USKELZAR_ANSWERED ? STAMPED : OUTSIDE_YEARS;
 }
 
-static enum outcome stamp_slip(const struct bytes *map, const char *folder, float lat, float lon, int64_t instant, struct stamp *stamp)
+static enum outcome stamp_slip(const struct uskelzar_file *map, const char *folder, float lat, float lon, int64_t instant, struct stamp *stamp)
 {
     static uint8_t room[ZONE_MOST];
     char path[PATH_MOST];
-    struct bytes file;
+    struct uskelzar_file file;
     /* NaN fails each comparison */
     if (!(lat >= -90 && lat <= 90 && lon >= -180 && lon <= 180))
         return NO_PLACE;
-    enum outcome found = find_zone(map, lat, lon, stamp);
-    if (found != STAMPED)
-        return found;
+    enum outcome zone = find_zone(map, lat, lon, stamp);
+    if (zone != STAMPED)
+        return zone;
     int length = snprintf(path, sizeof path, "%s/%s", folder, stamp->zone);
     if (length < 0 || (size_t)length >= sizeof path || !read_file(path, room, sizeof room, &file))
         return NO_FILE;
@@ -167,7 +163,7 @@ static bool read_instant(const char *text, int64_t *instant)
 
 int main(int count, char **words)
 {
-    struct bytes map;
+    struct uskelzar_file map;
     float lat, lon;
     int64_t instant;
     struct stamp stamp = {.number = 0};

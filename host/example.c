@@ -13,18 +13,14 @@
 
 enum { HITS = USKELZAR_HIT_WORDS * 64, TEXT = 4096 };
 
-struct map {
-    const uint8_t *file;
-    size_t length;
-};
-
 /* The lent buffers, as firmware would have them: of fixed size, used again for each call. */
 static uint32_t hits[HITS];
 static uint8_t names[TEXT];
 static uint8_t text[TEXT];
 static uint64_t reply[USKELZAR_REPLY_WORDS];
+static const struct uskelzar_matches found = {hits, HITS, text, TEXT};
 
-static bool map_file(const char *path, struct map *map)
+static bool map_file(const char *path, struct uskelzar_file *map)
 {
     struct stat about;
     int file = open(path, O_RDONLY);
@@ -33,7 +29,7 @@ static bool map_file(const char *path, struct map *map)
     void *start = mmap(NULL, (size_t)about.st_size, PROT_READ, MAP_PRIVATE, file, 0);
     close(file);
     map->file = start;
-    map->length = (size_t)about.st_size;
+    map->file_length = (size_t)about.st_size;
     return start != MAP_FAILED;
 }
 
@@ -89,9 +85,9 @@ static const uint8_t *name_of(unsigned index)
     return at;
 }
 
-static int print_slip(const struct map *map, float lat, float lon)
+static int print_slip(const struct uskelzar_file *map, float lat, float lon)
 {
-    uint8_t number = uskelzar_simple_lookup(map->file, map->length, lat, lon, hits, HITS, text, TEXT, reply);
+    uint8_t number = uskelzar_file_simple_lookup(map, lat, lon, &found, reply);
     if (number != USKELZAR_ANSWERED)
         return refused("simple lookup", number);
     bool whole = reply[USKELZAR_LOOKUP_END] == USKELZAR_END_WHOLE;
@@ -102,9 +98,9 @@ static int print_slip(const struct map *map, float lat, float lon)
     return 0;
 }
 
-static int print_zones(const struct map *map, uint64_t fields, float lat, float lon)
+static int print_zones(const struct uskelzar_file *map, uint64_t fields, float lat, float lon)
 {
-    uint8_t number = uskelzar_lookup(map->file, map->length, lat, lon, true, hits, HITS, text, TEXT, reply);
+    uint8_t number = uskelzar_file_lookup(map, lat, lon, true, &found, reply);
     if (number != USKELZAR_ANSWERED)
         return refused("lookup", number);
     const char *end = end_words(reply[USKELZAR_LOOKUP_END]);
@@ -134,7 +130,7 @@ static int print_zones(const struct map *map, uint64_t fields, float lat, float 
 
 int main(int count, char **words)
 {
-    struct map map;
+    struct uskelzar_file map;
     if (count != 4) {
         fprintf(stderr, "usage: example FILE LAT LON\n");
         return 2;
@@ -144,7 +140,7 @@ int main(int count, char **words)
         return 2;
     }
     float lat = strtof(words[2], NULL), lon = strtof(words[3], NULL);
-    uint8_t number = uskelzar_open(map.file, map.length, names, TEXT, reply);
+    uint8_t number = uskelzar_open(map.file, map.file_length, names, TEXT, reply);
     if (number != USKELZAR_ANSWERED)
         return refused("open", number);
     uint64_t fields = reply[USKELZAR_OPEN_FIELDS];

@@ -526,6 +526,287 @@ uint8_t uskelzar_civil_time(int64_t instant, int32_t offset, uint64_t reply[USKE
  * is refused (91). The offset goes to uskelzar_civil_time. The library opens no file, so the name is checked by whoever makes a path of it.
  * host/example-stamp.c has every way of not stamping. */
 
+/* ---- the same with fewer words: for each function above of nine parameters or more, a form of it that takes structs.
+ * A struct has the lists that belong together: pointers and lengths and nothing else, under the names that the functions above give them, so that what is said there of a
+ * list, how long it must be too, is said of the member. It is only read, serves any number of calls, and may be gone after each: none is kept.
+ * Each form hands all of it on, as it is, to the one function that its paragraph names, and decides nothing: it returns, answers, writes and refuses what that one does. The
+ * archive does not have them: they are compiled where they are called, and no proof speaks of them; host/tests/header.rs holds each against its function. */
+
+/* A file to look up in. */
+struct uskelzar_file {
+    const uint8_t *file;
+    size_t file_length;
+};
+
+/* Its index: the words that uskelzar_build_index gave. */
+struct uskelzar_index {
+    const uint32_t *index;
+    size_t index_length;
+};
+
+/* Many fixes: fix i is lats[i], lons[i]. */
+struct uskelzar_fixes {
+    const float *lats;
+    size_t lats_length;
+    const float *lons;
+    size_t lons_length;
+};
+
+/* What a lookup writes: the matches, and their fields or their description. */
+struct uskelzar_matches {
+    uint32_t *hits;
+    size_t hits_length;
+    uint8_t *text;
+    size_t text_length;
+};
+
+/* uskelzar_lookup: the zones that hold a fix. */
+static inline uint8_t uskelzar_file_lookup(const struct uskelzar_file *map, float lat, float lon, bool asked,
+                                           const struct uskelzar_matches *found, uint64_t reply[USKELZAR_REPLY_WORDS])
+{
+    return uskelzar_lookup(map->file, map->file_length, lat, lon, asked, found->hits, found->hits_length, found->text,
+                           found->text_length, reply);
+}
+
+/* uskelzar_lookup_strict: the same, and a number that the file's end cuts is refused. */
+static inline uint8_t uskelzar_file_lookup_strict(const struct uskelzar_file *map, float lat, float lon, bool asked,
+                                                  const struct uskelzar_matches *found, uint64_t reply[USKELZAR_REPLY_WORDS])
+{
+    return uskelzar_lookup_strict(map->file, map->file_length, lat, lon, asked, found->hits, found->hits_length, found->text,
+                                  found->text_length, reply);
+}
+
+/* uskelzar_lookup_many: the zones that hold each of many fixes. */
+static inline uint8_t uskelzar_file_lookup_many(const struct uskelzar_file *map, const struct uskelzar_fixes *fixes, bool asked,
+                                                const struct uskelzar_matches *found, uint32_t *answers, size_t answers_length,
+                                                uint64_t reply[USKELZAR_REPLY_WORDS])
+{
+    return uskelzar_lookup_many(map->file, map->file_length, fixes->lats, fixes->lats_length, fixes->lons, fixes->lons_length,
+                                asked, found->hits, found->hits_length, found->text, found->text_length, answers,
+                                answers_length, reply);
+}
+
+/* uskelzar_lookup_through: the zones that hold a fix, through an index that is not looked at first. */
+static inline uint8_t uskelzar_file_lookup_through(const struct uskelzar_file *map, const struct uskelzar_index *index,
+                                                   float lat, float lon, bool asked, const struct uskelzar_matches *found,
+                                                   uint64_t reply[USKELZAR_REPLY_WORDS])
+{
+    return uskelzar_lookup_through(map->file, map->file_length, index->index, index->index_length, lat, lon, asked, found->hits,
+                                   found->hits_length, found->text, found->text_length, reply);
+}
+
+/* uskelzar_lookup_indexed: the same, after a comparison. */
+static inline uint8_t uskelzar_file_lookup_indexed(const struct uskelzar_file *map, const struct uskelzar_index *index,
+                                                   float lat, float lon, bool asked, const struct uskelzar_matches *found,
+                                                   uint64_t reply[USKELZAR_REPLY_WORDS])
+{
+    return uskelzar_lookup_indexed(map->file, map->file_length, index->index, index->index_length, lat, lon, asked, found->hits,
+                                   found->hits_length, found->text, found->text_length, reply);
+}
+
+/* uskelzar_simple_lookup: the zone that holds a fix, as one text. */
+static inline uint8_t uskelzar_file_simple_lookup(const struct uskelzar_file *map, float lat, float lon,
+                                                  const struct uskelzar_matches *found, uint64_t reply[USKELZAR_REPLY_WORDS])
+{
+    return uskelzar_simple_lookup(map->file, map->file_length, lat, lon, found->hits, found->hits_length, found->text,
+                                  found->text_length, reply);
+}
+
+/* A border: its points on the file's grid, and the words of its pieces. With none of these `pieces_length` is 0, and `pieces` still not null. */
+struct uskelzar_border {
+    const int32_t *lats;
+    size_t lats_length;
+    const int32_t *lons;
+    size_t lons_length;
+    const uint32_t *pieces;
+    size_t pieces_length;
+};
+
+/* Where the bytes go that are written: a border, or a file. Of an add and a replacement it is a list to work in. */
+struct uskelzar_output {
+    uint8_t *out;
+    size_t out_length;
+};
+
+/* uskelzar_write_border: the bytes of a border. */
+static inline uint8_t uskelzar_border_write(uint8_t version, const struct uskelzar_border *border, const uint8_t *earlier,
+                                            size_t earlier_length, const struct uskelzar_output *output,
+                                            uint64_t reply[USKELZAR_REPLY_WORDS])
+{
+    return uskelzar_write_border(version, border->lats, border->lats_length, border->lons, border->lons_length, border->pieces,
+                                 border->pieces_length, earlier, earlier_length, output->out, output->out_length, reply);
+}
+
+/* The lists that both builders work in, as long as USKELZAR_BUILD_STARTS to USKELZAR_BUILD_PLACES say. */
+struct uskelzar_work {
+    uint32_t *starts;
+    size_t starts_length;
+    uint64_t *keys;
+    size_t keys_length;
+    uint64_t *spare;
+    size_t spare_length;
+    uint32_t *kept;
+    size_t kept_length;
+    uint8_t *held;
+    size_t held_length;
+    uint32_t *words;
+    size_t words_length;
+    uint32_t *places;
+    size_t places_length;
+};
+
+/* All yards of a file, with its names and its notice. */
+struct uskelzar_yards {
+    const uint32_t *yards;
+    size_t yards_length;
+    const int32_t *lats;
+    size_t lats_length;
+    const int32_t *lons;
+    size_t lons_length;
+    const uint32_t *pieces;
+    size_t pieces_length;
+    const uint32_t *lengths;
+    size_t lengths_length;
+    const uint8_t *texts;
+    size_t texts_length;
+};
+
+/* What uskelzar_build works in besides, as long as USKELZAR_BUILD_BOXES and USKELZAR_BUILD_BYTES say. */
+struct uskelzar_boxes {
+    int32_t *boxes;
+    size_t boxes_length;
+    uint8_t *bytes;
+    size_t bytes_length;
+};
+
+/* uskelzar_build: a whole file from yards. */
+static inline uint8_t uskelzar_yards_build(uint8_t type, uint8_t version, uint8_t precision, uint32_t names,
+                                           const struct uskelzar_yards *all, const struct uskelzar_work *work,
+                                           const struct uskelzar_boxes *boxes, const struct uskelzar_output *output,
+                                           uint64_t reply[USKELZAR_REPLY_WORDS])
+{
+    return uskelzar_build(type, version, precision, names, all->yards, all->yards_length, all->lats, all->lats_length,
+                          all->lons, all->lons_length, all->pieces, all->pieces_length, all->lengths, all->lengths_length,
+                          all->texts, all->texts_length, work->starts, work->starts_length, work->keys, work->keys_length,
+                          work->spare, work->spare_length, work->kept, work->kept_length, work->held, work->held_length,
+                          work->words, work->words_length, work->places, work->places_length, boxes->boxes, boxes->boxes_length,
+                          boxes->bytes, boxes->bytes_length, output->out, output->out_length, reply);
+}
+
+/* A builder that holds yards: its state, of USKELZAR_STATE_WORDS words, and its own lists, as long as USKELZAR_HELD_.. say. Take the same for each call. */
+struct uskelzar_builder {
+    uint64_t *state;
+    int32_t *boxes;
+    size_t boxes_length;
+    uint32_t *borders;
+    size_t borders_length;
+    uint32_t *lengths;
+    size_t lengths_length;
+    uint8_t *texts;
+    size_t texts_length;
+    uint8_t *bytes;
+    size_t bytes_length;
+};
+
+/* What it is begun with: how many bytes the names and the notice have, and their bytes. */
+struct uskelzar_names {
+    const uint32_t *sizes;
+    size_t sizes_length;
+    const uint8_t *strings;
+    size_t strings_length;
+};
+
+/* What is added to it: a border, how many bytes each of its values has, and their bytes. */
+struct uskelzar_yard {
+    struct uskelzar_border border;
+    const uint32_t *sizes;
+    size_t sizes_length;
+    const uint8_t *values;
+    size_t values_length;
+};
+
+/* What it notes, of adds alone, as long as USKELZAR_NOTE_.. say. Take the same for each add. */
+struct uskelzar_notes {
+    uint32_t *marks;
+    size_t marks_length;
+    uint32_t *chains;
+    size_t chains_length;
+    uint32_t *groups;
+    size_t groups_length;
+    uint32_t *begins;
+    size_t begins_length;
+};
+
+/* uskelzar_begin: a builder without yards. */
+static inline uint8_t uskelzar_builder_begin(const struct uskelzar_builder *builder, uint8_t type, uint8_t version,
+                                             uint8_t precision, uint32_t names, size_t room, const struct uskelzar_names *front,
+                                             uint64_t reply[USKELZAR_REPLY_WORDS])
+{
+    return uskelzar_begin(builder->state, type, version, precision, names, room, front->sizes, front->sizes_length,
+                          front->strings, front->strings_length, builder->boxes, builder->boxes_length, builder->borders,
+                          builder->borders_length, builder->lengths, builder->lengths_length, builder->texts,
+                          builder->texts_length, builder->bytes, builder->bytes_length, reply);
+}
+
+/* uskelzar_add: a yard behind those that are held. */
+static inline uint8_t uskelzar_builder_add(const struct uskelzar_builder *builder, const struct uskelzar_yard *yard,
+                                           const struct uskelzar_notes *notes, const struct uskelzar_work *work,
+                                           const struct uskelzar_output *output, uint64_t reply[USKELZAR_REPLY_WORDS])
+{
+    return uskelzar_add(builder->state, yard->border.lats, yard->border.lats_length, yard->border.lons,
+                        yard->border.lons_length, yard->border.pieces, yard->border.pieces_length, yard->sizes,
+                        yard->sizes_length, yard->values, yard->values_length, builder->boxes, builder->boxes_length,
+                        builder->borders, builder->borders_length, builder->lengths, builder->lengths_length, builder->texts,
+                        builder->texts_length, builder->bytes, builder->bytes_length, notes->marks, notes->marks_length,
+                        notes->chains, notes->chains_length, notes->groups, notes->groups_length, notes->begins,
+                        notes->begins_length, work->starts, work->starts_length, work->keys, work->keys_length, work->spare,
+                        work->spare_length, work->kept, work->kept_length, work->held, work->held_length, work->words,
+                        work->words_length, work->places, work->places_length, output->out, output->out_length, reply);
+}
+
+/* uskelzar_drop_last: without the yard that was added last. */
+static inline uint8_t uskelzar_builder_drop_last(const struct uskelzar_builder *builder, const struct uskelzar_work *work,
+                                                 uint64_t reply[USKELZAR_REPLY_WORDS])
+{
+    return uskelzar_drop_last(builder->state, builder->boxes, builder->boxes_length, builder->borders, builder->borders_length,
+                              builder->lengths, builder->lengths_length, builder->texts, builder->texts_length, builder->bytes,
+                              builder->bytes_length, work->starts, work->starts_length, work->keys, work->keys_length,
+                              work->spare, work->spare_length, work->kept, work->kept_length, work->held, work->held_length,
+                              work->words, work->words_length, work->places, work->places_length, reply);
+}
+
+/* uskelzar_replace: a text in the place of a yard's value. */
+static inline uint8_t uskelzar_builder_replace(const struct uskelzar_builder *builder, uint32_t yard, uint32_t field,
+                                               const uint8_t *text, size_t text_length, const struct uskelzar_work *work,
+                                               const struct uskelzar_output *output, uint64_t reply[USKELZAR_REPLY_WORDS])
+{
+    return uskelzar_replace(builder->state, yard, field, text, text_length, builder->boxes, builder->boxes_length,
+                            builder->borders, builder->borders_length, builder->lengths, builder->lengths_length,
+                            builder->texts, builder->texts_length, builder->bytes, builder->bytes_length, work->starts,
+                            work->starts_length, work->keys, work->keys_length, work->spare, work->spare_length, work->kept,
+                            work->kept_length, work->held, work->held_length, work->words, work->words_length, work->places,
+                            work->places_length, output->out, output->out_length, reply);
+}
+
+/* uskelzar_clear: without its yards. */
+static inline uint8_t uskelzar_builder_clear(const struct uskelzar_builder *builder, uint64_t reply[USKELZAR_REPLY_WORDS])
+{
+    return uskelzar_clear(builder->state, builder->boxes, builder->boxes_length, builder->borders, builder->borders_length,
+                          builder->lengths, builder->lengths_length, builder->texts, builder->texts_length, builder->bytes,
+                          builder->bytes_length, reply);
+}
+
+/* uskelzar_finish: the file of the yards that are held. */
+static inline uint8_t uskelzar_builder_finish(const struct uskelzar_builder *builder, const struct uskelzar_work *work,
+                                              const struct uskelzar_output *output, uint64_t reply[USKELZAR_REPLY_WORDS])
+{
+    return uskelzar_finish(builder->state, builder->boxes, builder->boxes_length, builder->borders, builder->borders_length,
+                           builder->lengths, builder->lengths_length, builder->texts, builder->texts_length, builder->bytes,
+                           builder->bytes_length, work->starts, work->starts_length, work->keys, work->keys_length, work->spare,
+                           work->spare_length, work->kept, work->kept_length, work->held, work->held_length, work->words,
+                           work->words_length, work->places, work->places_length, output->out, output->out_length, reply);
+}
+
 #ifdef __cplusplus
 }
 #endif

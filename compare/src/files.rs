@@ -255,7 +255,7 @@ fn put_sections(r: &mut Random, fields: usize, entries: usize, fix: (i32, i32), 
 
 fn whole_size(r: &mut Random, size: usize) -> Vec<u8> {
     match r.below(30) {
-        0 => varint(size as u64 + (r.below(4) as u64 + 1 << 32)),
+        0 => varint(size as u64 + ((r.below(4) as u64 + 1) << 32)),
         1 => padded(size as u64, 1 + r.below(10)),
         _ => varint(size as u64),
     }

@@ -146,7 +146,8 @@ fn lend(r: &mut Random, call: &mut Fixes, facts: &[Facts]) {
 fn smaller(call: &Fixes) -> Vec<Fixes> {
     let mut out: Vec<Fixes> = (0..call.lats.len().min(call.lons.len())).map(|i| {
         let mut less = call.clone();
-        (less.lats.remove(i), less.lons.remove(i));
+        less.lats.remove(i);
+        less.lons.remove(i);
         less
     }).collect();
     out.extend(parts(call.file.len()).into_iter().map(|(from, to)| {

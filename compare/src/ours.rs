@@ -65,7 +65,7 @@ pub fn vectors(program: &Program, kind: &str, lines: &[String]) -> Result<Vec<us
     let (mut wrong, mut at) = (Vec::new(), 0);
     while at < lines.len() {
         let (mut input, mut end) = (String::new(), at);
-        while end < lines.len() && input.len() + lines[end].len() + 1 <= MOST {
+        while end < lines.len() && input.len() + lines[end].len() < MOST {
             input.push_str(&lines[end]);
             input.push('\n');
             end += 1;

@@ -1,7 +1,8 @@
-//! The library's twenty-two functions over lent buffers (include/uskelzar.h has their contracts). It asks nothing of `std`, and all that is unsafe
-//! in this crate is here, but for the mapping of files.
+//! The library's twenty-two functions over lent buffers (include/uskelzar.h has their contracts). It asks nothing of `std`.
 
 pub use crate::hit::HIT_WORDS;
+use crate::library;
+pub use crate::library::PROTOTYPES;
 use crate::refusal::{Refusal, Stop};
 
 /// The five words of a reply.
@@ -28,373 +29,6 @@ pub type State = [u64; STATE_WORDS];
 #[allow(missing_docs)]
 pub const STATE_WORDS: usize = 14;
 
-mod library {
-    extern "C" {
-        pub fn uskelzar_open(
-            file: *const u8,
-            file_length: usize,
-            text: *mut u8,
-            text_length: usize,
-            reply: *mut [u64; 5],
-        ) -> u8;
-        pub fn uskelzar_lookup(
-            file: *const u8,
-            file_length: usize,
-            lat: f32,
-            lon: f32,
-            asked: bool,
-            hits: *mut u32,
-            hits_length: usize,
-            text: *mut u8,
-            text_length: usize,
-            reply: *mut [u64; 5],
-        ) -> u8;
-        pub fn uskelzar_open_strict(
-            file: *const u8,
-            file_length: usize,
-            text: *mut u8,
-            text_length: usize,
-            reply: *mut [u64; 5],
-        ) -> u8;
-        pub fn uskelzar_lookup_strict(
-            file: *const u8,
-            file_length: usize,
-            lat: f32,
-            lon: f32,
-            asked: bool,
-            hits: *mut u32,
-            hits_length: usize,
-            text: *mut u8,
-            text_length: usize,
-            reply: *mut [u64; 5],
-        ) -> u8;
-        pub fn uskelzar_lookup_many(
-            file: *const u8,
-            file_length: usize,
-            lats: *const f32,
-            lats_length: usize,
-            lons: *const f32,
-            lons_length: usize,
-            asked: bool,
-            hits: *mut u32,
-            hits_length: usize,
-            text: *mut u8,
-            text_length: usize,
-            answers: *mut u32,
-            answers_length: usize,
-            reply: *mut [u64; 5],
-        ) -> u8;
-        pub fn uskelzar_simple_lookup(
-            file: *const u8,
-            file_length: usize,
-            lat: f32,
-            lon: f32,
-            hits: *mut u32,
-            hits_length: usize,
-            text: *mut u8,
-            text_length: usize,
-            reply: *mut [u64; 5],
-        ) -> u8;
-        pub fn uskelzar_build_index(
-            file: *const u8,
-            file_length: usize,
-            index: *mut u32,
-            index_length: usize,
-            reply: *mut [u64; 5],
-        ) -> u8;
-        pub fn uskelzar_index_tied(
-            file: *const u8,
-            file_length: usize,
-            index: *const u32,
-            index_length: usize,
-            reply: *mut [u64; 5],
-        ) -> u8;
-        pub fn uskelzar_is_index(
-            file: *const u8,
-            file_length: usize,
-            index: *const u32,
-            index_length: usize,
-            reply: *mut [u64; 5],
-        ) -> u8;
-        pub fn uskelzar_lookup_through(
-            file: *const u8,
-            file_length: usize,
-            index: *const u32,
-            index_length: usize,
-            lat: f32,
-            lon: f32,
-            asked: bool,
-            hits: *mut u32,
-            hits_length: usize,
-            text: *mut u8,
-            text_length: usize,
-            reply: *mut [u64; 5],
-        ) -> u8;
-        pub fn uskelzar_lookup_indexed(
-            file: *const u8,
-            file_length: usize,
-            index: *const u32,
-            index_length: usize,
-            lat: f32,
-            lon: f32,
-            asked: bool,
-            hits: *mut u32,
-            hits_length: usize,
-            text: *mut u8,
-            text_length: usize,
-            reply: *mut [u64; 5],
-        ) -> u8;
-        pub fn uskelzar_write_border(
-            version: u8,
-            lats: *const i32,
-            lats_length: usize,
-            lons: *const i32,
-            lons_length: usize,
-            pieces: *const u32,
-            pieces_length: usize,
-            earlier: *const u8,
-            earlier_length: usize,
-            out: *mut u8,
-            out_length: usize,
-            reply: *mut [u64; 5],
-        ) -> u8;
-        pub fn uskelzar_salvage(
-            file: *const u8,
-            file_length: usize,
-            dropped: *mut u32,
-            dropped_length: usize,
-            out: *mut u8,
-            out_length: usize,
-            reply: *mut [u64; 5],
-        ) -> u8;
-        pub fn uskelzar_build(
-            kind: u8,
-            version: u8,
-            precision: u8,
-            names: u32,
-            yards: *const u32,
-            yards_length: usize,
-            lats: *const i32,
-            lats_length: usize,
-            lons: *const i32,
-            lons_length: usize,
-            pieces: *const u32,
-            pieces_length: usize,
-            lengths: *const u32,
-            lengths_length: usize,
-            texts: *const u8,
-            texts_length: usize,
-            starts: *mut u32,
-            starts_length: usize,
-            keys: *mut u64,
-            keys_length: usize,
-            spare: *mut u64,
-            spare_length: usize,
-            kept: *mut u32,
-            kept_length: usize,
-            held: *mut u8,
-            held_length: usize,
-            words: *mut u32,
-            words_length: usize,
-            places: *mut u32,
-            places_length: usize,
-            boxes: *mut i32,
-            boxes_length: usize,
-            bytes: *mut u8,
-            bytes_length: usize,
-            out: *mut u8,
-            out_length: usize,
-            reply: *mut [u64; 5],
-        ) -> u8;
-        pub fn uskelzar_begin(
-            state: *mut [u64; 14],
-            kind: u8,
-            version: u8,
-            precision: u8,
-            names: u32,
-            room: usize,
-            sizes: *const u32,
-            sizes_length: usize,
-            strings: *const u8,
-            strings_length: usize,
-            boxes: *mut i32,
-            boxes_length: usize,
-            borders: *mut u32,
-            borders_length: usize,
-            lengths: *mut u32,
-            lengths_length: usize,
-            texts: *mut u8,
-            texts_length: usize,
-            bytes: *mut u8,
-            bytes_length: usize,
-            reply: *mut [u64; 5],
-        ) -> u8;
-        pub fn uskelzar_add(
-            state: *mut [u64; 14],
-            lats: *const i32,
-            lats_length: usize,
-            lons: *const i32,
-            lons_length: usize,
-            pieces: *const u32,
-            pieces_length: usize,
-            sizes: *const u32,
-            sizes_length: usize,
-            values: *const u8,
-            values_length: usize,
-            boxes: *mut i32,
-            boxes_length: usize,
-            borders: *mut u32,
-            borders_length: usize,
-            lengths: *mut u32,
-            lengths_length: usize,
-            texts: *mut u8,
-            texts_length: usize,
-            bytes: *mut u8,
-            bytes_length: usize,
-            marks: *mut u32,
-            marks_length: usize,
-            chains: *mut u32,
-            chains_length: usize,
-            groups: *mut u32,
-            groups_length: usize,
-            begins: *mut u32,
-            begins_length: usize,
-            starts: *mut u32,
-            starts_length: usize,
-            keys: *mut u64,
-            keys_length: usize,
-            spare: *mut u64,
-            spare_length: usize,
-            kept: *mut u32,
-            kept_length: usize,
-            held: *mut u8,
-            held_length: usize,
-            words: *mut u32,
-            words_length: usize,
-            places: *mut u32,
-            places_length: usize,
-            out: *mut u8,
-            out_length: usize,
-            reply: *mut [u64; 5],
-        ) -> u8;
-        pub fn uskelzar_drop_last(
-            state: *mut [u64; 14],
-            boxes: *mut i32,
-            boxes_length: usize,
-            borders: *mut u32,
-            borders_length: usize,
-            lengths: *mut u32,
-            lengths_length: usize,
-            texts: *mut u8,
-            texts_length: usize,
-            bytes: *mut u8,
-            bytes_length: usize,
-            starts: *mut u32,
-            starts_length: usize,
-            keys: *mut u64,
-            keys_length: usize,
-            spare: *mut u64,
-            spare_length: usize,
-            kept: *mut u32,
-            kept_length: usize,
-            held: *mut u8,
-            held_length: usize,
-            words: *mut u32,
-            words_length: usize,
-            places: *mut u32,
-            places_length: usize,
-            reply: *mut [u64; 5],
-        ) -> u8;
-        pub fn uskelzar_replace(
-            state: *mut [u64; 14],
-            yard: u32,
-            field: u32,
-            text: *const u8,
-            text_length: usize,
-            boxes: *mut i32,
-            boxes_length: usize,
-            borders: *mut u32,
-            borders_length: usize,
-            lengths: *mut u32,
-            lengths_length: usize,
-            texts: *mut u8,
-            texts_length: usize,
-            bytes: *mut u8,
-            bytes_length: usize,
-            starts: *mut u32,
-            starts_length: usize,
-            keys: *mut u64,
-            keys_length: usize,
-            spare: *mut u64,
-            spare_length: usize,
-            kept: *mut u32,
-            kept_length: usize,
-            held: *mut u8,
-            held_length: usize,
-            words: *mut u32,
-            words_length: usize,
-            places: *mut u32,
-            places_length: usize,
-            out: *mut u8,
-            out_length: usize,
-            reply: *mut [u64; 5],
-        ) -> u8;
-        pub fn uskelzar_clear(
-            state: *mut [u64; 14],
-            boxes: *mut i32,
-            boxes_length: usize,
-            borders: *mut u32,
-            borders_length: usize,
-            lengths: *mut u32,
-            lengths_length: usize,
-            texts: *mut u8,
-            texts_length: usize,
-            bytes: *mut u8,
-            bytes_length: usize,
-            reply: *mut [u64; 5],
-        ) -> u8;
-        pub fn uskelzar_finish(
-            state: *const [u64; 14],
-            boxes: *const i32,
-            boxes_length: usize,
-            borders: *const u32,
-            borders_length: usize,
-            lengths: *const u32,
-            lengths_length: usize,
-            texts: *const u8,
-            texts_length: usize,
-            bytes: *const u8,
-            bytes_length: usize,
-            starts: *mut u32,
-            starts_length: usize,
-            keys: *mut u64,
-            keys_length: usize,
-            spare: *mut u64,
-            spare_length: usize,
-            kept: *mut u32,
-            kept_length: usize,
-            held: *mut u8,
-            held_length: usize,
-            words: *mut u32,
-            words_length: usize,
-            places: *mut u32,
-            places_length: usize,
-            out: *mut u8,
-            out_length: usize,
-            reply: *mut [u64; 5],
-        ) -> u8;
-        pub fn uskelzar_civil_time(instant: i64, offset: i32, reply: *mut [u64; 7]) -> u8;
-        pub fn uskelzar_local_time(
-            file: *const u8,
-            file_length: usize,
-            instant: i64,
-            text: *mut u8,
-            text_length: usize,
-            reply: *mut [u64; 5],
-        ) -> u8;
-    }
-}
-
 /// The reply of a call that gave 0, or the refusal's number and words, of which so many may be other than 0. Every call begins with a reply that no
 /// answer has, to be written over.
 fn replied(call: impl FnOnce(&mut Reply) -> u8, words: usize) -> Result<Reply, (u8, Reply)> {
@@ -416,11 +50,10 @@ fn answered(call: impl FnOnce(&mut Reply) -> u8) -> Result<Reply, Refusal> {
 }
 
 /// Opening in the library, plain or strict.
-type Opening = unsafe extern "C" fn(*const u8, usize, *mut u8, usize, *mut Reply) -> u8;
+type Opening = fn(&[u8], &mut [u8], &mut Reply) -> u8;
 
 fn open_by(opening: Opening, file: &[u8], text: &mut [u8]) -> Result<Reply, Refusal> {
-    // SAFETY: each pointer comes from a slice with its length, and the borrows keep what is lent apart.
-    answered(|reply| unsafe { opening(file.as_ptr(), file.len(), text.as_mut_ptr(), text.len(), reply) })
+    answered(|reply| opening(file, text, reply))
 }
 
 /// Type, version, precision, field count, bytes used; names then notice in the text.
@@ -434,8 +67,7 @@ pub fn open_strict(file: &[u8], text: &mut [u8]) -> Result<Reply, Refusal> {
 }
 
 /// Lookup in the library, plain or strict.
-type Looking =
-    unsafe extern "C" fn(*const u8, usize, f32, f32, bool, *mut u32, usize, *mut u8, usize, *mut Reply) -> u8;
+type Looking = fn(&[u8], f32, f32, bool, &mut [u32], &mut [u8], &mut Reply) -> u8;
 
 fn lookup_by(
     looking: Looking,
@@ -444,21 +76,7 @@ fn lookup_by(
     hits: &mut [u32],
     text: &mut [u8],
 ) -> Result<Reply, Refusal> {
-    // SAFETY: as in `open_by`.
-    answered(|reply| unsafe {
-        looking(
-            file.as_ptr(),
-            file.len(),
-            lat,
-            lon,
-            asked,
-            hits.as_mut_ptr(),
-            hits.len(),
-            text.as_mut_ptr(),
-            text.len(),
-            reply,
-        )
-    })
+    answered(|reply| looking(file, lat, lon, asked, hits, text, reply))
 }
 
 /// Matches, end mark, safezone bits, bytes used; the matches in the hits, their fields in the text.
@@ -496,25 +114,7 @@ pub fn lookup_many(
     text: &mut [u8],
     answers: &mut [u32],
 ) -> Result<Reply, Stop> {
-    // SAFETY: as in `open_by`.
-    let call = |reply: &mut Reply| unsafe {
-        library::uskelzar_lookup_many(
-            file.as_ptr(),
-            file.len(),
-            lats.as_ptr(),
-            lats.len(),
-            lons.as_ptr(),
-            lons.len(),
-            asked,
-            hits.as_mut_ptr(),
-            hits.len(),
-            text.as_mut_ptr(),
-            text.len(),
-            answers.as_mut_ptr(),
-            answers.len(),
-            reply,
-        )
-    };
+    let call = |reply: &mut Reply| library::uskelzar_lookup_many(file, lats, lons, asked, hits, text, answers, reply);
     replied(call, 3).map_err(|(number, reply)| Stop {
         index: reply[2] as usize,
         why: Refusal::of(number, reply),
@@ -529,61 +129,26 @@ pub fn simple_lookup(
     hits: &mut [u32],
     text: &mut [u8],
 ) -> Result<Reply, Refusal> {
-    // SAFETY: as in `open_by`.
-    answered(|reply| unsafe {
-        library::uskelzar_simple_lookup(
-            file.as_ptr(),
-            file.len(),
-            lat,
-            lon,
-            hits.as_mut_ptr(),
-            hits.len(),
-            text.as_mut_ptr(),
-            text.len(),
-            reply,
-        )
-    })
+    answered(|reply| library::uskelzar_simple_lookup(file, lat, lon, hits, text, reply))
 }
 
 /// The words used; the index in the words.
 pub fn build_index(file: &[u8], index: &mut [u32]) -> Result<Reply, Refusal> {
-    // SAFETY: as in `open_by`.
-    answered(|reply| unsafe {
-        library::uskelzar_build_index(file.as_ptr(), file.len(), index.as_mut_ptr(), index.len(), reply)
-    })
+    answered(|reply| library::uskelzar_build_index(file, index, reply))
 }
 
 /// Whether words are those that `build_index`, lent as many, leaves for this file, whoever wrote them; no value.
 pub fn is_index(file: &[u8], index: &[u32]) -> Result<Reply, Refusal> {
-    // SAFETY: as in `open_by`.
-    answered(|reply| unsafe {
-        library::uskelzar_is_index(file.as_ptr(), file.len(), index.as_ptr(), index.len(), reply)
-    })
+    answered(|reply| library::uskelzar_is_index(file, index, reply))
 }
 
 /// Whether words keep this file's length, header and table; records, starts and lists are believed. No value.
 pub fn index_tied(file: &[u8], index: &[u32]) -> Result<Reply, Refusal> {
-    // SAFETY: as in `open_by`.
-    answered(|reply| unsafe {
-        library::uskelzar_index_tied(file.as_ptr(), file.len(), index.as_ptr(), index.len(), reply)
-    })
+    answered(|reply| library::uskelzar_index_tied(file, index, reply))
 }
 
 /// Lookup through an index in the library, without a comparison of header and table or with one.
-type Through = unsafe extern "C" fn(
-    *const u8,
-    usize,
-    *const u32,
-    usize,
-    f32,
-    f32,
-    bool,
-    *mut u32,
-    usize,
-    *mut u8,
-    usize,
-    *mut Reply,
-) -> u8;
+type Through = fn(&[u8], &[u32], f32, f32, bool, &mut [u32], &mut [u8], &mut Reply) -> u8;
 
 fn through_by(
     looking: Through,
@@ -592,23 +157,7 @@ fn through_by(
     hits: &mut [u32],
     text: &mut [u8],
 ) -> Result<Reply, Refusal> {
-    // SAFETY: as in `open_by`.
-    answered(|reply| unsafe {
-        looking(
-            file.as_ptr(),
-            file.len(),
-            index.as_ptr(),
-            index.len(),
-            lat,
-            lon,
-            asked,
-            hits.as_mut_ptr(),
-            hits.len(),
-            text.as_mut_ptr(),
-            text.len(),
-            reply,
-        )
-    })
+    answered(|reply| looking(file, index, lat, lon, asked, hits, text, reply))
 }
 
 /// As `lookup`, through an index that `index_tied` answered for.
@@ -642,39 +191,12 @@ pub fn write_border(
     earlier: &[u8],
     out: &mut [u8],
 ) -> Result<Reply, Refusal> {
-    // SAFETY: as in `open_by`.
-    answered(|reply| unsafe {
-        library::uskelzar_write_border(
-            version,
-            lats.as_ptr(),
-            lats.len(),
-            lons.as_ptr(),
-            lons.len(),
-            pieces.as_ptr(),
-            pieces.len(),
-            earlier.as_ptr(),
-            earlier.len(),
-            out.as_mut_ptr(),
-            out.len(),
-            reply,
-        )
-    })
+    answered(|reply| library::uskelzar_write_border(version, lats, lons, pieces, earlier, out, reply))
 }
 
 /// The new file's length, the list's lines, the entries kept; the new file in `out`, and of each dropped entry its number and first reason.
 pub fn salvage(file: &[u8], dropped: &mut [u32], out: &mut [u8]) -> Result<Reply, Refusal> {
-    // SAFETY: as in `open_by`.
-    answered(|reply| unsafe {
-        library::uskelzar_salvage(
-            file.as_ptr(),
-            file.len(),
-            dropped.as_mut_ptr(),
-            dropped.len(),
-            out.as_mut_ptr(),
-            out.len(),
-            reply,
-        )
-    })
+    answered(|reply| library::uskelzar_salvage(file, dropped, out, reply))
 }
 
 /// What a file is built of, as flat lists: of each yard four words say how many latitudes, longitudes, pieces (of five words) and values are its own.
@@ -744,23 +266,15 @@ impl Lengths {
     }
 }
 
-/// A call of the library with each list in brackets as its pointer and its length.
-macro_rules! lending {
-    ($function:ident($($first:expr),*; $($read:expr),*; $($lent:expr),*; $reply:expr)) => {
-        // SAFETY: as in `open_by`.
-        unsafe { library::$function($($first,)* $($read.as_ptr(), $read.len(),)* $($lent.as_mut_ptr(), $lent.len(),)* $reply) }
-    };
-}
-
 /// The file's length; the file in `out`. Four numbers a yard of `boxes` and as many `bytes` as `out` has are worked in too. A refusal does not say which yard met it.
 pub fn build(plan: &Plan, work: Work, boxes: &mut [i32], bytes: &mut [u8], out: &mut [u8]) -> Result<Reply, Refusal> {
     answered(|reply| {
-        lending!(uskelzar_build(
-            plan.kind, plan.version, plan.precision, plan.names;
-            plan.yards, plan.lats, plan.lons, plan.pieces, plan.lengths, plan.texts;
-            work.starts, work.keys, work.spare, work.kept, work.held, work.words, work.places, boxes, bytes, out;
-            reply
-        ))
+        library::uskelzar_build(
+            plan.kind, plan.version, plan.precision, plan.names,
+            plan.yards, plan.lats, plan.lons, plan.pieces, plan.lengths, plan.texts,
+            work.starts, work.keys, work.spare, work.kept, work.held, work.words, work.places, boxes, bytes, out,
+            reply,
+        )
     })
 }
 
@@ -843,12 +357,12 @@ impl NoteLengths {
 /// of yards and the greatest lower latitude's bits; the later ones, refused, leave state and lists as they are.
 pub fn begin(start: &Start, state: &mut State, holding: Holding) -> Result<Reply, Refusal> {
     answered(|reply| {
-        lending!(uskelzar_begin(
-            state, start.kind, start.version, start.precision, start.names, start.room;
-            start.lengths, start.texts;
-            holding.boxes, holding.borders, holding.lengths, holding.texts, holding.bytes;
-            reply
-        ))
+        library::uskelzar_begin(
+            state, start.kind, start.version, start.precision, start.names, start.room,
+            start.lengths, start.texts,
+            holding.boxes, holding.borders, holding.lengths, holding.texts, holding.bytes,
+            reply,
+        )
     })
 }
 
@@ -856,26 +370,26 @@ pub fn begin(start: &Start, state: &mut State, holding: Holding) -> Result<Reply
 /// as it was. The lists of `work` are zero afterwards, or all as they were.
 pub fn add(offer: &Offer, state: &mut State, holding: Holding, notes: Notes, work: Work, out: &mut [u8]) -> Result<Reply, Refusal> {
     answered(|reply| {
-        lending!(uskelzar_add(
-            state;
-            offer.lats, offer.lons, offer.pieces, offer.lengths, offer.texts;
+        library::uskelzar_add(
+            state,
+            offer.lats, offer.lons, offer.pieces, offer.lengths, offer.texts,
             holding.boxes, holding.borders, holding.lengths, holding.texts, holding.bytes,
             notes.marks, notes.chains, notes.groups, notes.begins,
-            work.starts, work.keys, work.spare, work.kept, work.held, work.words, work.places, out;
-            reply
-        ))
+            work.starts, work.keys, work.spare, work.kept, work.held, work.words, work.places, out,
+            reply,
+        )
     })
 }
 
 /// The totals without the last yard.
 pub fn drop_last(state: &mut State, holding: Holding, work: Work) -> Result<Reply, Refusal> {
     answered(|reply| {
-        lending!(uskelzar_drop_last(
-            state;;
+        library::uskelzar_drop_last(
+            state,
             holding.boxes, holding.borders, holding.lengths, holding.texts, holding.bytes,
-            work.starts, work.keys, work.spare, work.kept, work.held, work.words, work.places;
-            reply
-        ))
+            work.starts, work.keys, work.spare, work.kept, work.held, work.words, work.places,
+            reply,
+        )
     })
 }
 
@@ -889,44 +403,43 @@ pub fn replace(
     out: &mut [u8],
 ) -> Result<Reply, Refusal> {
     answered(|reply| {
-        lending!(uskelzar_replace(
-            state, yard, field;
-            text;
+        library::uskelzar_replace(
+            state, yard, field,
+            text,
             holding.boxes, holding.borders, holding.lengths, holding.texts, holding.bytes,
-            work.starts, work.keys, work.spare, work.kept, work.held, work.words, work.places, out;
-            reply
-        ))
+            work.starts, work.keys, work.spare, work.kept, work.held, work.words, work.places, out,
+            reply,
+        )
     })
 }
 
 /// The totals of the builder as it was begun.
 pub fn clear(state: &mut State, holding: Holding) -> Result<Reply, Refusal> {
     answered(|reply| {
-        lending!(uskelzar_clear(
-            state;;
-            holding.boxes, holding.borders, holding.lengths, holding.texts, holding.bytes;
-            reply
-        ))
+        library::uskelzar_clear(
+            state,
+            holding.boxes, holding.borders, holding.lengths, holding.texts, holding.bytes,
+            reply,
+        )
     })
 }
 
 /// The file's length; the file of the held yards in `out`. State and lists are only read.
 pub fn finish(state: &State, holding: &Holding, work: Work, out: &mut [u8]) -> Result<Reply, Refusal> {
     answered(|reply| {
-        lending!(uskelzar_finish(
-            state;
-            holding.boxes, holding.borders, holding.lengths, holding.texts, holding.bytes;
-            work.starts, work.keys, work.spare, work.kept, work.held, work.words, work.places, out;
-            reply
-        ))
+        library::uskelzar_finish(
+            state,
+            holding.boxes, holding.borders, holding.lengths, holding.texts, holding.bytes,
+            work.starts, work.keys, work.spare, work.kept, work.held, work.words, work.places, out,
+            reply,
+        )
     })
 }
 
 /// Year, month, day, hour, minute, second, weekday (0 is Sunday) of an instant, so many seconds east of UT.
 pub fn civil_time(instant: i64, offset: i32) -> Result<[u64; 7], Refusal> {
     let mut reply = [u64::MAX; 7];
-    // SAFETY: the reply is a local of seven words.
-    let number = unsafe { library::uskelzar_civil_time(instant, offset, &mut reply) };
+    let number = library::uskelzar_civil_time(instant, offset, &mut reply);
     if number == 0 {
         return Ok(reply);
     }
@@ -943,15 +456,5 @@ pub const OWN_SCALE: u64 = 2;
 
 /// The scale, offset bits, daylight flag, the abbreviation's length, bits of the correction; the abbreviation in the text. All zero where it is unknown.
 pub fn local_time(file: &[u8], instant: i64, text: &mut [u8]) -> Result<Reply, Refusal> {
-    // SAFETY: as in `open_by`.
-    answered(|reply| unsafe {
-        library::uskelzar_local_time(
-            file.as_ptr(),
-            file.len(),
-            instant,
-            text.as_mut_ptr(),
-            text.len(),
-            reply,
-        )
-    })
+    answered(|reply| library::uskelzar_local_time(file, instant, text, reply))
 }

@@ -7,84 +7,18 @@ use std::fs;
 const WORDS: usize = 16 * HIT_WORDS;
 const BYTES: usize = 1024;
 
+/// The crate's own declarations.
+#[allow(dead_code)]
+#[path = "../../../host/src/library.rs"]
+mod library;
+
 #[link(name = "uskelzar", kind = "static")]
-extern "C" {
-    fn uskelzar_lookup(
-        file: *const u8,
-        file_len: usize,
-        lat: f32,
-        lon: f32,
-        asked: bool,
-        hits: *mut u32,
-        hits_len: usize,
-        text: *mut u8,
-        text_len: usize,
-        reply: *mut [u64; 5],
-    ) -> u8;
-    fn uskelzar_lookup_many(
-        file: *const u8,
-        file_len: usize,
-        lats: *const f32,
-        lats_len: usize,
-        lons: *const f32,
-        lons_len: usize,
-        asked: bool,
-        hits: *mut u32,
-        hits_len: usize,
-        text: *mut u8,
-        text_len: usize,
-        answers: *mut u32,
-        answers_len: usize,
-        reply: *mut [u64; 5],
-    ) -> u8;
-    fn uskelzar_simple_lookup(
-        file: *const u8,
-        file_len: usize,
-        lat: f32,
-        lon: f32,
-        hits: *mut u32,
-        hits_len: usize,
-        text: *mut u8,
-        text_len: usize,
-        reply: *mut [u64; 5],
-    ) -> u8;
-    fn uskelzar_build_index(file: *const u8, file_len: usize, index: *mut u32, index_len: usize, reply: *mut [u64; 5]) -> u8;
-    fn uskelzar_index_tied(file: *const u8, file_len: usize, index: *const u32, index_len: usize, reply: *mut [u64; 5]) -> u8;
-    fn uskelzar_lookup_through(
-        file: *const u8,
-        file_len: usize,
-        index: *const u32,
-        index_len: usize,
-        lat: f32,
-        lon: f32,
-        asked: bool,
-        hits: *mut u32,
-        hits_len: usize,
-        text: *mut u8,
-        text_len: usize,
-        reply: *mut [u64; 5],
-    ) -> u8;
-    fn uskelzar_lookup_indexed(
-        file: *const u8,
-        file_len: usize,
-        index: *const u32,
-        index_len: usize,
-        lat: f32,
-        lon: f32,
-        asked: bool,
-        hits: *mut u32,
-        hits_len: usize,
-        text: *mut u8,
-        text_len: usize,
-        reply: *mut [u64; 5],
-    ) -> u8;
-}
+extern "C" {}
 
 /// Builds an index and answers the words used.
 fn build_index(file: &[u8], index: &mut [u32]) -> usize {
     let mut reply = [0; 5];
-    // SAFETY: as for `Ours`.
-    let refusal = unsafe { uskelzar_build_index(file.as_ptr(), file.len(), index.as_mut_ptr(), index.len(), &mut reply) };
+    let refusal = library::uskelzar_build_index(file, index, &mut reply);
     assert_eq!(refusal, 0, "no index");
     reply[0] as usize
 }
@@ -94,8 +28,7 @@ fn index_of(file: &[u8]) -> Vec<u32> {
     let mut index = vec![0; 1 << 24];
     let used = build_index(file, &mut index);
     index.truncate(used);
-    // SAFETY: as for `Ours`.
-    let refusal = unsafe { uskelzar_index_tied(file.as_ptr(), file.len(), index.as_ptr(), index.len(), &mut [0; 5]) };
+    let refusal = library::uskelzar_index_tied(file, &index, &mut [0; 5]);
     assert_eq!(refusal, 0, "the index does not go with its file");
     index
 }
@@ -121,31 +54,15 @@ struct Ours<'a> {
 
 impl Ours<'_> {
     fn ask(&mut self, lat: f32, lon: f32) {
-        let (file, len) = (self.file.as_ptr(), self.file.len());
-        let (hits, text) = (self.hits.as_mut_ptr(), self.text.as_mut_ptr());
+        let Ours { file, index, hits, text, reply, .. } = self;
         let refusal = match self.question {
-            // SAFETY: each pointer is to as many values as said, and no two lent buffers overlap.
-            Question::Simple => unsafe {
-                uskelzar_simple_lookup(
-                    file,
-                    len,
-                    lat,
-                    lon,
-                    hits,
-                    WORDS,
-                    text,
-                    BYTES,
-                    &mut self.reply,
-                )
-            },
+            Question::Simple => library::uskelzar_simple_lookup(file, lat, lon, hits, text, reply),
             question => {
                 let asked = matches!(question, Question::WithSafezone);
-                let (index, words) = (self.index.as_ptr(), self.index.len());
-                let reply = &mut self.reply;
                 match self.way {
-                    Way::Through => unsafe { uskelzar_lookup_through(file, len, index, words, lat, lon, asked, hits, WORDS, text, BYTES, reply) },
-                    Way::Indexed => unsafe { uskelzar_lookup_indexed(file, len, index, words, lat, lon, asked, hits, WORDS, text, BYTES, reply) },
-                    _ => unsafe { uskelzar_lookup(file, len, lat, lon, asked, hits, WORDS, text, BYTES, reply) },
+                    Way::Through => library::uskelzar_lookup_through(file, index, lat, lon, asked, hits, text, reply),
+                    Way::Indexed => library::uskelzar_lookup_indexed(file, index, lat, lon, asked, hits, text, reply),
+                    _ => library::uskelzar_lookup(file, lat, lon, asked, hits, text, reply),
                 }
             }
         };
@@ -206,25 +123,7 @@ struct Together<'a> {
 impl Together<'_> {
     fn ask(&mut self, lats: &[f32], lons: &[f32]) {
         let mut reply = [0; 5];
-        // SAFETY: as for `Ours`.
-        let refusal = unsafe {
-            uskelzar_lookup_many(
-                self.file.as_ptr(),
-                self.file.len(),
-                lats.as_ptr(),
-                lats.len(),
-                lons.as_ptr(),
-                lons.len(),
-                self.asked,
-                self.hits.as_mut_ptr(),
-                self.hits.len(),
-                self.text.as_mut_ptr(),
-                self.text.len(),
-                self.answers.as_mut_ptr(),
-                self.answers.len(),
-                &mut reply,
-            )
-        };
+        let refusal = library::uskelzar_lookup_many(self.file, lats, lons, self.asked, &mut self.hits, &mut self.text, &mut self.answers, &mut reply);
         assert_eq!(refusal, 0, "refused at fix {}", reply[2]);
     }
 
