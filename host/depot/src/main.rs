@@ -1,7 +1,7 @@
 //! depot: the tool for people who have yards.
 
 use clap::{Parser, Subcommand, ValueEnum};
-use depot::build;
+use depot::build::{self, Asked};
 use depot::draw::{self, Frame};
 use depot::fault::{Fault, Said};
 use depot::plan::Form;
@@ -39,13 +39,14 @@ enum Verb {
     /// Make a file from polygons (GeoJSON)
     ///
     /// Polygons and multipolygons become yards, holes are left out of them, and properties become fields. Lines that two yards
-    /// share are written once. --dry-run says what would be built.
-    #[command(after_help = "Examples:\n  depot build examples/yards.geojson -o yards.plb --precision 25\n  depot build examples/yards.geojson --precision 25 --dry-run")]
+    /// share are written once. Rings that cross themselves or each other, holes outside their ring and unknown zones stop the build,
+    /// with their places. --dry-run says what would be built.
+    #[command(after_help = "Examples:\n  depot build examples/yards.geojson -o yards.plb --precision 25\n  depot build examples/yards.geojson --precision 25 --dry-run\n  depot build examples/yards.geojson --precision 25 --mend mended.geojson")]
     Build {
         /// GeoJSON: a FeatureCollection of Polygons and MultiPolygons
         input: PathBuf,
         /// The file to write
-        #[arg(short, long, required_unless_present = "dry_run")]
+        #[arg(short, long, required_unless_present_any = ["dry_run", "mend"])]
         output: Option<PathBuf>,
         /// Bits of the grid: 21 is 9.5 m, 25 is 0.6 m
         #[arg(long, default_value_t = 21, value_parser = clap::value_parser!(u8).range(1..=31))]
@@ -62,6 +63,15 @@ enum Verb {
         /// Leave out features of which the grid leaves nothing, in place of stopping
         #[arg(long)]
         leave_out: bool,
+        /// Write the drawing with what can be mended without choice: rings wound the other way, points twice in a row, a ring's missing last point
+        #[arg(long, value_name = "GEOJSON", conflicts_with = "dry_run")]
+        mend: Option<PathBuf>,
+        /// Folder with the zones' TZif files, which names must be of; /usr/share/zoneinfo where it is there
+        #[arg(long, value_name = "TZDIR")]
+        zones: Option<PathBuf>,
+        /// Build polygons and names with faults too, as they are drawn; each is said
+        #[arg(long)]
+        as_drawn: bool,
         /// Say what would be built, and write nothing
         #[arg(long, conflicts_with = "output")]
         dry_run: bool,
@@ -175,7 +185,8 @@ impl Verb {
     /// Where it writes to.
     fn output(&self) -> Option<&Path> {
         match self {
-            Verb::Build { output, .. } | Verb::Show { output, .. } => output.as_deref(),
+            Verb::Build { output, mend, .. } => mend.as_deref().filter(|mend| *mend == Path::new(STANDARD)).or(output.as_deref()),
+            Verb::Show { output, .. } => output.as_deref(),
             Verb::Index { output, .. } | Verb::Salvage { output, .. } | Verb::Stamp { output, .. } | Verb::Draw { output, .. } | Verb::Page { output, .. } => Some(output),
             Verb::Zone { .. } | Verb::Check { .. } => None,
         }
@@ -197,12 +208,12 @@ fn degrees(word: &str, most: f64) -> Result<f64, String> {
 
 fn run(verb: Verb) -> Result<Said, Fault> {
     match verb {
-        Verb::Build { input, output, precision, version, kind, notice, leave_out, dry_run: _ } => {
+        Verb::Build { input, output, precision, version, kind, notice, leave_out, mend, zones, as_drawn, dry_run: _ } => {
             let table = match kind {
                 Kind::TimeZones => 'T',
                 Kind::Countries => 'C',
             };
-            build::run(&input, output.as_deref(), Form { table, version, precision, notice, leave_out })
+            build::run(&input, output.as_deref(), Form { table, version, precision, notice, leave_out }, &Asked { mend, zones, as_drawn })
         }
         Verb::Show { file, geojson: true, output } => show::geojson(&file, output.as_deref()),
         Verb::Show { file, .. } => show::run(&file),
