@@ -108,6 +108,9 @@ enum Verb {
         explain: bool,
     },
     /// Read all of a file strictly, and ask what lookups would meet
+    ///
+    /// Asks of each entry what salvage asks, and besides: the table is in order, each border lies in its box and has 3 different points, and two
+    /// strict lookups at each entry are whole.
     #[command(after_help = "Example:\n  depot check examples/world-9.plb && echo good\n\nExit status 0 only if nothing is wrong.")]
     Check { file: PathBuf },
     /// Build the index of a file, for lookups that read only the entries near a fix
@@ -122,8 +125,9 @@ enum Verb {
     },
     /// Write what is left of a damaged file into a new one
     ///
-    /// Each entry is kept whose numbers, border and strings can all be read; each other one is told, with the first reason met.
-    #[command(after_help = "Example:\n  depot salvage examples/world-9.plb -o new.plb\n\nExit status 0 only if nothing was dropped.")]
+    /// Each entry is kept whose numbers, border and strings can all be read and whose strings lie in the metadata section; each other one is
+    /// told, with what is wrong and where. What was kept is then checked as depot check does.
+    #[command(after_help = "Example:\n  depot salvage examples/world-9.plb -o new.plb\n\nExit status 0 only if nothing was dropped and the new file is in order.")]
     Salvage {
         file: PathBuf,
         /// The file to write
