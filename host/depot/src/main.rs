@@ -151,6 +151,9 @@ enum Verb {
         folder: PathBuf,
     },
     /// Draw a file's yards, each pixel a lookup
+    ///
+    /// Borders are lines of one pixel over the lookups; a legend has the names, and each yard its own where it fits. Where most yards would be
+    /// too small to be seen, groups of them are drawn again below the map.
     #[command(after_help = "Examples:\n  depot draw examples/world-9.plb -o world.png\n  depot draw examples/world-9.plb -o berlin.png --frame 50,10,55,16")]
     Draw {
         file: PathBuf,
@@ -163,6 +166,9 @@ enum Verb {
         /// The part of the map to draw; without it, all boxes of the file
         #[arg(long, allow_hyphen_values = true, value_name = "SOUTH,WEST,NORTH,EAST", value_parser = Frame::of)]
         frame: Option<Frame>,
+        /// The map alone, without insets, names and legend
+        #[arg(long)]
+        plain: bool,
     },
     /// Write a page for any browser: the borders, the library's answers, faults, a day's slips
     ///
@@ -229,7 +235,7 @@ fn run(verb: Verb) -> Result<Said, Fault> {
         Verb::Check { file } => check::run(&file),
         Verb::Salvage { file, output } => salvage::run(&file, &output),
         Verb::Stamp { day, output, map, folder } => stamp::run(&day, &output, &map, &folder),
-        Verb::Draw { file, output, columns, frame } => draw::run(&file, &output, columns, frame),
+        Verb::Draw { file, output, columns, frame, plain } => draw::run(&file, &output, columns, frame, plain),
         Verb::Page { file, output, day, drawn, columns } => page::run(&file, &output, columns, day.as_deref(), drawn.as_deref()),
     }
 }
