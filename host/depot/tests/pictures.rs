@@ -95,16 +95,16 @@ fn a_legend_and_labels() {
     let folder = Folder::new("legend");
     let (file, with, plain) = (folder.path("yards.plb"), folder.path("with.png"), folder.path("plain.png"));
     said(&depot(&["build", YARDS, "-o", &file, "--precision", "25"]), 0, &[]);
-    said(&depot(&["draw", &file, "-o", &plain, "--columns", "400", "--plain"]), 0, &["400 by 313 pixels, 10 zones"]);
     let ran = depot(&["draw", &file, "-o", &with, "--columns", "400"]);
     said(&ran, 0, &["10 zones"]);
     assert!(!ran.out.contains("inset"), "{ran:?}");
     if fs::metadata(FONT).is_err() {
         return said(&ran, 0, &["fonts-dejavu-core"]);
     }
-    let (with, plain) = (picture(&with), picture(&plain));
-    assert_eq!((with.width, plain.width, plain.height), (400, 400, 313));
-    assert!(with.height > plain.height + 60, "{}", with.height);
+    let with = picture(&with);
+    assert!(with.width == 400 && with.height > 313 + 60, "{}", with.height);
+    said(&depot(&["draw", &file, "-o", &plain, "--columns", "400", "--plain"]), 0, &["400 by 313 pixels, 10 zones"]);
+    let plain = picture(&plain);
     // labels change the map where a name fits, and nowhere else
     let changed = (0..plain.pixels.len()).filter(|i| plain.pixels[*i] != with.pixels[*i]).count();
     assert!((200..6000).contains(&changed), "{changed}");
@@ -113,21 +113,23 @@ fn a_legend_and_labels() {
 #[test]
 fn neighbours_have_colours_of_their_own() {
     let folder = Folder::new("neighbours");
-    // a chessboard of forty yards with roads of two pixels between them
-    let all: Vec<(f64, f64, f64)> = (0..40).map(|i| (10.0 + f64::from(i / 8), 10.0 + f64::from(i % 8), 0.98)).collect();
+    // a board of forty yards, ten in a row, with roads of one or two pixels between them
+    let all: Vec<(f64, f64, f64)> = (0..40).map(|i| (10.0 + f64::from(i / 10), 10.0 + f64::from(i % 10), 0.98)).collect();
     let (file, out) = (squares(&folder, &all), folder.path("board.png"));
-    said(&depot(&["draw", &file, "-o", &out, "--columns", "800", "--plain"]), 0, &["40 zones"]);
+    said(&depot(&["draw", &file, "-o", &out, "--columns", "800"]), 0, &["40 zones"]);
     let board = picture(&out);
-    let step = 800.0 / (7.98 * 1.08);
+    let (wide, high) = (9.98 * 1.08, 3.98 * 1.08);
+    let rows = 800.0 * high / (wide * 11.99f64.to_radians().cos());
+    // near a corner of each, where no name is
     let at = |row: usize, column: usize| {
-        let (x, y) = ((column as f64 + 0.49 + 7.98 * 0.04) * step, board.height as f64 * (1.0 - (row as f64 + 0.49 + 4.98 * 0.04) / (4.98 * 1.08)));
+        let (x, y) = (800.0 * (column as f64 + 0.1 + 9.98 * 0.04) / wide, rows * (1.0 - (row as f64 + 0.1 + 3.98 * 0.04) / high));
         board.pixels[y as usize * board.width + x as usize]
     };
-    for row in 0..5 {
-        for column in 0..8 {
+    for row in 0..4 {
+        for column in 0..10 {
             assert!(at(row, column) != [233, 240, 245], "{row} {column}");
-            assert!(column == 7 || at(row, column) != at(row, column + 1), "{row} {column}");
-            assert!(row == 4 || at(row, column) != at(row + 1, column), "{row} {column}");
+            assert!(column == 9 || at(row, column) != at(row, column + 1), "{row} {column}");
+            assert!(row == 3 || at(row, column) != at(row + 1, column), "{row} {column}");
         }
     }
 }

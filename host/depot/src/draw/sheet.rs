@@ -170,7 +170,7 @@ impl<'a> Sheet<'a> {
         let cut = |words: &str| font.fitted(words, column.saturating_sub(swatch + GAP));
         let mut all: Vec<_> = zones.iter().enumerate().map(|(i, zone)| (Some(*zone), place(i), cut(self.name(*zone)))).collect();
         if more > 0 {
-            all.push((None, (0, top + lines * font.line), cut(&format!("and {more} more, which depot draw says"))));
+            all.push((None, (0, top + lines * font.line), font.fitted(&format!("and {more} more, which depot draw says"), width.saturating_sub(swatch + GAP))));
         }
         all
     }
