@@ -38,8 +38,7 @@ pub fn run(input: &Path, output: Option<&Path>, form: Form, asked: &Asked) -> Re
     if asked.mend.is_some() && asked.mend.as_deref() == output {
         return Err(Fault::NotRun("-o and --mend name one file: give two".into()));
     }
-    let mut drawing = geojson::drawing(input)?;
-    let collection = geojson::collect(&drawing).map_err(|words| Fault::file(input, words))?;
+    let (mut drawing, collection) = geojson::read_with(input)?;
     let judged = judged(&collection, &form, asked).map_err(|fault| fault.of(input))?;
     let fixes = fixes::said(&collection, Grid { precision: form.precision });
     let mut plan = plan(collection, form).map_err(|words| Fault::No(format!("{}: {words}", input.display())))?;

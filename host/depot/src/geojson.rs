@@ -49,13 +49,15 @@ pub struct Collection {
 
 /// Reads a file.
 pub fn read(path: &Path) -> Result<Collection, Fault> {
-    collect(&drawing(path)?).map_err(|words| Fault::file(path, words))
+    read_with(path).map(|(_, all)| all)
 }
 
-/// A file's JSON.
-pub fn drawing(path: &Path) -> Result<Value, Fault> {
+/// A file's JSON, and what it holds.
+pub fn read_with(path: &Path) -> Result<(Value, Collection), Fault> {
     let text = source::bytes(path)?;
-    serde_json::from_slice(source::unmarked(&text)).map_err(|error| Fault::file(path, format!("is no JSON: {error}")))
+    let value = serde_json::from_slice(source::unmarked(&text)).map_err(|error| Fault::file(path, format!("is no JSON: {error}")))?;
+    let all = collect(&value).map_err(|words| Fault::file(path, words))?;
+    Ok((value, all))
 }
 
 /// The features of a FeatureCollection; a Feature or a geometry alone is one feature.

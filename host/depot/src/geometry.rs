@@ -6,17 +6,21 @@ use crate::grid::Grid;
 use crate::plan::place_of;
 use rayon::prelude::*;
 
-/// A ring's places, each with the number of its point in the drawing, from 1.
+/// A ring's places, each with the number of its point in the drawing, from 1. A ring that is left out has none.
+#[derive(Default)]
 struct Line {
+    /// Which polygon's it is and which of its rings, from 0.
+    whose: Whose,
     numbers: Vec<usize>,
     places: Vec<Xy>,
 }
 
-/// What is wrong with a polygon.
+type Whose = (usize, usize);
+
+/// What is wrong with a polygon, or with two of a feature.
 struct Flaw {
     kind: Kind,
-    /// The rings by their numbers in the polygon, from 0.
-    rings: (usize, usize),
+    rings: (Whose, Whose),
     /// The edges by the numbers of their first points, one of each ring.
     edges: Option<((usize, usize), (usize, usize))>,
     at: Xy,
@@ -29,39 +33,80 @@ enum Kind {
     Outside,
     Around,
     Nested,
+    Over,
     FewPoints,
     Other,
 }
 
 /// What is wrong with the polygons as they are drawn.
 pub fn as_drawn(collection: &Collection) -> Vec<String> {
-    each_polygon(collection, |geos, polygon| flaws(geos, &polygon.iter().map(drawn).collect::<Vec<_>>()), |at| at)
+    each_feature(collection, |geos, feature| of_feature(geos, &lines(feature, drawn)), |at| at)
 }
 
-/// What is wrong with polygons on the grid that are in order as they are drawn.
+/// What is wrong with polygons on the grid, in features that are in order as they are drawn.
 pub fn on_grid(collection: &Collection, grid: Grid) -> Vec<String> {
-    let flaws = |geos: &Geos, polygon: &[Ring]| {
-        let lines: Vec<Line> = polygon.iter().map(drawn).collect();
-        if grid.round(&polygon[0]).is_none() || geos.invalid(&places(&lines)).is_some_and(is_flaw) {
+    let flaws = |geos: &Geos, feature: &Feature| {
+        if !of_feature(geos, &lines(feature, drawn)).is_empty() {
             return vec![];
         }
-        let line = |ring: &Ring| if grid.round(ring).is_some() { rounded(ring, grid) } else { Line { numbers: vec![], places: vec![] } };
-        self::flaws(geos, &polygon.iter().map(line).collect::<Vec<_>>())
+        let mut polygons = lines(feature, |ring| if grid.round(ring).is_some() { rounded(ring, grid) } else { Line::default() });
+        // with an outer ring go its holes
+        polygons.retain(|polygon| !polygon[0].places.is_empty());
+        of_feature(geos, &polygons)
     };
-    each_polygon(collection, flaws, |[x, y]| [x * 2.0 * grid.step(), y * grid.step()])
+    each_feature(collection, flaws, |[x, y]| [x * 2.0 * grid.step(), y * grid.step()])
 }
 
 /// The words on each flaw, feature by feature.
-fn each_polygon(collection: &Collection, flaws: impl Fn(&Geos, &[Ring]) -> Vec<Flaw> + Sync, degrees: impl Fn(Xy) -> Xy + Sync) -> Vec<String> {
-    let of_feature = |feature: &Feature| {
-        let geos = Geos::new();
-        let of_polygon = |(i, polygon): (usize, &Vec<Ring>)| {
-            let place = |ring| place_of(&feature.name, feature.polygons.len(), i, ring);
-            flaws(&geos, polygon).into_iter().map(|flaw| flaw.words(place(flaw.rings.0), degrees(flaw.at))).collect::<Vec<_>>()
-        };
-        feature.polygons.iter().enumerate().flat_map(of_polygon).collect::<Vec<_>>()
+fn each_feature(collection: &Collection, flaws: impl Fn(&Geos, &Feature) -> Vec<Flaw> + Sync, degrees: impl Fn(Xy) -> Xy + Sync) -> Vec<String> {
+    let words = |feature: &Feature| {
+        let place = |(polygon, ring)| place_of(&feature.name, feature.polygons.len(), polygon, ring);
+        flaws(&Geos::new(), feature).into_iter().map(|flaw| flaw.words(place(flaw.rings.0), degrees(flaw.at))).collect::<Vec<_>>()
     };
-    collection.features.par_iter().flat_map_iter(of_feature).collect()
+    collection.features.par_iter().flat_map_iter(words).collect()
+}
+
+/// The rings of each polygon of a feature.
+fn lines(feature: &Feature, line: impl Fn(&Ring) -> Line) -> Vec<Vec<Line>> {
+    let polygon = |(i, polygon): (usize, &Vec<Ring>)| polygon.iter().enumerate().map(|(k, ring)| Line { whose: (i, k), ..line(ring) }).collect();
+    feature.polygons.iter().enumerate().map(polygon).collect()
+}
+
+/// First what is wrong with each polygon, then with two of them.
+fn of_feature(geos: &Geos, polygons: &[Vec<Line>]) -> Vec<Flaw> {
+    let alone: Vec<Flaw> = polygons.iter().flat_map(|polygon| flaws(geos, polygon)).collect();
+    if !alone.is_empty() {
+        return alone;
+    }
+    let all: Vec<Vec<&[Xy]>> = polygons.iter().map(|polygon| places(polygon)).collect();
+    if all.len() < 2 || geos.invalid_parts(&all).is_none() {
+        return vec![];
+    }
+    let pairs = (0..all.len()).flat_map(|b| (0..b).map(move |a| (a, b)));
+    pairs.filter_map(|(a, b)| over(geos, [&polygons[a], &polygons[b]], [&all[a], &all[b]])).take(MOST_PAIRS).collect()
+}
+
+/// More overlaps are not told of one feature.
+const MOST_PAIRS: usize = 100;
+
+/// Two polygons that have more than a line in common.
+fn over(geos: &Geos, lines: [&Vec<Line>; 2], places: [&Vec<&[Xy]>; 2]) -> Option<Flaw> {
+    if !boxes_meet(places[0][0], places[1][0]) || !geos.overlap(places[0], places[1]) {
+        return None;
+    }
+    let invalid = geos.invalid_parts(&[places[0].clone(), places[1].clone()])?;
+    let rings: Vec<&Line> = lines.into_iter().flatten().filter(|line| !line.places.is_empty()).collect();
+    let met = (invalid.reason == Reason::Crossing).then(|| crossing(geos, &rings, invalid.at)).flatten();
+    let crossed = met.filter(|flaw| flaw.kind == Kind::Crosses && flaw.rings.0 .0 != flaw.rings.1 .0);
+    Some(crossed.unwrap_or(Flaw { kind: Kind::Over, rings: (lines[1][0].whose, lines[0][0].whose), edges: None, at: invalid.at }))
+}
+
+fn boxes_meet(one: &[Xy], other: &[Xy]) -> bool {
+    let bound = |places: &[Xy], axis: usize| places.iter().fold((f64::INFINITY, f64::NEG_INFINITY), |(low, high), place| (low.min(place[axis]), high.max(place[axis])));
+    [0, 1].into_iter().all(|axis| {
+        let (a, b) = (bound(one, axis), bound(other, axis));
+        a.0 <= b.1 && b.0 <= a.1
+    })
 }
 
 fn xy(place: &Position) -> Xy {
@@ -69,12 +114,12 @@ fn xy(place: &Position) -> Xy {
 }
 
 fn drawn(ring: &Ring) -> Line {
-    Line { numbers: (1..=ring.len()).collect(), places: ring.iter().map(xy).collect() }
+    Line { numbers: (1..=ring.len()).collect(), places: ring.iter().map(xy).collect(), ..Line::default() }
 }
 
 /// A ring on the grid, without the points that fall on the one before.
 fn rounded(ring: &Ring, grid: Grid) -> Line {
-    let mut line = Line { numbers: vec![], places: vec![] };
+    let mut line = Line::default();
     for (i, place) in ring.iter().enumerate() {
         let (lat, lon) = grid.point(*place);
         let place = [f64::from(lon), f64::from(lat)];
@@ -99,19 +144,19 @@ fn is_flaw(invalid: Invalid) -> bool {
     invalid.reason != Reason::Disconnected
 }
 
-/// First what is wrong with each ring, then with each hole in its outer ring, then among the holes. A ring of no places is one that is left out.
+/// First what is wrong with each ring, then with each hole in its outer ring, then among the holes.
 fn flaws(geos: &Geos, lines: &[Line]) -> Vec<Flaw> {
-    let there: Vec<usize> = (0..lines.len()).filter(|ring| !lines[*ring].places.is_empty()).collect();
-    let of = |rings: &[usize]| {
-        let places: Vec<&[Xy]> = rings.iter().map(|ring| lines[*ring].places.as_slice()).collect();
-        geos.invalid(&places).filter(|invalid| is_flaw(*invalid)).map(|invalid| flaw(geos, lines, rings, invalid))
+    let there: Vec<&Line> = lines.iter().filter(|line| !line.places.is_empty()).collect();
+    let of = |rings: &[&Line]| {
+        let places: Vec<&[Xy]> = rings.iter().map(|line| line.places.as_slice()).collect();
+        geos.invalid(&places).filter(|invalid| is_flaw(*invalid)).map(|invalid| flaw(geos, rings, invalid))
     };
-    let alone: Vec<Flaw> = there.iter().filter_map(|ring| of(&[*ring])).collect();
+    let alone: Vec<Flaw> = there.iter().filter_map(|ring| of(&[ring])).collect();
     if !alone.is_empty() {
         return alone;
     }
     let Some(whole) = of(&there) else { return vec![] };
-    let holes: Vec<Flaw> = there.iter().skip(1).filter_map(|hole| of(&[there[0], *hole])).collect();
+    let holes: Vec<Flaw> = there.iter().skip(1).filter_map(|hole| of(&[there[0], hole])).collect();
     if holes.is_empty() {
         return vec![whole];
     }
@@ -119,23 +164,20 @@ fn flaws(geos: &Geos, lines: &[Line]) -> Vec<Flaw> {
 }
 
 /// What GEOS found in some of a polygon's rings, with the edges that are there.
-fn flaw(geos: &Geos, lines: &[Line], rings: &[usize], invalid: Invalid) -> Flaw {
-    let at = invalid.at;
-    let last = *rings.last().unwrap_or(&0);
-    let plain = |kind| Flaw { kind, rings: (last, rings[0]), edges: None, at };
+fn flaw(geos: &Geos, rings: &[&Line], invalid: Invalid) -> Flaw {
+    let (first, last, at) = (rings[0], rings[rings.len() - 1], invalid.at);
+    let plain = |kind| Flaw { kind, rings: (last.whose, first.whose), edges: None, at };
     match invalid.reason {
         Reason::FewPoints => plain(Kind::FewPoints),
-        Reason::HoleOutside if rings.len() == 2 && area(&lines[last].places) > area(&lines[rings[0]].places) => plain(Kind::Around),
+        Reason::HoleOutside if rings.len() == 2 && area(&last.places) > area(&first.places) => plain(Kind::Around),
         Reason::HoleOutside => plain(Kind::Outside),
-        Reason::HoleInHole => Flaw { rings: (ring_at(lines, rings, at), rings[0]), ..plain(Kind::Nested) },
-        Reason::Crossing => crossing(geos, lines, rings, at).unwrap_or(plain(Kind::Crosses)),
-        Reason::Disconnected | Reason::Other => plain(Kind::Other),
+        Reason::HoleInHole => {
+            let inner = rings.iter().find(|line| line.places.contains(&at)).unwrap_or(&last);
+            Flaw { rings: (inner.whose, first.whose), ..plain(Kind::Nested) }
+        }
+        Reason::Crossing => crossing(geos, rings, at).unwrap_or(plain(Kind::Crosses)),
+        Reason::Disconnected | Reason::Nested | Reason::Other => plain(Kind::Other),
     }
-}
-
-/// The ring that has a place among its points.
-fn ring_at(lines: &[Line], rings: &[usize], at: Xy) -> usize {
-    rings.iter().copied().find(|ring| lines[*ring].places.contains(&at)).unwrap_or(rings[0])
 }
 
 /// Twice a ring's area, by the numbers.
@@ -145,9 +187,9 @@ fn area(places: &[Xy]) -> f64 {
 }
 
 /// An edge of a ring, by the index of its first place.
-#[derive(Clone, Copy, PartialEq)]
-struct Edge {
-    ring: usize,
+#[derive(Clone, Copy)]
+struct Edge<'a> {
+    line: &'a Line,
     first: usize,
     from: Xy,
     to: Xy,
@@ -157,24 +199,26 @@ struct Edge {
 const TRIED: usize = 16;
 
 /// The two edges that meet at a place.
-fn crossing(geos: &Geos, lines: &[Line], rings: &[usize], at: Xy) -> Option<Flaw> {
-    let edges = |ring: &usize| {
-        let (ring, places) = (*ring, &lines[*ring].places);
-        (0..places.len()).map(move |first| Edge { ring, first, from: places[first], to: places[(first + 1) % places.len()] })
-    };
-    let mut near: Vec<(f64, Edge)> = rings.iter().flat_map(edges).filter(|edge| edge.from != edge.to).map(|edge| (edge.distance(at), edge)).collect();
+fn crossing(geos: &Geos, rings: &[&Line], at: Xy) -> Option<Flaw> {
+    let mut near: Vec<(f64, Edge)> = rings.iter().flat_map(|line| line.edges()).filter(|edge| edge.from != edge.to).map(|edge| (edge.distance(at), edge)).collect();
     near.sort_by(|a, b| a.0.total_cmp(&b.0));
     near.truncate(TRIED);
     let pairs = || near.iter().enumerate().flat_map(|(i, (_, b))| near[..i].iter().map(move |(_, a)| (a, b)));
-    let met = |kind| move |(a, b): (&Edge, &Edge)| (meeting(geos, a, b) == Some(kind)).then_some((kind, *a, *b));
-    let found = pairs().find_map(met(Kind::Crosses)).or_else(|| pairs().find_map(met(Kind::Folds)));
+    let found = |kind| pairs().find(|(a, b)| meeting(geos, a, b) == Some(kind)).map(|(a, b)| (kind, *a, *b));
     // where lines cross at a point that both have, no two edges alone do
-    let (kind, a, b) = found.or_else(|| pairs().find(|(a, b)| !a.follows(b, lines) && !b.follows(a, lines)).map(|(a, b)| (Kind::Crosses, *a, *b)))?;
-    let (a, b) = if (a.ring, a.first) <= (b.ring, b.first) { (a, b) } else { (b, a) };
-    Some(Flaw { kind, rings: (a.ring, b.ring), edges: Some((a.numbers(lines), b.numbers(lines))), at })
+    let at_point = || pairs().find(|(a, b)| !a.follows(b) && !b.follows(a)).map(|(a, b)| (Kind::Crosses, *a, *b));
+    let (kind, a, b) = found(Kind::Crosses).or_else(|| found(Kind::Folds)).or_else(at_point)?;
+    let (a, b) = if (a.line.whose, a.first) <= (b.line.whose, b.first) { (a, b) } else { (b, a) };
+    Some(Flaw { kind, rings: (a.line.whose, b.line.whose), edges: Some((a.numbers(), b.numbers())), at })
 }
 
-impl Edge {
+impl Line {
+    fn edges(&self) -> impl Iterator<Item = Edge<'_>> + '_ {
+        (0..self.places.len()).map(|first| Edge { line: self, first, from: self.places[first], to: self.places[(first + 1) % self.places.len()] })
+    }
+}
+
+impl Edge<'_> {
     fn distance(&self, at: Xy) -> f64 {
         let way = [self.to[0] - self.from[0], self.to[1] - self.from[1]];
         let far = [at[0] - self.from[0], at[1] - self.from[1]];
@@ -182,12 +226,12 @@ impl Edge {
         (far[0] - part * way[0]).hypot(far[1] - part * way[1])
     }
 
-    fn follows(&self, other: &Edge, lines: &[Line]) -> bool {
-        self.ring == other.ring && self.first == (other.first + 1) % lines[self.ring].places.len()
+    fn follows(&self, other: &Edge) -> bool {
+        self.line.whose == other.line.whose && self.first == (other.first + 1) % self.line.places.len()
     }
 
-    fn numbers(&self, lines: &[Line]) -> (usize, usize) {
-        let numbers = &lines[self.ring].numbers;
+    fn numbers(&self) -> (usize, usize) {
+        let numbers = &self.line.numbers;
         (numbers[self.first], numbers[(self.first + 1) % numbers.len()])
     }
 }
@@ -209,22 +253,26 @@ impl Flaw {
     /// With the words for the place of its first ring.
     fn words(&self, place: String, [lon, lat]: Xy) -> String {
         let at = format!("{lat:.7} {lon:.7}");
-        let (one, other) = (self.rings.0 + 1, self.rings.1 + 1);
+        let (one, other) = self.rings;
         let Some((a, b)) = self.edges else { return format!("{place}: {}", self.alone(&at)) };
-        let edges = |whose: &str| format!("the edge from point {} to {} and {whose}that from {} to {}", a.0, a.1, b.0, b.1);
+        let other_words = if one.0 == other.0 { format!("ring {}", other.1 + 1) } else { format!("polygon {}, ring {}", other.0 + 1, other.1 + 1) };
+        let whose = if one == other { String::new() } else { format!(" of {other_words}") };
+        let edges = format!("the edge from point {} to {} and that from {} to {}{whose}", a.0, a.1, b.0, b.1);
         match (self.kind, one == other) {
-            (Kind::Folds, true) => format!("{place}: it folds back on itself at {at}: {} lie on one another", edges("")),
-            (Kind::Folds, false) => format!("{place}: it runs along ring {other} at {at}: {} lie on one another", edges(&format!("ring {other}'s "))),
-            (_, true) => format!("{place}: it crosses itself at {at}: {}", edges("")),
-            (_, false) => format!("{place}: it crosses ring {other} at {at}: {}", edges(&format!("ring {other}'s "))),
+            (Kind::Folds, true) => format!("{place}: it folds back on itself at {at}: {edges} lie on one another"),
+            (Kind::Folds, false) => format!("{place}: it runs along {other_words} at {at}: {edges} lie on one another"),
+            (_, true) => format!("{place}: it crosses itself at {at}: {edges}"),
+            (_, false) => format!("{place}: it crosses {other_words} at {at}: {edges}"),
         }
     }
 
     fn alone(&self, at: &str) -> String {
+        let (polygon, ring) = (self.rings.1 .0 + 1, self.rings.1 .1 + 1);
         match self.kind {
-            Kind::Outside => format!("the hole is not inside ring {}: {at} is outside; the first ring is the outer one, the others are its holes", self.rings.1 + 1),
-            Kind::Around => format!("the hole is larger than ring {} and around it at {at}: the outer ring comes first", self.rings.1 + 1),
+            Kind::Outside => format!("the hole is not inside ring {ring}: {at} is outside; the first ring is the outer one, the others are its holes"),
+            Kind::Around => format!("the hole is larger than ring {ring} and around it at {at}: the outer ring comes first"),
             Kind::Nested => format!("the hole lies in another hole at {at}"),
+            Kind::Over => format!("it and polygon {polygon} lie over one another at {at}"),
             Kind::FewPoints => format!("it has fewer than 3 different points at {at}"),
             Kind::Crosses | Kind::Folds => format!("its lines cross at {at}"),
             Kind::Other => format!("GEOS does not take it, at {at}"),
@@ -269,7 +317,7 @@ mod tests {
         assert!(at_point.len() == 1 && at_point[0].contains("it crosses itself at 2.0000000 6.0000000: the edge from point"), "{at_point:?}");
         let over = told(json!([square(1.0, 1.0, 5.0), [[2, 2], [2, 8], [3, 8], [3, 2], [2, 2]]]));
         assert!(over.len() == 1 && over[0].starts_with("feature 1 (Tank), ring 1: it crosses ring 2 at 6.0000000 "), "{over:?}");
-        assert!(over[0].contains("the edge from point 3 to 4 and ring 2's that from"), "{over:?}");
+        assert!(over[0].contains("the edge from point 3 to 4 and that from"), "{over:?}");
         let spike = told(json!([[[1, 1], [5, 1], [9, 1], [5, 1], [5, 5], [1, 5]]]));
         assert!(spike.len() == 1 && spike[0].contains("it folds back on itself at 1.0000000 "), "{spike:?}");
         assert!(spike[0].ends_with("the edge from point 2 to 3 and that from 3 to 4 lie on one another"), "{spike:?}");
@@ -284,6 +332,20 @@ mod tests {
         assert!(around.len() == 1 && around[0].starts_with("feature 1 (Tank), ring 2: the hole is larger than ring 1"), "{around:?}");
         let nested = told(json!([square(1.0, 1.0, 9.0), square(2.0, 2.0, 5.0), square(3.0, 3.0, 1.0)]));
         assert!(nested.len() == 1 && nested[0].starts_with("feature 1 (Tank), ring 3: the hole lies in another hole at 3.0000000 3.0000000"), "{nested:?}");
+    }
+
+    #[test]
+    fn polygons_of_one_feature() {
+        let told = |others: Value| as_drawn(&collect(&json!({"type": "MultiPolygon", "coordinates": [[square(1.0, 1.0, 5.0)], others]})).unwrap());
+        // apart, with a line in common, and in a hole of the other
+        assert!(told(json!([square(7.0, 1.0, 5.0)])).is_empty());
+        assert!(told(json!([square(6.0, 1.0, 5.0)])).is_empty());
+        assert!(told(json!([square(0.0, 0.0, 7.0), square(0.5, 0.5, 6.0)])).is_empty());
+        let over = told(json!([square(3.0, 3.0, 5.0)]));
+        assert!(over.len() == 1 && over[0].starts_with("feature 1, polygon 1, ring 1: it crosses polygon 2, ring 1 at "), "{over:?}");
+        assert!(over[0].contains("the edge from point ") && over[0].ends_with(" of polygon 2, ring 1"), "{over:?}");
+        let inside = told(json!([square(3.0, 3.0, 1.0)]));
+        assert!(inside.len() == 1 && inside[0].starts_with("feature 1, polygon 2, ring 1: it and polygon 1 lie over one another at "), "{inside:?}");
     }
 
     #[test]

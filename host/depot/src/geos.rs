@@ -21,6 +21,8 @@ pub enum Reason {
     HoleOutside,
     /// A hole is inside another.
     HoleInHole,
+    /// Of two polygons one is inside the other.
+    Nested,
     /// A ring has fewer than 3 different points.
     FewPoints,
     /// The inside falls apart where rings touch. A lookup answers there as everywhere.
@@ -35,6 +37,7 @@ impl Reason {
             "Self-intersection" | "Ring Self-intersection" | "Duplicate Rings" => Reason::Crossing,
             "Hole lies outside shell" => Reason::HoleOutside,
             "Holes are nested" | "Nested holes" => Reason::HoleInHole,
+            "Nested shells" => Reason::Nested,
             "Interior is disconnected" => Reason::Disconnected,
             words if words.starts_with("Too few points") => Reason::FewPoints,
             _ => Reason::Other,
@@ -49,6 +52,12 @@ type Raw = *mut c_void;
 const TOUCHING_ALLOWED: c_int = 1;
 const VALID: c_char = 1;
 const NOT_VALID: c_char = 0;
+const MULTIPOLYGON: c_int = 6;
+// The insides of both have a place in common.
+const OVERLAP: &CStr = match CStr::from_bytes_with_nul(b"T********\0") {
+    Ok(pattern) => pattern,
+    Err(_) => panic!(),
+};
 
 #[link(name = "geos_c")]
 extern "C" {
@@ -57,6 +66,8 @@ extern "C" {
     fn GEOSCoordSeq_copyFromBuffer_r(handle: Handle, numbers: *const f64, size: c_uint, has_z: c_int, has_m: c_int) -> Raw;
     fn GEOSGeom_createLinearRing_r(handle: Handle, points: Raw) -> Raw;
     fn GEOSGeom_createPolygon_r(handle: Handle, shell: Raw, holes: *mut Raw, count: c_uint) -> Raw;
+    fn GEOSGeom_createCollection_r(handle: Handle, kind: c_int, parts: *mut Raw, count: c_uint) -> Raw;
+    fn GEOSRelatePattern_r(handle: Handle, one: Raw, other: Raw, pattern: *const c_char) -> c_char;
     fn GEOSGeom_destroy_r(handle: Handle, geometry: Raw);
     fn GEOSisValidDetail_r(handle: Handle, geometry: Raw, flags: c_int, reason: *mut *mut c_char, place: *mut Raw) -> c_char;
     fn GEOSGeomGetX_r(handle: Handle, geometry: Raw, x: *mut f64) -> c_int;
@@ -108,6 +119,22 @@ impl Geos {
             Some(polygon) => polygon.invalid(),
             None => Some(Invalid { reason: Reason::FewPoints, at: rings.iter().find_map(|ring| ring.first().copied()).unwrap_or_default() }),
         }
+    }
+
+    /// What is wrong with valid polygons as parts of one, that they share a line included.
+    pub fn invalid_parts(&self, polygons: &[Vec<&[Xy]>]) -> Option<Invalid> {
+        let made: Option<Vec<Geometry>> = polygons.iter().map(|rings| self.polygon(rings)).collect();
+        let mut raw: Vec<Raw> = made?.into_iter().map(Geometry::given).collect();
+        let count = c_uint::try_from(raw.len()).ok()?;
+        // SAFETY: polygons of this handle, which the whole takes over; so many are there
+        self.owned(unsafe { GEOSGeom_createCollection_r(self.0, MULTIPOLYGON, raw.as_mut_ptr(), count) })?.invalid()
+    }
+
+    /// Whether the insides of two valid polygons have a place in common.
+    pub fn overlap(&self, one: &[&[Xy]], other: &[&[Xy]]) -> bool {
+        let Some((one, other)) = self.polygon(one).zip(self.polygon(other)) else { return false };
+        // SAFETY: geometries of this handle, and a text that ends with 0
+        unsafe { GEOSRelatePattern_r(self.0, one.raw, other.raw, OVERLAP.as_ptr()) == 1 }
     }
 
     /// On which side of the way from `a` to `b` a place is: 1 left, -1 right, 0 on it. Exact.
@@ -220,6 +247,19 @@ mod tests {
         assert_eq!(reason(&[&corner]).map(|told| told.0), Some(Reason::Disconnected));
         let inward = [[0.0, 0.0], [5.0, 0.0], [4.0, 3.0], [6.0, 3.0], [5.0, 0.0], [10.0, 0.0], [10.0, 10.0], [0.0, 10.0]];
         assert_eq!(reason(&[&inward]), None);
+    }
+
+    #[test]
+    fn parts_of_one() {
+        let geos = Geos::new();
+        let square = |west: f64| [[west, 0.0], [west + 10.0, 0.0], [west + 10.0, 10.0], [west, 10.0]];
+        let inner = [[2.0, 2.0], [4.0, 2.0], [4.0, 4.0]];
+        let (apart, beside, over) = (square(20.0), square(10.0), square(5.0));
+        let of = |other: &[Xy]| (geos.invalid_parts(&[vec![&SQUARE], vec![other]]).map(|invalid| invalid.reason), geos.overlap(&[&SQUARE], &[other]));
+        assert_eq!(of(&apart), (None, false));
+        assert_eq!(of(&beside), (Some(Reason::Crossing), false));
+        assert_eq!(of(&over), (Some(Reason::Crossing), true));
+        assert_eq!(of(&inner), (Some(Reason::Nested), true));
     }
 
     #[test]

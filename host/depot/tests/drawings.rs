@@ -38,7 +38,7 @@ fn rings_that_cross() {
     // one whose halves differ is not small at all
     try_rings("cross", "[[[5, 1], [7, 3], [7, 1], [5, 2.5], [5, 1]]]", 1, &["ring 1: it crosses itself at"]);
     let over = format!("[{SQUARE}, [[2, 2], [2, 8], [3, 8], [3, 2], [2, 2]]]");
-    try_rings("cross", &over, 1, &["feature 1 (Gate), ring 1: it crosses ring 2 at 6.0000000", "the edge from point 3 to 4 and ring 2's that from"]);
+    try_rings("cross", &over, 1, &["feature 1 (Gate), ring 1: it crosses ring 2 at 6.0000000", "the edge from point 3 to 4 and that from", " of ring 2"]);
     try_rings("cross", "[[[1, 1], [5, 1], [9, 1], [5, 1], [5, 5], [1, 5], [1, 1]]]", 1, &["it folds back on itself at 1.0000000", "the edge from point 2 to 3 and that from 3 to 4 lie on one another"]);
 }
 
@@ -49,6 +49,19 @@ fn holes_that_are_none() {
     try_rings("holes", &format!("[{SQUARE}, [[2, 2], [2, 5], [5, 5], [5, 2], [2, 2]], [[3, 3], [3, 4], [4, 4], [3, 3]]]"), 1, &["ring 3: the hole lies in another hole at 3.0000000 3.0000000"]);
     // one that touches its ring is in order
     try_rings("holes", &format!("[{SQUARE}, [[1, 3], [2, 4], [2, 2], [1, 3]]]"), 0, &["1 of holes"]);
+}
+
+#[test]
+fn polygons_of_one_feature() {
+    let folder = Folder::new("parts");
+    let parts = |other: &str| {
+        let drawing = format!(r#"{{"type": "MultiPolygon", "coordinates": [[{SQUARE}], [{other}]]}}"#);
+        depot(&["build", &folder.with("in.geojson", drawing), "--dry-run", "--type", "C"])
+    };
+    said(&parts("[[3, 3], [8, 3], [8, 8], [3, 8], [3, 3]]"), 1, &["feature 1, polygon 1, ring 1: it crosses polygon 2, ring 1 at ", "the edge from point "]);
+    said(&parts("[[3, 3], [4, 3], [4, 4], [3, 3]]"), 1, &["feature 1, polygon 2, ring 1: it and polygon 1 lie over one another at 3."]);
+    // beside it, with a line in common
+    said(&parts("[[6, 1], [9, 1], [9, 6], [6, 6], [6, 1]]"), 0, &["2 borders"]);
 }
 
 #[test]
