@@ -30,14 +30,14 @@ const DEEPEST: usize = 4;
 impl Known {
     /// Of the folder that was asked for; else of the usual one, where it is there.
     pub fn of(folder: Option<&Path>) -> Result<Option<Known>, Fault> {
-        let usual = Path::new(USUAL);
-        let Some(folder) = folder.or_else(|| usual.is_dir().then_some(usual)) else { return Ok(None) };
-        let mut known = Known { folder: folder.to_path_buf(), names: BTreeSet::new() };
-        known.walk(folder, "", 0).map_err(|error| Fault::file(folder, error))?;
-        if known.names.is_empty() {
-            return Err(Fault::file(folder, "has no TZif file: give the folder of zones, such as /usr/share/zoneinfo"));
+        let place = folder.unwrap_or(Path::new(USUAL));
+        let mut known = Known { folder: place.to_path_buf(), names: BTreeSet::new() };
+        match known.walk(place, "", 0) {
+            Ok(()) if !known.names.is_empty() => Ok(Some(known)),
+            _ if folder.is_none() => Ok(None),
+            Ok(()) => Err(Fault::file(place, "has no TZif file: give the folder of zones, such as /usr/share/zoneinfo")),
+            Err(error) => Err(Fault::file(place, error)),
         }
-        Ok(Some(known))
     }
 
     fn walk(&mut self, folder: &Path, before: &str, depth: usize) -> std::io::Result<()> {
@@ -96,7 +96,7 @@ pub fn said(collection: &Collection, known: Option<&Known>) -> Said {
     }
     match known {
         Some(known) => said.faults.extend(named.iter().filter_map(|(feature, zone)| known.fault(feature, zone.as_deref()?))),
-        None => said.notes.push(format!("no folder {USUAL}: the names of zones were held against nothing; --zones gives a folder")),
+        None => said.notes.push(format!("no zones in {USUAL}: the names of zones were held against nothing; --zones gives a folder")),
     }
     let without: Vec<String> = named.iter().filter(|(_, zone)| zone.is_none()).map(|(feature, _)| format!("{} has no zone: nothing can be stamped in it", feature.name)).collect();
     said.notes.extend(few(&without));
