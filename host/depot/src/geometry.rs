@@ -21,7 +21,7 @@ type Whose = (usize, usize);
 struct Flaw {
     kind: Kind,
     rings: (Whose, Whose),
-    /// The edges by the numbers of their first points, one of each ring.
+    /// The edges by the numbers of their two points, one of each ring.
     edges: Option<((usize, usize), (usize, usize))>,
     at: Xy,
 }
@@ -82,7 +82,8 @@ fn of_feature(geos: &Geos, polygons: &[Vec<Line>]) -> Vec<Flaw> {
     if all.len() < 2 || geos.invalid_parts(&all).is_none() {
         return vec![];
     }
-    let pairs = (0..all.len()).flat_map(|b| (0..b).map(move |a| (a, b)));
+    let boxes: Vec<Corners> = all.iter().map(|rings| box_of(rings[0])).collect();
+    let pairs = (0..all.len()).flat_map(|b| (0..b).map(move |a| (a, b))).filter(|(a, b)| boxes_meet(boxes[*a], boxes[*b]));
     pairs.filter_map(|(a, b)| over(geos, [&polygons[a], &polygons[b]], [&all[a], &all[b]])).take(MOST_PAIRS).collect()
 }
 
@@ -91,7 +92,7 @@ const MOST_PAIRS: usize = 100;
 
 /// Two polygons that have more than a line in common.
 fn over(geos: &Geos, lines: [&Vec<Line>; 2], places: [&Vec<&[Xy]>; 2]) -> Option<Flaw> {
-    if !boxes_meet(places[0][0], places[1][0]) || !geos.overlap(places[0], places[1]) {
+    if !geos.overlap(places[0], places[1]) {
         return None;
     }
     let invalid = geos.invalid_parts(&[places[0].clone(), places[1].clone()])?;
@@ -101,12 +102,16 @@ fn over(geos: &Geos, lines: [&Vec<Line>; 2], places: [&Vec<&[Xy]>; 2]) -> Option
     Some(crossed.unwrap_or(Flaw { kind: Kind::Over, rings: (lines[1][0].whose, lines[0][0].whose), edges: None, at: invalid.at }))
 }
 
-fn boxes_meet(one: &[Xy], other: &[Xy]) -> bool {
-    let bound = |places: &[Xy], axis: usize| places.iter().fold((f64::INFINITY, f64::NEG_INFINITY), |(low, high), place| (low.min(place[axis]), high.max(place[axis])));
-    [0, 1].into_iter().all(|axis| {
-        let (a, b) = (bound(one, axis), bound(other, axis));
-        a.0 <= b.1 && b.0 <= a.1
-    })
+/// The lower and the upper corner.
+type Corners = [Xy; 2];
+
+fn box_of(places: &[Xy]) -> Corners {
+    let end = |better: fn(f64, f64) -> f64, worst: f64| places.iter().fold([worst; 2], |end, place| [better(end[0], place[0]), better(end[1], place[1])]);
+    [end(f64::min, f64::INFINITY), end(f64::max, f64::NEG_INFINITY)]
+}
+
+fn boxes_meet(one: Corners, other: Corners) -> bool {
+    (0..2).all(|axis| one[0][axis] <= other[1][axis] && other[0][axis] <= one[1][axis])
 }
 
 fn xy(place: &Position) -> Xy {
