@@ -88,6 +88,8 @@ static enum outcome find_zone(const struct uskelzar_file *map, float lat, float 
         return NO_ZONE;
     if (reply[USKELZAR_LOOKUP_MATCHES] != 1)
         return SEVERAL_ZONES;
+    if (reply[USKELZAR_SIMPLE_LENGTH] > TEXT)
+        return BAD_NAME;
     memcpy(stamp->zone, text, reply[USKELZAR_SIMPLE_LENGTH]);
     stamp->zone[reply[USKELZAR_SIMPLE_LENGTH]] = '\0';
     return strlen(stamp->zone) == reply[USKELZAR_SIMPLE_LENGTH] && is_inside(stamp->zone) ? STAMPED : BAD_NAME;
@@ -104,6 +106,8 @@ static enum outcome find_hour(const struct uskelzar_file *file, int64_t instant,
     if (reply[USKELZAR_LOCAL_KNOWN] == USKELZAR_SCALE_OWN)
         return LEAP_SECONDS;
     if (reply[USKELZAR_LOCAL_KNOWN] != USKELZAR_SCALE_UNIX)
+        return UNKNOWN;
+    if (reply[USKELZAR_LOCAL_LENGTH] > TEXT)
         return UNKNOWN;
     uint32_t bits = (uint32_t)reply[USKELZAR_LOCAL_OFFSET];
     memcpy(&stamp->offset, &bits, sizeof bits);
@@ -177,7 +181,8 @@ int main(int count, char **words)
     }
     uint8_t *room = malloc(MAP_MOST);
     if (room == NULL || !read_file(words[1], room, MAP_MOST, &map)) {
-        fprintf(stderr, "example-stamp: cannot read %s\n", words[1]);
+        fprintf(stderr, "example-stamp: cannot read %s, or it has more than %d bytes\n", words[1], MAP_MOST);
+        free(room);
         return 2;
     }
     enum outcome outcome = stamp_slip(&map, words[2], lat, lon, instant, &stamp);

@@ -14,12 +14,15 @@ if [ "$(uname -m)" = x86_64 ]; then
     cc=${CC:-gcc} runner=
     need "$cc" "Debian's gcc"
 else
-    cc=x86_64-linux-gnu-gcc runner='qemu-x86_64 -L /usr/x86_64-linux-gnu'
+    geos=$kit/geos-root/usr/lib/x86_64-linux-gnu
+    cc=x86_64-linux-gnu-gcc runner="qemu-x86_64 -L /usr/x86_64-linux-gnu -E LD_LIBRARY_PATH=$geos"
     need "$cc" "Debian's gcc-x86-64-linux-gnu and libc6-dev-amd64-cross"
     need qemu-x86_64 "Debian's qemu-user"
     RUSTC=${RUSTC:-$kit/rustc-x86}
     [ -x "$RUSTC" ] || stop "no Rust for x86-64 at $RUSTC: tools/kit host fetches it (or set RUSTC, or BENCH_KIT to a folder that it has prepared)"
     export RUSTC CARGO_TARGET_X86_64_UNKNOWN_LINUX_GNU_LINKER="$cc" CARGO_TARGET_X86_64_UNKNOWN_LINUX_GNU_RUNNER="$runner"
+    # depot links GEOS, which links the C++ library
+    export CARGO_TARGET_X86_64_UNKNOWN_LINUX_GNU_RUSTFLAGS="-L native=$geos -C link-arg=-Wl,-rpath-link,$geos"
 fi
 
 # Proves and writes libuskelzar.a, unless USKELZAR_LIB names a folder that has it.
@@ -53,11 +56,17 @@ need_crate memmap2 librust-memmap2-dev
 
 # what host/depot takes besides
 need_depot_crates() {
-    for each in base64 chrono clap csv indicatif png rayon sha2 tera; do
+    for each in base64 chrono clap csv indicatif png rayon sha2 strsim tera ttf-parser; do
         need_crate "$each" "librust-$each-dev"
     done
+    need_crate ab_glyph_rasterizer librust-ab-glyph-rasterizer-dev
     need_crate clap_derive librust-clap-derive-dev
     need_crate serde_json librust-serde-json-dev
+    if [ -n "$runner" ]; then
+        [ -e "$geos/libgeos_c.so" ] || stop "no GEOS for x86-64 in $geos: tools/kit host fetches it"
+    else
+        [ -e /usr/include/geos_c.h ] || stop "GEOS is missing: Debian's libgeos-dev (tools/kit installs it)"
+    fi
 }
 
 # cargo_plain FOLDER COMMAND WORDS..: cargo on the crate in a folder, with Debian's crates; it says what it compiles where $quiet is empty

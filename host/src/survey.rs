@@ -72,4 +72,23 @@ impl<B: AsRef<[u8]>> Map<B> {
         };
         self.header().names.iter().map(&mut field).collect()
     }
+
+    /// The first of a zone's strings that is not wholly in the metadata section, its lengths included: its field's name, and where it is told.
+    pub fn string_outside(&self, metadata: u32) -> Result<Option<(String, usize)>, Unread> {
+        let (numbers, sections) = (self.numbers(), self.sections()?);
+        let inside = |from: usize, to: usize| from >= sections.metadata && to <= sections.data as usize;
+        let mut place = (sections.metadata as u32).wrapping_add(metadata) as usize;
+        for name in &self.header().names {
+            let (number, behind) = numbers.at(place)?;
+            let near = number < 256;
+            let next = if near { behind + number as usize } else { behind };
+            let elsewhere = (sections.metadata as u32).wrapping_add(number as u32).wrapping_sub(256) as usize;
+            let held = near || numbers.at(elsewhere).map(|(size, begin)| inside(elsewhere, begin.saturating_add(size as usize)))?;
+            if !(inside(place, next) && held) {
+                return Ok(Some((name.clone(), place)));
+            }
+            place = next;
+        }
+        Ok(None)
+    }
 }

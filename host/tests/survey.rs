@@ -4,7 +4,7 @@ mod common;
 
 use common::files::{file, header, overlap, sections, Sections, Zone, LAT_STEP, LON_STEP, OUT_OF_ORDER, SQUARE, TABLE_CUT};
 use common::WORLD;
-use uskelzar::{write_border, End, Entry, Error, Map, Number, Piece, Unread};
+use uskelzar::{write_border, End, Entry, Error, Map, Number, Piece, Reason, Unread};
 
 const LONG: [(i32, i32); 6] = [(20, 20), (28, 21), (35, 40), (20, 60), (10, 50), (9, 30)];
 
@@ -123,4 +123,31 @@ fn what_is_not_read_is_said() {
     assert_eq!(map.fields(0).unwrap_err(), Unread::Utf8(22));
     let map = Map::open(with(22, &[0x20])).unwrap();
     assert_eq!(map.fields(0).unwrap_err(), Unread::String(22));
+}
+
+/// What salvage says of strings is what is read here: told outside where it drops an entry for that, and inside where it keeps one.
+#[test]
+fn strings_outside_are_those_that_salvage_drops() {
+    let zones = [Zone { fields: &["A", "yes"], borders: &[&LONG] }, Zone { fields: &["Gate B", ""], borders: &[&LONG] }];
+    let whole = file(b'C', 1, &["Name", "Open"], "", &zones);
+    let (mut outside, mut inside) = (0, 0);
+    for at in 7..whole.len() {
+        for byte in 0..=255 {
+            let mut bytes = whole.clone();
+            bytes[at] = byte;
+            let Ok(map) = Map::open_strict(bytes) else { continue };
+            let Ok(salvaged) = map.salvage() else { continue };
+            for entry in map.entries().unwrap().map_while(Result::ok) {
+                let told = map.string_outside(entry.metadata);
+                match salvaged.dropped.iter().find(|dropped| dropped.entry == entry.number).map(|dropped| dropped.reason) {
+                    None => assert_eq!(told, Ok(None), "byte {at} is {byte}"),
+                    Some(Reason::StringOutside) => assert!(matches!(told, Ok(Some(_))), "byte {at} is {byte}: {told:?}"),
+                    Some(_) => continue,
+                }
+                outside += usize::from(told != Ok(None));
+                inside += usize::from(told == Ok(None));
+            }
+        }
+    }
+    assert!(outside > 10 && inside > 1000, "{outside} {inside}");
 }

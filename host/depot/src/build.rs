@@ -1,13 +1,17 @@
 //! `depot build`: a file from polygons.
 
 use crate::fault::{Fault, Said};
-use crate::geojson;
+use crate::geojson::{self, Collection};
 use crate::grid::Grid;
+use crate::mend::mend;
+use crate::names::{self, Known};
 use crate::output::write_whole;
 use crate::plan::{plan, Form, Plan};
-use crate::words::{count, grouped, length};
+use crate::words::{count, few, grouped, length};
+use crate::{fixes, geometry};
+use serde_json::Value;
 use std::fmt::Write;
-use std::path::Path;
+use std::path::{Path, PathBuf};
 use uskelzar::{Builder, NotBuilt, Place, Table};
 
 /// The file of a plan, by the library's builder.
@@ -18,17 +22,85 @@ pub fn file_of(plan: &Plan) -> Result<Vec<u8>, NotBuilt> {
     yards.fold(builder, |builder, yard| builder.yard_with(&yard.points, &yard.pieces, &texts(&plan.records[yard.record]))).build()
 }
 
+/// What is asked of a build besides the file's form.
+#[derive(Debug, Default)]
+pub struct Asked {
+    /// Where the mended drawing goes.
+    pub mend: Option<PathBuf>,
+    /// The folder that the names of zones are held against.
+    pub zones: Option<PathBuf>,
+    /// Whether polygons and names with faults are built too.
+    pub as_drawn: bool,
+}
+
 /// Reads polygons, says what becomes of them on the grid, and writes the file if a place for it is given.
-pub fn run(input: &Path, output: Option<&Path>, form: Form) -> Result<Said, Fault> {
-    let collection = geojson::read(input)?;
-    let plan = plan(collection, form).map_err(|words| Fault::No(format!("{}: {words}", input.display())))?;
-    let mut said = report(&plan);
-    if let Some(output) = output {
-        let file = file_of(&plan).map_err(|why| Fault::No(format!("{said}{}", not_built(&plan, &why))))?;
-        write_whole(output, &[input], |out| out.write_all(&file))?;
+pub fn run(input: &Path, output: Option<&Path>, form: Form, asked: &Asked) -> Result<Said, Fault> {
+    if asked.mend.is_some() && asked.mend.as_deref() == output {
+        return Err(Fault::NotRun("-o and --mend name one file: give two".into()));
+    }
+    let (mut drawing, collection) = geojson::read_with(input)?;
+    let judged = judged(&collection, &form, asked).map_err(|fault| fault.of(input))?;
+    let fixes = fixes::said(&collection, Grid { precision: form.precision });
+    let mut plan = plan(collection, form).map_err(|words| Fault::No(format!("{}: {words}", input.display())))?;
+    let mended = mend(&mut drawing);
+    if !mended.is_empty() && asked.mend.is_none() {
+        plan.report.notes.push(format!("{}: taken as they are meant; --mend GEOJSON writes the drawing with them mended", mended.summary()));
+    }
+    plan.report.notes.extend(judged.into_iter().chain(fixes.notes));
+    let mut said = report(&plan, &fixes.lines);
+    let file = output.map(|output| file_of(&plan).map(|file| (output, file))).transpose();
+    let file = file.map_err(|why| Fault::No(format!("{said}{}", not_built(&plan, &why))))?;
+    if let Some(to) = &asked.mend {
+        write_drawing(to, input, &drawing)?;
+        mended.lines().iter().for_each(|line| said.push_str(&format!("mended: {line}\n")));
+        let _ = writeln!(said, "{}: the drawing{}", to.display(), if mended.is_empty() { ", in which nothing was to mend" } else { ", mended" });
+    }
+    if let Some((output, file)) = file {
+        let inputs: Vec<&Path> = [input].into_iter().chain(asked.mend.as_deref()).collect();
+        write_whole(output, &inputs, |out| out.write_all(&file))?;
         let _ = writeln!(said, "{}: {}", output.display(), count(file.len(), "byte"));
     }
     Ok(Said::yes(said))
+}
+
+fn write_drawing(to: &Path, input: &Path, drawing: &Value) -> Result<(), Fault> {
+    write_whole(to, &[input], |out| {
+        serde_json::to_writer(&mut *out, drawing)?;
+        out.write_all(b"\n")
+    })
+}
+
+/// The faults of a drawing, which stop a build unless it is to be built as it is drawn; else what is said of it.
+fn judged(collection: &Collection, form: &Form, asked: &Asked) -> Result<Vec<String>, Faults> {
+    let known = if form.table == 'T' { Known::of(asked.zones.as_deref()).map_err(Faults::Other)? } else { None };
+    let names = if form.table == 'T' { names::said(collection, known.as_ref()) } else { names::Said::default() };
+    let faults = [geometry::as_drawn(collection), names.faults].concat();
+    if !faults.is_empty() && !asked.as_drawn {
+        return Err(Faults::Drawing(faults));
+    }
+    let on_grid = geometry::on_grid(collection, Grid { precision: form.precision });
+    let on_grid: Vec<String> = on_grid.into_iter().map(|words| format!("on the grid, {words}")).collect();
+    let grid = (!on_grid.is_empty()).then(|| "within a step of these places answers can differ from the drawing; a higher --precision keeps lines apart".to_string());
+    Ok([few(&faults), names.notes, few(&on_grid)].concat().into_iter().chain(grid).collect())
+}
+
+/// Why nothing is built.
+enum Faults {
+    Drawing(Vec<String>),
+    Other(Fault),
+}
+
+impl Faults {
+    fn of(self, input: &Path) -> Fault {
+        match self {
+            Faults::Other(fault) => fault,
+            Faults::Drawing(faults) => {
+                let lines = few(&faults).join("\n  ");
+                let advice = "mend the drawing; --as-drawn builds it with its faults";
+                Fault::No(format!("{}: {} in the drawing, and nothing was written:\n  {lines}\n  {advice}", input.display(), count(faults.len(), "fault")))
+            }
+        }
+    }
 }
 
 fn texts(all: &[String]) -> Vec<&str> {
@@ -46,8 +118,8 @@ fn not_built(plan: &Plan, why: &NotBuilt) -> String {
     format!("{place}: {}", why.why)
 }
 
-/// What a plan comes to, in lines.
-pub fn report(plan: &Plan) -> String {
+/// What a plan comes to, in lines, and what its fixes can tell apart.
+pub fn report(plan: &Plan, fixes: &[String]) -> String {
     let mut out = String::new();
     let report = &plan.report;
     let grid = Grid { precision: plan.form.precision };
@@ -63,6 +135,9 @@ pub fn report(plan: &Plan) -> String {
         2.0 * grid.step(),
         grouped(report.dropped),
     );
+    fixes.iter().for_each(|line| {
+        let _ = writeln!(out, "{line}");
+    });
     let saved = &report.saved;
     let pieces = saved.forward + saved.backward;
     if pieces > 0 {

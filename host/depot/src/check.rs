@@ -1,57 +1,76 @@
-//! `depot check`: reads all of a file, strictly, and asks the library what lookups in it would meet.
+//! `depot check`: reads all of a file, strictly, asks what salvage asks, and asks the library what lookups in it would meet.
 
 use crate::fault::{Fault, Said};
 use crate::grid::Point;
-use crate::words::{self, count};
-use crate::{output, source};
+use crate::words::{self, count, few};
+use crate::{output, salvage, source};
 use std::collections::HashSet;
-use std::fmt::Write;
 use std::path::Path;
 use uskelzar::{End, Entry, Map};
 
-/// So many faults are told one by one.
-const TOLD: usize = 20;
+/// What is asked, in words.
+const ASKED: &str = "asked besides what salvage asks: the table is in order, each border lies in its box and has 3 different points, \
+    and two strict lookups at each entry, in the middle of its box and at its border's first point, are whole";
 
 /// What was read, and what is wrong.
 #[derive(Default)]
-struct Found {
+pub(crate) struct Found {
     entries: usize,
     points: usize,
     zones: HashSet<u32>,
     strings: usize,
     lookups: usize,
-    faults: Vec<String>,
+    pub faults: Vec<Told>,
+}
+
+/// What is wrong, and with which entry, by number and place.
+pub(crate) struct Told {
+    pub entry: Option<(u32, u32)>,
+    pub words: String,
+}
+
+impl Told {
+    /// In words; an entry's number is told as another file has it too.
+    pub fn words(&self, other: impl Fn(u32) -> String) -> String {
+        match self.entry {
+            Some((number, place)) => format!("entry {number}{} at byte {place}: {}", other(number), self.words),
+            None => self.words.clone(),
+        }
+    }
 }
 
 /// Says whether a file can be relied on.
 pub fn run(path: &Path) -> Result<Said, Fault> {
     let map = source::open(path, true)?;
-    let mut found = Found::default();
-    found.read(&map);
-    let mut text = format!(
-        "{}: read {}, {}, {} of {}; asked {}\n",
+    let found = Found::in_map(&map);
+    let mut lines = vec![format!(
+        "{}: read {}, {}, {} of {}; asked {}",
         path.display(),
         count(found.entries, "entry"),
         count(found.points, "point"),
         count(found.strings, "string"),
         count(found.zones.len(), "zone"),
         count(found.lookups, "lookup"),
-    );
-    for fault in found.faults.iter().take(TOLD) {
-        let _ = writeln!(text, "{fault}");
-    }
-    if found.faults.len() > TOLD {
-        let _ = writeln!(text, "and {} more", found.faults.len() - TOLD);
-    }
-    text.push_str(if found.faults.is_empty() { "in order\n" } else { "not in order\n" });
-    Ok(Said { yes: found.faults.is_empty(), text })
+    )];
+    lines.extend([salvage::ASKED.to_string(), ASKED.to_string()]);
+    lines.extend(few(&found.faults.iter().map(|told| told.words(|_| String::new())).collect::<Vec<_>>()));
+    lines.push(if found.faults.is_empty() { "in order\n" } else { "not in order\n" }.into());
+    Ok(Said { yes: found.faults.is_empty(), text: lines.join("\n") })
 }
 
 impl Found {
+    /// All that can be found in a file.
+    pub fn in_map(map: &Map<Vec<u8>>) -> Found {
+        let mut found = Found::default();
+        found.read(map);
+        found.salvaged(map);
+        found
+    }
+
     fn read(&mut self, map: &Map<Vec<u8>>) {
         let entries = match map.entries() {
             Ok(entries) => entries,
-            Err(why) => return self.faults.push(format!("the header: {why}")),
+            Err(why) => return self.faults.push(Told { entry: None, words: format!("the header: {why}") }),
         };
         let (mut good, mut last) = (vec![], f64::NEG_INFINITY);
         for entry in entries {
@@ -63,7 +82,7 @@ impl Found {
                     last = last.max(entry.lower.0);
                     good.push(entry);
                 }
-                Err(why) => self.faults.push(format!("the table, behind {}: {why}", count(good.len(), "entry"))),
+                Err(why) => self.faults.push(Told { entry: None, words: format!("the table, behind {}: {why}", count(good.len(), "entry")) }),
             }
         }
         self.entries = good.len();
@@ -77,7 +96,7 @@ impl Found {
     }
 
     fn fault(&mut self, entry: &Entry, words: impl std::fmt::Display) {
-        self.faults.push(format!("entry {} at byte {}: {words}", entry.number, entry.place));
+        self.faults.push(Told { entry: Some((entry.number, entry.place)), words: words.to_string() });
     }
 
     /// An entry's border, and what lookups near it meet.
@@ -86,7 +105,7 @@ impl Found {
         self.lookup(map, entry, "in the middle of its box", middle);
         let points = match map.border(entry) {
             Ok(points) => points,
-            Err(why) => return self.fault(entry, format!("border at byte {}: {why}", entry.border)),
+            Err(why) => return self.fault(entry, salvage::border_words(entry, why)),
         };
         self.points += points.len();
         if let Some(outside) = points.iter().find(|point| !holds(entry, map.degrees(**point))) {
@@ -108,7 +127,7 @@ impl Found {
         }
         match map.fields(entry.metadata) {
             Ok(fields) => self.strings += fields.len(),
-            Err(why) => self.fault(entry, format!("the fields of its zone: {why}")),
+            Err(why) => self.fault(entry, salvage::fields_words(why)),
         }
     }
 
@@ -116,8 +135,21 @@ impl Found {
         self.lookups += 1;
         match map.lookup_strict(lat as f32, lon as f32) {
             Ok(zones) if zones.end == End::Whole => (),
-            Ok(zones) => self.fault(entry, format!("a lookup {place}, {lat:.6} {lon:.6}: search {}", words::end(zones.end))),
+            Ok(zones) => self.fault(entry, format!("a lookup {place}, {lat:.6} {lon:.6}: the search was not whole: {}", words::end(zones.end))),
             Err(error) => self.fault(entry, format!("a lookup {place}, {lat:.6} {lon:.6}: {error}")),
+        }
+    }
+
+    /// What salvage would drop, of entries on which nothing was said so far.
+    fn salvaged(&mut self, map: &Map<Vec<u8>>) {
+        match map.salvage() {
+            Ok(salvaged) => {
+                let told: HashSet<u32> = self.faults.iter().filter_map(|told| told.entry).map(|(number, _)| number).collect();
+                let new = salvaged.dropped.iter().filter(|dropped| !told.contains(&dropped.entry));
+                self.faults.extend(salvage::told(map, new));
+            }
+            Err(error) if self.faults.is_empty() => self.faults.push(Told { entry: None, words: format!("salvage would not take it: {error}") }),
+            Err(_) => (),
         }
     }
 }

@@ -1,15 +1,18 @@
 //! `depot draw`: a picture of a file's yards, each pixel a lookup.
 
+mod canvas;
+mod sheet;
+
 use crate::fault::{Fault, Said};
 use crate::words::count;
-use crate::zone::title;
 use crate::{output, source};
 use rayon::prelude::*;
+use sheet::Sheet;
 use std::collections::{BTreeMap, BTreeSet};
-use std::fmt::Write;
+use std::fmt::{self, Write};
 use std::path::Path;
 use uskelzar::raw::{self, ANSWER_WORDS, HIT_WORDS, MOST_FIXES};
-use uskelzar::{Map, Number};
+use uskelzar::{Entry, Map, Number};
 
 pub(crate) type Colour = [u8; 3];
 const NOTHING: Colour = [233, 240, 245];
@@ -54,28 +57,78 @@ pub(crate) struct Picture {
     pub answers: Vec<Answer>,
 }
 
+/// The numbers of a frame, and how large they may be.
+const NUMBERS: [(&str, f64); 4] = [("the first, SOUTH", 90.0), ("the second, WEST", 180.0), ("the third, NORTH", 90.0), ("the fourth, EAST", 180.0)];
+
+impl fmt::Display for Frame {
+    /// As `--frame` takes it.
+    fn fmt(&self, f: &mut fmt::Formatter) -> fmt::Result {
+        write!(f, "{:.6},{:.6},{:.6},{:.6}", self.south, self.west, self.north, self.east)
+    }
+}
+
 impl Frame {
     /// From four numbers with commas between them.
     pub fn of(words: &str) -> Result<Frame, String> {
-        let numbers: Vec<f64> = words.split(',').filter_map(|word| word.trim().parse().ok()).collect();
-        match numbers.as_slice() {
-            &[south, west, north, east] if south < north && west < east && words.split(',').count() == 4 => Ok(Frame { south, west, north, east }),
-            _ => Err("four numbers are wanted, SOUTH,WEST,NORTH,EAST, in degrees".into()),
+        let parts: Vec<&str> = words.split(',').map(str::trim).collect();
+        if parts.len() != NUMBERS.len() {
+            return Err(format!("four numbers are wanted, SOUTH,WEST,NORTH,EAST, in degrees; here are {}", parts.len()));
         }
+        let number = |(word, (name, most)): (&&str, (&str, f64))| {
+            let number = word.parse::<f64>().ok().filter(|number| number.abs() <= most);
+            number.ok_or_else(|| format!("{name}, is {word:?}: a number of degrees from -{most} to {most} is wanted (SOUTH,WEST,NORTH,EAST)"))
+        };
+        let numbers: Vec<f64> = parts.iter().zip(NUMBERS).map(number).collect::<Result<_, String>>()?;
+        let frame = Frame { south: numbers[0], west: numbers[1], north: numbers[2], east: numbers[3] };
+        if frame.south >= frame.north {
+            return Err(format!("the first, SOUTH, is {} and the third, NORTH, is {}: SOUTH must be the lower", frame.south, frame.north));
+        }
+        if frame.west >= frame.east {
+            return Err(format!("the second, WEST, is {} and the fourth, EAST, is {}: WEST must be the lower; what lies across the 180th meridian is drawn in two", frame.west, frame.east));
+        }
+        Ok(frame)
     }
 
     /// About all boxes of a file, with a margin.
     pub(crate) fn around(map: &Map<Vec<u8>>) -> Option<Frame> {
-        let entries = map.entries().ok()?.map_while(Result::ok);
+        let entries: Vec<Entry> = map.entries().ok()?.map_while(Result::ok).collect();
+        Frame::about(entries.iter())
+    }
+
+    /// About some boxes, with a margin.
+    fn about<'a>(entries: impl Iterator<Item = &'a Entry>) -> Option<Frame> {
         let boxes = entries.map(|entry| Frame { south: entry.lower.0, west: entry.lower.1, north: entry.upper.0, east: entry.upper.1 });
         let all = boxes.reduce(|a, b| Frame { south: a.south.min(b.south), west: a.west.min(b.west), north: a.north.max(b.north), east: a.east.max(b.east) })?;
-        let (high, wide) = ((all.north - all.south) * 0.04, (all.east - all.west) * 0.04);
-        Some(Frame {
-            south: (all.south - high).max(-90.0),
-            west: (all.west - wide).max(-180.0),
-            north: (all.north + high).min(90.0),
-            east: (all.east + wide).min(180.0),
-        })
+        Some(all.grown((all.north - all.south) * 0.04, (all.east - all.west) * 0.04))
+    }
+
+    /// By so many degrees on each side, as far as there are any.
+    fn grown(self, high: f64, wide: f64) -> Frame {
+        Frame {
+            south: (self.south - high).max(-90.0),
+            west: (self.west - wide).max(-180.0),
+            north: (self.north + high).min(90.0),
+            east: (self.east + wide).min(180.0),
+        }
+    }
+
+    /// Grown where it is more than four times as wide as it is high, or more than twice as high as it is wide.
+    fn shaped(self) -> Frame {
+        let shape = (self.east - self.west) * self.width() / (self.north - self.south).max(f64::MIN_POSITIVE);
+        self.of_shape(shape.clamp(0.5, 4.0))
+    }
+
+    /// Grown to a shape, as far as the world goes.
+    fn of_shape(self, shape: f64) -> Frame {
+        let (high, wide) = (self.north - self.south, (self.east - self.west) * self.width());
+        let least = 1e-6;
+        let (high, wide) = (high.max(wide / shape).max(least), wide.max(high * shape).max(least));
+        self.grown((high - (self.north - self.south)) / 2.0, (wide / self.width() - (self.east - self.west)) / 2.0)
+    }
+
+    /// Whether an entry's box has a place in it.
+    fn meets(self, entry: &Entry) -> bool {
+        entry.lower.0 <= self.north && entry.upper.0 >= self.south && entry.lower.1 <= self.east && entry.upper.1 >= self.west
     }
 
     /// How wide a degree of longitude is in the middle, in degrees of latitude.
@@ -91,28 +144,37 @@ impl Frame {
 }
 
 /// Draws a file, or a part of the map, and says what the colours are.
-pub fn run(path: &Path, output: &Path, columns: u32, frame: Option<Frame>) -> Result<Said, Fault> {
+pub fn run(path: &Path, output: &Path, columns: u32, frame: Option<Frame>, plain: bool) -> Result<Said, Fault> {
     let map = source::open(path, false)?;
-    let frame = frame.or_else(|| Frame::around(&map)).ok_or_else(|| Fault::No(format!("{}: there is no yard to draw", path.display())))?;
-    let picture = Picture::ask(&map, columns, frame);
-    let colours = picture.colours();
-    let pixels = picture.pixels(&colours);
+    let sheet = Sheet::ask(&map, columns, frame, plain).ok_or_else(|| Fault::No(format!("{}: there is no yard to draw", path.display())))?;
+    let (canvas, lettered) = sheet.draw();
     output::write_whole(output, &[path], |out| {
-        let mut encoder = png::Encoder::new(out, picture.columns, picture.rows);
+        let mut encoder = png::Encoder::new(out, canvas.width as u32, canvas.height as u32);
         encoder.set_color(png::ColorType::Rgb);
         encoder.set_depth(png::BitDepth::Eight);
-        encoder.write_header()?.write_image_data(&pixels).map_err(Into::into)
+        encoder.write_header()?.write_image_data(&canvas.pixels).map_err(Into::into)
     })?;
-    let mut text = format!("{}: {} by {} pixels, {}\n", output.display(), picture.columns, picture.rows, count(colours.len(), "zone"));
-    for (zone, colour) in &colours {
-        let fields = map.fields(*zone).unwrap_or_default();
-        let _ = writeln!(text, "  {}: {}", SOFT[*colour].1, title(map.header().table, &fields, *zone));
+    let mut text = format!("{}: {} by {} pixels, {}\n", output.display(), canvas.width, canvas.height, count(sheet.colours.len(), "zone"));
+    for (zone, colour) in &sheet.colours {
+        let _ = writeln!(text, "  {}: {}", SOFT[*colour].1, sheet.name(*zone));
     }
-    let faults = picture.answers.iter().filter(|answer| !answer.is_whole()).count();
+    for (number, panel) in sheet.panels.iter().enumerate().skip(1) {
+        let _ = writeln!(text, "  inset {number}: --frame {}", panel.frame);
+    }
+    sheet.left_out.iter().for_each(|frame| {
+        let _ = writeln!(text, "  no room for an inset: --frame {frame}");
+    });
+    if !lettered {
+        text.push_str("  no letters: Debian's fonts-dejavu-core has them; the names are above\n");
+    }
+    let faults: usize = sheet.panels.iter().map(|panel| panel.picture.answers.iter().filter(|answer| !answer.is_whole()).count()).sum();
     if faults > 0 {
         let _ = writeln!(text, "  red or grey: {} whose search was not whole or was refused", count(faults, "fix"));
     }
-    Ok(Said { yes: faults == 0, text })
+    if let (true, Some(around)) = (sheet.colours.is_empty(), Frame::around(&map)) {
+        let _ = writeln!(text, "  no yard is in this frame: they are in --frame {around}");
+    }
+    Ok(Said { yes: faults == 0 && !sheet.colours.is_empty(), text })
 }
 
 impl Answer {
@@ -129,9 +191,13 @@ impl Answer {
 }
 
 impl Picture {
-    /// Asks the library at the middle of each pixel, many at once and on all processors.
+    /// Of so many rows that the map is not drawn out.
     fn ask(map: &Map<Vec<u8>>, columns: u32, frame: Frame) -> Picture {
-        let rows = frame.rows(columns);
+        Picture::ask_rows(map, columns, frame.rows(columns), frame)
+    }
+
+    /// Asks the library at the middle of each pixel, many at once and on all processors.
+    fn ask_rows(map: &Map<Vec<u8>>, columns: u32, rows: u32, frame: Frame) -> Picture {
         let mut picture = Picture { columns, rows, answers: vec![Answer::Refused; columns as usize * rows as usize] };
         let bar = output::progress(picture.answers.len(), "fixes");
         picture.answers.par_chunks_mut(MOST_FIXES).enumerate().for_each_init(
@@ -146,42 +212,26 @@ impl Picture {
         picture
     }
 
-    /// A colour for each zone: of those that no neighbour has, the one used least.
+    /// A colour for each zone that a pixel has found.
     pub(crate) fn colours(&self) -> BTreeMap<u32, usize> {
-        let touching = self.neighbours();
-        let (mut colours, mut used) = (BTreeMap::new(), [0; SOFT.len()]);
-        for (zone, others) in &touching {
-            let taken: BTreeSet<usize> = others.iter().filter_map(|other| colours.get(other).copied()).collect();
-            let free = (0..SOFT.len()).filter(|colour| !taken.contains(colour)).min_by_key(|colour| used[*colour]);
-            let colour = free.unwrap_or(*zone as usize % SOFT.len());
-            used[colour] += 1;
-            colours.insert(*zone, colour);
-        }
-        colours
+        coloured(&self.neighbours())
     }
 
-    /// The zones that touch each zone, at a pixel's right or lower side.
+    /// The zones near each zone: at most so many pixels to the right or down.
     fn neighbours(&self) -> BTreeMap<u32, BTreeSet<u32>> {
         let mut touching: BTreeMap<u32, BTreeSet<u32>> = BTreeMap::new();
         let columns = self.columns as usize;
         for (i, here) in self.answers.iter().enumerate() {
             let Some(here) = here.zone() else { continue };
             touching.entry(here).or_default();
-            let right = if (i + 1) % columns == 0 { None } else { self.answers.get(i + 1) };
-            for there in [right, self.answers.get(i + columns)].into_iter().flatten().filter_map(|there| there.zone()) {
-                if there != here {
-                    touching.entry(here).or_default().insert(there);
-                    touching.entry(there).or_default().insert(here);
-                }
+            let right = (1..=NEAR).take_while(|far| i % columns + far < columns).map(|far| i + far);
+            let down = (1..=NEAR).map(|far| i + far * columns).take_while(|there| *there < self.answers.len());
+            for there in right.chain(down).filter_map(|there| self.answers[there].zone()).filter(|there| *there != here) {
+                touching.entry(here).or_default().insert(there);
+                touching.entry(there).or_default().insert(here);
             }
         }
         touching
-    }
-
-    fn pixels(&self, colours: &BTreeMap<u32, usize>) -> Vec<u8> {
-        let columns = self.columns as usize;
-        let pixel = |(i, answer): (usize, &Answer)| self.pixel(*answer, (i % columns, i / columns), colours);
-        self.answers.iter().enumerate().flat_map(pixel).collect()
     }
 
     /// Red lines lie over what a search found that was not whole.
@@ -195,6 +245,43 @@ impl Picture {
             Answer::Found { .. } => BORDER,
         }
     }
+}
+
+/// Zones that are no farther apart are seen as neighbours, a road or a ditch between them.
+const NEAR: usize = 4;
+
+/// A colour for each zone that no neighbour has, of those the one used least. The zones with the fewest neighbours come last, so that on a map, where one of
+/// them always has five or fewer, six colours are enough; where a zone has neighbours of all colours, it gets that which the fewest of them have.
+fn coloured(touching: &BTreeMap<u32, BTreeSet<u32>>) -> BTreeMap<u32, usize> {
+    let (mut colours, mut used) = (BTreeMap::new(), [0; SOFT.len()]);
+    for zone in hardest_first(touching) {
+        let mut taken = [0; SOFT.len()];
+        touching[&zone].iter().filter_map(|other| colours.get(other)).for_each(|colour: &usize| taken[*colour] += 1);
+        let colour = (0..SOFT.len()).min_by_key(|colour| (taken[*colour], used[*colour])).unwrap_or(0);
+        used[colour] += 1;
+        colours.insert(zone, colour);
+    }
+    colours
+}
+
+/// The zone with the fewest neighbours is taken away, then that with the fewest of the rest, and so on; this is the other way round.
+fn hardest_first(touching: &BTreeMap<u32, BTreeSet<u32>>) -> Vec<u32> {
+    let mut degree: BTreeMap<u32, usize> = touching.iter().map(|(zone, others)| (*zone, others.len())).collect();
+    let mut queue: BTreeSet<(usize, u32)> = degree.iter().map(|(zone, many)| (*many, *zone)).collect();
+    let mut order = vec![];
+    while let Some((_, zone)) = queue.pop_first() {
+        degree.remove(&zone);
+        for other in &touching[&zone] {
+            if let Some(many) = degree.get_mut(other) {
+                queue.remove(&(*many, *other));
+                *many -= 1;
+                queue.insert((*many, *other));
+            }
+        }
+        order.push(zone);
+    }
+    order.reverse();
+    order
 }
 
 /// The middle of a pixel.
@@ -274,12 +361,50 @@ mod tests {
     #[test]
     fn frames() {
         assert_eq!(Frame::of("-1, 2,3,4.5"), Ok(Frame { south: -1.0, west: 2.0, north: 3.0, east: 4.5 }));
-        for words in ["", "1,2,3", "1,2,3,4,5", "3,2,1,4", "a,b,c,d", "1,2,3,x,4"] {
-            assert!(Frame::of(words).is_err(), "{words}");
+        for (words, why) in [
+            ("", "here are 1"),
+            ("1,2,3", "here are 3"),
+            ("1,2,3,4,5", "here are 5"),
+            ("3,2,1,4", "the first, SOUTH, is 3 and the third, NORTH, is 1"),
+            ("1,4,3,2", "the second, WEST, is 4 and the fourth, EAST, is 2"),
+            ("1,2,x,4", "the third, NORTH, is \"x\": a number of degrees from -90 to 90"),
+            ("1,2,3,181", "the fourth, EAST, is \"181\": a number of degrees from -180 to 180"),
+            ("NaN,2,3,4", "the first, SOUTH, is \"NaN\""),
+        ] {
+            let told = Frame::of(words).unwrap_err();
+            assert!(told.contains(why), "{words}: {told}");
         }
         let square = Frame { south: -1.0, west: 10.0, north: 1.0, east: 12.0 };
         assert_eq!(square.rows(300), 300);
         let far = Frame { south: 59.0, west: 10.0, north: 61.0, east: 12.0 };
         assert_eq!(far.rows(300), 600);
+    }
+
+    #[test]
+    fn frames_are_neither_threads_nor_ribbons() {
+        let ribbon = Frame { south: 0.0, west: 0.0, north: 0.01, east: 100.0 }.shaped();
+        assert_eq!((ribbon.west, ribbon.east, ribbon.rows(800)), (0.0, 100.0, 200));
+        let thread = Frame { south: 0.0, west: 9.99, north: 60.0, east: 10.0 }.shaped();
+        assert_eq!((thread.south, thread.north, thread.rows(800)), (0.0, 60.0, 1600));
+        let dot = Frame { south: 1.0, west: 1.0, north: 1.0, east: 1.0 }.shaped();
+        assert!(dot.south < 1.0 && dot.north > 1.0 && dot.west < 1.0 && dot.east > 1.0, "{dot:?}");
+    }
+
+    #[test]
+    fn neighbours_share_no_colour() {
+        // eleven zones about one, in a ring: ten colours are enough, and so are four
+        let mut touching: BTreeMap<u32, BTreeSet<u32>> = BTreeMap::new();
+        let mut touch = |a: u32, b: u32| {
+            touching.entry(a).or_default().insert(b);
+            touching.entry(b).or_default().insert(a);
+        };
+        (1..=11).for_each(|zone| {
+            touch(0, zone);
+            touch(zone, zone % 11 + 1);
+        });
+        let colours = coloured(&touching);
+        for (zone, others) in &touching {
+            assert!(others.iter().all(|other| colours[other] != colours[zone]), "{colours:?}");
+        }
     }
 }

@@ -49,14 +49,21 @@ pub struct Collection {
 
 /// Reads a file.
 pub fn read(path: &Path) -> Result<Collection, Fault> {
+    read_with(path).map(|(_, all)| all)
+}
+
+/// A file's JSON, and what it holds.
+pub fn read_with(path: &Path) -> Result<(Value, Collection), Fault> {
     let text = source::bytes(path)?;
-    let value: Value = serde_json::from_slice(source::unmarked(&text)).map_err(|error| Fault::file(path, format!("is no JSON: {error}")))?;
-    collect(&value).map_err(|words| Fault::file(path, words))
+    let value = serde_json::from_slice(source::unmarked(&text)).map_err(|error| Fault::file(path, format!("is no JSON: {error}")))?;
+    let all = collect(&value).map_err(|words| Fault::file(path, words))?;
+    Ok((value, all))
 }
 
 /// The features of a FeatureCollection; a Feature or a geometry alone is one feature.
 pub fn collect(value: &Value) -> Result<Collection, String> {
     let mut all = Collection { features: vec![], notes: vec![] };
+    check_crs(value)?;
     match kind_of(value) {
         "FeatureCollection" => {
             let features = value.get("features").and_then(Value::as_array);
@@ -77,15 +84,37 @@ pub fn collect(value: &Value) -> Result<Collection, String> {
     Ok(all)
 }
 
-fn kind_of(value: &Value) -> &str {
+pub(crate) fn kind_of(value: &Value) -> &str {
     value.get("type").and_then(Value::as_str).unwrap_or("")
+}
+
+/// How messages call a feature of this number.
+pub(crate) fn name_of(number: usize, feature: &Value) -> FeatureName {
+    let none = Object::new();
+    let properties = feature.get("properties").and_then(Value::as_object).unwrap_or(&none);
+    FeatureName { number, label: label_of(feature, properties) }
+}
+
+/// Longitude and latitude on WGS 84, as programs call it that write the member `crs`; RFC 7946 knows no other.
+const WGS_84: [&str; 5] = ["CRS84", "CRS84h", "4326", "4979", "WGS84"];
+
+fn check_crs(value: &Value) -> Result<(), String> {
+    let Some(crs) = value.get("crs").filter(|crs| !crs.is_null()) else { return Ok(()) };
+    let name = crs.pointer("/properties/name").and_then(Value::as_str);
+    if name.and_then(|name| name.rsplit([':', '/', '#']).next()).is_some_and(|code| WGS_84.contains(&code)) {
+        return Ok(());
+    }
+    let what = name.map_or_else(|| crs.to_string(), str::to_string);
+    let advice = "ogr2ogr -t_srs OGC:CRS84 NEW.geojson OLD.geojson makes them so, or take the member \"crs\" out where they are";
+    Err(format!("its coordinates are said to be those of {what}, and degrees on WGS 84 are wanted: {advice}"))
 }
 
 impl Collection {
     fn take(&mut self, number: usize, value: &Value) -> Result<(), String> {
         let none = Object::new();
         let properties = value.get("properties").and_then(Value::as_object).unwrap_or(&none);
-        let name = FeatureName { number, label: label_of(value, properties) };
+        let name = name_of(number, value);
+        check_crs(value).map_err(|words| format!("{name}: {words}"))?;
         if kind_of(value) != "Feature" {
             return Err(format!("{name}: its type is {:?}, not \"Feature\"", kind_of(value)));
         }
@@ -123,6 +152,7 @@ fn polygons_of(geometry: &Value, name: &FeatureName) -> Result<Vec<Vec<Ring>>, S
         let list = geometry.get(key).and_then(Value::as_array);
         list.ok_or_else(|| format!("{name}: its geometry has no list {key:?}"))
     };
+    check_crs(geometry).map_err(|words| format!("{name}: {words}"))?;
     match kind_of(geometry) {
         "Polygon" => Ok(vec![polygon_of(list("coordinates")?, name, None)?]),
         "MultiPolygon" => {
@@ -229,6 +259,20 @@ mod tests {
         assert!(collect(&json!({"type": "FeatureCollection"})).unwrap_err().contains("no list"));
         let other = json!({"type": "FeatureCollection", "features": [{"type": "Polygon"}]});
         assert!(collect(&other).unwrap_err().contains("feature 1: its type is \"Polygon\""));
+    }
+
+    #[test]
+    fn coordinates_of_another_kind() {
+        let named = |name: &str| json!({"type": "FeatureCollection", "features": [], "crs": {"type": "name", "properties": {"name": name}}});
+        for name in ["urn:ogc:def:crs:OGC:1.3:CRS84", "EPSG:4326", "urn:ogc:def:crs:EPSG::4326", "http://www.opengis.net/def/crs/OGC/1.3/CRS84"] {
+            assert!(collect(&named(name)).is_ok(), "{name}");
+        }
+        let words = collect(&named("urn:ogc:def:crs:EPSG::4267")).unwrap_err();
+        assert!(words.starts_with("its coordinates are said to be those of urn:ogc:def:crs:EPSG::4267") && words.contains("ogr2ogr -t_srs"), "{words}");
+        assert!(collect(&json!({"type": "FeatureCollection", "features": [], "crs": null})).is_ok());
+        assert!(collect(&json!({"type": "FeatureCollection", "features": [], "crs": {"type": "link"}})).is_err());
+        let inner = json!({"type": "Polygon", "coordinates": [], "crs": {"type": "name", "properties": {"name": "EPSG:3857"}}});
+        assert!(fault(inner).starts_with("feature 1 (Tank): its coordinates are said to be those of EPSG:3857"));
     }
 
     #[test]

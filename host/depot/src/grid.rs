@@ -23,7 +23,7 @@ pub struct Rounded {
 }
 
 /// Metres to a degree of latitude, nearly.
-const METRES: f64 = 111_200.0;
+pub(crate) const METRES: f64 = 111_200.0;
 
 impl Grid {
     fn steps(self) -> f64 {
@@ -40,7 +40,8 @@ impl Grid {
         self.step() * METRES
     }
 
-    fn point(self, place: Position) -> Point {
+    /// The nearest point of the grid.
+    pub fn point(self, place: Position) -> Point {
         ((place.lat / 90.0 * self.steps()).round() as i32, (place.lon / 180.0 * self.steps()).round() as i32)
     }
 

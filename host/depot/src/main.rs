@@ -1,7 +1,7 @@
 //! depot: the tool for people who have yards.
 
 use clap::{Parser, Subcommand, ValueEnum};
-use depot::build;
+use depot::build::{self, Asked};
 use depot::draw::{self, Frame};
 use depot::fault::{Fault, Said};
 use depot::plan::Form;
@@ -39,13 +39,14 @@ enum Verb {
     /// Make a file from polygons (GeoJSON)
     ///
     /// Polygons and multipolygons become yards, holes are left out of them, and properties become fields. Lines that two yards
-    /// share are written once. --dry-run says what would be built.
-    #[command(after_help = "Examples:\n  depot build examples/yards.geojson -o yards.plb --precision 25\n  depot build examples/yards.geojson --precision 25 --dry-run")]
+    /// share are written once. Rings that cross themselves or each other, holes outside their ring and unknown zones stop the build,
+    /// with their places. --dry-run says what would be built.
+    #[command(after_help = "Examples:\n  depot build examples/yards.geojson -o yards.plb --precision 25\n  depot build examples/yards.geojson --precision 25 --dry-run\n  depot build examples/yards.geojson --precision 25 --mend mended.geojson")]
     Build {
         /// GeoJSON: a FeatureCollection of Polygons and MultiPolygons
         input: PathBuf,
         /// The file to write
-        #[arg(short, long, required_unless_present = "dry_run")]
+        #[arg(short, long, required_unless_present_any = ["dry_run", "mend"])]
         output: Option<PathBuf>,
         /// Bits of the grid: 21 is 9.5 m, 25 is 0.6 m
         #[arg(long, default_value_t = 21, value_parser = clap::value_parser!(u8).range(1..=31))]
@@ -62,6 +63,15 @@ enum Verb {
         /// Leave out features of which the grid leaves nothing, in place of stopping
         #[arg(long)]
         leave_out: bool,
+        /// Write the drawing with what can be mended without choice: rings wound the other way, points twice in a row, a ring's missing last point
+        #[arg(long, value_name = "GEOJSON", conflicts_with = "dry_run")]
+        mend: Option<PathBuf>,
+        /// Folder with the zones' TZif files, which names must be of; /usr/share/zoneinfo where it is there
+        #[arg(long, value_name = "TZDIR")]
+        zones: Option<PathBuf>,
+        /// Build polygons and names with faults too, as they are drawn; each is said
+        #[arg(long)]
+        as_drawn: bool,
         /// Say what would be built, and write nothing
         #[arg(long, conflicts_with = "output")]
         dry_run: bool,
@@ -98,6 +108,9 @@ enum Verb {
         explain: bool,
     },
     /// Read all of a file strictly, and ask what lookups would meet
+    ///
+    /// Asks of each entry what salvage asks, and besides: the table is in order, each border lies in its box and has 3 different points, and two
+    /// strict lookups at each entry are whole.
     #[command(after_help = "Example:\n  depot check examples/world-9.plb && echo good\n\nExit status 0 only if nothing is wrong.")]
     Check { file: PathBuf },
     /// Build the index of a file, for lookups that read only the entries near a fix
@@ -112,8 +125,9 @@ enum Verb {
     },
     /// Write what is left of a damaged file into a new one
     ///
-    /// Each entry is kept whose numbers, border and strings can all be read; each other one is told, with the first reason met.
-    #[command(after_help = "Example:\n  depot salvage examples/world-9.plb -o new.plb\n\nExit status 0 only if nothing was dropped.")]
+    /// Each entry is kept whose numbers, border and strings can all be read and whose strings lie in the metadata section; each other one is
+    /// told, with what is wrong and where. What was kept is then checked as depot check does.
+    #[command(after_help = "Example:\n  depot salvage examples/world-9.plb -o new.plb\n\nExit status 0 only if nothing was dropped and the new file is in order.")]
     Salvage {
         file: PathBuf,
         /// The file to write
@@ -137,6 +151,9 @@ enum Verb {
         folder: PathBuf,
     },
     /// Draw a file's yards, each pixel a lookup
+    ///
+    /// Borders are lines of one pixel over the lookups; a legend has the names, and each yard its own where it fits. Where most yards would be
+    /// too small to be seen, groups of them are drawn again below the map.
     #[command(after_help = "Examples:\n  depot draw examples/world-9.plb -o world.png\n  depot draw examples/world-9.plb -o berlin.png --frame 50,10,55,16")]
     Draw {
         file: PathBuf,
@@ -149,6 +166,9 @@ enum Verb {
         /// The part of the map to draw; without it, all boxes of the file
         #[arg(long, allow_hyphen_values = true, value_name = "SOUTH,WEST,NORTH,EAST", value_parser = Frame::of)]
         frame: Option<Frame>,
+        /// The map alone, without insets, names and legend
+        #[arg(long)]
+        plain: bool,
     },
     /// Write a page for any browser: the borders, the library's answers, faults, a day's slips
     ///
@@ -175,7 +195,8 @@ impl Verb {
     /// Where it writes to.
     fn output(&self) -> Option<&Path> {
         match self {
-            Verb::Build { output, .. } | Verb::Show { output, .. } => output.as_deref(),
+            Verb::Build { output, mend, .. } => mend.as_deref().filter(|mend| *mend == Path::new(STANDARD)).or(output.as_deref()),
+            Verb::Show { output, .. } => output.as_deref(),
             Verb::Index { output, .. } | Verb::Salvage { output, .. } | Verb::Stamp { output, .. } | Verb::Draw { output, .. } | Verb::Page { output, .. } => Some(output),
             Verb::Zone { .. } | Verb::Check { .. } => None,
         }
@@ -197,12 +218,12 @@ fn degrees(word: &str, most: f64) -> Result<f64, String> {
 
 fn run(verb: Verb) -> Result<Said, Fault> {
     match verb {
-        Verb::Build { input, output, precision, version, kind, notice, leave_out, dry_run: _ } => {
+        Verb::Build { input, output, precision, version, kind, notice, leave_out, mend, zones, as_drawn, dry_run: _ } => {
             let table = match kind {
                 Kind::TimeZones => 'T',
                 Kind::Countries => 'C',
             };
-            build::run(&input, output.as_deref(), Form { table, version, precision, notice, leave_out })
+            build::run(&input, output.as_deref(), Form { table, version, precision, notice, leave_out }, &Asked { mend, zones, as_drawn })
         }
         Verb::Show { file, geojson: true, output } => show::geojson(&file, output.as_deref()),
         Verb::Show { file, .. } => show::run(&file),
@@ -214,7 +235,7 @@ fn run(verb: Verb) -> Result<Said, Fault> {
         Verb::Check { file } => check::run(&file),
         Verb::Salvage { file, output } => salvage::run(&file, &output),
         Verb::Stamp { day, output, map, folder } => stamp::run(&day, &output, &map, &folder),
-        Verb::Draw { file, output, columns, frame } => draw::run(&file, &output, columns, frame),
+        Verb::Draw { file, output, columns, frame, plain } => draw::run(&file, &output, columns, frame, plain),
         Verb::Page { file, output, day, drawn, columns } => page::run(&file, &output, columns, day.as_deref(), drawn.as_deref()),
     }
 }

@@ -216,7 +216,8 @@ impl Plan {
     }
 }
 
-fn place_of(name: &FeatureName, polygons: usize, polygon: usize, ring: usize) -> String {
+/// How messages call a ring of a feature with so many polygons.
+pub fn place_of(name: &FeatureName, polygons: usize, polygon: usize, ring: usize) -> String {
     if polygons == 1 {
         return format!("{name}, ring {}", ring + 1);
     }

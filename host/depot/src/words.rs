@@ -27,6 +27,15 @@ pub fn shown(text: &str) -> String {
     text.chars().map(shown).collect()
 }
 
+/// So many lines of a kind are told one by one.
+const TOLD: usize = 20;
+
+/// The first of some lines, and how many more there are.
+pub fn few(lines: &[String]) -> Vec<String> {
+    let more = (lines.len() > TOLD).then(|| format!("and {} more", grouped(lines.len() - TOLD)));
+    lines.iter().take(TOLD).cloned().chain(more).collect()
+}
+
 /// A count with its noun.
 pub fn count(number: usize, noun: &str) -> String {
     let noun = if number == 1 { noun.to_string() } else { plural(noun) };

@@ -244,7 +244,7 @@ fn a_picture() {
     let folder = Folder::new("picture");
     let file = yards(&folder);
     let out = folder.path("yards.png");
-    said(&depot(&["draw", &file, "-o", &out, "--columns", "120"]), 0, &["120 by 94 pixels, 10 zones", "Asia/Pontianak, Tank farm", "Etc/UTC, Berth 1"]);
+    said(&depot(&["draw", &file, "-o", &out, "--columns", "120", "--plain"]), 0, &["120 by 94 pixels, 10 zones", "Asia/Pontianak, Tank farm", "Etc/UTC, Berth 1"]);
     let picture = png::Decoder::new(fs::File::open(&out).unwrap());
     let mut reader = picture.read_info().unwrap();
     let mut pixels = vec![0; reader.output_buffer_size()];
