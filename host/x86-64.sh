@@ -53,10 +53,11 @@ need_crate memmap2 librust-memmap2-dev
 
 # what host/depot takes besides
 need_depot_crates() {
-    for each in base64 chrono clap csv indicatif png rayon sha2 tera; do
+    for each in arbitrary base64 chrono clap csv indicatif png rayon sha2 tera; do
         need_crate "$each" "librust-$each-dev"
     done
     need_crate clap_derive librust-clap-derive-dev
+    need_crate derive_arbitrary librust-derive-arbitrary-dev
     need_crate serde_json librust-serde-json-dev
 }
 
@@ -83,5 +84,5 @@ cargo_host() { cargo_in host "$@"; }
 cargo_here() {
     folder=$1 command=$2
     shift 2
-    (unset RUSTC; cargo_plain "$folder" "$command" --target-dir "$root/target/host/here" "$@")
+    (unset RUSTC; USKELZAR_UNLINKED=1; export USKELZAR_UNLINKED; cargo_plain "$folder" "$command" --target-dir "$root/target/host/here" "$@")
 }

@@ -1,7 +1,7 @@
 //! Polygons and their properties, out of GeoJSON (RFC 7946).
 
+use crate::drawing;
 use crate::fault::Fault;
-use crate::source;
 use serde_json::{Map as Object, Value};
 use std::fmt;
 use std::path::Path;
@@ -49,9 +49,10 @@ pub struct Collection {
 
 /// Reads a file.
 pub fn read(path: &Path) -> Result<Collection, Fault> {
-    let text = source::bytes(path)?;
-    let value: Value = serde_json::from_slice(source::unmarked(&text)).map_err(|error| Fault::file(path, format!("is no JSON: {error}")))?;
-    collect(&value).map_err(|words| Fault::file(path, words))
+    let (value, notes) = drawing::read(path)?;
+    let mut all = collect(&value).map_err(|words| Fault::file(path, words))?;
+    all.notes.splice(..0, notes);
+    Ok(all)
 }
 
 /// The features of a FeatureCollection; a Feature or a geometry alone is one feature.

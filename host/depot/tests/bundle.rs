@@ -1,0 +1,52 @@
+//! Bundles of zones' files, as a user makes them.
+
+mod common;
+
+use common::{depot, Folder, WORLD, ZONEINFO};
+use std::fs;
+
+#[test]
+fn all_zones_of_a_folder() {
+    let folder = Folder::new("bundle-all");
+    let out = folder.path("zones.tzdata");
+    let ran = depot(&["bundle", ZONEINFO, "-o", &out]);
+    assert_eq!(ran.status, 0, "{ran:?}");
+    assert!(ran.out.contains("zones.tzdata: ") && ran.out.contains(" zones in ") && ran.out.contains(", tzdata 20"), "{ran:?}");
+    assert!(ran.out.contains("refusal 40: a header does not begin with TZif (place 0): ") && ran.out.contains("no zone of its own: localtime"), "{ran:?}");
+    assert!(fs::read(&out).unwrap().starts_with(b"tzdata20"));
+}
+
+#[test]
+fn the_zones_of_a_map() {
+    let folder = Folder::new("bundle-map");
+    let out = folder.path("zones.tzdata");
+    let ran = depot(&["bundle", ZONEINFO, "-o", &out, "--map", WORLD]);
+    assert!(ran.status == 0 && !ran.out.contains("left out"), "{ran:?}");
+    let bytes = fs::read(&out).unwrap();
+    let named = |name: &str| bytes.windows(name.len()).any(|some| some == name.as_bytes());
+    assert!(named("Europe/Berlin\0") && !named("Etc/GMT"));
+    // a zone that the folder has not
+    let zones = folder.path("zones");
+    fs::create_dir_all(format!("{zones}/Europe")).unwrap();
+    fs::copy(format!("{ZONEINFO}/Europe/Berlin"), format!("{zones}/Europe/Berlin")).unwrap();
+    let ran = depot(&["bundle", &zones, "-o", &out, "--map", WORLD]);
+    assert!(ran.status == 1 && ran.out.contains("1 zone in 1 file") && ran.out.contains("of no known release"), "{ran:?}");
+    assert!(ran.out.contains("entity not found: Africa/Abidjan, "), "{ran:?}");
+}
+
+#[test]
+fn what_is_not_bundled() {
+    let folder = Folder::new("bundle-none");
+    let (out, empty) = (folder.path("zones.tzdata"), folder.path("empty"));
+    fs::create_dir(&empty).unwrap();
+    let ran = depot(&["bundle", &empty, "-o", &out]);
+    assert!(ran.status == 1 && ran.err.contains("no zone is left; nothing was written"), "{ran:?}");
+    let ran = depot(&["bundle", &folder.path("none"), "-o", &out]);
+    assert!(ran.status == 2 && ran.err.contains("such as /usr/share/zoneinfo"), "{ran:?}");
+    let ran = depot(&["bundle", ZONEINFO, "-o", WORLD, "--map", WORLD]);
+    assert!(ran.status == 2 && ran.err.contains("which is read"), "{ran:?}");
+    let text = folder.with("map.plb", "no map");
+    let ran = depot(&["bundle", ZONEINFO, "-o", &out, "--map", &text]);
+    assert!(ran.status == 1 && ran.err.contains("map.plb: refusal"), "{ran:?}");
+    assert_eq!(folder.names(), ["empty", "map.plb"]);
+}
