@@ -285,7 +285,7 @@ mod tests {
     }
 
     fn fault(text: &str) -> String {
-        day_of(text.as_bytes()).err().expect("a fault")
+        day_of(text.as_bytes()).unwrap_err()
     }
 
     #[test]

@@ -70,25 +70,23 @@ fn held(line: &[u8]) -> Result<Held, String> {
 
 /// What is said of slips that rest on other files, or on another library.
 fn others(files: &Files, basis: &Basis, held: &[Held]) -> String {
-    let mut text = String::new();
-    let parts: [(&str, String, fn(&Basis) -> &Value); 3] = [
-        ("another map than that", files.map.display().to_string(), |basis| &basis.map),
-        ("other zones than those", files.zones.display().to_string(), |basis| &basis.zones),
-        ("another library than that", "this release".into(), |basis| &basis.library),
-    ];
-    for (what, given, part) in parts {
-        let mut kinds: Vec<(Value, usize)> = vec![];
-        for named in held.iter().map(|held| Basis::named(&held.evidence)).map(|named| part(&named).clone()).filter(|named| named != part(basis)) {
-            match kinds.iter_mut().find(|(known, _)| *known == named) {
-                Some((_, number)) => *number += 1,
-                None => kinds.push((named, 1)),
-            }
-        }
-        for (named, number) in kinds {
-            let _ = writeln!(text, "{what} of {}: {given} is {}, theirs {named}", count(number, "slip"), part(basis));
+    let named: Vec<Basis> = held.iter().map(|held| Basis::named(&held.evidence)).collect();
+    let map = unlike("another map than that", &files.map.display().to_string(), &basis.map, named.iter().map(|named| &named.map));
+    let zones = unlike("other zones than those", &files.zones.display().to_string(), &basis.zones, named.iter().map(|named| &named.zones));
+    let library = unlike("another library than that", "this release", &basis.library, named.iter().map(|named| &named.library));
+    map + &zones + &library
+}
+
+/// A line for each thing that slips name and that is not the one at hand.
+fn unlike<'a>(what: &str, given: &str, here: &Value, theirs: impl Iterator<Item = &'a Value>) -> String {
+    let mut kinds: Vec<(&Value, usize)> = vec![];
+    for named in theirs.filter(|named| *named != here) {
+        match kinds.iter_mut().find(|(known, _)| *known == named) {
+            Some((_, number)) => *number += 1,
+            None => kinds.push((named, 1)),
         }
     }
-    text
+    kinds.iter().map(|(named, number)| format!("{what} of {}: {given} is {here}, theirs {named}\n", count(*number, "slip"))).collect()
 }
 
 /// What was kept and comes out otherwise; nothing of the files and the library, which is said once.
