@@ -136,8 +136,15 @@ fn csv(bytes: &[u8]) -> bool {
 }
 
 #[derive(Arbitrary, Debug)]
+struct Drawn {
+    rings: Vec<Vec<(i16, i16)>>,
+    properties: Vec<(String, Option<String>)>,
+    kind: u8,
+}
+
+#[derive(Arbitrary, Debug)]
 struct Drawing {
-    features: Vec<(Vec<Vec<(i16, i16)>>, Vec<(String, Option<String>)>, u8)>,
+    features: Vec<Drawn>,
     closed: bool,
     precision: u8,
     damage: Damage,
@@ -145,7 +152,7 @@ struct Drawing {
 
 impl Drawing {
     fn bytes(&self) -> Vec<u8> {
-        let feature = |(rings, properties, kind): &(Vec<Vec<(i16, i16)>>, Vec<(String, Option<String>)>, u8)| {
+        let feature = |Drawn { rings, properties, kind }: &Drawn| {
             let point = |(lat, lon): &(i16, i16)| serde_json::json!([f64::from(*lon) / 180.0, f64::from(*lat) / 360.0]);
             let ring = |points: &Vec<(i16, i16)>| points.iter().chain(points.first().filter(|_| self.closed)).map(point).collect::<Value>();
             let rings: Value = rings.iter().map(ring).collect();
@@ -192,7 +199,7 @@ fn map(bytes: &[u8], fixes: &[(f32, f32)]) -> bool {
     if let Ok(salvaged) = uskelzar::salvage(bytes) {
         let again = Map::open_strict(salvaged.file.clone()).expect("a salvaged file");
         let read = again.entries().expect("its sections").filter(Result::is_ok).count();
-        assert_eq!(read, salvaged.kept as usize);
+        assert_eq!(read, salvaged.kept);
     }
     let Ok(map) = Map::open(bytes) else { return false };
     let index = Index::build(&map).ok();
@@ -233,8 +240,11 @@ fn files() -> Vec<Vec<u8>> {
     vec![world, small(0).expect("a file"), small(1).expect("a file")]
 }
 
-/// One input of a target: its bytes, and a call that says whether they were taken.
-fn one(target: &str, random: &[u8], files: &[Vec<u8>]) -> Option<(Vec<u8>, Box<dyn FnOnce() -> bool>)> {
+/// Bytes, and a call that says whether they were taken.
+type Input = (Vec<u8>, Box<dyn FnOnce() -> bool>);
+
+/// One input of a target.
+fn one(target: &str, random: &[u8], files: &[Vec<u8>]) -> Option<Input> {
     let mut source = Unstructured::new(random);
     match target {
         "csv" => {
