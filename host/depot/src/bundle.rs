@@ -5,24 +5,25 @@ use crate::words::count;
 use crate::{output, source};
 use std::collections::BTreeSet;
 use std::fmt::Write;
-use std::path::Path;
+use std::path::{Path, PathBuf};
 use uskelzar::{zone_name, Bundle, Bundled, Error, LeftOut, Map};
 
-/// Writes the bundle of a folder's zones, or of those that a map names.
-pub fn run(folder: &Path, output: &Path, map: Option<&Path>) -> Result<Said, Fault> {
-    let bundled = match map {
-        None => Bundle::of_folder(folder),
-        Some(map) => Bundle::of_zones(folder, named(map)?),
-    };
+/// Writes the bundle of a folder's zones, or of those that maps name, where there are any.
+pub fn run(folder: &Path, output: &Path, maps: &[PathBuf]) -> Result<Said, Fault> {
+    let mut names = BTreeSet::new();
+    for map in maps {
+        names.extend(named(map)?);
+    }
+    let bundled = if maps.is_empty() { Bundle::of_folder(folder) } else { Bundle::of_zones(folder, names) };
     let bundled = bundled.map_err(|error| no_folder(folder, error))?;
     let told = left_out(&bundled.left_out);
     if bundled.zones.is_empty() {
         return Err(Fault::No(format!("{}: no zone is left; nothing was written\n{}", folder.display(), told.trim_end())));
     }
-    let inputs: Vec<&Path> = map.into_iter().collect();
+    let inputs: Vec<&Path> = maps.iter().map(PathBuf::as_path).collect();
     output::write_whole(output, &inputs, |out| out.write_all(bundled.bundle.to_bytes()))?;
     // a map's zone that is missing will miss on a slip
-    let yes = map.is_none() || bundled.left_out.is_empty();
+    let yes = maps.is_empty() || bundled.left_out.is_empty();
     Ok(Said { text: format!("{}: {}\n{told}", output.display(), summary(folder, &bundled)), yes })
 }
 

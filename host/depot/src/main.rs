@@ -168,9 +168,9 @@ enum Verb {
         /// The file to write
         #[arg(short, long)]
         output: PathBuf,
-        /// PLB file of time zones: only those that it names
+        /// PLB file of time zones: only those that it names; of several, those that any of them does
         #[arg(long, value_name = "MAP")]
-        map: Option<PathBuf>,
+        map: Vec<PathBuf>,
     },
     /// Draw a file's yards, each pixel a lookup
     #[command(after_help = "Examples:\n  depot draw examples/world-9.plb -o world.png\n  depot draw examples/world-9.plb -o berlin.png --frame 50,10,55,16")]
@@ -260,7 +260,7 @@ fn run(verb: Verb) -> Result<Said, Fault> {
             stamp::run(&day, &output, &files, evidence.as_deref())
         }
         Verb::Verify { evidence, map, folder } => verify::run(&evidence, &Files { map: &map, zones: &folder, index: None }),
-        Verb::Bundle { folder, output, map } => bundle::run(&folder, &output, map.as_deref()),
+        Verb::Bundle { folder, output, map } => bundle::run(&folder, &output, &map),
         Verb::Draw { file, output, columns, frame } => draw::run(&file, &output, columns, frame),
         Verb::Page { file, output, day, drawn, columns } => page::run(&file, &output, columns, day.as_deref(), drawn.as_deref()),
     }

@@ -2,7 +2,7 @@
 
 mod common;
 
-use common::{depot, Folder, WORLD, ZONEINFO};
+use common::{depot, Folder, WORLD, YARDS, ZONEINFO};
 use std::fs;
 
 #[test]
@@ -24,7 +24,13 @@ fn the_zones_of_a_map() {
     assert!(ran.status == 0 && !ran.out.contains("left out"), "{ran:?}");
     let bytes = fs::read(&out).unwrap();
     let named = |name: &str| bytes.windows(name.len()).any(|some| some == name.as_bytes());
-    assert!(named("Europe/Berlin\0") && !named("Etc/GMT"));
+    assert!(named("Europe/Berlin\0") && !named("Etc/UTC"));
+    // of two maps the zones of both
+    let (yards, both) = (folder.path("yards.plb"), folder.path("both.tzdata"));
+    assert_eq!(depot(&["build", YARDS, "-o", &yards, "--precision", "25"]).status, 0);
+    assert_eq!(depot(&["bundle", ZONEINFO, "-o", &both, "--map", &yards, "--map", WORLD]).status, 0);
+    let both = fs::read(&both).unwrap();
+    assert!(["Europe/Berlin\0", "Etc/UTC\0"].iter().all(|name| both.windows(name.len()).any(|some| some == name.as_bytes())));
     // a zone that the folder has not
     let zones = folder.path("zones");
     fs::create_dir_all(format!("{zones}/Europe")).unwrap();
