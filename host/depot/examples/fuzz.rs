@@ -135,15 +135,20 @@ fn csv(bytes: &[u8]) -> bool {
     true
 }
 
+/// A corner, steps from it, and more of them.
+type Ring = ((i8, i16), [(i8, i8); 3], Vec<(i8, i8)>);
+
 #[derive(Arbitrary, Debug)]
 struct Drawn {
-    rings: Vec<Vec<(i16, i16)>>,
+    outer: Ring,
+    holes: Vec<Ring>,
     properties: Vec<(String, Option<String>)>,
     kind: u8,
 }
 
 #[derive(Arbitrary, Debug)]
 struct Drawing {
+    first: Drawn,
     features: Vec<Drawn>,
     closed: bool,
     precision: u8,
@@ -152,10 +157,13 @@ struct Drawing {
 
 impl Drawing {
     fn bytes(&self) -> Vec<u8> {
-        let feature = |Drawn { rings, properties, kind }: &Drawn| {
-            let point = |(lat, lon): &(i16, i16)| serde_json::json!([f64::from(*lon) / 180.0, f64::from(*lat) / 360.0]);
-            let ring = |points: &Vec<(i16, i16)>| points.iter().chain(points.first().filter(|_| self.closed)).map(point).collect::<Value>();
-            let rings: Value = rings.iter().map(ring).collect();
+        let feature = |Drawn { outer, holes, properties, kind }: &Drawn| {
+            let ring = |((lat, lon), three, more): &Ring| {
+                let corner = (f64::from(*lat) * 0.7, f64::from(*lon) / 183.0);
+                let points: Vec<(f64, f64)> = three.iter().chain(more.iter().take(9)).map(|(up, right)| (corner.0 + f64::from(*up) / 300.0, corner.1 + f64::from(*right) / 200.0)).collect();
+                points.iter().chain(points.first().filter(|_| self.closed)).map(|(lat, lon)| serde_json::json!([lon, lat])).collect::<Value>()
+            };
+            let rings: Value = [outer].into_iter().chain(holes.iter().take(2)).map(ring).collect();
             let geometry = match kind % 3 {
                 0 => serde_json::json!({"type": "Polygon", "coordinates": rings}),
                 1 => serde_json::json!({"type": "MultiPolygon", "coordinates": [rings]}),
@@ -164,7 +172,8 @@ impl Drawing {
             let properties: serde_json::Map<String, Value> = properties.iter().map(|(name, value)| (name.clone(), serde_json::json!(value))).collect();
             serde_json::json!({"type": "Feature", "properties": properties, "geometry": geometry})
         };
-        let all = serde_json::json!({"type": "FeatureCollection", "features": self.features.iter().map(feature).collect::<Value>()});
+        let features: Value = [&self.first].into_iter().chain(self.features.iter().take(5)).map(feature).collect();
+        let all = serde_json::json!({"type": "FeatureCollection", "features": features});
         self.damage.done(all.to_string().into_bytes())
     }
 }

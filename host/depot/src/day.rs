@@ -5,6 +5,7 @@ use crate::source;
 use crate::words::count;
 use chrono::DateTime;
 use csv::{ReaderBuilder, StringRecord, Trim};
+use std::io::Read;
 use std::path::Path;
 use uskelzar::Slip;
 
@@ -86,17 +87,23 @@ pub fn day_of(bytes: &[u8]) -> Result<Day, String> {
 
 /// Each record as it stands in the text, where it ends before the next one begins. Empty lines before it are not its own.
 fn requests(text: &str, records: &[StringRecord]) -> Vec<Request> {
-    let begins: Vec<usize> = records.iter().map(|record| record.position().map_or(0, |place| place.byte() as usize)).collect();
+    // `records` puts a byte before the text
+    let begins: Vec<usize> = records.iter().map(|record| record.position().map_or(0, |place| place.byte().saturating_sub(1) as usize)).collect();
     let ends = begins.iter().skip(1).copied().chain([text.len()]);
     let (mut line, mut counted) = (1, 0);
     let request = |(begin, end): (usize, usize)| {
         let own = text[begin..end].trim_start_matches(['\r', '\n']);
         let place = end - own.len();
-        line += text[counted..place].matches('\n').count();
+        line += line_ends(&text[counted..place]);
         counted = place;
         Request { line, text: own.trim_end_matches(['\r', '\n']).to_string() }
     };
     begins.iter().copied().zip(ends).map(request).collect()
+}
+
+/// How many lines end in a text: by LF, CR LF or, as the reader of CSV has it, CR alone.
+fn line_ends(text: &str) -> usize {
+    text.matches(['\r', '\n']).count() - text.matches("\r\n").count()
 }
 
 /// The text of a file, without a byte order mark.
@@ -110,7 +117,7 @@ fn text_of(bytes: &[u8]) -> Result<&str, String> {
 
 /// What parts the cells, by the first line: a comma, a semicolon or a tab, whichever stands there most often.
 fn separator_of(text: &str) -> u8 {
-    let first = text.lines().next().unwrap_or_default();
+    let first = text.split(['\r', '\n']).next().unwrap_or_default();
     let often = |separator: &u8| first.bytes().filter(|byte| byte == separator).count();
     // of two that stand there as often, the comma
     [b';', b'\t', b','].into_iter().max_by_key(often).unwrap_or(b',')
@@ -129,8 +136,8 @@ fn check_quotes(text: &str, separator: u8) -> Result<(), String> {
             b'"' if begins => (quoted, opened) = (true, line),
             _ => (),
         }
-        line += usize::from(byte == b'\n');
-        begins = !quoted && (byte == separator || byte == b'\n');
+        line += usize::from(byte == b'\n' || byte == b'\r' && bytes.peek() != Some(&b'\n'));
+        begins = !quoted && [separator, b'\r', b'\n'].contains(&byte);
     }
     if quoted {
         return Err(format!("line {opened}: a quote is opened and never closed; close it, or take it out"));
@@ -138,8 +145,10 @@ fn check_quotes(text: &str, separator: u8) -> Result<(), String> {
     Ok(())
 }
 
+/// The records of a text. An empty line stands before it: at the very beginning the reader would drop a byte order mark, which further on it keeps.
 fn records(text: &str, separator: u8) -> Result<Vec<StringRecord>, String> {
-    let mut reader = ReaderBuilder::new().has_headers(false).flexible(true).trim(Trim::All).delimiter(separator).from_reader(text.as_bytes());
+    let text = b"\n".chain(text.as_bytes());
+    let mut reader = ReaderBuilder::new().has_headers(false).flexible(true).trim(Trim::All).delimiter(separator).from_reader(text);
     reader.records().collect::<Result<_, csv::Error>>().map_err(|error| error.to_string())
 }
 
@@ -295,6 +304,26 @@ mod tests {
         // an inch in the middle of a cell opens nothing, and a quoted cell may hold quotes and line ends
         let good = "lat,lon,time,note\n1,2,3,5\" hose\n1,2,3,\"two\nlines and \"\"quotes\"\"\"\n";
         assert_eq!(day_of(good.as_bytes()).unwrap().lines.len(), 2);
+    }
+
+    /// Old files end their lines with CR alone, and the reader of CSV takes them so.
+    #[test]
+    fn lines_that_end_with_a_carriage_return() {
+        assert!(fault("lat,lon,time,note\r1,2,3,x\r\"stray\r1,2,3,x\r").contains("line 3: a quote is opened and never closed"));
+        let day = day_of(b"note;lat;lon;time\rx;1,5;2;3\r\r\ny;1;2;3\r").unwrap();
+        assert_eq!(day.requests.iter().map(|request| (request.line, request.text.as_str())).collect::<Vec<_>>(), [(2, "x;1,5;2;3"), (4, "y;1;2;3")]);
+        assert!(fault("lat,lon,time\r1,2,3,4\r").contains("line 2 has 4 cells"));
+    }
+
+    /// A byte order mark inside a file, where two were joined, is a byte of its line, now and when it is read again.
+    #[test]
+    fn a_mark_further_on() {
+        let day = day_of("\u{feff}1,2,3\n\u{feff}4,5,6\n".as_bytes()).unwrap();
+        assert_eq!(day.reading.slip(&day.lines[0]), Ok((1.0, 2.0, 3)));
+        for (request, line) in day.requests.iter().zip(&day.lines) {
+            assert_eq!(day.reading.slip_of(&request.text), day.reading.slip(line));
+        }
+        assert!(day.reading.slip(&day.lines[1]).unwrap_err().contains("latitude"));
     }
 
     #[test]
