@@ -47,8 +47,11 @@ fn depot_by(programs: &str, words: &[&str]) -> Ran {
 
 /// A program in the place of GDAL's is given the file's whole path, and what it writes is built.
 #[test]
-#[cfg_attr(not(target_arch = "x86_64"), ignore)]
 fn what_another_program_reads() {
+    if std::env::var_os("CARGO_TARGET_X86_64_UNKNOWN_LINUX_GNU_RUNNER").is_some() {
+        println!("not run: the emulator is found by the path that this test changes");
+        return;
+    }
     let folder = Folder::new("ogr");
     let programs = folder.path("bin");
     fs::create_dir(&programs).unwrap();
@@ -71,7 +74,6 @@ fn what_another_program_reads() {
 
 /// GDAL's own program, where it is installed: the example as KML, a shapefile's folder and GeoPackage has the yards of the example.
 #[test]
-#[cfg_attr(not(target_arch = "x86_64"), ignore)]
 fn what_gdal_reads() {
     if Command::new("ogr2ogr").arg("--version").output().is_err() {
         println!("not run: GDAL's tools are not installed (Debian's gdal-bin)");
