@@ -34,8 +34,9 @@ pub fn run(path: &Path, files: &Files) -> Result<Said, Fault> {
     let wrong = differ.iter().filter(|words| !words.is_empty()).count();
     differ.iter().for_each(|words| text.push_str(words));
     let all = held.len() + bad.len();
-    let _ = write!(text, "{}: {}, {} come out again", path.display(), count(all, "slip"), grouped(held.len() - wrong));
-    for (number, words) in [(wrong, "differ"), (bad.len(), "can't be read")] {
+    let same = held.len() - wrong;
+    let _ = write!(text, "{}: {}, {} {} out again", path.display(), count(all, "slip"), grouped(same), if same == 1 { "comes" } else { "come" });
+    for (number, words) in [(wrong, if wrong == 1 { "differs" } else { "differ" }), (bad.len(), "can't be read")] {
         if number > 0 {
             let _ = write!(text, ", {} {words}", grouped(number));
         }

@@ -81,7 +81,7 @@ fn a_changed_line_is_named() {
         let mut changed = lines.clone();
         changed[stamped][name] = value.clone();
         let ran = verified(&folder, &changed, WORLD, ZONEINFO);
-        assert!(ran.status == 1 && ran.out.contains("7 slips, 6 come out again, 1 differ"), "{name}: {ran:?}");
+        assert!(ran.status == 1 && ran.out.contains("7 slips, 6 come out again, 1 differs"), "{name}: {ran:?}");
         let number = &lines[stamped]["number"];
         assert!(ran.out.starts_with(&format!("slip {number}: {name} was {value}, comes out as ")), "{name}: {ran:?}");
     }
@@ -124,7 +124,7 @@ fn lines_that_are_no_evidence() {
     let mut bare = good.clone();
     bare.as_object_mut().unwrap().remove("request");
     let ran = verified(&folder, &[good, newer, bare, json!({"type": "Feature"}), json!(5)], WORLD, ZONEINFO);
-    assert!(ran.status == 1 && ran.out.contains("5 slips, 1 come out again, 4 can't be read"), "{ran:?}");
+    assert!(ran.status == 1 && ran.out.contains("5 slips, 1 comes out again, 4 can't be read"), "{ran:?}");
     assert!(ran.out.contains("line 2: its form is 2") && ran.out.contains("line 3: \"request\" is missing"), "{ran:?}");
     for text in ["", "lat,lon,time\n1,2,3\n"] {
         let ran = depot(&["verify", &folder.with("none.jsonl", text), WORLD, ZONEINFO]);
