@@ -53,6 +53,8 @@ pub enum NoEntry {
     Other,
     /// The folder has no such file, or it can't be read.
     NoFile(io::ErrorKind),
+    /// It is no regular file.
+    OtherKind,
     /// The library refuses the file.
     Refused(Refusal),
     /// 91: the file counts leap seconds.
@@ -69,6 +71,7 @@ impl fmt::Display for NoEntry {
             NoEntry::Twice => write!(f, "the name stands there twice"),
             NoEntry::Other => write!(f, "no zone of its own"),
             NoEntry::NoFile(kind) => write!(f, "{kind}"),
+            NoEntry::OtherKind => write!(f, "it is no file"),
             NoEntry::Refused(why) => write!(f, "{why}"),
             NoEntry::LeapSeconds => write!(f, "refusal {}: {}", Number::LeapSeconds as u8, Number::LeapSeconds.words()),
             NoEntry::NoRoom => write!(f, "a bundle has fewer than 2^31 bytes"),
@@ -168,7 +171,12 @@ impl Making {
                 _ if OTHERS.contains(&name.as_str()) => self.leave_out(name, NoEntry::Other),
                 // so that a link to a folder above ends too
                 _ if name.len() > NAME => self.leave_out(name, NoEntry::LongName),
-                Ok(there) if there.is_dir() => self.walk(&entry.path(), &format!("{name}/"))?,
+                Ok(there) if there.is_dir() => {
+                    let within = format!("{name}/");
+                    if let Err(error) = self.walk(&entry.path(), &within) {
+                        self.leave_out(within, NoEntry::NoFile(error.kind()));
+                    }
+                }
                 _ => self.take_file(&entry.path(), name),
             }
         }
@@ -176,9 +184,11 @@ impl Making {
     }
 
     fn take_file(&mut self, path: &Path, name: String) {
-        let file = fs::metadata(path).and_then(|there| if there.is_file() { fs::read(path) } else { Err(io::ErrorKind::InvalidInput.into()) });
+        // to open a pipe would wait for who writes to it
+        let file = fs::metadata(path).and_then(|there| there.is_file().then(|| fs::read(path)).transpose());
         match file {
-            Ok(file) => self.take(name, file),
+            Ok(Some(file)) => self.take(name, file),
+            Ok(None) => self.leave_out(name, NoEntry::OtherKind),
             Err(error) => self.leave_out(name, NoEntry::NoFile(error.kind())),
         }
     }

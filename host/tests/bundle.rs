@@ -132,6 +132,8 @@ fn a_folder() {
     let folder = Folder::new("bundle").with("UT", fixed(0, "A")).with("Up/Far/Two", fixed(3600, "B")).with("localtime", fixed(0, "A")).with("zone.tab", "# text\n").with("+VERSION", "2025c\n");
     symlink("Far", folder.0.join("Up/Near")).unwrap();
     symlink("none", folder.0.join("Up/Gone")).unwrap();
+    // nobody writes to this pipe
+    assert!(std::process::Command::new("mkfifo").arg(folder.0.join("Up/Pipe")).status().unwrap().success());
     // a link to a folder above has an end
     symlink("..", folder.0.join("Up/Round")).unwrap();
     let odd = folder.0.join(std::ffi::OsStr::from_bytes(b"Z\xff"));
@@ -141,7 +143,7 @@ fn a_folder() {
     assert!(["UT", "Up/Far/Two", "Up/Near/Two"].iter().all(|name| bundled.zones.contains(&name.to_string())), "{bundled:?}");
     assert_eq!(bundled.files, 2);
     let why = reasons(&bundled);
-    for (name, reason) in [("localtime", NoEntry::Other), ("Z\u{fffd}", NoEntry::BadName), ("Up/Gone", NoEntry::NoFile(std::io::ErrorKind::NotFound))] {
+    for (name, reason) in [("localtime", NoEntry::Other), ("Z\u{fffd}", NoEntry::BadName), ("Up/Pipe", NoEntry::OtherKind), ("Up/Gone", NoEntry::NoFile(std::io::ErrorKind::NotFound))] {
         assert!(why.contains(&(name, &reason)), "{name}: {why:?}");
     }
     assert!(why.iter().any(|(_, why)| **why == NoEntry::LongName));
@@ -156,7 +158,7 @@ fn zones_by_name() {
     assert_eq!((bundled.zones.as_slice(), bundled.release.as_deref()), (&["Up/Two".to_string()][..], Some("2025b")));
     let why = reasons(&bundled);
     assert_eq!(why[..2], [("../UT", &NoEntry::BadName), ("/etc/passwd", &NoEntry::BadName)]);
-    assert!(matches!(why[2..], [("Up", NoEntry::NoFile(_)), ("Gone", NoEntry::NoFile(_))]), "{why:?}");
+    assert!(matches!(why[2..], [("Up", NoEntry::OtherKind), ("Gone", NoEntry::NoFile(_))]), "{why:?}");
     assert!(Bundle::of_zones(folder.0.join("none"), []).is_err());
 }
 
