@@ -89,7 +89,7 @@ fn foreign(path: &Path) -> Result<(Value, Vec<String>), Fault> {
     }
     let value = serde_json::from_slice(&ran.stdout).map_err(|error| Fault::file(path, format!("{READER} made no JSON of it: {error}")))?;
     let told = said.lines().filter(|line| !line.trim().is_empty()).map(|line| format!("{READER} says: {line}"));
-    Ok((value, [format!("read by {READER}")].into_iter().chain(told).collect()))
+    Ok((value, [format!("read by {READER}, which gives degrees to seven decimals")].into_iter().chain(told).collect()))
 }
 
 #[cfg(test)]

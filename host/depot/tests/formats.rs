@@ -64,7 +64,7 @@ fn what_another_program_reads() {
     };
     program(&format!(r#"[ "$*" = "-f GeoJSON -lco RFC7946=YES /vsistdout/ {drawing}" ] || exit 3; echo 'a warning' >&2; while read -r line; do echo "$line"; done <{YARDS}"#));
     let ran = depot_by(&programs, &["build", &drawing, "--dry-run", "--precision", "25"]);
-    assert!(ran.status == 0 && ran.out.contains("10 features") && ran.out.contains("note: read by ogr2ogr\nnote: ogr2ogr says: a warning"), "{ran:?}");
+    assert!(ran.status == 0 && ran.out.contains("10 features") && ran.out.contains("note: read by ogr2ogr, which gives degrees to seven decimals\nnote: ogr2ogr says: a warning"), "{ran:?}");
     for (text, words) in [("echo 'no driver' >&2; exit 1", "ogr2ogr does not read it: no driver"), ("echo x", "ogr2ogr made no JSON of it")] {
         program(text);
         let ran = depot_by(&programs, &["build", &drawing, "--dry-run"]);
