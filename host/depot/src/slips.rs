@@ -22,7 +22,8 @@ impl Files<'_> {
     /// Opens them.
     pub fn printer(&self) -> Result<Printer<Vec<u8>>, Fault> {
         if !self.zones.is_dir() {
-            return Err(Fault::file(self.zones, "is no folder: give the one with the zones' TZif files, such as /usr/share/zoneinfo"));
+            let bundle = if self.zones.is_file() { "; this release does not stamp by a bundle yet" } else { "" };
+            return Err(Fault::file(self.zones, format!("is no folder: give the one with the zones' TZif files, such as /usr/share/zoneinfo{bundle}")));
         }
         let map = source::open(self.map, false)?;
         let index = self.index.map(|path| index::read(path, (self.map, &map))).transpose()?;

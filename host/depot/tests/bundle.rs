@@ -2,7 +2,7 @@
 
 mod common;
 
-use common::{depot, Folder, WORLD, YARDS, ZONEINFO};
+use common::{depot, Folder, DAY, WORLD, YARDS, ZONEINFO};
 use std::fs;
 
 #[test]
@@ -14,6 +14,8 @@ fn all_zones_of_a_folder() {
     assert!(ran.out.contains("zones.tzdata: ") && ran.out.contains(" zones in ") && ran.out.contains(", tzdata 20"), "{ran:?}");
     assert!(ran.out.contains("refusal 40: a header does not begin with TZif (place 0): ") && ran.out.contains("no zone of its own: localtime"), "{ran:?}");
     assert!(fs::read(&out).unwrap().starts_with(b"tzdata20"));
+    let ran = depot(&["stamp", DAY, "-o", &folder.path("slips.csv"), WORLD, &out]);
+    assert!(ran.status == 2 && ran.err.contains("is no folder") && ran.err.contains("does not stamp by a bundle yet"), "{ran:?}");
 }
 
 #[test]
