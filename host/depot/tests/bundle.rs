@@ -58,3 +58,19 @@ fn what_is_not_bundled() {
     assert!(ran.status == 1 && ran.err.contains("map.plb: refusal"), "{ran:?}");
     assert_eq!(folder.names(), ["empty", "map.plb"]);
 }
+
+/// The example has the zones of both example maps, and is what is made of the release that its page names.
+#[test]
+fn the_examples_zones() {
+    let example = |name: &str| format!("{}/../../examples/{name}", env!("CARGO_MANIFEST_DIR"));
+    let folder = Folder::new("bundle-example");
+    let out = folder.path("zones.tzdata");
+    assert_eq!(depot(&["bundle", ZONEINFO, "-o", &out, "--map", WORLD, "--map", &example("world-15.plb")]).status, 0);
+    let (made, kept) = (fs::read(&out).unwrap(), fs::read(example("zones.tzdata")).unwrap());
+    let names = |bytes: &[u8]| -> Vec<Vec<u8>> { bytes[24..u32::from_be_bytes([bytes[16], bytes[17], bytes[18], bytes[19]]) as usize].chunks(52).map(|entry| entry[..40].to_vec()).collect() };
+    assert_eq!((names(&made), names(&kept).len()), (names(&kept), 324));
+    let release = String::from_utf8(kept[6..11].to_vec()).unwrap();
+    assert!(fs::read_to_string(example("README.md")).unwrap().contains(&format!("of tzdata **{release}**")), "{release}");
+    // the system's tzdata may be of another release
+    assert!(made[6..11] != kept[6..11] || made == kept);
+}
