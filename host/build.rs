@@ -1,17 +1,51 @@
-// Links libuskelzar.a, from ../target/staticlib or the folder that USKELZAR_LIB names.
+// Links libuskelzar.a, from ../target/staticlib or the folder that USKELZAR_LIB names. Where there is none, says so in words and stops: the linker would say it in its own.
 use std::env;
-use std::path::PathBuf;
+use std::path::{Path, PathBuf};
+
+/// Where it is not this, the archive can't be linked: it holds x86-64 code for Linux.
+const TARGET: [(&str, &str); 2] = [("CARGO_CFG_TARGET_ARCH", "x86_64"), ("CARGO_CFG_TARGET_OS", "linux")];
+
+fn stop(words: &str) -> ! {
+    eprintln!("uskelzar: {words}");
+    std::process::exit(1);
+}
+
+/// Checking, clippy and documentation link nothing, and are done without the archive too: they set this.
+fn is_asked() -> bool {
+    println!("cargo:rerun-if-env-changed=USKELZAR_UNLINKED");
+    env::var_os("USKELZAR_UNLINKED").is_none()
+}
+
+fn check_target() {
+    for (name, wanted) in TARGET {
+        let target = env::var(name).unwrap_or_default();
+        if target != wanted {
+            stop(&format!("the archive is for x86-64 and Linux, and {name} is {target:?}: build with --target x86_64-unknown-linux-gnu (host/x86-64.sh shows how, with an emulator)"));
+        }
+    }
+}
+
+fn check_archive(folder: &Path) {
+    let archive = folder.join("libuskelzar.a");
+    let named = env::var_os("USKELZAR_LIB").is_some();
+    let advice = if named { "USKELZAR_LIB names that folder: name the one that has it" } else { "write it with `rt staticlib uskelzar` in the repository's root, or name the folder of one that is there, such as a release's lib, in USKELZAR_LIB" };
+    if !archive.is_file() {
+        stop(&format!("there is no {}: {advice}", archive.display()));
+    }
+    let bytes = std::fs::read(&archive).unwrap_or_else(|error| stop(&format!("{}: {error}", archive.display())));
+    if !bytes.starts_with(b"!<arch>\n") {
+        stop(&format!("{} is no archive: {advice}", archive.display()));
+    }
+}
 
 fn main() {
     let beside = PathBuf::from(env!("CARGO_MANIFEST_DIR")).join("../target/staticlib");
     let folder = env::var_os("USKELZAR_LIB").map_or(beside, PathBuf::from);
     println!("cargo:rerun-if-env-changed=USKELZAR_LIB");
-    println!(
-        "cargo:rerun-if-changed={}",
-        folder.join("libuskelzar.a").display()
-    );
-    if !folder.join("libuskelzar.a").exists() {
-        println!("cargo:warning=no libuskelzar.a in {}: name its folder in USKELZAR_LIB", folder.display());
+    println!("cargo:rerun-if-changed={}", folder.join("libuskelzar.a").display());
+    if is_asked() {
+        check_target();
+        check_archive(&folder);
     }
     println!("cargo:rustc-link-search=native={}", folder.display());
     println!("cargo:rustc-link-lib=static=uskelzar");

@@ -56,11 +56,12 @@ need_crate memmap2 librust-memmap2-dev
 
 # what host/depot takes besides
 need_depot_crates() {
-    for each in base64 chrono clap csv indicatif png rayon sha2 strsim tera ttf-parser; do
+    for each in arbitrary base64 chrono clap csv indicatif png rayon sha2 strsim tera ttf-parser; do
         need_crate "$each" "librust-$each-dev"
     done
     need_crate ab_glyph_rasterizer librust-ab-glyph-rasterizer-dev
     need_crate clap_derive librust-clap-derive-dev
+    need_crate derive_arbitrary librust-derive-arbitrary-dev
     need_crate serde_json librust-serde-json-dev
     if [ -n "$runner" ]; then
         [ -e "$geos/libgeos_c.so" ] || stop "no GEOS for x86-64 in $geos: tools/kit host fetches it"
@@ -92,5 +93,5 @@ cargo_host() { cargo_in host "$@"; }
 cargo_here() {
     folder=$1 command=$2
     shift 2
-    (unset RUSTC; cargo_plain "$folder" "$command" --target-dir "$root/target/host/here" "$@")
+    (unset RUSTC; USKELZAR_UNLINKED=1; export USKELZAR_UNLINKED; cargo_plain "$folder" "$command" --target-dir "$root/target/host/here" "$@")
 }

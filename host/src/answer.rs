@@ -162,6 +162,12 @@ pub struct Field {
     pub value: String,
 }
 
+/// The name of a time zone, which is that of its TZif file: TimezoneIdPrefix and TimezoneId, joined; of two fields with one name the last. None where either is missing.
+pub fn zone_name(fields: &[Field]) -> Option<String> {
+    let value = |name| fields.iter().rev().find(|field| field.name == name).map(|field| field.value.as_str());
+    Some(format!("{}{}", value("TimezoneIdPrefix")?, value("TimezoneId")?))
+}
+
 /// A zone that holds a fix.
 #[derive(Clone, Debug, Eq, PartialEq)]
 pub struct Match {

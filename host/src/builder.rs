@@ -10,7 +10,7 @@ use std::fmt;
 
 /// A file in the making: what [`Builder::new`] is given, and yards behind each other.
 ///
-/// ```no_run
+/// ```
 /// # use uskelzar::{Builder, Table};
 /// let depot = [(2, 2), (10, 2), (10, 10), (2, 10)];
 /// let file = Builder::new(Table::Countries, 16, &["Name"]).yard(&depot, &["Depot"]).build()?;
@@ -30,6 +30,8 @@ pub struct Builder {
     lons: Vec<i32>,
     pieces: Vec<u32>,
     values: Vec<String>,
+    /// The first yard with degrees that are no place.
+    nowhere: Option<usize>,
 }
 
 /// The largest file.
@@ -107,6 +109,7 @@ impl Builder {
             lons: vec![],
             pieces: vec![],
             values: vec![],
+            nowhere: None,
         }
     }
 
@@ -134,6 +137,37 @@ impl Builder {
         self.yard_with(points, &[], values)
     }
 
+    /// A yard whose points are degrees, each a latitude and a longitude: the nearest points of the grid are taken. A point that falls on the one before it is left out, and so is the last where
+    /// it falls on the first. Degrees that are no place on the globe are refused with 84 when the file is built.
+    ///
+    /// ```
+    /// # use uskelzar::{Builder, Map, Table};
+    /// let depot = [(0.10, 0.20), (0.50, 0.20), (0.50, 0.90), (0.10, 0.90), (0.10, 0.20)];
+    /// let file = Builder::new(Table::Countries, 20, &["Name"]).yard_degrees(&depot, &["Depot"]).build()?;
+    /// assert_eq!(Map::open(file)?.zone_for_slip(0.3, 0.5)?.as_deref(), Some("Depot"));
+    /// # Ok::<(), Box<dyn std::error::Error>>(())
+    /// ```
+    pub fn yard_degrees(mut self, points: &[(f64, f64)], values: &[&str]) -> Builder {
+        let place = |&(lat, lon): &(f64, f64)| lat.abs() <= 90.0 && lon.abs() <= 180.0;
+        if !points.iter().all(place) {
+            self.nowhere = self.nowhere.or(Some(self.yards.len() / YARD_WORDS));
+        }
+        let steps = 2f64.powi(i32::from(self.precision) - 1);
+        let nearest = |&(lat, lon): &(f64, f64)| ((lat / 90.0 * steps).round() as i32, (lon / 180.0 * steps).round() as i32);
+        let mut ring: Vec<(i32, i32)> = points.iter().map(nearest).collect();
+        ring.dedup();
+        while ring.len() > 1 && ring.first() == ring.last() {
+            ring.pop();
+        }
+        self.yard(&ring, values)
+    }
+
+    /// The refusal of a yard's degrees, before any other.
+    fn placed(&self) -> Result<(), NotBuilt> {
+        let why = Refusal { number: Number::NoPlace, cause: None, detail: 0 };
+        self.nowhere.map_or(Ok(()), |yard| Err(NotBuilt { place: Place::Yard(yard), why }))
+    }
+
     /// A yard that borrows some of its moves from the borders before it; the data section begins with one zero byte, and the first border stands behind that.
     pub fn yard_with(mut self, points: &[(i32, i32)], pieces: &[Piece], values: &[&str]) -> Builder {
         self.yards.extend([points.len(), points.len(), pieces.len(), values.len()].map(word));
@@ -153,6 +187,7 @@ impl Builder {
 
     /// A draft with this form and room, these names and this notice, and these yards, whose yards may still change; or the first refusal and what met it.
     pub fn begin(&self) -> Result<Draft, NotBuilt> {
+        self.placed()?;
         let texts = || self.names.iter().chain([&self.notice]);
         let lengths: Vec<u32> = texts().map(|text| word(text.len())).collect();
         let bytes: Vec<u8> = texts().flat_map(|text| text.bytes()).collect();
@@ -175,6 +210,7 @@ impl Builder {
 
     /// The file's bytes; or the first refusal and what met it.
     pub fn build(&self) -> Result<Vec<u8>, NotBuilt> {
+        self.placed()?;
         let texts = || self.names.iter().chain([&self.notice]).chain(&self.values);
         let lengths: Vec<u32> = texts().map(|text| word(text.len())).collect();
         let bytes: Vec<u8> = texts().flat_map(|text| text.bytes()).collect();

@@ -20,6 +20,8 @@ mod answer;
 #[cfg(feature = "std")]
 mod builder;
 #[cfg(feature = "std")]
+mod bundle;
+#[cfg(feature = "std")]
 mod desk;
 #[cfg(feature = "std")]
 mod draft;
@@ -51,9 +53,11 @@ mod salvage;
 mod survey;
 
 #[cfg(feature = "std")]
-pub use answer::{End, Error, Field, Header, Kind, Match, Simple, Table, Unknown, Zones};
+pub use answer::{zone_name, End, Error, Field, Header, Kind, Match, Simple, Table, Unknown, Zones};
 #[cfg(feature = "std")]
 pub use builder::{Builder, NotBuilt, Place};
+#[cfg(feature = "std")]
+pub use bundle::{Bundle, Bundled, LeftOut, NoEntry};
 #[cfg(feature = "std")]
 pub use desk::Desk;
 #[cfg(feature = "std")]
@@ -71,7 +75,7 @@ pub use map::{Map, Room};
 #[cfg(feature = "std")]
 pub use mapping::Mapping;
 #[cfg(feature = "std")]
-pub use printer::{Hour, NotStamped, Printer, Slip};
+pub use printer::{line, Hour, NotStamped, Printer, Slip, Traced};
 #[cfg(feature = "std")]
 pub use reading::Unread;
 pub use refusal::{Cause, Number, Refusal, Stop};
@@ -79,6 +83,9 @@ pub use refusal::{Cause, Number, Refusal, Stop};
 pub use salvage::{salvage, Dropped, Reason, Salvaged};
 #[cfg(feature = "std")]
 pub use survey::Sizes;
+
+/// The release of this crate, which is that of the library that it goes with.
+pub const RELEASE: &str = env!("CARGO_PKG_VERSION");
 
 /// A run of the earlier data that stands for some of a border's moves.
 #[derive(Clone, Copy, Debug, Eq, PartialEq)]

@@ -25,6 +25,16 @@ impl Default for Room {
 }
 
 /// A file that the library has opened. `B` holds its bytes: a `Vec<u8>`, a slice, or a [`crate::Mapping`].
+///
+/// ```
+/// use uskelzar::{End, Map};
+///
+/// let map = Map::read("../examples/world-9.plb")?;
+/// assert_eq!(map.zone_for_slip(52.52, 13.40)?.as_deref(), Some("Europe/Berlin"));
+/// let zones = map.lookup(41.88, -87.63)?;
+/// assert_eq!((zones.matches.len(), zones.end), (3, End::Whole)); // on the border of three zones
+/// # Ok::<(), uskelzar::Error>(())
+/// ```
 pub struct Map<B> {
     bytes: B,
     header: Header,
@@ -82,7 +92,12 @@ impl<B: AsRef<[u8]>> Map<B> {
         self.lookup_by(raw::lookup, lat, lon)
     }
 
-    /// The same, but a number that the file's end cuts is refused where the search or a field meets it.
+    /// The same for degrees that come as `f64`: each is rounded once, to the nearest `f32`, which is what the library asks by.
+    pub fn lookup_degrees(&self, lat: f64, lon: f64) -> Result<Zones, Error> {
+        self.lookup(lat as f32, lon as f32)
+    }
+
+    /// What [`Map::lookup`] gives, but a number that the file's end cuts is refused where the search or a field meets it.
     pub fn lookup_strict(&self, lat: f32, lon: f32) -> Result<Zones, Error> {
         self.lookup_by(raw::lookup_strict, lat, lon)
     }

@@ -1,9 +1,10 @@
 //! The printer's whole question: a fix and an instant, and the local hour that its slip carries, or why it carries none.
 
-use crate::answer::{End, Error, Zones};
+use crate::answer::{zone_name, End, Error, Kind, Zones};
+use crate::index::Index;
 use crate::local::{CivilTime, LocalTime, TimeZone};
 use crate::map::Map;
-use crate::raw::MOST_FIXES;
+use crate::raw::{self, MOST_FIXES};
 use crate::refusal::{Number, Refusal};
 use std::fmt;
 use std::io;
@@ -13,9 +14,29 @@ use std::path::{Component, Path, PathBuf};
 pub type Slip = (f32, f32, i64);
 
 /// A map of time zones, and the folder with their TZif files.
+///
+/// ```
+/// use uskelzar::{line, Map, NotStamped, Printer};
+///
+/// let printer = Printer::new(Map::read("../examples/world-9.plb")?, "/usr/share/zoneinfo");
+/// let hours = printer.stamp(52.52, 13.40, 1_782_907_199)?;
+/// assert_eq!(line(&hours), "Wed 2026-07-01 13:59:59 +02:00 CEST Europe/Berlin");
+/// assert!(matches!(printer.stamp(0.0, -30.0, 0), Err(NotStamped::NoZone)));
+/// # Ok::<(), Box<dyn std::error::Error>>(())
+/// ```
 pub struct Printer<B> {
     map: Map<B>,
     folder: PathBuf,
+    index: Option<Index>,
+}
+
+/// A slip, and what the map answered for it.
+#[derive(Debug)]
+pub struct Traced {
+    /// The zones that hold the fix, and how the search ended; none where the map refused or was not asked.
+    pub found: Option<Zones>,
+    /// What [`Printer::stamp`] gives.
+    pub hours: Result<Vec<Hour>, NotStamped>,
 }
 
 /// What a clock shows in a zone.
@@ -23,6 +44,8 @@ pub struct Printer<B> {
 pub struct Hour {
     /// The zone's name.
     pub zone: String,
+    /// Where in it the fix is.
+    pub kind: Kind,
     /// Date and time of day.
     pub civil: CivilTime,
     /// Offset, daylight flag and abbreviation.
@@ -54,23 +77,44 @@ pub enum NotStamped {
     Unknown(String),
     /// 61: the instant, or the clock at it, is outside the years 1 to 9999.
     OutsideYears,
-    /// The fix is on a border, and the hours of its zones differ.
+    /// Several zones hold the fix, by a border that they share or because they overlap, and their hours differ.
     HoursDiffer(Vec<Hour>),
 }
 
 impl fmt::Display for Hour {
     fn fmt(&self, f: &mut fmt::Formatter) -> fmt::Result {
+        let name = String::from_utf8_lossy(&self.local.abbreviation);
+        write!(f, "{} {} {}", self.clock(), name.escape_default(), self.zone)
+    }
+}
+
+impl Hour {
+    /// Date, time of day and offset.
+    fn clock(&self) -> String {
         let CivilTime { year, month, day, hour, minute, second, .. } = self.civil;
         let size = self.local.offset.unsigned_abs();
         let sign = if self.local.offset < 0 { '-' } else { '+' };
-        write!(f, "{year:04}-{month:02}-{day:02} {hour:02}:{minute:02}:{second:02} ")?;
-        write!(f, "{sign}{:02}:{:02}", size / 3600, size / 60 % 60)?;
-        if size % 60 != 0 {
-            write!(f, ":{:02}", size % 60)?;
+        let clock = format!("{year:04}-{month:02}-{day:02} {hour:02}:{minute:02}:{second:02} {sign}{:02}:{:02}", size / 3600, size / 60 % 60);
+        if size % 60 == 0 {
+            return clock;
         }
-        let name = String::from_utf8_lossy(&self.local.abbreviation);
-        write!(f, " {} {}", name.escape_default(), self.zone)
+        format!("{clock}:{:02}", size % 60)
     }
+
+    /// The abbreviation and the zone's name, a `?` for each byte that does not print.
+    fn named(&self) -> String {
+        let printed = |byte: &u8| if (33..=126).contains(byte) { char::from(*byte) } else { '?' };
+        let printed = |bytes: &[u8]| bytes.iter().map(printed).collect::<String>();
+        format!("{} {}", printed(&self.local.abbreviation), printed(self.zone.as_bytes()))
+    }
+}
+
+/// The line of a slip that carries these hours: weekday, date, time and offset, which are the same in all of them, and each zone with its abbreviation. Empty where there is no hour.
+pub fn line(hours: &[Hour]) -> String {
+    const DAYS: [&str; 7] = ["Sun", "Mon", "Tue", "Wed", "Thu", "Fri", "Sat"];
+    let Some(hour) = hours.first() else { return String::new() };
+    let zones: Vec<String> = hours.iter().map(Hour::named).collect();
+    format!("{} {} {}", DAYS[usize::from(hour.civil.weekday) % 7], hour.clock(), zones.join(", "))
 }
 
 impl fmt::Display for NotStamped {
@@ -90,7 +134,8 @@ impl fmt::Display for NotStamped {
             NotStamped::Unknown(zone) => write!(f, "the file of {zone} says nothing of this instant"),
             NotStamped::OutsideYears => write!(f, "the instant, or the clock at it, is outside the years 1 to 9999"),
             NotStamped::HoursDiffer(hours) => {
-                write!(f, "on a border, and the hours differ")?;
+                let inside = hours.iter().all(|hour| hour.kind == Kind::InZone);
+                write!(f, "{}, and the hours differ", if inside { "in zones that overlap" } else { "on a border" })?;
                 hours.iter().try_for_each(|hour| write!(f, "; {hour}"))
             }
         }
@@ -102,56 +147,91 @@ impl std::error::Error for NotStamped {}
 impl<B: AsRef<[u8]>> Printer<B> {
     /// A printer with a map, and the folder where the files of its zones are.
     pub fn new(map: Map<B>, folder: impl Into<PathBuf>) -> Printer<B> {
-        Printer { map, folder: folder.into() }
+        Printer { map, folder: folder.into(), index: None }
+    }
+
+    /// Asks the map through its index; no slip is another by that. Refusal 36 says that it is not this map's.
+    pub fn with_index(self, index: Index) -> Result<Printer<B>, Error> {
+        raw::is_index(self.map.bytes(), index.words())?;
+        Ok(Printer { index: Some(index), ..self })
+    }
+
+    /// The map.
+    pub fn map(&self) -> &Map<B> {
+        &self.map
     }
 
     /// The hours that a slip may carry, all of one date, time and offset: that of the zone that holds the fix, and on a border of several
     /// zones one for each. The instant is in seconds from 1970.
     pub fn stamp(&self, lat: f32, lon: f32, instant: i64) -> Result<Vec<Hour>, NotStamped> {
+        self.trace((lat, lon, instant)).hours
+    }
+
+    /// The same for degrees that come as `f64`: each is rounded once, to the nearest `f32`.
+    pub fn stamp_degrees(&self, lat: f64, lon: f64, instant: i64) -> Result<Vec<Hour>, NotStamped> {
+        self.stamp(lat as f32, lon as f32, instant)
+    }
+
+    fn trace(&self, (lat, lon, instant): Slip) -> Traced {
         if !is_place(lat, lon) {
-            return Err(NotStamped::NoPlace);
+            return Traced { found: None, hours: Err(NotStamped::NoPlace) };
         }
-        let found = self.map.lookup(lat, lon).map_err(NotStamped::Map)?;
-        self.hours(&found, instant)
+        let found = match &self.index {
+            Some(index) => self.map.lookup_through(index, lat, lon),
+            None => self.map.lookup(lat, lon),
+        };
+        self.traced(found, instant)
     }
 
     /// What [`Printer::stamp`] gives for each of many slips; the map is asked for up to 4,096 of them at once, and one that alone would be refused for room
     /// may be stamped in what the others left.
     pub fn stamp_many(&self, slips: &[Slip]) -> Vec<Result<Vec<Hour>, NotStamped>> {
-        let mut stamped = Vec::with_capacity(slips.len());
-        while stamped.len() < slips.len() {
-            let rest = &slips[stamped.len()..];
-            self.stamp_some(&rest[..rest.len().min(MOST_FIXES)], &mut stamped);
+        self.trace_many(slips).into_iter().map(|slip| slip.hours).collect()
+    }
+
+    /// The same, each with what the map answered.
+    pub fn trace_many(&self, slips: &[Slip]) -> Vec<Traced> {
+        if self.index.is_some() {
+            return slips.iter().map(|slip| self.trace(*slip)).collect();
         }
-        stamped
+        let mut traced = Vec::with_capacity(slips.len());
+        while traced.len() < slips.len() {
+            let rest = &slips[traced.len()..];
+            self.trace_some(&rest[..rest.len().min(MOST_FIXES)], &mut traced);
+        }
+        traced
     }
 
     /// At least the first of them. A refusal stops them all, so those before it are asked again; and what is no place is not asked.
-    fn stamp_some(&self, slips: &[Slip], stamped: &mut Vec<Result<Vec<Hour>, NotStamped>>) {
+    fn trace_some(&self, slips: &[Slip], traced: &mut Vec<Traced>) {
         let places = slips.iter().take_while(|slip| is_place(slip.0, slip.1)).count();
         if places == 0 {
-            stamped.push(Err(NotStamped::NoPlace));
+            traced.push(Traced { found: None, hours: Err(NotStamped::NoPlace) });
             return;
         }
         let slips = &slips[..places];
         let fixes: Vec<(f32, f32)> = slips.iter().map(|slip| (slip.0, slip.1)).collect();
         match self.map.lookup_many(&fixes) {
-            Ok(answers) => stamped.extend(answers.zip(slips).map(|(found, slip)| {
-                let found = found.map_err(|unknown| NotStamped::Map(unknown.into()))?;
-                self.hours(&found, slip.2)
-            })),
+            Ok(answers) => traced.extend(answers.zip(slips).map(|(found, slip)| self.traced(found.map_err(Error::from), slip.2))),
             Err(stop) => {
                 if stop.index > 0 {
-                    self.stamp_some(&slips[..stop.index], stamped);
+                    self.trace_some(&slips[..stop.index], traced);
                 }
-                stamped.push(Err(NotStamped::Map(stop.why.into())));
+                traced.push(self.traced(Err(stop.why.into()), 0));
             }
+        }
+    }
+
+    fn traced(&self, found: Result<Zones, Error>, instant: i64) -> Traced {
+        match found {
+            Ok(found) => Traced { hours: self.hours(&found, instant), found: Some(found) },
+            Err(error) => Traced { found: None, hours: Err(NotStamped::Map(error)) },
         }
     }
 
     fn hours(&self, found: &Zones, instant: i64) -> Result<Vec<Hour>, NotStamped> {
         let zones = names_of(found)?;
-        let hours: Result<Vec<Hour>, NotStamped> = zones.into_iter().map(|zone| self.hour(zone, instant)).collect();
+        let hours: Result<Vec<Hour>, NotStamped> = zones.into_iter().map(|(zone, kind)| self.hour(zone, kind, instant)).collect();
         let hours = hours?;
         let shown = |hour: &Hour| (hour.civil, hour.local.offset);
         if hours.iter().any(|hour| shown(hour) != shown(&hours[0])) {
@@ -160,7 +240,7 @@ impl<B: AsRef<[u8]>> Printer<B> {
         Ok(hours)
     }
 
-    fn hour(&self, zone: String, instant: i64) -> Result<Hour, NotStamped> {
+    fn hour(&self, zone: String, kind: Kind, instant: i64) -> Result<Hour, NotStamped> {
         if !is_inside(&zone) {
             return Err(NotStamped::BadName(zone));
         }
@@ -177,7 +257,7 @@ impl<B: AsRef<[u8]>> Printer<B> {
             Err(why) => return Err(NotStamped::Refused(zone, why)),
         };
         let civil = CivilTime::at(instant, local.offset).map_err(|_| NotStamped::OutsideYears)?;
-        Ok(Hour { zone, civil, local })
+        Ok(Hour { zone, kind, civil, local })
     }
 }
 
@@ -186,30 +266,29 @@ fn is_place(lat: f32, lon: f32) -> bool {
     (-90.0..=90.0).contains(&lat) && (-180.0..=180.0).contains(&lon)
 }
 
-/// The names of the zones that hold a fix, each once, by a search that was whole; at least one.
-fn names_of(found: &Zones) -> Result<Vec<String>, NotStamped> {
+/// The names of the zones that hold a fix, each once, and where in them it is, by a search that was whole; at least one.
+fn names_of(found: &Zones) -> Result<Vec<(String, Kind)>, NotStamped> {
     if found.end != End::Whole {
         return Err(NotStamped::NotWhole(found.end));
     }
     if found.matches.is_empty() {
         return Err(NotStamped::NoZone);
     }
-    let mut names: Vec<String> = Vec::new();
+    let mut names: Vec<(String, Kind)> = Vec::new();
     for zone in &found.matches {
-        let field = |name| zone.fields.iter().rev().find(|field| field.name == name);
-        let (Some(prefix), Some(id)) = (field("TimezoneIdPrefix"), field("TimezoneId")) else {
-            return Err(NotStamped::Unnamed);
-        };
-        let name = format!("{}{}", prefix.value, id.value);
-        if !names.contains(&name) {
-            names.push(name);
+        let name = zone_name(&zone.fields).ok_or(NotStamped::Unnamed)?;
+        match names.iter_mut().find(|known| known.0 == name) {
+            // on any of its borders it is on its border
+            Some(known) if known.1 == Kind::InZone => known.1 = zone.kind,
+            Some(_) => (),
+            None => names.push((name, zone.kind)),
         }
     }
     Ok(names)
 }
 
 /// A name of letters, digits, `_`, `+` and `-` in parts that `/` separates: it leads to no place outside a folder.
-fn is_inside(zone: &str) -> bool {
+pub(crate) fn is_inside(zone: &str) -> bool {
     let letter = |byte: u8| byte.is_ascii_alphanumeric() || b"_+-".contains(&byte);
     let plain = |part: &str| !part.is_empty() && part.bytes().all(letter);
     zone.split('/').all(plain) && Path::new(zone).components().all(|part| matches!(part, Component::Normal(_)))

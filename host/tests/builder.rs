@@ -338,3 +338,25 @@ fn texts_of_every_length() {
         assert_eq!(found.matches[0].fields[0].value, text);
     }
 }
+
+#[test]
+fn yards_in_degrees() {
+    let names = ["Name"];
+    let builder = |precision| Builder::new(Table::Countries, precision, &names);
+    let degrees = |points: &[(i32, i32)]| points.iter().map(|&(lat, lon)| (f64::from(lat) * 90.0 / 32_768.0, f64::from(lon) * 180.0 / 32_768.0)).collect::<Vec<_>>();
+    let plain = builder(16).yard(&OUTER, &["A"]).yard(&SOUTH, &["B"]).build().unwrap();
+    // near its points, closed, and with a point twice
+    let mut outer: Vec<(f64, f64)> = degrees(&OUTER).iter().map(|(lat, lon)| (lat + 0.001, lon - 0.002)).collect();
+    outer.insert(1, outer[0]);
+    outer.push(outer[0]);
+    assert_eq!(builder(16).yard_degrees(&outer, &["A"]).yard_degrees(&degrees(&SOUTH), &["B"]).build().unwrap(), plain);
+    for bad in [(90.1, 0.0), (0.0, -180.1), (f64::NAN, 0.0), (0.0, f64::INFINITY)] {
+        let not_built = NotBuilt { place: Place::Yard(1), why: Refusal { number: Number::NoPlace, cause: None, detail: 0 } };
+        let builder = builder(16).yard(&OUTER, &["A"]).yard_degrees(&[(1.0, 1.0), bad, (2.0, 2.0)], &["B"]).yard_degrees(&[bad], &["C"]);
+        assert_eq!(builder.build(), Err(not_built));
+        assert_eq!(builder.begin().err(), Some(not_built));
+    }
+    // a ring of which the grid leaves one point, and the poles and the date line
+    assert_eq!(builder(2).yard_degrees(&[(50.0, 1.0), (50.1, 1.0), (50.0, 1.1)], &["A"]).build(), builder(2).yard(&[(1, 0)], &["A"]).build());
+    assert!(builder(20).yard_degrees(&[(-90.0, -180.0), (-90.0, 180.0), (90.0, 180.0), (90.0, -180.0)], &["A"]).build().is_ok());
+}

@@ -6,7 +6,7 @@ use common::files::*;
 use common::tzif::{ended, fixed, leaping, small};
 use std::fs;
 use std::path::{Path, PathBuf};
-use uskelzar::{Hour, Map, NotStamped, Number, Printer, Room};
+use uskelzar::{line, End, Error, Hour, Index, Kind, Map, NotStamped, Number, Printer, Room};
 
 /// A folder that goes away with the test.
 struct Folder(PathBuf);
@@ -211,4 +211,58 @@ fn many_slips_with_a_refusal() {
         assert_eq!(all.iter().map(told).collect::<Vec<_>>(), alone);
         assert!(alone.contains(&"refusal 17: more hits than slots".to_string()));
     }
+}
+
+/// What a slip rests on is what the map answers at its fix, and through an index no slip is another.
+#[test]
+fn traced_and_through_an_index() {
+    let folder = Folder::new("traced").with("Up/One", &fixed(7200, "CEST")).with("Up/Two", &fixed(3600, "B"));
+    let map = || Map::open(overlap(1)).unwrap();
+    let plain = Printer::new(map(), &folder.0);
+    let through = Printer::new(map(), &folder.0).with_index(Index::build(&map()).unwrap()).unwrap();
+    let slips = [FIX, ALONE, NOWHERE, (f32::NAN, 0.0), ALONE].map(|(lat, lon)| (lat, lon, 0));
+    for printer in [&plain, &through] {
+        for ((lat, lon, instant), traced) in slips.into_iter().zip(printer.trace_many(&slips)) {
+            assert_eq!(told(&traced.hours), told(&plain.stamp(lat, lon, instant)));
+            let found = traced.found.map(|found| (found.end, found.matches));
+            assert_eq!(found, map().lookup(lat, lon).ok().filter(|_| !lat.is_nan()).map(|found| (found.end, found.matches)));
+        }
+    }
+    assert_eq!(plain.trace_many(&slips)[1].found.as_ref().unwrap().end, End::Whole);
+    let other = Index::build(&Map::read(common::WORLD).unwrap()).unwrap();
+    assert!(matches!(plain.with_index(other), Err(Error::Refused(why)) if why.number == Number::OtherIndex));
+}
+
+/// Inside two zones that overlap there is no border; on the edge of one of them there is.
+#[test]
+fn overlapping_zones_are_no_border() {
+    let folder = Folder::new("overlapping").with("Up/One", &fixed(3600, "A")).with("Up/Two", &fixed(7200, "B"));
+    let said = |fix| stamp(&overlap(1), &folder.0, fix, 0).unwrap_err().to_string();
+    assert!(said(FIX).starts_with("in zones that overlap, and the hours differ; 1970"), "{}", said(FIX));
+    let edge = (3.1 * LAT_STEP, 5.1 * LON_STEP);
+    assert!(said(edge).starts_with("on a border, and the hours differ; 1970"), "{}", said(edge));
+    let Err(NotStamped::HoursDiffer(hours)) = stamp(&overlap(1), &folder.0, edge, 0) else { panic!("stamped") };
+    assert_eq!(hours.iter().map(|hour| hour.kind).collect::<Vec<_>>(), [Kind::InZone, Kind::OnBorderSegment]);
+}
+
+#[test]
+fn the_line_of_a_slip() {
+    let folder = Folder::new("line").with("Up/One", &fixed(-16_201, "A\u{e9} B")).with("Up/Two", &fixed(-16_201, "XYZ"));
+    let hours = stamp(&overlap(1), &folder.0, FIX, 1_782_907_199).unwrap();
+    assert_eq!(line(&hours), "Wed 2026-07-01 07:29:58 -04:30:01 A???B Up/One, XYZ Up/Two");
+    assert_eq!(line(&hours[1..]), "Wed 2026-07-01 07:29:58 -04:30:01 XYZ Up/Two");
+    assert_eq!(line(&[]), "");
+}
+
+/// Degrees that come as f64 are rounded once.
+#[test]
+fn degrees_of_twice_the_width() {
+    let folder = Folder::new("wide").with("Up/Two", &fixed(0, "UTC"));
+    let printer = Printer::new(Map::open(overlap(1)).unwrap(), &folder.0);
+    let (lat, lon) = (f64::from(ALONE.0) + 1e-9, f64::from(ALONE.1) - 1e-9);
+    assert_eq!(words(&printer.stamp_degrees(lat, lon, 0).unwrap()), words(&printer.stamp(ALONE.0, ALONE.1, 0).unwrap()));
+    assert_eq!(printer.map().lookup_degrees(lat, lon).unwrap(), printer.map().lookup(ALONE.0, ALONE.1).unwrap());
+    // 90 and a little is the nearest place, 90
+    assert!(matches!(printer.stamp_degrees(90.000_000_1, 0.0, 0), Err(NotStamped::NoZone)));
+    assert!(matches!(printer.stamp_degrees(90.1, 0.0, 0), Err(NotStamped::NoPlace)));
 }

@@ -103,6 +103,33 @@ fn every_refusal_of_zone_has_its_words() {
     assert!(words.split(',').all(|said| !said.trim().is_empty()));
 }
 
+/// The files that host/README.md has in its tables of depot, each as a path from host/.
+fn named_in_readme() -> Vec<String> {
+    let page = text("host/README.md");
+    let rows = page.split("\n## depot").nth(1).unwrap().lines().filter_map(|line| line.strip_prefix("| `depot/")).map(str::to_string).collect::<Vec<_>>();
+    let mut named = vec![];
+    for row in rows {
+        let cell = row.split('|').next().unwrap();
+        let folder = cell.split('/').next().unwrap().trim_matches('`').to_string();
+        let files = cell.split(',').map(|file| file.trim().trim_matches('`'));
+        named.extend(files.map(|file| format!("depot/{folder}/{}", file.strip_prefix(&format!("{folder}/")).unwrap_or(file))));
+    }
+    named
+}
+
+#[test]
+fn the_readme_has_depots_files_once() {
+    let named = named_in_readme();
+    for folder in ["depot/src", "depot/tests", "depot/examples"] {
+        for file in fs::read_dir(format!("{}/{folder}", env!("CARGO_MANIFEST_DIR"))).unwrap() {
+            let name = format!("{folder}/{}", file.unwrap().file_name().to_str().unwrap());
+            if name.ends_with(".rs") && name != "depot/src/lib.rs" {
+                assert_eq!(named.iter().filter(|known| **known == name).count(), 1, "{name} in {named:?}");
+            }
+        }
+    }
+}
+
 #[test]
 fn one_width_of_a_hit() {
     let header = text("include/uskelzar.h");

@@ -62,7 +62,7 @@ def by(driver, css):
 
 def said_by_depot(file, lat, lon):
     """The zones with their kinds, and how the search ended, as `depot zone` says them."""
-    ran = subprocess.run([*DEPOT, "zone", lat, lon, str(FOLDER / file)], capture_output=True, text=True, check=False)
+    ran = subprocess.run([*DEPOT, "zone", str(FOLDER / file), lat, lon], capture_output=True, text=True, check=False)
     lines = ran.stdout.split("\n")
     zones = sorted(line for line in lines if not line.startswith("  ") and line.endswith(KINDS))
     return zones, [line for line in lines if line.startswith("search: ")]
@@ -82,7 +82,7 @@ def same_answer(driver, file, what):
     spaces = lambda answer: ([" ".join(zone.split()) for zone in answer[0]], answer[1])
     check(f"{file} {what} {' '.join(asked)}: {'; '.join(tool[0]) or 'no zone'}", spaces(page) == spaces(tool), page, tool)
     words = place.text
-    told = "the library’s verdict" in words if exact else "by the picture" in words and f"./depot zone {place.get_attribute('data-lat')} {place.get_attribute('data-lon')} {file}" in words
+    told = "the library’s verdict" in words if exact else "by the picture" in words and f"./depot zone {file} {place.get_attribute('data-lat')} {place.get_attribute('data-lon')}" in words
     check(f"{file} {what}: says how it is known", told, words)
 
 

@@ -416,7 +416,7 @@
     const parts = [made('h3', placeWords(told)), howKnown(told), ...slips];
     if (!told.outside) parts.push(...answerParts(data.answers[told.answer]));
     if (!told.exact && !told.outside && bordersNear(told)) parts.push(made('p', 'The points about it got different answers: a border is near.', 'note'));
-    if (!told.exact) parts.push(made('p', 'The exact answer:', 'soft'), made('code', data.command.replace('LAT LON', placeWords(told))));
+    if (!told.exact) parts.push(made('p', 'The exact answer:', 'soft'), made('code', `${data.command} ${placeWords(told)}`));
     byId('place').replaceChildren(...parts);
     Object.assign(byId('place').dataset, { lat: shortest(told.lat), lon: shortest(told.lon), exact: String(Boolean(told.exact)), asked: told.outside ? '' : placeWords(told.point || told) });
     tick();

@@ -1,51 +1,109 @@
-//! A day's lines: CSV in, fixes and instants out. No line is lost: what can't be read as a line stops the run, with its number.
+//! A day's lines: CSV or a receiver's log in, requests out. No line is lost: what can't be read as a line stops the run, with its number.
 
 use crate::fault::Fault;
 use crate::source;
 use crate::words::count;
 use chrono::DateTime;
 use csv::{ReaderBuilder, StringRecord, Trim};
+use std::io::Read;
 use std::path::Path;
 use uskelzar::Slip;
 
 /// A file's lines, with the names of its columns.
+#[derive(Debug)]
 pub struct Day {
     pub names: Vec<String>,
     pub lines: Vec<StringRecord>,
+    /// Each line as it stands in the file.
+    pub requests: Vec<Request>,
     /// What was taken for granted, in words.
     pub notes: Vec<String>,
-    columns: Columns,
-    decimal_comma: bool,
+    /// How a request is read.
+    pub reading: Reading,
 }
 
-/// Which columns a line's numbers stand in.
-#[derive(Debug)]
-struct Columns {
-    lat: usize,
-    lon: usize,
-    instant: usize,
+/// A line of a day as it stands in the file, without its line end.
+#[derive(Clone, Debug, Eq, PartialEq)]
+pub struct Request {
+    /// The number of its first line, from 1.
+    pub line: usize,
+    pub text: String,
+}
+
+/// How a line of CSV is read: what parts its cells, and which of them has what.
+#[derive(Clone, Debug, Eq, PartialEq)]
+pub struct Reading {
+    pub separator: u8,
+    /// Latitude, longitude, instant, from 0.
+    pub columns: [usize; 3],
 }
 
 /// Reads a file, or standard input where the path is `-`.
 pub fn read(path: &Path) -> Result<Day, Fault> {
-    day_of(&source::bytes(path)?).map_err(|words| Fault::file(path, words))
+    let bytes = source::bytes(path)?;
+    if is_log(path) {
+        return Err(log(path, &bytes));
+    }
+    day_of(&bytes).map_err(|words| Fault::file(path, words))
 }
 
-fn day_of(bytes: &[u8]) -> Result<Day, String> {
+/// Whether a file is a receiver's log of sentences.
+fn is_log(path: &Path) -> bool {
+    path.extension().is_some_and(|kind| kind.eq_ignore_ascii_case("nmea"))
+}
+
+/// The requests of a receiver's log: what ends with LF or with the file, whole. What a sentence means, and which ones are passed over, the library says.
+fn sentences(bytes: &[u8]) -> impl Iterator<Item = &[u8]> {
+    let whole = bytes.strip_suffix(b"\n").unwrap_or(bytes);
+    let some = !bytes.is_empty();
+    whole.split(|byte| *byte == b'\n').filter(move |_| some)
+}
+
+/// The library of this release has no reader of sentences that can be called, and there is to be no second one.
+fn log(path: &Path, bytes: &[u8]) -> Fault {
+    let lines = count(sentences(bytes).count(), "line");
+    Fault::file(path, format!("is a receiver's log of {lines}, and this release reads no sentences: turn it into CSV, such as by gpsbabel -i nmea -o unicsv"))
+}
+
+/// The lines of a file's bytes.
+pub fn day_of(bytes: &[u8]) -> Result<Day, String> {
     let text = text_of(bytes)?;
     let separator = separator_of(text);
     check_quotes(text, separator)?;
     let mut lines = records(text, separator)?;
     let first = lines.first().ok_or("is empty: lines of latitude, longitude, instant are wanted")?;
-    let decimal_comma = separator != b',';
-    let unnamed = first.get(0).is_some_and(|word| number(word, decimal_comma).is_some());
-    let (names, columns) = if unnamed { (numbered(&lines), Columns { lat: 0, lon: 1, instant: 2 }) } else { (named(first), Columns::of(first)?) };
+    let unnamed = first.get(0).is_some_and(|word| number(word, separator).is_some());
+    let (names, columns) = if unnamed { (numbered(&lines), [0, 1, 2]) } else { (named(first), columns_of(first)?) };
+    let mut requests = requests(text, &lines);
     if !unnamed {
         lines.remove(0);
+        requests.remove(0);
     }
-    check_widths(&lines, names.len())?;
+    check_widths(&lines, &requests, names.len())?;
     let lines: Vec<StringRecord> = lines.iter().map(|line| widened(line, names.len())).collect();
-    Ok(Day { notes: notes(separator, &lines, &columns), names, lines, columns, decimal_comma })
+    let reading = Reading { separator, columns };
+    Ok(Day { notes: notes(&reading, &lines), names, lines, requests, reading })
+}
+
+/// Each record as it stands in the text, where it ends before the next one begins. Empty lines before it are not its own.
+fn requests(text: &str, records: &[StringRecord]) -> Vec<Request> {
+    // `records` puts a byte before the text
+    let begins: Vec<usize> = records.iter().map(|record| record.position().map_or(0, |place| place.byte().saturating_sub(1) as usize)).collect();
+    let ends = begins.iter().skip(1).copied().chain([text.len()]);
+    let (mut line, mut counted) = (1, 0);
+    let request = |(begin, end): (usize, usize)| {
+        let own = text[begin..end].trim_start_matches(['\r', '\n']);
+        let place = end - own.len();
+        line += line_ends(&text[counted..place]);
+        counted = place;
+        Request { line, text: own.trim_end_matches(['\r', '\n']).to_string() }
+    };
+    begins.iter().copied().zip(ends).map(request).collect()
+}
+
+/// How many lines end in a text: by LF, CR LF or, as the reader of CSV has it, CR alone.
+fn line_ends(text: &str) -> usize {
+    text.matches(['\r', '\n']).count() - text.matches("\r\n").count()
 }
 
 /// The text of a file, without a byte order mark.
@@ -59,7 +117,7 @@ fn text_of(bytes: &[u8]) -> Result<&str, String> {
 
 /// What parts the cells, by the first line: a comma, a semicolon or a tab, whichever stands there most often.
 fn separator_of(text: &str) -> u8 {
-    let first = text.lines().next().unwrap_or_default();
+    let first = text.split(['\r', '\n']).next().unwrap_or_default();
     let often = |separator: &u8| first.bytes().filter(|byte| byte == separator).count();
     // of two that stand there as often, the comma
     [b';', b'\t', b','].into_iter().max_by_key(often).unwrap_or(b',')
@@ -78,8 +136,8 @@ fn check_quotes(text: &str, separator: u8) -> Result<(), String> {
             b'"' if begins => (quoted, opened) = (true, line),
             _ => (),
         }
-        line += usize::from(byte == b'\n');
-        begins = !quoted && (byte == separator || byte == b'\n');
+        line += usize::from(byte == b'\n' || byte == b'\r' && bytes.peek() != Some(&b'\n'));
+        begins = !quoted && [separator, b'\r', b'\n'].contains(&byte);
     }
     if quoted {
         return Err(format!("line {opened}: a quote is opened and never closed; close it, or take it out"));
@@ -87,8 +145,10 @@ fn check_quotes(text: &str, separator: u8) -> Result<(), String> {
     Ok(())
 }
 
+/// The records of a text. An empty line stands before it: at the very beginning the reader would drop a byte order mark, which further on it keeps.
 fn records(text: &str, separator: u8) -> Result<Vec<StringRecord>, String> {
-    let mut reader = ReaderBuilder::new().has_headers(false).flexible(true).trim(Trim::All).delimiter(separator).from_reader(text.as_bytes());
+    let text = b"\n".chain(text.as_bytes());
+    let mut reader = ReaderBuilder::new().has_headers(false).flexible(true).trim(Trim::All).delimiter(separator).from_reader(text);
     reader.records().collect::<Result<_, csv::Error>>().map_err(|error| error.to_string())
 }
 
@@ -117,10 +177,9 @@ fn numbered(lines: &[StringRecord]) -> Vec<String> {
 }
 
 /// A cell without a column would be lost.
-fn check_widths(lines: &[StringRecord], width: usize) -> Result<(), String> {
-    let wide = lines.iter().find(|line| line.iter().skip(width).any(|cell| !cell.is_empty()));
-    let Some(wide) = wide else { return Ok(()) };
-    let line = wide.position().map_or(0, csv::Position::line);
+fn check_widths(lines: &[StringRecord], requests: &[Request], width: usize) -> Result<(), String> {
+    let wide = lines.iter().zip(requests).find(|(line, _)| line.iter().skip(width).any(|cell| !cell.is_empty()));
+    let Some((wide, Request { line, .. })) = wide else { return Ok(()) };
     Err(format!("line {line} has {} cells, and the first line names {width} columns: name them all, or take the others out", wide.len()))
 }
 
@@ -130,47 +189,51 @@ fn widened(line: &StringRecord, width: usize) -> StringRecord {
 }
 
 /// What was taken for granted, in words.
-fn notes(separator: u8, lines: &[StringRecord], columns: &Columns) -> Vec<String> {
-    let parted = match separator {
+fn notes(reading: &Reading, lines: &[StringRecord]) -> Vec<String> {
+    let parted = match reading.separator {
         b';' => Some("semicolons"),
         b'\t' => Some("tabs"),
         _ => None,
     };
     let parted = parted.map(|by| format!("cells are parted by {by}; a comma in a number is read as its point"));
-    let cut = lines.iter().filter(|line| line.get(columns.instant).is_some_and(|word| word.contains('.'))).count();
+    let cut = lines.iter().filter(|line| line.get(reading.columns[2]).is_some_and(|word| word.contains('.'))).count();
     let cut = (cut > 0).then(|| format!("{}: the second that has begun is taken", count(cut, "instant with parts of a second")));
     parted.into_iter().chain(cut).collect()
 }
 
-impl Columns {
-    fn of(names: &StringRecord) -> Result<Columns, String> {
-        let column = |known: &[&str]| {
-            let place = names.iter().position(|name| known.contains(&name.to_lowercase().as_str()));
-            place.ok_or_else(|| format!("its first line names no column {:?}; columns latitude, longitude, instant are wanted", known[0]))
-        };
-        Ok(Columns {
-            lat: column(&["latitude", "lat"])?,
-            lon: column(&["longitude", "long", "lon", "lng"])?,
-            instant: column(&["instant", "time", "timestamp"])?,
-        })
-    }
+/// The columns that a first line names.
+fn columns_of(names: &StringRecord) -> Result<[usize; 3], String> {
+    let column = |known: &[&str]| {
+        let place = names.iter().position(|name| known.contains(&name.to_lowercase().as_str()));
+        place.ok_or_else(|| format!("its first line names no column {:?}; columns latitude, longitude, instant are wanted", known[0]))
+    };
+    Ok([column(&["latitude", "lat"])?, column(&["longitude", "long", "lon", "lng"])?, column(&["instant", "time", "timestamp"])?])
 }
 
-impl Day {
-    /// A line's fix and instant, or why there is none.
+impl Reading {
+    /// A request's fix and instant, or why there is none.
+    pub fn slip_of(&self, request: &str) -> Result<Slip, String> {
+        match records(request, self.separator)?.as_slice() {
+            [line] => self.slip(line),
+            lines => Err(format!("a request is one line, and here are {}", lines.len())),
+        }
+    }
+
+    /// The fix and the instant of a line's cells. A text of degrees is rounded once, to the nearest f32.
     pub fn slip(&self, line: &StringRecord) -> Result<Slip, String> {
         let word = |column: usize| line.get(column).unwrap_or_default();
         let degrees = |column: usize, most: f32, what: &str| {
-            let value = number(word(column), self.decimal_comma).filter(|value| value.abs() <= most);
+            let value = number(word(column), self.separator).filter(|value| value.abs() <= most);
             value.ok_or_else(|| format!("{what} {:?} is no number from -{most} to {most}", word(column)))
         };
-        let columns = &self.columns;
-        Ok((degrees(columns.lat, 90.0, "latitude")?, degrees(columns.lon, 180.0, "longitude")?, instant_of(word(columns.instant))?))
+        let [lat, lon, instant] = self.columns;
+        Ok((degrees(lat, 90.0, "latitude")?, degrees(lon, 180.0, "longitude")?, instant_of(word(instant))?))
     }
 }
 
-fn number(word: &str, decimal_comma: bool) -> Option<f32> {
-    if decimal_comma {
+/// Where a comma parts no cells it is a number's point.
+fn number(word: &str, separator: u8) -> Option<f32> {
+    if separator != b',' {
         return word.replacen(',', ".", 1).parse().ok();
     }
     word.parse().ok()
@@ -231,7 +294,7 @@ mod tests {
     }
 
     fn fault(text: &str) -> String {
-        day_of(text.as_bytes()).err().expect("a fault")
+        day_of(text.as_bytes()).unwrap_err()
     }
 
     #[test]
@@ -241,6 +304,26 @@ mod tests {
         // an inch in the middle of a cell opens nothing, and a quoted cell may hold quotes and line ends
         let good = "lat,lon,time,note\n1,2,3,5\" hose\n1,2,3,\"two\nlines and \"\"quotes\"\"\"\n";
         assert_eq!(day_of(good.as_bytes()).unwrap().lines.len(), 2);
+    }
+
+    /// Old files end their lines with CR alone, and the reader of CSV takes them so.
+    #[test]
+    fn lines_that_end_with_a_carriage_return() {
+        assert!(fault("lat,lon,time,note\r1,2,3,x\r\"stray\r1,2,3,x\r").contains("line 3: a quote is opened and never closed"));
+        let day = day_of(b"note;lat;lon;time\rx;1,5;2;3\r\r\ny;1;2;3\r").unwrap();
+        assert_eq!(day.requests.iter().map(|request| (request.line, request.text.as_str())).collect::<Vec<_>>(), [(2, "x;1,5;2;3"), (4, "y;1;2;3")]);
+        assert!(fault("lat,lon,time\r1,2,3,4\r").contains("line 2 has 4 cells"));
+    }
+
+    /// A byte order mark inside a file, where two were joined, is a byte of its line, now and when it is read again.
+    #[test]
+    fn a_mark_further_on() {
+        let day = day_of("\u{feff}1,2,3\n\u{feff}4,5,6\n".as_bytes()).unwrap();
+        assert_eq!(day.reading.slip(&day.lines[0]), Ok((1.0, 2.0, 3)));
+        for (request, line) in day.requests.iter().zip(&day.lines) {
+            assert_eq!(day.reading.slip_of(&request.text), day.reading.slip(line));
+        }
+        assert!(day.reading.slip(&day.lines[1]).unwrap_err().contains("latitude"));
     }
 
     #[test]
@@ -253,20 +336,42 @@ mod tests {
     #[test]
     fn files_of_the_world() {
         let day = day_of("\u{feff}Time;Long;Latitude\n2026-07-01T11:59:59Z;13,40;52,52\n".as_bytes()).unwrap();
-        assert_eq!(day.slip(&day.lines[0]), Ok((52.52, 13.40, 1_782_907_199)));
+        assert_eq!(day.reading.slip(&day.lines[0]), Ok((52.52, 13.40, 1_782_907_199)));
         assert!(day.notes[0].contains("semicolons"));
         let day = day_of(b"lat\tlon\ttime\n52.52\t13.40\t2026-07-01 11:59:59.5Z\n").unwrap();
-        assert_eq!(day.slip(&day.lines[0]), Ok((52.52, 13.40, 1_782_907_199)));
+        assert_eq!(day.reading.slip(&day.lines[0]), Ok((52.52, 13.40, 1_782_907_199)));
         assert_eq!(day.notes, ["cells are parted by tabs; a comma in a number is read as its point", "1 instant with parts of a second: the second that has begun is taken"]);
         assert!(day_of(b"lat,lon,time,depot\n1,2,3,M\xfcnchen\n").err().unwrap().contains("line 2 is not UTF-8"));
     }
 
     #[test]
     fn columns_by_name() {
-        let columns = Columns::of(&vec!["slip", "Time", "lon", "Latitude"].into()).unwrap();
-        assert_eq!((columns.lat, columns.lon, columns.instant), (3, 2, 1));
-        assert!(Columns::of(&vec!["slip", "lat", "lon"].into()).unwrap_err().contains("no column \"instant\""));
+        assert_eq!(columns_of(&vec!["slip", "Time", "lon", "Latitude"].into()), Ok([3, 2, 1]));
+        assert!(columns_of(&vec!["slip", "lat", "lon"].into()).unwrap_err().contains("no column \"instant\""));
         let day = day_of(b"note,lat,lon,time,note\na,1,2,3,b\n").unwrap();
         assert_eq!(day.names, ["note", "lat", "lon", "time", "note (2)"]);
+    }
+
+    #[test]
+    fn requests_are_the_lines_as_they_stand() {
+        let text = "lat,lon,time,note\r\n\r\n1, 2,3,x\r\n1,2,3,\"two\nlines\"\n\n\n4,5,6, \n";
+        let day = day_of(text.as_bytes()).unwrap();
+        let request = |line, text: &str| Request { line, text: text.into() };
+        assert_eq!(day.requests, [request(3, "1, 2,3,x"), request(4, "1,2,3,\"two\nlines\""), request(8, "4,5,6, ")]);
+        for (request, line) in day.requests.iter().zip(&day.lines) {
+            assert_eq!(day.reading.slip_of(&request.text), day.reading.slip(line));
+        }
+        assert!(day.reading.slip_of("1,2,3\n1,2,3").unwrap_err().contains("here are 2"));
+        let unnamed = day_of(b"1,2,3\n").unwrap();
+        assert_eq!(unnamed.requests, [request(1, "1,2,3")]);
+    }
+
+    #[test]
+    fn sentences_are_cut_at_their_line_ends() {
+        let log = b"$GPGGA,1*00\r\n\n$GPRMC,2\xff*00\r\n$GPRMC";
+        let lines: Vec<&[u8]> = sentences(log).collect();
+        assert_eq!(lines, [&b"$GPGGA,1*00\r"[..], b"", b"$GPRMC,2\xff*00\r", b"$GPRMC"]);
+        assert_eq!((sentences(b"").count(), sentences(b"\n").count(), sentences(b"\n\n").count()), (0, 1, 2));
+        assert!(is_log(Path::new("a/day.NMEA")) && !is_log(Path::new("nmea")) && !is_log(Path::new("-")));
     }
 }

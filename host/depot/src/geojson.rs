@@ -1,7 +1,7 @@
 //! Polygons and their properties, out of GeoJSON (RFC 7946).
 
+use crate::drawing;
 use crate::fault::Fault;
-use crate::source;
 use serde_json::{Map as Object, Value};
 use std::fmt;
 use std::path::Path;
@@ -54,9 +54,9 @@ pub fn read(path: &Path) -> Result<Collection, Fault> {
 
 /// A file's JSON, and what it holds.
 pub fn read_with(path: &Path) -> Result<(Value, Collection), Fault> {
-    let text = source::bytes(path)?;
-    let value = serde_json::from_slice(source::unmarked(&text)).map_err(|error| Fault::file(path, format!("is no JSON: {error}")))?;
-    let all = collect(&value).map_err(|words| Fault::file(path, words))?;
+    let (value, notes) = drawing::read(path)?;
+    let mut all = collect(&value).map_err(|words| Fault::file(path, words))?;
+    all.notes.splice(..0, notes);
     Ok((value, all))
 }
 

@@ -23,12 +23,17 @@ pub fn run(path: &Path, output: &Path) -> Result<Said, Fault> {
     )))
 }
 
-/// Looks a fix up through the index of a file.
-pub fn lookup(path: &Path, (file, map): (&Path, &Map<Vec<u8>>), (lat, lon): (f32, f32)) -> Result<Zones, Fault> {
-    let index = Index::read(path, map).map_err(|error| match error {
+/// Reads the index of a file, and holds it against the file.
+pub fn read(path: &Path, (file, map): (&Path, &Map<Vec<u8>>)) -> Result<Index, Fault> {
+    Index::read(path, map).map_err(|error| match error {
         Error::Refused(why) if why.number == Number::OtherIndex => other(path, file, why),
         error => Fault::map(path, error),
-    })?;
+    })
+}
+
+/// Looks a fix up through the index of a file.
+pub fn lookup(path: &Path, (file, map): (&Path, &Map<Vec<u8>>), (lat, lon): (f32, f32)) -> Result<Zones, Fault> {
+    let index = read(path, (file, map))?;
     map.lookup_through(&index, lat, lon).map_err(|error| Fault::map(file, error))
 }
 

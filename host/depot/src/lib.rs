@@ -1,9 +1,12 @@
 //! What the program `depot` does, verb by verb.
 
 pub mod build;
+pub mod bundle;
 pub mod check;
 pub mod day;
 pub mod draw;
+pub mod drawing;
+pub mod evidence;
 pub mod fault;
 pub mod fixes;
 pub mod geojson;
@@ -19,7 +22,9 @@ pub mod pieces;
 pub mod plan;
 pub mod salvage;
 pub mod show;
+pub mod slips;
 pub mod source;
 pub mod stamp;
+pub mod verify;
 pub mod words;
 pub mod zone;

@@ -8,7 +8,8 @@ use depot::plan::Form;
 use depot::source::STANDARD;
 use depot::words::shown;
 use depot::zone::Way;
-use depot::{check, index, page, salvage, show, stamp, zone};
+use depot::slips::Files;
+use depot::{bundle, check, index, page, salvage, show, stamp, verify, zone};
 use std::io::Write;
 use std::path::{Path, PathBuf};
 use std::process::ExitCode;
@@ -88,15 +89,18 @@ enum Verb {
         output: Option<PathBuf>,
     },
     /// Say which zones hold a fix, and how the search ended
-    #[command(after_help = "Examples:\n  depot zone 52.52 13.40 examples/world-9.plb --explain\n  depot zone 52.52 13.40 examples/world-9.plb --index world-9.index\n\nExit status 0 only if a zone holds the fix and the search was whole.")]
+    ///
+    /// The file comes first and then the fix; LAT LON FILE, as it was before, is taken too.
+    #[command(after_help = "Examples:\n  depot zone examples/world-9.plb 52.52 13.40 --explain\n  depot zone examples/world-9.plb 52.52 13.40 --index world-9.index\n\nExit status 0 only if a zone holds the fix and the search was whole.")]
     Zone {
-        /// Latitude in degrees
-        #[arg(allow_negative_numbers = true, value_parser = latitude)]
-        lat: f64,
-        /// Longitude in degrees
-        #[arg(allow_negative_numbers = true, value_parser = longitude)]
-        lon: f64,
+        #[arg(allow_negative_numbers = true)]
         file: PathBuf,
+        /// Latitude in degrees
+        #[arg(allow_negative_numbers = true)]
+        lat: String,
+        /// Longitude in degrees
+        #[arg(allow_negative_numbers = true)]
+        lon: String,
         /// Refuse a number that the file's end cuts
         #[arg(long)]
         strict: bool,
@@ -138,7 +142,7 @@ enum Verb {
     ///
     /// A line has a latitude, a longitude and an instant: seconds from 1970, or like 2026-07-01T11:59:59Z. The first line may name
     /// the columns; other columns are kept. Each way of not stamping has a column of its own.
-    #[command(after_help = "Example:\n  depot stamp examples/day.csv -o slips.csv examples/world-9.plb /usr/share/zoneinfo\n\nExit status 0 only if every line was stamped.")]
+    #[command(after_help = "Examples:\n  depot stamp examples/day.csv -o slips.csv examples/world-9.plb /usr/share/zoneinfo\n  depot stamp examples/day.csv -o slips.csv examples/world-9.plb /usr/share/zoneinfo --evidence day.jsonl\n\nExit status 0 only if every line was stamped.")]
     Stamp {
         /// CSV: latitude, longitude, instant
         day: PathBuf,
@@ -149,6 +153,38 @@ enum Verb {
         map: PathBuf,
         /// Folder with the zones' TZif files
         folder: PathBuf,
+        /// Read only the entries near each fix, by an index of the map (depot index); no slip is another by that
+        #[arg(long, value_name = "INDEX")]
+        index: Option<PathBuf>,
+        /// Write what each slip rests on, for depot verify
+        #[arg(long, value_name = "FILE")]
+        evidence: Option<PathBuf>,
+    },
+    /// Work out again every slip of a day's evidence
+    ///
+    /// Says first where map, zones or library are others than those of the slips; then which slips do not come out again.
+    #[command(after_help = "Example:\n  depot verify day.jsonl examples/world-9.plb /usr/share/zoneinfo\n\nExit status 0 only if the files are those of the slips and every slip comes out again.")]
+    Verify {
+        /// What depot stamp --evidence wrote
+        evidence: PathBuf,
+        /// PLB file of time zones
+        map: PathBuf,
+        /// Folder with the zones' TZif files
+        folder: PathBuf,
+    },
+    /// Write the zones' TZif files into one file
+    ///
+    /// All zones of a folder, or those that a map names; a file that counts leap seconds or is refused, and a name of more than 40 bytes, is left out and told.
+    #[command(after_help = "Examples:\n  depot bundle /usr/share/zoneinfo -o zones.tzdata\n  depot bundle /usr/share/zoneinfo -o zones.tzdata --map examples/world-9.plb\n\nExit status 1 where a zone that the map names is left out.")]
+    Bundle {
+        /// Folder with the zones' TZif files
+        folder: PathBuf,
+        /// The file to write
+        #[arg(short, long)]
+        output: PathBuf,
+        /// PLB file of time zones: only those that it names; of several, those that any of them does
+        #[arg(long, value_name = "MAP")]
+        map: Vec<PathBuf>,
     },
     /// Draw a file's yards, each pixel a lookup
     ///
@@ -195,25 +231,30 @@ impl Verb {
     /// Where it writes to.
     fn output(&self) -> Option<&Path> {
         match self {
+            Verb::Stamp { evidence: Some(evidence), .. } if evidence == Path::new(STANDARD) => Some(evidence),
             Verb::Build { output, mend, .. } => mend.as_deref().filter(|mend| *mend == Path::new(STANDARD)).or(output.as_deref()),
             Verb::Show { output, .. } => output.as_deref(),
             Verb::Index { output, .. } | Verb::Salvage { output, .. } | Verb::Stamp { output, .. } | Verb::Draw { output, .. } | Verb::Page { output, .. } => Some(output),
-            Verb::Zone { .. } | Verb::Check { .. } => None,
+            Verb::Bundle { output, .. } => Some(output),
+            Verb::Zone { .. } | Verb::Check { .. } | Verb::Verify { .. } => None,
         }
     }
 }
 
-fn latitude(word: &str) -> Result<f64, String> {
-    degrees(word, 90.0)
+/// A file and a fix, whichever stands first. A text of degrees is rounded once, to the nearest f32.
+fn file_and_fix(file: PathBuf, lat: String, lon: String) -> Result<(PathBuf, f32, f32), Fault> {
+    let is_number = |word: &str| word.parse::<f32>().is_ok();
+    let first = file.to_str().filter(|word| is_number(word) && is_number(&lat) && !is_number(&lon)).map(str::to_string);
+    let (file, lat, lon) = match first {
+        Some(first) => (lon.into(), first, lat),
+        None => (file, lat, lon),
+    };
+    Ok((file, degrees(&lat, 90.0)?, degrees(&lon, 180.0)?))
 }
 
-fn longitude(word: &str) -> Result<f64, String> {
-    degrees(word, 180.0)
-}
-
-fn degrees(word: &str, most: f64) -> Result<f64, String> {
-    let value = word.parse::<f64>().ok().filter(|value| value.abs() <= most);
-    value.ok_or_else(|| format!("a number of degrees from -{most} to {most} is wanted; the latitude comes first"))
+fn degrees(word: &str, most: f32) -> Result<f32, Fault> {
+    let value = word.parse::<f32>().ok().filter(|value| value.abs() <= most);
+    value.ok_or_else(|| Fault::NotRun(format!("{word:?}: a number of degrees from -{most} to {most} is wanted; the file comes first, then the latitude, then the longitude")))
 }
 
 fn run(verb: Verb) -> Result<Said, Fault> {
@@ -228,13 +269,19 @@ fn run(verb: Verb) -> Result<Said, Fault> {
         Verb::Show { file, geojson: true, output } => show::geojson(&file, output.as_deref()),
         Verb::Show { file, .. } => show::run(&file),
         Verb::Zone { lat, lon, file, strict, index, explain } => {
+            let (file, lat, lon) = file_and_fix(file, lat, lon)?;
             let plain = if strict { Way::Strict } else { Way::Plain };
             zone::run(&file, lat, lon, index.map_or(plain, Way::Through), explain)
         }
         Verb::Index { file, output } => index::run(&file, &output),
         Verb::Check { file } => check::run(&file),
         Verb::Salvage { file, output } => salvage::run(&file, &output),
-        Verb::Stamp { day, output, map, folder } => stamp::run(&day, &output, &map, &folder),
+        Verb::Stamp { day, output, map, folder, index, evidence } => {
+            let files = Files { map: &map, zones: &folder, index: index.as_deref() };
+            stamp::run(&day, &output, &files, evidence.as_deref())
+        }
+        Verb::Verify { evidence, map, folder } => verify::run(&evidence, &Files { map: &map, zones: &folder, index: None }),
+        Verb::Bundle { folder, output, map } => bundle::run(&folder, &output, &map),
         Verb::Draw { file, output, columns, frame, plain } => draw::run(&file, &output, columns, frame, plain),
         Verb::Page { file, output, day, drawn, columns } => page::run(&file, &output, columns, day.as_deref(), drawn.as_deref()),
     }

@@ -1,16 +1,14 @@
 //! `depot stamp`: a day's fixes in, its slips' hours out.
 
 use crate::day::{self, unlike, Day};
+use crate::evidence::Basis;
 use crate::fault::{Fault, Said};
-use crate::words::count;
-use crate::{output, source};
+use crate::output;
+use crate::slips::{told, Files};
+use crate::words::{count, grouped};
 use csv::Writer;
-use rayon::prelude::*;
 use std::path::Path;
 use uskelzar::{Hour, NotStamped, Printer, Slip};
-
-/// So many slips are asked for at once; the same on every machine, however many processors share them.
-const AT_ONCE: usize = 512;
 
 /// The columns of a stamped slip, behind those of its line.
 pub(crate) const HOUR: [&str; 5] = ["local", "offset", "daylight", "abbreviation", "zone"];
@@ -18,16 +16,18 @@ pub(crate) const HOUR: [&str; 5] = ["local", "offset", "daylight", "abbreviation
 pub(crate) const WAYS: [&str; 12] =
     ["unreadable line", "map refused", "not whole", "no zone", "zone unnamed", "bad zone name", "no zone file", "zone file refused", "hour unknown", "outside the years", "hours differ", "no place"];
 
-/// Stamps every line of a file, and writes the slips.
-pub fn run(day: &Path, output: &Path, map: &Path, folder: &Path) -> Result<Said, Fault> {
-    if !folder.is_dir() {
-        return Err(Fault::file(folder, "is no folder: give the one with the zones' TZif files, such as /usr/share/zoneinfo"));
+/// Stamps every line of a file, and writes the slips; and what each of them rests on, where it is asked for.
+pub fn run(day: &Path, output: &Path, files: &Files, evidence: Option<&Path>) -> Result<Said, Fault> {
+    if evidence == Some(output) {
+        return Err(Fault::file(output, "is to be the slips' file and their evidence: give two names with -o and --evidence"));
     }
-    let printer = Printer::new(source::open(map, false)?, folder);
+    let printer = files.printer()?;
     let read = day::read(day)?;
-    let slips = stamped(&printer, &read);
+    let basis = evidence.map(|_| Basis::of(files, &printer)).transpose()?;
+    let (slips, lines) = stamped(&printer, &read, basis.as_ref());
     let names = names(&read);
-    output::write_whole(output, &[day, map], |out| {
+    let inputs: Vec<&Path> = [day].into_iter().chain(files.inputs()).collect();
+    output::write_whole(output, &inputs, |out| {
         let mut out = Writer::from_writer(out);
         out.write_record(&names)?;
         for (line, slip) in read.lines.iter().zip(&slips) {
@@ -35,6 +35,10 @@ pub fn run(day: &Path, output: &Path, map: &Path, folder: &Path) -> Result<Said,
         }
         out.flush()
     })?;
+    if let Some(evidence) = evidence {
+        let inputs: Vec<&Path> = inputs.into_iter().chain([output]).collect();
+        output::write_whole(evidence, &inputs, |out| lines.iter().try_for_each(|line| out.write_all(line.as_bytes())))?;
+    }
     Ok(summary(output, &read, &slips))
 }
 
@@ -50,31 +54,27 @@ fn names(day: &Day) -> Vec<String> {
 /// The hours of a line's slip, or the way of not stamping it and its words.
 type Stamped = Result<Vec<Hour>, (usize, String)>;
 
-/// Every line's slip, in the lines' order; those that can be read are asked for many at once, on all processors.
-fn stamped(printer: &Printer<Vec<u8>>, day: &Day) -> Vec<Stamped> {
-    let bar = output::progress(day.lines.len(), "slips");
-    let slips: Vec<Result<Slip, String>> = day.lines.iter().map(|line| day.slip(line)).collect();
-    let good: Vec<Slip> = slips.iter().flatten().copied().collect();
-    let some_told = |some: &[Slip]| {
-        let told = printer.stamp_many(some);
-        bar.inc(some.len() as u64);
-        told.into_iter().map(|hours| hours.map_err(|why| (way(&why), why.to_string()))).collect()
-    };
-    let told: Vec<Vec<Stamped>> = good.par_chunks(AT_ONCE).map(some_told).collect();
-    let mut told = told.into_iter().flatten();
-    let all = slips.into_iter().map(|slip| slip.map_err(|words| (0, words)).and_then(|_| told.next().expect("one for each")));
-    let all = all.collect();
-    bar.finish_and_clear();
-    all
+/// Every line's slip, in the lines' order, and its evidence where there is a basis for it.
+fn stamped(printer: &Printer<Vec<u8>>, day: &Day, basis: Option<&Basis>) -> (Vec<Stamped>, Vec<String>) {
+    let slips: Vec<Result<Slip, String>> = day.lines.iter().map(|line| day.reading.slip(line)).collect();
+    let all = told(printer, &slips, |i, traced| {
+        let evidence = basis.map(|basis| format!("{}\n", basis.evidence(&day.requests[i], &day.reading, &slips[i], &traced)));
+        let stamped = match traced {
+            Ok(traced) => traced.hours.map_err(|why| (way(&why), why.to_string())),
+            Err(words) => Err((0, words.to_string())),
+        };
+        (stamped, evidence.unwrap_or_default())
+    });
+    all.into_iter().unzip()
 }
 
 fn summary(output: &Path, day: &Day, slips: &[Stamped]) -> Said {
     let stamped = slips.iter().filter(|slip| slip.is_ok()).count();
-    let mut text = format!("{}: {}, {stamped} stamped", output.display(), count(slips.len(), "line"));
+    let mut text = format!("{}: {}, {} stamped", output.display(), count(slips.len(), "line"), grouped(stamped));
     for (number, way) in WAYS.iter().enumerate() {
         let met = slips.iter().filter(|slip| matches!(slip, Err((kind, _)) if *kind == number)).count();
         if met > 0 {
-            text.push_str(&format!(", {met} {way}"));
+            text.push_str(&format!(", {} {way}", grouped(met)));
         }
     }
     text.push('\n');

@@ -4,7 +4,7 @@ use crate::fault::{Fault, Said};
 use crate::{index, source, words};
 use std::fmt::Write;
 use std::path::{Path, PathBuf};
-use uskelzar::{End, Field, Map, Table};
+use uskelzar::{zone_name, End, Field, Map, Table};
 
 /// How a file is read.
 pub enum Way {
@@ -16,9 +16,8 @@ pub enum Way {
 }
 
 /// Says the zones that hold a fix, and how the search ended; explained, with the entry behind each.
-pub fn run(path: &Path, lat: f64, lon: f64, way: Way, explain: bool) -> Result<Said, Fault> {
+pub fn run(path: &Path, lat: f32, lon: f32, way: Way, explain: bool) -> Result<Said, Fault> {
     let map = source::open(path, matches!(way, Way::Strict))?;
-    let (lat, lon) = (lat as f32, lon as f32);
     let refused = |error| Fault::map(path, error);
     let zones = match way {
         Way::Plain => map.lookup(lat, lon).map_err(refused)?,
@@ -56,7 +55,7 @@ fn behind(map: &Map<Vec<u8>>, place: u32) -> String {
 pub fn title(table: Table, fields: &[Field], metadata: u32) -> String {
     let field = |name| fields.iter().rev().find(|field| field.name == name).map(|field| field.value.as_str());
     let joined = match table {
-        Table::TimeZones => field("TimezoneIdPrefix").zip(field("TimezoneId")).map(|(prefix, id)| format!("{prefix}{id}")),
+        Table::TimeZones => zone_name(fields),
         Table::Countries => field("Name").map(str::to_string),
     };
     let name = joined.filter(|name| !name.is_empty()).unwrap_or_else(|| format!("zone {metadata}"));

@@ -20,18 +20,18 @@ fn said(ran: &Ran, status: i32, words: &[&str]) {
 
 #[test]
 fn help_has_an_example_for_each_verb() {
-    said(&depot(&["--help"]), 0, &["build", "show", "zone", "check", "salvage", "index", "stamp", "draw", "page", "Exit status"]);
-    for verb in ["build", "show", "zone", "check", "salvage", "index", "stamp", "draw", "page"] {
+    said(&depot(&["--help"]), 0, &["build", "show", "zone", "check", "salvage", "index", "stamp", "verify", "bundle", "draw", "page", "Exit status"]);
+    for verb in ["build", "show", "zone", "check", "salvage", "index", "stamp", "verify", "bundle", "draw", "page"] {
         said(&depot(&[verb, "--help"]), 0, &["Example", &format!("depot {verb} ")]);
     }
 }
 
 #[test]
 fn words_that_are_no_call() {
-    for words in [&[][..], &["fly"], &["zone", "52.52"], &["zone", "95", "13", WORLD], &["zone", "x", "13", WORLD], &["zone", "5", "181", WORLD]] {
+    for words in [&[][..], &["fly"], &["zone", "52.52"], &["zone", "95", "13", WORLD], &["zone", "x", "13", WORLD], &["zone", "5", "181", WORLD], &["zone", WORLD, "95", "13"], &["zone", WORLD, "5", "nan"], &["zone", "1", "2", "3"]] {
         said(&depot(words), 2, &[]);
     }
-    said(&depot(&["zone", "95", "13", WORLD]), 2, &["the latitude comes first"]);
+    said(&depot(&["zone", "95", "13", WORLD]), 2, &["\"95\": a number of degrees from -90 to 90", "then the latitude"]);
     said(&depot(&["draw", WORLD, "-o", "x.png", "--frame", "1,2,3"]), 2, &["SOUTH,WEST,NORTH,EAST"]);
     said(&depot(&["build", YARDS]), 2, &["--output"]);
     for option in ["--precision=32", "--precision=0", "--version=2", "--type=X"] {
@@ -59,7 +59,11 @@ fn files_that_are_not_there_or_no_maps() {
 
 #[test]
 fn zones_of_the_world() {
-    said(&depot(&["zone", "52.52", "13.40", WORLD]), 0, &["Europe/Berlin: in the zone", "  CountryName: Germany", "search: whole"]);
+    let berlin = depot(&["zone", WORLD, "52.52", "13.40"]);
+    said(&berlin, 0, &["Europe/Berlin: in the zone", "  CountryName: Germany", "search: whole"]);
+    // the order of before
+    assert_eq!(depot(&["zone", "52.52", "13.40", WORLD]), berlin);
+    said(&depot(&["zone", WORLD, "-33.87", "-151.21"]), 1, &["no zone holds the fix"]);
     let explained = depot(&["zone", "52.52", "13.40", WORLD, "--explain", "--strict"]);
     said(&explained, 0, &["entry 577 at byte 5586: box 47.109375 6.328125 to 54.843750 14.765625, border at byte 33503, 87 points", "0.786118 degrees away"]);
     said(&depot(&["zone", "-33.87", "151.21", WORLD]), 0, &["Australia/Sydney"]);

@@ -38,7 +38,7 @@ pub fn read(path: &Path) -> Result<Day, Fault> {
     if !day.names.iter().skip(own).map(String::as_str).eq(HOUR.into_iter().chain(WAYS)) {
         return Err(Fault::file(path, "has not the columns of stamped slips: give what `depot stamp day.csv -o slips.csv MAP TZDIR` wrote"));
     }
-    let slip = |line: &StringRecord| slip_of(line, own, day.slip(line).ok().map(|(lat, lon, _)| (lat, lon)));
+    let slip = |line: &StringRecord| slip_of(line, own, day.reading.slip(line).ok().map(|(lat, lon, _)| (lat, lon)));
     Ok(Day { names: day.names.iter().take(own).cloned().collect(), slips: day.lines.iter().map(slip).collect() })
 }
 

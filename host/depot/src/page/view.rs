@@ -215,7 +215,7 @@ fn data(page: &Page) -> Value {
         levels.extend(thinning::levels(&ring.points, scale));
     }
     json!({
-        "command": format!("./depot zone LAT LON {}", shell_word(&page.path.to_string_lossy())),
+        "command": format!("./depot zone {}", shell_word(&page.path.to_string_lossy())),
         "frame": [frame.south, frame.west, frame.north, frame.east],
         "wide": frame.width(),
         "step": grid.step(),
