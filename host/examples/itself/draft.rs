@@ -90,7 +90,7 @@ impl Call {
     fn on(&self, mut yards: Vec<Yard>) -> Vec<Yard> {
         match self {
             Call::Add(yard) => yards.push(yard.clone()),
-            Call::Replace(at, field, text) => yards.iter_mut().nth(*at).into_iter().for_each(|yard| yard.values[*field].clone_from(text)),
+            Call::Replace(at, field, text) => yards.get_mut(*at).into_iter().for_each(|yard| yard.values[*field].clone_from(text)),
             Call::Drop => drop(yards.pop()),
             Call::Clear => yards.clear(),
         }
