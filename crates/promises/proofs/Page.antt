@@ -156,4 +156,4 @@ request-instant text e s w = request.request-instant text e s w
 
 -- and the file that is found in a bundle lies in its data, where the first entry of the name says.
 pub found-first : (bundle name : List ℕ) {file : File} → B.told (F.At file) ≡ findOf bundle name → FoundAt bundle name file
-found-first bundle name e = bundle.found-first bundle name e
+found-first = bundle.found-first
