@@ -1,2 +1,1 @@
 pub mod Offers
-pub mod Puts

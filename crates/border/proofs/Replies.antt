@@ -1,7 +1,7 @@
 -- A promise permits one reply: what an answer says determines it. Assumes nothing.
 use mathlib.Core.Path.{_≡_, refl, sym, ap, _∙_}
 use Rattle.numbers.specs.Answer.{Answer, found, failed, refused}
-use Rattle.border.specs.{Told.{told, steppedBy}, Trace.{Given, reaches, ended}}
+use Rattle.border.specs.{inner.Told.{told, steppedBy}, Trace.{Given, reaches, ended}}
 use Rattle.border.specs.declared.reader.{Reader.{Reader}, Next.{Next, the-variants.{Point, Ended, Failed, Refused}}, Reply.{Reply}}
 
 untold : Answer Given → Next

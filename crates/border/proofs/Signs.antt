@@ -1,20 +1,14 @@
 -- Coordinates and windings are i32: read back from their bits, widened, compared. Assumes nothing.
 use Prim.Native.Nat.{ℕ, suc, _^_}
 use native.Mathlib.Omega.{arith}
-use mathlib.Core.{Path.{_≡_, refl, sym, _∙_, subst}, Bool.{Bool, true, false, _&&_}}
-use lib.{Dec.{T, ltb, leb}, IntN.{ℤ, pos, negsuc, _+ℤ_, _-ℤ_}, Signed.{mag, leZ}}
+use mathlib.Core.{Path.{_≡_, refl, sym, _∙_}, Bool.{Bool, true, false, _&&_}}
+use lib.{Dec.{ltb, leb}, IntN.{ℤ, pos, negsuc, _+ℤ_, _-ℤ_}, Signed.{mag, leZ}}
 use mir.{Syntax.{w32, w64}, Val.{SFits, toZ, ofZ}, Facts.{toZ-ofZ}}
 use borrow.Author.Tests.{ltb-true, leb-true, lt-ltb, le-leb}
-use Rattle.border.proofs.place.Whole.{widened, sum-fits, difference-fits}
+use Rattle.numbers.proofs.write.Gaps.{widened}
+use Rattle.border.proofs.place.Whole.{sum-fits, difference-fits}
 
 -- ---- tests
-
-pub differ : {A : Type 0} → false ≡ true → A
-differ e = absurd (subst T (sym e) tt)
-
-pub both : (s t : Bool) → (s && t) ≡ true → (s ≡ true) × (t ≡ true)
-both true t e = (refl, e)
-both false t e = differ e
 
 pub and-true : (t : Bool) → (t && true) ≡ t
 and-true true = refl

@@ -3,5 +3,5 @@ pub mod Box
 pub mod Reader
 pub mod Encoding
 pub mod Trace
-pub mod Told
 pub mod Written
+pub mod inner

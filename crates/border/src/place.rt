@@ -2,7 +2,7 @@
 ghost use mathlib.Core.Path.{_≡_};
 ghost use Prim.Native.Nat.{_^_};
 ghost use lib.{Dec.{ltb}, Signed.{mag}};
-ghost use Rattle.border.specs.{Place.{isStill, movedBy, negated}, Told.{toldMoved, toldAway}};
+ghost use Rattle.border.specs.{Place.{isStill, movedBy, negated}, inner.Told.{toldMoved, toldAway}};
 use numbers::point::RawPoint;
 
 pub struct FixedLat(pub i32);

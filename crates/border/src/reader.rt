@@ -4,7 +4,7 @@ ghost use lib.IntN.{pos, negsuc};
 ghost use Rattle.numbers.specs.{Answer.{found}, Varint.{readingOf}};
 ghost use Rattle.numbers.specs.Varint as varint;
 ghost use Rattle.border.specs.Reader.{onward, arrived, closing, advanced, shownBy, plainMove, plainPair, plainTurn, dataPlace, asI64, opened, reference, marker, forwardFrom, backwardFrom, packedTurn, turnOf};
-ghost use Rattle.border.specs.{Told.{counted, stopped, toldRun, toldTurn, told, settledBy, steppedBy}, Trace.{nextPoint, borderAt}};
+ghost use Rattle.border.specs.{inner.Told.{counted, stopped, toldRun, toldTurn, told, settledBy, steppedBy}, Trace.{nextPoint, borderAt}};
 use crate::place::Away;
 use crate::place::FixedLat;
 use crate::place::FixedLon;

@@ -4,19 +4,19 @@ use borrow.Author.Tests.{le-leb, lt-leb, ltb-true}
 use lib.{Dec.{ltb, leb, eqb}, IntN.{ℤ}, ListN.{length, take, drop, length-replicate}}
 use mathlib.Core.{Bool.{Bool, true, false, _&&_}, List.{List, [], _∷_, _++_}, Path.{_≡_, refl, sym, ap, subst, _∙_}}
 use native.Mathlib.Omega.{arith}
-use Rattle.writer.{proofs.Stores.{stored-front}, specs.{Stored.{Stored}, Writer.{borderOf, every}}}
+use Rattle.writer.{proofs.Stores.{stored-front}, specs.{inner.Stored.{Stored}, Writer.{borderOf, every}}}
 use Rattle.builder.proofs.Counting.{counted-is, readable-is, values-many, yards-many}
 use Rattle.builder.specs.Borders.{Drawn, drawnFrom, drawnOf, passed, withBorder}
 use Rattle.builder.specs.File.{Room, areTexts, bordersGood, builtOf, counted, fileOf, fitted, known, readable, upTo}
 use Rattle.builder.specs.{Yards.{Lent, Plan, Yard, countedLengths, countsGood, cutBy, lengthsGood, planOf, valuesFrom, yardsFrom}, declared.borders.Border.{Border}}
 use Rattle.builder.specs.declared.borders.Border.the-variants as B
-use Rattle.builder.{proofs.drawing.Sections.{appended-fits, drawn-alone}, specs.Drawing.Section.{DrawsAll}}
-use Rattle.builder.specs.Drawing.Section as Section
+use Rattle.builder.{proofs.drawing.Sections.{appended-fits, drawn-alone}, specs.inner.Drawing.Section.{DrawsAll}}
+use Rattle.builder.specs.inner.Drawing.Section as Section
 use Rattle.build.proofs.entries.Tabled.{drawn-many}
 use Rattle.numbers.proofs.{Lists.{zeros-drop}, Replies.{demanded, given-from}}
 use Rattle.numbers.specs.{Lists.{padded, zeros}, Reply.{Reply, given, refused, plain, demand, _>>=_, _>>_}, declared.refusal.Refusal.{Refusal}}
-use Rattle.build.proofs.Planned.{both}
-use Rattle.build.specs.{Checked.{checked, lentAs}, Room.{enoughFor, needOf, roomOf}, Whole.{Builds, Drew, Fills, Good, Settles, Starts, endsAs, fileFor, toldBuilt}}
+use Rattle.numbers.proofs.Tests.{both}
+use Rattle.build.specs.{Checked.{checked, lentAs}, Room.{enoughFor, needOf, roomOf}, Whole.{Builds, toldBuilt}, inner.Whole.{Drew, Fills, Good, Settles, Starts, endsAs, fileFor}}
 use Rattle.build.specs.declared.{file.Built.{Built}, room.Work.{Work}}
 use Rattle.build.specs.declared.file.Built.the-variants as W
 

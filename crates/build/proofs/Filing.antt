@@ -8,7 +8,7 @@ use Rattle.builder.proofs.{Counting.{cut-many, lengths-room, yards-many}, Inlin
 use Rattle.builder.specs.{Entries.{entryOfWord, tableFrom, tableOf}, File.{assembled, entryOf, fileOf, headFrom, headOf}}
 use Rattle.builder.specs.{Metadata.{inlined, isRemote, metadataOf, recordsOf, remotes}, Sharing.{firstsAfter, goodOnes, isIn, sameText, sameTexts, firsts}}
 use Rattle.builder.specs.Yards.{Lent, Text, Yard, cutBy, planOf, sumOf, yardsFrom}
-use Rattle.builder.specs.Drawing.Section.{spread}
+use Rattle.builder.specs.inner.Drawing.Section.{spread}
 use Rattle.build.proofs.entries.Tabled.{begins-are, table-of}
 use Rattle.build.specs.Entries.Corners.{InOrder}
 use Rattle.builder.specs.Grouping.Keys.{numbersFrom}
@@ -16,10 +16,11 @@ use Rattle.build.specs.Metadata.Kept.{beginOf, fieldsTo, joined, valuesT
 use Rattle.numbers.specs.Answer.{if_then_else_}
 use Rattle.build.proofs.recording.{Fewer.{fields-few, fields-short, layout-few}, Spreading.{spread-size}}
 use Rattle.build.proofs.recording.Written.{recorded-few, recorded-lengths, recorded-section, recorded-size, recorded-texts, recorded-words}
-use Rattle.build.specs.Recording.Recorded.{Laying, Recorded}
-use Rattle.build.proofs.{Planned.{both, all-lengths, few-names}, Slices.{texts-few, value-all, value-bound, value-few, value-whole, plan-values, told, sums}}
+use Rattle.build.specs.inner.Recording.Recorded.{Laying, Recorded}
+use Rattle.numbers.proofs.Tests.{both}
+use Rattle.build.proofs.{Planned.{all-lengths, few-names}, Slices.{texts-few, value-all, value-bound, value-few, value-whole, plan-values, told, sums}}
 use Rattle.build.proofs.Valued.{cut-take}
-use Rattle.build.specs.{Checked.{lentAs}, Puts.{Headed, SectionIn, sectionFrom}, Room.{enough, enoughFor, needOf}, Whole.{Drew, Filling, fileFor}}
+use Rattle.build.specs.{Checked.{lentAs}, inner.{Puts.{Headed, SectionIn, sectionFrom}, Whole.{Drew, Filling, fileFor}}, Room.{enough, enoughFor, needOf}}
 use Rattle.build.specs.declared.room.{Need.{Need}, Work.{Work}}
 
 -- ---- long enough

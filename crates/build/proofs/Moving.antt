@@ -7,7 +7,7 @@ use Rattle.builder.specs.{File.{builtOf, upTo}, Yards.{Lent, planOf}, declared.
 use Rattle.builder.specs.declared.borders.Border.the-variants as B
 use Rattle.numbers.specs.Lists.{zeros}
 use Rattle.build.proofs.Ending.{drawn-fills, settled-builds}
-use Rattle.build.specs.{Checked.{lentAs}, Room.{needOf, enoughFor, workOf, roomOf}, Whole.{Drew, Fills, Settles, Starts, Builds, Cleared, endsAs, fileFor}}
+use Rattle.build.specs.{Checked.{lentAs}, Room.{needOf, enoughFor, workOf, roomOf}, inner.Whole.{Drew, Fills, Settles, Starts, endsAs, fileFor}, Whole.{Builds, Cleared}}
 use Rattle.build.specs.declared.{file.Built.{Built}, room.Work.{Work}}
 
 -- ---- the room of the output

@@ -4,11 +4,11 @@ use borrow.Author.Tests.{not-true, not-false}
 use lib.{ListN.{length, take, getD}, Seq.{length-take-le}}
 use mathlib.Core.{Bool.{Bool, true, false, not}, List.{List}, Path.{_≡_, refl, sym, ap, subst, _∙_}}
 use native.Mathlib.Omega.{arith}
-use Rattle.writer.specs.Stored.{Stored}
+use Rattle.writer.specs.inner.Stored.{Stored}
 use Rattle.builder.{proofs.Counting.{lengths-room}, specs.Yards.{sumOf}}
 use Rattle.build.proofs.{Filing.{reaches}, Planned.{few-names, few-yards, all-lengths}, Rooms.{sum-front}, Slices.{told, texts-few}}
 use Rattle.numbers.specs.{Lists.{zeros}, declared.refusal.Refusal.{Refusal}}
-use Rattle.build.specs.{Room.{needOf, enoughFor}, Whole.{Good, Filling, Settles}, declared.{file.Built.{Built}, room.{Need.{Need}, Work.{Work}}}}
+use Rattle.build.specs.{Room.{needOf, enoughFor}, inner.Whole.{Good, Filling, Settles}, declared.{file.Built.{Built}, room.{Need.{Need}, Work.{Work}}}}
 use Rattle.build.specs.declared.file.Built.the-variants as W
 
 pub record Cuts (names : ℕ) (yards lengths texts : List ℕ) (n : Need) : Type 0 where

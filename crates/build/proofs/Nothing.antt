@@ -6,7 +6,7 @@ use native.Mathlib.Omega.{arith}
 use Rattle.writer.specs.{Pieces.{piecesOf}, Writer.{borderOf}}
 use Rattle.builder.specs.{Borders.{Drawn, withBorder, drawnFrom, drawnOf, Draws}, Yards.{partOf, yardsFrom}, declared.borders.Border.{Border}}
 use Rattle.builder.specs.declared.borders.Border.the-variants as B
-use Rattle.builder.{proofs.drawing.Sections.{appended-fits}, specs.Drawing.Section.{yardAppended, DrawsAll}}
+use Rattle.builder.{proofs.drawing.Sections.{appended-fits}, specs.inner.Drawing.Section.{yardAppended, DrawsAll}}
 use Rattle.numbers.specs.Reply.{Reply, given, refused, _>>=_}
 
 pub nothing-drawn : (version : ℕ) (yards : List ℕ) (lats lons : List ℤ) (pieces : List ℕ) → 4 ≤ length yards → (out : List ℕ) (r : Border)

@@ -4,7 +4,7 @@ use borrow.Author.Tests.{le-leb}
 use lib.{Dec.{ltb, leb, eqb}, IntN.{ℤ}, ListN.{length, take, drop}}
 use mathlib.Core.{Bool.{Bool, true, false, not, _&&_}, List.{List, [], _∷_, _++_}, Path.{_≡_, refl, sym, ap, subst, _∙_}}
 use native.Mathlib.Omega.{arith}
-use Rattle.border.proofs.Signs.{both}
+use Rattle.numbers.proofs.Tests.{both}
 use Rattle.writer.specs.{Moves.{movesOf, isMove}, Pieces.{goodPieces}, Writer.{every, sized, near, checks, plainBorder, packedBorder, borderOf}}
 use Rattle.writer.specs.declared.write.Piece.{Piece}
 use Rattle.builder.specs.{Borders.{appended, withBorder, drawnFrom, drawnOf}, File.{Room, bordersGood, counted, readable, known, fileOf, upTo, builtOf}}

@@ -2,23 +2,20 @@
 use Prim.Native.Nat.{ℕ, _+_, _*_, _/_, _≤_}
 use borrow.Author.Tests.{leb-true, not-true, not-false}
 use lib.{Dec.{ltb, leb, eqb}, IntN.{ℤ}, ListN.{length, take, drop}}
-use mathlib.Core.{Bool.{Bool, true, false, not, _&&_}, List.{List, []}, Path.{_≡_, refl, sym, ap, subst, _∙_}}
+use mathlib.Core.{Bool.{Bool, true, false, not, _&&_}, List.{List, []}, Path.{_≡_, sym, ap, _∙_}}
 use native.Mathlib.Omega.{arith}
 use Rattle.writer.specs.Writer.{every}
 use Rattle.builder.proofs.{Checking.{borders-alone}, Counting.{counted-is, readable-is, values-many}}
 use Rattle.builder.specs.{Borders.{passed}, File.{bordersGood, counted, readable, known, areTexts}}
 use Rattle.builder.specs.{Yards.{Plan, Lent, planOf, yardsFrom, cutBy, valuesFrom, countedLengths, countsGood, lengthsGood}, declared.borders.Border.{Border}}
 use Rattle.builder.specs.declared.borders.Border.the-variants as B
-use Rattle.numbers.specs.{Answer.{if_then_else_}, Reply.{Reply, given, refused, plain, demand, _>>_}, declared.refusal.Refusal.{Refusal}}
+use Rattle.numbers.specs.{Reply.{Reply, given, plain, demand, _>>_}, declared.refusal.Refusal.{Refusal}}
 use Rattle.header.specs.Header.{isKind}
 use Rattle.build.specs.Checked.{checked, lentAs}
+use Rattle.numbers.proofs.Tests.{both}
 
 never : false ≡ true → ⊥
 never e = let z : _≡_ {A = ℕ} 0 1 = cc in omega arith
-
-pub both : (a b : Bool) → (a && b) ≡ true → (a ≡ true) × (b ≡ true)
-both true b e = (refl, e)
-both false b e = absurd (never e)
 
 module _ (names : ℕ) (yards : List ℕ) (lengths : ℕ) (good : countsGood names yards lengths ≡ true) where
   abbrev count : ℕ

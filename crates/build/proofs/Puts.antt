@@ -3,12 +3,12 @@ use Prim.Native.Nat.{ℕ, suc, _+_, _-_, _*_, _%_, _^_, _≤_, _<_}
 use lib.{IntN.{ℤ, pos, _-ℤ_}, ListN.{length, take, drop, getD, length-append, length-take, length-map}, Seq.{length-take-le}}
 use mathlib.Core.{List.{List, [], _∷_, _++_, map, flatMap, append-assoc}, Path.{_≡_, refl, sym, ap, subst, _∙_}}
 use native.Mathlib.Omega.{arith}
-use Rattle.writer.{proofs.Stores.{stored-then}, specs.Stored.{Stored}}
+use Rattle.writer.{proofs.Stores.{stored-then}, specs.inner.Stored.{Stored}}
 use Rattle.builder.proofs.{Inlines.{inlined-few, word-few}, Steps.{box-few, stored-few}}
 use Rattle.builder.specs.{Entries.{Entry, boxBytes, entryBytes, tableFrom, entryOfWord}, File.{headFrom, assembled}, Metadata.{inlined, joinedFrom, fieldBytes}}
 use Rattle.builder.specs.Yards.{Text, cutBy, sumOf}
 use Rattle.numbers.{proofs.Spelling.{varint-few}, specs.Spelling.{varintOf, signedForm}}
-use Rattle.build.specs.Puts.{sectionFrom, Sectioned, Headed}
+use Rattle.build.specs.inner.Puts.{sectionFrom, Sectioned, Headed}
 
 -- ---- how long each part can be
 entry-few : (r b : ℕ) (e : Entry) → length (entryBytes r b e) ≤ 60

@@ -8,7 +8,8 @@ use Rattle.writer.specs.Writer.{every}
 use Rattle.builder.{proofs.Counting.{values-many, lengths-room}, specs.{File.{isText, areTexts}, Yards.{Yard, planOf, cutBy, sumOf, valuesFrom, countsGood, lengthsGood}}}
 use Rattle.header.specs.Utf8.{isUtf8}
 use Rattle.build.specs.Metadata.Kept.{valuesTo}
-use Rattle.build.proofs.{Planned.{both, few-names, few-yards, all-lengths}, Valued.{values-are}}
+use Rattle.numbers.proofs.Tests.{both}
+use Rattle.build.proofs.{Planned.{few-names, few-yards, all-lengths}, Valued.{values-are}}
 use Rattle.build.specs.Checked.{lentAs}
 
 sum-more : (xs ys : List ℕ) → sumOf (xs ++ ys) ≡ sumOf xs + sumOf ys

@@ -9,7 +9,7 @@ use Rattle.builder.specs.Yards.{Text, Yard, cutBy, sumOf, yardsFrom, valuesFrom
 use Rattle.builder.{proofs.grouping.{Meant.{item-part}, Walks.{item-among}}, specs.Grouping.{Items.{startsFrom, itemAt}, Keys.{numbersFrom}}}
 use Rattle.build.specs.Metadata.Kept.{valuesTo}
 use Rattle.build.proofs.recording.Fewer.{map-same}
-use Rattle.build.proofs.Planned.{both}
+use Rattle.numbers.proofs.Tests.{both}
 
 -- ---- yard by yard, so many values each
 abbrev pub part : ℕ → List Text → ℕ → List Text

@@ -1,7 +1,6 @@
 pub mod Checked
 pub mod Room
-pub mod Puts
 pub mod Whole
 pub mod Metadata
 pub mod Entries
-pub mod Recording
+pub mod inner

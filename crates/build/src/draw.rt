@@ -3,7 +3,7 @@ ghost use mathlib.Core.{Path.{_≡_}, List.{List, []}};
 ghost use Prim.Native.Nat.{ℕ, _≤_};
 ghost use lib.ListN.{length, getD};
 ghost use Rattle.builder.specs.{Borders.{drawnOf}, Yards.{yardsFrom}};
-ghost use Rattle.builder.specs.Drawing.Section.{DrawsAll};
+ghost use Rattle.builder.specs.inner.Drawing.Section.{DrawsAll};
 use builder::borders::Border;
 use builder::drawing::section::draw_yards;
 use builder::drawing::yard::draw_yard;

@@ -4,7 +4,7 @@ ghost use Prim.Native.Nat.{ℕ, _^_, _≤_};
 ghost use lib.ListN.{length, getD};
 ghost use Rattle.builder.specs.{File.{builtOf}, Yards.{planOf}};
 ghost use Rattle.numbers.specs.Reply.{plain};
-ghost use Rattle.build.specs.{Room.{workOf, needOf, enoughFor, roomOf}, Whole.{lentFor, Good, Drew, fileFor, endsAs, Fills, Starts, Settles, Builds, Cleared}};
+ghost use Rattle.build.specs.{Room.{workOf, needOf, enoughFor, roomOf}, inner.Whole.{lentFor, Good, Drew, fileFor, endsAs, Fills, Starts, Settles}, Whole.{Builds, Cleared}};
 use crate::asked::Asked;
 use crate::checks::check_plan;
 use crate::draw::draw;

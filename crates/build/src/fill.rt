@@ -2,11 +2,11 @@
 ghost use mathlib.Core.{Path.{_≡_}, List.{List, [], map}};
 ghost use Prim.Native.Nat.{ℕ, _*_, _/_, _^_, _≤_};
 ghost use lib.ListN.{length, take};
-ghost use Rattle.writer.specs.Stored.{Stored};
+ghost use Rattle.writer.specs.inner.Stored.{Stored};
 ghost use Rattle.builder.specs.{Entries.{tableFrom, entryOfWord}, File.{headFrom, assembled}, Yards.{cutBy, yardsFrom}};
 ghost use Rattle.build.specs.Entries.Corners.{InOrder};
 ghost use Rattle.numbers.specs.Lists.{zeros};
-ghost use Rattle.build.specs.{Puts.{sectionFrom, SectionIn, Headed}, Whole.{lentFor, Filling, fileFor, Drew}, Room.{workOf}};
+ghost use Rattle.build.specs.{inner.{Puts.{sectionFrom, SectionIn, Headed}, Whole.{lentFor, Filling, fileFor, Drew}}, Room.{workOf}};
 use crate::asked::Asked;
 use crate::entries::order::order_yards;
 use crate::recording::section::Section;

@@ -2,10 +2,10 @@
 ghost use mathlib.Core.{Path.{_≡_}, List.{_++_, map}};
 ghost use Prim.Native.Nat.{_^_, _≤_, _<_};
 ghost use lib.ListN.{length};
-ghost use Rattle.writer.specs.Stored.{Stored};
+ghost use Rattle.writer.specs.inner.Stored.{Stored};
 ghost use Rattle.builder.specs.{Entries.{tableFrom, entryOfWord}, File.{headFrom, assembled}, Yards.{cutBy}};
 ghost use Rattle.numbers.specs.{Lists.{zeros}, Spelling.{varintOf}};
-ghost use Rattle.build.specs.Puts.{sectionFrom, Sectioned, Headed};
+ghost use Rattle.build.specs.inner.Puts.{sectionFrom, Sectioned, Headed};
 use crate::metadata::remotes::put_remotes;
 use builder::head::Form;
 use builder::head::put_head;

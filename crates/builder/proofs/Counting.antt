@@ -4,7 +4,7 @@ use borrow.Author.Tests.{leb-true, eqb-true, le-ltb, lt-ltb, le-leb, lt-leb, eq-
 use lib.{Dec.{ltb, leb, eqb}, IntN.{ℤ}, ListN.{length, take, drop, getD, length-take, length-drop}, Seq.{drop-cons, take-add}}
 use mathlib.Core.{Bool.{Bool, true, false, _&&_}, List.{List, [], _∷_, _++_}, Path.{_≡_, refl, sym, ap, _∙_}}
 use native.Mathlib.{Nat.{mul-suc, mul-le-mul-right}, Omega.{arith}}
-use Rattle.border.proofs.Signs.{both}
+use Rattle.numbers.proofs.Tests.{both}
 use Rattle.writer.specs.Writer.{every}
 use Rattle.builder.proofs.Checking.{four-words}
 use Rattle.builder.specs.File.{isText, areTexts, counted, readable}

@@ -4,7 +4,7 @@ use lib.{ListN.{length, take, drop, getD, length-append, length-drop, length-map
 use borrow.Author.Tests.{eq-eqb, ne-eqb}
 use mathlib.Core.{Bool.{Bool, true, false}, List.{List, [], _∷_, _++_, map, flatMap}, Path.{_≡_, refl, ap, subst, _∙_}}
 use native.Mathlib.{Numerals.{add-one}, Omega.{arith}}
-use Rattle.writer.{proofs.Stores.{Left, left-all, left-step, left-none}, specs.Stored.{Stored}}
+use Rattle.writer.{proofs.Stores.{Left, left-all, left-step, left-none}, specs.inner.Stored.{Stored}}
 use Rattle.numbers.{proofs.Spelling.{varint-few}, specs.{Spelling.{varintOf}, Answer.{if_then_else_}}}
 use Rattle.header.specs.Utf8.{unmasked}
 use Rattle.builder.specs.{Metadata.{inlined, joinedFrom, wordBytes}, Yards.{Text, cutBy, sumOf}}

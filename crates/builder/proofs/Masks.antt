@@ -4,7 +4,7 @@ use borrow.Author.Tests.{le-leb, lt-leb}
 use lib.{Bits.{bitXor, differ, xor-step, xor-self}, ListN.{length, take, length-map}, Seq.{take-at}}
 use mathlib.Core.{Bool.{Bool, false}, List.{List, [], _∷_, map}, Path.{_≡_, refl, sym, ap, _∙_}}
 use native.Mathlib.{Nat.{le-refl}, Omega.{arith}}
-use Rattle.writer.{proofs.Stores.{stored-front}, specs.Stored.{Stored}}
+use Rattle.writer.{proofs.Stores.{stored-front}, specs.inner.Stored.{Stored}}
 use Rattle.header.specs.Utf8.{unmasked, isUtf8}
 use Rattle.builder.specs.File.{isText}
 

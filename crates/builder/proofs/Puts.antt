@@ -3,7 +3,7 @@ use Prim.Native.Nat.{ℕ, _+_, _≤_, _<_}
 use lib.{ListN.{length, getD, drop}, Seq.{set-out, drop-cons, drop-length}}
 use mathlib.Core.{List.{List, [], _∷_, map}, Path.{_≡_, refl, sym, ap, subst, _∙_}}
 use native.Mathlib.{Numerals.{add-one}, Omega.{arith}}
-use Rattle.writer.{proofs.Stores.{Left, left-all, left-step, left-none}, specs.Stored.{Stored}}
+use Rattle.writer.{proofs.Stores.{Left, left-all, left-step, left-none}, specs.inner.Stored.{Stored}}
 
 -- a byte past the end is only counted
 pub stored-out : (before : List ℕ) (at byte : ℕ) → length before ≤ at → Stored before at (byte ∷ []) before (at + 1)

@@ -4,7 +4,7 @@ use borrow.Author.Tests.{eq-eqb, ne-eqb, eqb-true, eqb-false}
 use lib.{Dec.{eqb}, ListN.{length, getD, length-append}}
 use native.Mathlib.{Nat.{add-zero}, Omega.{arith}}
 use mathlib.Core.{Bool.{Bool, true, false}, List.{List, [], _∷_, map, flatMap}, Path.{_≡_, refl, sym, ap, subst, _∙_}}
-use Rattle.layout.{proofs.Steps.{Shorter, shortest, least-layout}, specs.Layout.{wordSize, wordsSize, next, Fits, Least, after}}
+use Rattle.layout.{proofs.Steps.{Shorter, shortest, least-layout}, specs.inner.Layout.{wordSize, wordsSize, next, Fits, Least, after}}
 use Rattle.numbers.{proofs.Spelling.{varint-few}, specs.{Answer.{if_then_else_}, Spelling.{varintOf}}}
 use Rattle.builder.specs.{Metadata.{inlined, isRemote, offsetOf, written, fits, firstFrom, layoutOf, joinedFrom, wordBytes, fieldBytes}, Yards.{Text}}
 

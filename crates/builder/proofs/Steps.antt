@@ -4,7 +4,7 @@ use borrow.Author.Tests.{lt-ltb, le-ltb}
 use lib.{IntN.{ℤ, pos, _-ℤ_, +ℤ-idr}, ListN.{length, length-append}}
 use mathlib.Core.{Path.{_≡_, ap, subst}, List.{List, _++_}}
 use native.Mathlib.Omega.{arith}
-use Rattle.writer.{proofs.Stores.{stored-then}, specs.Stored.{Stored}}
+use Rattle.writer.{proofs.Stores.{stored-then}, specs.inner.Stored.{Stored}}
 use Rattle.numbers.{proofs.Spelling.{varint-few}, specs.Spelling.{varintOf, signedForm}}
 use Rattle.builder.specs.{Entries.{boxBytes}, declared.boxes.Bounds.{Bounds}}
 

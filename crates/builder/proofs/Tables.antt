@@ -3,7 +3,7 @@ use Prim.Native.Nat.{ℕ, suc, _+_, _-_, _*_, _%_, _^_, _≤_, _<_}
 use lib.{IntN.{ℤ, pos, _-ℤ_}, ListN.{length, drop, getD, length-append}, Seq.{drop-cons, drop-length}}
 use mathlib.Core.{List.{List, _∷_, _++_, map}, Path.{_≡_, ap, subst, _∙_}}
 use native.Mathlib.{Numerals.{add-one}, Omega.{arith}}
-use Rattle.writer.{proofs.Stores.{Left, left-all, left-step, left-none}, specs.Stored.{Stored}}
+use Rattle.writer.{proofs.Stores.{Left, left-all, left-step, left-none}, specs.inner.Stored.{Stored}}
 use Rattle.numbers.{proofs.Spelling.{varint-few}, specs.Spelling.{varintOf, signedForm}}
 use Rattle.builder.proofs.Steps.{box-few}
 use Rattle.builder.specs.Entries.{Entry, boxBytes, entryAt, entryBytes, tableFrom, boundsAt, placesAt, entryOfWord}

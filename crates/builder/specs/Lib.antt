@@ -5,4 +5,4 @@ pub mod Entries
 pub mod Borders
 pub mod File
 pub mod Grouping
-pub mod Drawing
+pub mod inner

@@ -2,11 +2,12 @@
 ghost use mathlib.Core.Path.{_≡_};
 ghost use Prim.Native.Nat.{_^_, _<_};
 ghost use lib.IntN.{pos, _-ℤ_};
-ghost use Rattle.writer.specs.Stored.{Stored};
+ghost use Rattle.writer.specs.inner.Stored.{Stored};
 ghost use Rattle.numbers.specs.Spelling.{varintOf, signedForm};
 ghost use Rattle.builder.specs.Entries.{boxBytes, entryBytes, entryAt};
 use crate::boxes::Bounds;
 use crate::put::put_varint;
+use numbers::write::form_of;
 
 // Where a yard's record begins in the metadata section, and its border in the data section.
 pub struct Places {
@@ -14,18 +15,7 @@ pub struct Places {
     pub border: u32,
 }
 
-// The signed form of a difference: twice the size, odd only for negatives.
-fn form_of(from: i32, to: i32) -> u64
-    ensures { λ r. ⌜ r ≡ signedForm (to -ℤ from) ⌝ }
-{
-    let by = (to as i64) - (from as i64);
-    if by < 0 {
-        return ((0 - by) as u64) * 2 + 1;
-    }
-    (by as u64) * 2
-}
-
-// The same of a step between two places.
+// The signed form of a step between two places: twice the size, odd only for negatives.
 fn step_form(from: u32, to: u32) -> u64
     ensures { λ r. ⌜ r ≡ signedForm (pos to -ℤ pos from) ⌝ }
 {

@@ -3,7 +3,7 @@
 ghost use mathlib.Core.{Path.{_≡_}, List.{[], _∷_, map}};
 ghost use Prim.Native.Nat.{_+_, _^_, _<_};
 ghost use lib.ListN.{length};
-ghost use Rattle.writer.specs.Stored.{Stored};
+ghost use Rattle.writer.specs.inner.Stored.{Stored};
 ghost use Rattle.numbers.specs.Spelling.{varintOf};
 ghost use Rattle.header.specs.Utf8.{unmasked};
 ghost use Rattle.builder.specs.Metadata.{inlined};

@@ -2,7 +2,7 @@
 ghost use mathlib.Core.{Path.{_≡_}, List.{map}};
 ghost use Prim.Native.Nat.{_+_, _*_, _^_, _<_};
 ghost use lib.{IntN.{pos}, ListN.{length, getD}};
-ghost use Rattle.writer.specs.Stored.{Stored};
+ghost use Rattle.writer.specs.inner.Stored.{Stored};
 ghost use Rattle.builder.specs.Entries.{tableFrom, boundsAt, placesAt, entryOfWord};
 use crate::boxes::Bounds;
 use crate::entry::Places;

@@ -1,12 +1,13 @@
 -- Bytes, names and entries of a bundle, as the code meets them. Assumes nothing.
-use mathlib.Core.{Path.{_≡_, refl, ap, sym, subst, _∙_}, Bool.{Bool, true, false, _&&_}, List.{List, [], _∷_, _++_}}
+use mathlib.Core.{Path.{_≡_, refl, ap, sym, subst, _∙_}, Bool.{Bool, true, false, _&&_}, List.{List, _++_}}
 use Prim.Native.Nat.{ℕ, zero, suc, _+_, _-_, _*_, _/_, _%_, _≤_, _<_}
 use borrow.Author.Tests.{le-leb, lt-leb, leb-true, eq-eqb, ne-eqb, eqb-true}
 use lib.{Dec.{leb, eqb}, ListN.{length, getD, drop, length-append, List·getD-append, List·getD-eq-default}, Seq.{getD-drop, drop-drop, getD-append-add}}
 use native.Mathlib.Omega.{arith}
-use Rattle.numbers.proofs.Replies.{given-from, demanded}
-use Rattle.numbers.specs.{Answer.{Answer, found, failed, if_then_else_}, Reply.{Reply, given, refused, refusal, plain, demand, _orElse_, _>>=_, _>>_}, declared.refusal.Refusal.{Refusal}}
+use Rattle.numbers.proofs.Replies.{demanded}
+use Rattle.numbers.specs.{Answer.{found, failed, if_then_else_}, Reply.{given, refused, refusal, plain}, declared.refusal.Refusal.{Refusal}}
 use Rattle.bundle.specs.{Bundle.{wordAt, agrees, magic, isBundle, isIndex, isData, isEnd, headOf, isEntry, seekOf, findOf}, declared.{head.Head.{Head}, find.File.{File}}}
+use Rattle.numbers.proofs.Tests.{both}
 
 -- ---- a name in two parts
 module _ (p q : List ℕ) (at : ℕ) where
@@ -109,11 +110,6 @@ pub record Lies (length index start end : ℕ) : Type 0 where
   pub under : start ≤ end
   pub inside : end ≤ length
   pub small : end ≤ 2147483647
-
-pub both : (a b : Bool) → (a && b) ≡ true → (a ≡ true) × (b ≡ true)
-both true true e = (refl, refl)
-both true false e = absurd (let z : _≡_ {A = ℕ} 0 1 = cc in omega arith)
-both false b e = absurd (let z : _≡_ {A = ℕ} 0 1 = cc in omega arith)
 
 lies : (length i d e : ℕ) → isIndex i ≡ true → isData i d ≡ true → isEnd d e length ≡ true → Lies length i d e
 unfolding isIndex isData isEnd

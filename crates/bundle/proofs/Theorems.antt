@@ -7,7 +7,9 @@ use native.Mathlib.Omega.{arith}
 use Rattle.numbers.proofs.{Refusals.{Listed, Numbered, as-found, as-failed}, Replies.{NumberedReply, answers, refuses, then-reply, and-then, demands, or-else, number-of, given-from, demanded}}
 use Rattle.numbers.specs.{Answer.{Answer, found, failed, if_then_else_}, Reply.{Reply, given, refused, refusal, plain, _orElse_}, declared.refusal.Refusal.{Refusal}}
 use Rattle.numbers.specs.Answer as A
-use Rattle.bundle.proofs.Entries.{both, head-good}
+use Rattle.numbers.proofs.Tests.{both}
+use Rattle.bundle.proofs.Entries.{head-good}
+use Rattle.bundle.specs.First.{First, FoundAt}
 use Rattle.bundle.specs.{Bundle.{wordAt, agrees, isBundle, isIndex, isData, isEnd, headOf, isEntry, seekOf, findOf}, Told.{told}, declared.{head.Head.{Head}, find.{File.{File}, Found.{Found}}}}
 use Rattle.bundle.specs.declared.find.Found.the-variants as F
 
@@ -59,13 +61,6 @@ pub found-refusals : (bundle name : List ℕ) {why : Refusal} → told (F.Refuse
 found-refusals bundle name e = number-of (find-told bundle name) (sym e)
 
 -- ---- found-first
--- an entry of the index has the name, and none before it has
-pub record First (bundle name : List ℕ) (index place : ℕ) : Type 0 where
-  pub before : ℕ
-  pub there : place ≡ index + 52 * before
-  pub has : isEntry bundle name place ≡ true
-  pub none : (k : ℕ) → k < before → isEntry bundle name (index + 52 * k) ≡ false
-
 seek-first : (n : ℕ) (bundle name : List ℕ) (at : ℕ) {place : ℕ} → found place ≡ seekOf n bundle name at → First bundle name at place
 unfolding seekOf
 seek-first zero bundle name at e = absurd (let z : _≡_ {A = ℕ} 0 1 = cc in omega arith)
@@ -104,17 +99,6 @@ unfolding isEntry
 entry-bytes bundle name place e =
     let h = both (leb (length name) 40) (agrees 40 (drop place bundle) name) e in
     (leb-true _ _ (h .0), λ k l. sym (getD-drop place bundle k 0) ∙ agree-each 40 (drop place bundle) name (h .1) k l)
-
--- what is found lies in the bundle, and in its data; it is said by the first entry of the name
-pub record FoundAt (bundle name : List ℕ) (file : File) : Type 0 where
-  pub head : Head
-  pub head-is : given head ≡ headOf bundle
-  pub place : ℕ
-  pub first : First bundle name (head .index) place
-  pub starts : file .start ≡ head .start + wordAt bundle (place + 40)
-  pub lasts : file .length ≡ wordAt bundle (place + 44)
-  pub in-data : file .start + file .length ≤ head .end
-  pub inside : file .start + file .length ≤ length bundle
 
 seek-given : (answer : Answer ℕ) {place : ℕ} → given place ≡ (answer orElse plain 88) → found place ≡ answer
 seek-given (found p) e = cc

@@ -1,2 +1,3 @@
 pub mod Bundle
 pub mod Told
+pub mod First

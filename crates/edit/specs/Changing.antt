@@ -1,5 +1,3 @@
-pub mod Sum
-pub mod Cut
 pub mod Begun
 pub mod Emptied
 pub mod Dropped

@@ -10,7 +10,8 @@ use Rattle.localtime.specs.{Local.{localTime, scaleAt}, declared.scale.Scale.{S
 use Rattle.hour.specs.Hour.{instantOf, onScale, shownBy, answerOf, civilLine, LineFor, Answered, Printed}
 use Rattle.hour.specs.Line.{dateText, timeText, clockText, signedText, shown, hourLine, unknownLine, refusedLine}
 use Rattle.line.{proofs.{Decimals.{decimal-short}, Puts.{put-length, put-front}}, specs.Put.{Put, decimal}}
-use Rattle.tzif.specs.{Local.{Replied, replied}, Reply.{refusal}, Text.{zeros}, declared.{local.{Local.{Local}, LocalTime.{LocalTime}}, refusal.Refusal.{Refusal}}}
+use Rattle.tzif.specs.{Local.{Replied, replied}, Reply.{refusal}, declared.{local.{Local.{Local}, LocalTime.{LocalTime}}, refusal.Refusal.{Refusal}}}
+use Rattle.numbers.specs.Lists.{zeros}
 use Rattle.tzif.specs.declared.local.LocalTime.the-variants as L
 
 -- two lines that the promise permits are equal

@@ -7,7 +7,8 @@ use Rattle.hour.specs.{Hour.{instantOf, onScale, shownBy, answerOf, Line
 use Rattle.tzif.specs.Check.{occursLater, correctionBefore, correctionAt, correctionOf, oneApart, isExpiry, nulEnd, checkTime, checkIndex, checkType, checkLeap, checkLeaps, checkStandard, isStandard, checkUt}
 use Rattle.tzif.specs.Header.{begins, isVersion, isFourth, versionFits, checkHeader, blockAt, noneOrAll, checkCounts, checkBlock, readBlock}
 use Rattle.tzif.specs.{Local.{Replied, replied, lent}, Number.{octets, be32, raised, timeAt, lift}, Part.{countOf, checkOf, checkPart}}
-use Rattle.tzif.specs.{Reply.{Reply, given, refused, refusal, if_then_else_, demand, each, _>>=_, _>>_}, Text.{firstWith, isStop, runTo, zeros}}
+use Rattle.tzif.specs.{Reply.{Reply, given, refused, refusal, demand, each, _>>=_, _>>_}, Text.{firstWith, isStop, runTo}}
+use Rattle.numbers.specs.{Answer.{if_then_else_}, Lists.{zeros}}
 use Rattle.tzif.specs.{Times.{timeIn, lastWith, lastNotAfter}, Zone.{readShort, readZoneBy, readZone}, declared.{local.LocalTime.{LocalTime}, refusal.Refusal.{Refusal}, zone.Zone.{Zone}}}
 use Rattle.tzif.specs.declared.local.LocalTime.the-variants as L
 

@@ -8,7 +8,8 @@ use Rattle.calendar.specs.declared.civil.Civil.the-variants as C
 use Rattle.localtime.specs.Local.{localTime, scaleAt}
 use Rattle.hour.specs.Line.{hourLine, unknownLine, refusedLine}
 use Rattle.line.specs.{Bytes.{wordAt}, Put.{Put}}
-use Rattle.tzif.specs.{Local.{Replied, replied}, Reply.{refusal, if_then_else_}, Text.{zeros}, declared.local.{Local.{Local}, LocalTime.{LocalTime}}}
+use Rattle.tzif.specs.{Local.{Replied, replied}, Reply.{refusal}, declared.local.{Local.{Local}, LocalTime.{LocalTime}}}
+use Rattle.numbers.specs.{Answer.{if_then_else_}, Lists.{zeros}}
 use Rattle.tzif.specs.declared.local.LocalTime.the-variants as L
 
 -- in two's complement

@@ -4,7 +4,8 @@ use lib.{Dec.{ltb}, IntN.{ℤ, pos, negsuc}}
 use mathlib.Core.{Bool.{_&&_}, List.{List, [], _∷_, _++_, map}}
 use Rattle.calendar.specs.declared.civil.Reading.{Reading}
 use Rattle.line.specs.Put.{decimal, twoDigits}
-use Rattle.tzif.specs.{Reply.{if_then_else_}, declared.{local.Local.{Local}, refusal.Refusal.{Refusal}}}
+use Rattle.numbers.specs.Answer.{if_then_else_}
+use Rattle.tzif.specs.declared.{local.Local.{Local}, refusal.Refusal.{Refusal}}
 
 -- a year's four digits, "-", the month's two, "-", the day's
 unfoldable pub dateText : Reading → List ℕ

@@ -7,7 +7,8 @@ use native.Mathlib.{Nat.{add-zero}, Omega.{arith}}
 use Rattle.numbers.{proofs.Replies.{given-from, demanded}, specs.{Lists.{zeros, padded}, Reply.{Reply, given, refused, refusal, plain}}}
 use Rattle.table.specs.{Find.{isPrecision}, declared.rows.Row.{Row}}
 use Rattle.header.specs.{Header.{preambleOf, contentsBy, headBy, headOf}, declared.header.Head.{Head}}
-use Rattle.index.proofs.{Keeping.{packed-length}, Sides.{and-rest}, TableInOrder.{given-one}, Tabling.{records-length}, Tying.{end-decides, tied-so, tied-not}}
+use Rattle.index.proofs.{Keeping.{packed-length}, Sides.{and-rest}, Tabling.{records-length}, Tying.{end-decides, tied-so, tied-not}}
+use Rattle.numbers.proofs.Replies.{given-one}
 use Rattle.index.proofs.Whole.{lists-length, starts-length}
 use Rattle.index.specs.Index.{recordsOf, fourAt, packedFrom, wordsFor, keptOf, listsFrom, joined, startsFrom, tiles, recordsAt, listsAt, indexOf, hasRoom, indexWith, indexIn, indexedBy, indexedOf}
 use Rattle.index.specs.{Table.{tableOf}, Tied.{wordAt, isHeaded, keepsFrom, isTied, tiedOf}}

@@ -3,7 +3,7 @@ use Prim.Native.Nat.{ℕ, zero, suc, _+_, _*_, _-_, _^_, _<_, _≤_}
 use lib.{IntN.{ℤ}, ListN.{length, length-append}}
 use mathlib.Core.{Bool.{Bool, true, false, _&&_}, List.{List, [], _∷_, _++_}, Path.{_≡_, refl, sym, ap, subst, _∙_}}
 use native.Mathlib.{Nat.{add-zero}, Omega.{arith}}
-use Rattle.writer.specs.Stored.{Stored}
+use Rattle.writer.specs.inner.Stored.{Stored}
 use Rattle.numbers.proofs.{Answers.{found-one}, Replies.{carried, onward, met, unmet}}
 use Rattle.numbers.specs.{Answer.{found}, Lists.{zeros}, Reply.{Reply, given, refused, plain, demand, _>>=_, _>>_}, Varint.{readingOf}}
 use Rattle.numbers.specs.Answer as A
@@ -11,7 +11,7 @@ use Rattle.table.specs.{Ordered.{lowest}, Rows.{after, rowBy}, declared.rows.{C
 use Rattle.header.specs.declared.header.Head.{Head}
 use Rattle.index.proofs.{Listing.{list-met, list-not, list-done, list-few}, Standing.{at-append, sets-none}}
 use Rattle.index.proofs.Tabling.{records-length, records-snoc, Tabling, tabling-starts, starts-done, tabling-next, next-done}
-use Rattle.index.specs.{Building.{isMetIn, listIn, listsIn}, Index.{recordOf, recordsOf, recordsAt, tiles}, Own.{isWord, isAt, standsFrom, listsStand, isEmptyFrom}}
+use Rattle.index.specs.{inner.{Building.{isMetIn, listIn, listsIn}, Own.{isWord, isAt, standsFrom, listsStand, isEmptyFrom}}, Index.{recordOf, recordsOf, recordsAt, tiles}}
 use Rattle.index.specs.{Table.{isNext}, Tiles.{tileAt}, declared.tiles.Tile.{Tile}}
 
 -- ---- one word

@@ -8,7 +8,8 @@ use native.Mathlib.Omega.{arith}
 use Rattle.border.specs.{declared.place.Point.{Point}, Box.{between}}
 use Rattle.numbers.specs.Answer.{if_then_else_}
 use Rattle.table.specs.{Table.{holds}, declared.{rows.Row.{Row}, table.Bounds.{Bounds}}}
-use Rattle.index.proofs.{Filling.{both}, Meeting.{lifted-order, in-its-tile}, Sides.{column-few}}
+use Rattle.numbers.proofs.Tests.{both}
+use Rattle.index.proofs.{Meeting.{lifted-order, in-its-tile}, Sides.{column-few}}
 use Rattle.index.specs.{Complete.{RowAt, first, next, Has, here, later, Narrow}, Index.{listFrom, listOf}}
 use Rattle.index.specs.{Tiles.{wordOf, lift, spanOf, tileAlong, tileOf, tileAt, isMet, meets}, declared.tiles.Tile.{Tile}}
 

@@ -2,21 +2,19 @@
 use Prim.Native.Nat.{ℕ, _+_, _*_, _^_, _<_, _≤_}
 use borrow.Author.Tests.{leb-true}
 use lib.{ListN.{length, getD}, Seq.{sets, length-sets}}
-use mathlib.Core.{Bool.{Bool, true, false, _&&_}, List.{List, [], _∷_, _++_, map}, Path.{_≡_, refl, sym, ap, subst, _∙_}}
+use mathlib.Core.{Bool.{true}, List.{List, [], _∷_, _++_, map}, Path.{_≡_, refl, sym, ap, subst, _∙_}}
 use native.Mathlib.Omega.{arith}
-use Rattle.writer.specs.Stored.{Stored}
+use Rattle.writer.specs.inner.Stored.{Stored}
 use Rattle.numbers.{proofs.Replies.{carried, onward}, specs.{Lists.{zeros}, Reply.{Reply, given, refused}, declared.refusal.Refusal.{Refusal}}}
-use Rattle.table.{proofs.Agreeing.{Gave, gave, refused-so}, specs.{Find.{isPrecision}, Agreeing.{Agrees}, declared.rows.Row.{Row}}}
+use Rattle.table.{proofs.Agreeing.{Gave, gave, refused-so}, specs.{Find.{isPrecision}, inner.Agreeing.{Agrees}, declared.rows.Row.{Row}}}
 use Rattle.header.specs.{Header.{headOf}, declared.header.Head.{Head}}
-use Rattle.index.proofs.{Keeping.{packed-length}, Stores.{read-below, read-above, stored-length, over-zeros}, Tabling.{records-length}}
+use Rattle.index.proofs.{Keeping.{packed-length}, Stores.{read-below, read-above, over-zeros}, Tabling.{records-length}}
+use Rattle.writer.proofs.Stores.{stored-length}
 use Rattle.index.proofs.Whole.{read-stored, Holds, lists-of-rows, starts-length, lists-length, starts-fit, laid, index-length}
-use Rattle.index.specs.Building.{listsIn, low, Listed, Recorded, Made}
+use Rattle.index.specs.inner.Building.{listsIn, low, Listed, Recorded, Made}
 use Rattle.index.specs.Index.{recordsOf, wordsFor, keptOf, listsFrom, joined, startsFrom, tiles, recordsAt, listsAt, indexOf, indexWith, indexIn, indexed, indexedBy, indexedOf}
 use Rattle.index.specs.Table.{tableOf}
-
-pub both : (a b : Bool) → (a && b) ≡ true → (a ≡ true) × (b ≡ true)
-both true b e = (refl, e)
-both false b e = let z : _≡_ {A = ℕ} 0 1 = cc in absurd (omega arith)
+use Rattle.numbers.proofs.Tests.{both}
 
 pub precise : (precision : ℕ) → isPrecision precision ≡ true → (1 ≤ precision) × (precision ≤ 32)
 precise precision e = let h = both _ _ e in (leb-true _ _ (h .0), leb-true _ _ (h .1))

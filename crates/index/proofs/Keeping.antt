@@ -3,8 +3,8 @@ use Prim.Native.Nat.{ℕ, zero, suc, _+_, _-_, _/_, _<_, _≤_, min}
 use lib.ListN.{length, take, getD, length-take, List·getD-eq-default}
 use mathlib.Core.{List.{List, [], _∷_, _++_}, Path.{_≡_, refl, sym, ap}}
 use native.Mathlib.Omega.{arith}
-use Rattle.writer.specs.Stored.{Stored}
-use Rattle.index.proofs.Stores.{Left, left-all, left-step}
+use Rattle.writer.specs.inner.Stored.{Stored}
+use Rattle.writer.proofs.Stores.{Left, left-all, left-step}
 use Rattle.index.specs.Index.{fourAt, packedFrom, keptOf}
 
 -- past the end there is none

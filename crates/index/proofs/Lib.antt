@@ -1,6 +1,5 @@
 -- Laws on plain lists that the functions' proofs cite.
 pub mod Stores
-pub mod Bits
 pub mod Sides
 pub mod Keeping
 pub mod Listing

@@ -3,10 +3,11 @@ use Prim.Native.Nat.{ℕ, zero, suc, _+_, _*_, _-_, _^_, _<_, _≤_}
 use lib.{ListN.{length, set, getD, length-append}, Seq.{sets, getD-set-other}}
 use mathlib.Core.{Bool.{Bool, true, false}, List.{List, [], _∷_, _++_, map}, Path.{_≡_, refl, sym, ap, subst, _∙_}}
 use native.Mathlib.Omega.{arith}
-use Rattle.writer.specs.Stored.{Stored}
+use Rattle.writer.specs.inner.Stored.{Stored}
 use Rattle.numbers.specs.Answer.{if_then_else_}
-use Rattle.index.proofs.Stores.{sets-append, set-before, read-below, stored-length, Left, left-all, left-step, left-below}
-use Rattle.index.specs.{Building.{isMetIn, listIn, listsIn, low, Listed}, Index.{recordsAt, joined, startsFrom, tiles}, Tiles.{tileAt}, declared.tiles.Tile.{Tile}}
+use Rattle.writer.proofs.Stores.{sets-append, stored-length, Left, left-all, left-step}
+use Rattle.index.proofs.Stores.{set-before, read-below, left-below}
+use Rattle.index.specs.{inner.Building.{isMetIn, listIn, listsIn, low, Listed}, Index.{recordsAt, joined, startsFrom, tiles}, Tiles.{tileAt}, declared.tiles.Tile.{Tile}}
 
 -- two lists of words have the same records up to a place
 abbrev pub Same : ℕ → List ℕ → List ℕ → Type 0

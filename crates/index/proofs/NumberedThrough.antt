@@ -2,7 +2,8 @@
 use Prim.Native.Nat.{ℕ, zero, suc, _+_, _-_, _/_}
 use lib.{Dec.{ltb, leb, eqb}, ListN.{length}}
 use mathlib.Core.{Bool.{Bool, true, false}, List.{List, [], _∷_, _++_}, Path.{_≡_, refl, sym, _∙_}}
-use Rattle.border.{proofs.Signs.{differ}, specs.declared.place.Point.{Point}}
+use Rattle.numbers.proofs.Tests.{differ}
+use Rattle.border.specs.declared.place.Point.{Point}
 use Rattle.verdict.{proofs.Numbered.{NumberedJudgement, judged, unjudged, not-judged, judged-numbered}, specs.Verdict.{Judgement}}
 use Rattle.numbers.proofs.{Refusals.{Listed, still-listed, either}, Replies.{NumberedReply, answers, refuses, then-reply, and-then, demands, number-of}}
 use Rattle.numbers.specs.{Reply.{Reply, given, refused, plain, _>>=_}, declared.refusal.Refusal.{Refusal}}

@@ -13,10 +13,8 @@ use Rattle.table.specs.declared.{rows.{Cursor.{Cursor}, Row.{Row}}, table.{Boun
 use Rattle.header.specs.declared.header.Head.{Head}
 use Rattle.index.proofs.SameReading.{found-from}
 use Rattle.index.specs.Table.{isNext, tableFrom, bottom, tableOf}
+use Rattle.numbers.proofs.Replies.{given-one}
 use Rattle.numbers.specs.Answer as A
-
-given-one : {A : Type 0} {a b : A} → given a ≡ given b → a ≡ b
-given-one e = cc
 
 -- ---- coordinates
 below : (n : ℕ) → n < 2 ^ 32 → pos n -ℤ pos (2 ^ 32) ≡ negsuc (2 ^ 32 - 1 - n)

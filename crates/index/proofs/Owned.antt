@@ -4,18 +4,19 @@ use borrow.Author.Tests.{leb-true}
 use lib.{Dec.{leb}, ListN.{length, length-append, length-replicate}}
 use mathlib.Core.{Bool.{Bool, true, false}, List.{List, [], _∷_, _++_}, Logic.{_↔_}, Path.{_≡_, refl, sym, ap, subst, _∙_}}
 use native.Mathlib.Omega.{arith}
-use Rattle.border.proofs.Signs.{differ}
+use Rattle.numbers.proofs.Tests.{differ}
 use Rattle.numbers.proofs.{Refusals.{Listed, still-listed}, Replies.{given-from, demanded, NumberedReply, answers, refuses, then-reply, and-then, demands, number-of}}
 use Rattle.numbers.specs.{Lists.{zeros, padded}, Reply.{Reply, given, refused, plain, demand}, declared.refusal.Refusal.{Refusal}}
 use Rattle.table.specs.{Find.{isPrecision}, declared.{location.Location.{Location}, rows.Row.{Row}}}
 use Rattle.header.{proofs.Numbered.{headerNumbers, head-numbered}, specs.{Header.{headOf}, declared.header.Head.{Head}}}
 use Rattle.zones.specs.Lookup.{lookedUp}
-use Rattle.index.proofs.Filling.{both}
+use Rattle.numbers.proofs.Tests.{both}
 use Rattle.index.proofs.{Owning.{Only, own-opened, own-unopened, rest-only}, SameIndex.{Settled, settled}, Standing.{same-words, same-self}, ThroughIsPlain.{own-through, own-indexed}}
 use Rattle.index.proofs.Owning as O
 use Rattle.index.proofs.SameIndex as SI
-use Rattle.index.specs.{Index.{recordsOf, recordsAt, indexOf, hasRoom, indexWith, indexIn, Indexed, indexed, indexedBy, indexedOf}, Own.{isSame, heldAgainst, isIndexOf, isAt, comparedOf, restOf, ownWith}}
+use Rattle.index.specs.{Index.{recordsOf, recordsAt, indexOf, hasRoom, indexWith, indexIn, Indexed, indexed, indexedBy, indexedOf}, Own.{isSame, heldAgainst, isIndexOf}, inner.Own.{isAt, comparedOf, ownWith}}
 use Rattle.index.specs.{Table.{bottom, tableOf}, Through.{lookedThrough, lookedIndexed}}
+use Rattle.numbers.proofs.Replies.{given-one}
 
 -- ---- exactly the words that building leaves
 module _ (words : List ℕ) where
@@ -57,9 +58,6 @@ built-long file n {used} e = go (indexIn file n) refl e
         let is : words ≡ indexOf file (h .it) (t .it) = given-one (r .1) in
         let room = leb-true (length (indexOf file (h .it) (t .it))) n (both (leb (length (indexOf file (h .it) (t .it))) n) _ (r .0) .0) in
         omega (arith, ap length is, room)
-      where
-        given-one : {a b : List ℕ} → given a ≡ given b → a ≡ b
-        given-one e = cc
 
     go : (reply : Reply (List ℕ)) → reply ≡ indexIn file n → indexedBy n reply .reply ≡ given used → length (indexedBy n reply .words) ≡ n
     go (given words) w e = words-long n words (fits w)

@@ -1,22 +1,24 @@
 -- Words held against an index, part by part: `is_index` is what its definition says. Assumes nothing.
 use Prim.Native.Nat.{ℕ, zero, suc, _+_, _*_, _-_, _^_, _<_, _≤_}
 use borrow.Author.Tests.{ltb-true, leb-true, eqb-true, lt-ltb, le-ltb, lt-leb, le-leb}
-use lib.{Dec.{ltb, leb, eqb}, ListN.{length, take, getD, length-append, length-replicate}}
+use lib.{Dec.{ltb, leb, eqb}, ListN.{length, take, length-append, length-replicate}}
 use mathlib.Core.{Bool.{Bool, true, false, _&&_}, List.{List, [], _∷_, _++_}, Path.{_≡_, refl, sym, ap, subst, _∙_}}
 use native.Mathlib.{Nat.{add-zero}, Omega.{arith}}
-use Rattle.border.proofs.Signs.{differ}
+use Rattle.numbers.proofs.Tests.{differ}
 use Rattle.numbers.proofs.{Refusals.{Listed}, Replies.{given-from, carried, onward, met, unmet, demanded, number-of}}
 use Rattle.numbers.specs.{Answer.{if_then_else_}, Lists.{zeros, padded}, Reply.{Reply, given, refused, plain, demand, _>>=_, _>>_}, declared.refusal.Refusal.{Refusal}}
 use Rattle.table.specs.{Find.{isPrecision}, declared.rows.Row.{Row}}
 use Rattle.header.{proofs.Numbered.{headerNumbers, head-numbered}, specs.{Header.{headOf}, declared.header.Head.{Head}}}
-use Rattle.index.proofs.{Comparing.{stands-place}, Filling.{both}, Keeping.{packed-length}, SameIndex.{Settled, settled}}
+use Rattle.index.proofs.{Comparing.{stands-place}, Keeping.{packed-length}, SameIndex.{Settled, settled}}
+use Rattle.numbers.proofs.Tests.{both}
 use Rattle.index.proofs.Standing.{so-both, at-append, at-read, at-inside, at-rest, at-here, same-words, same-self}
 use Rattle.index.proofs.{Tabling.{records-length}, Whole.{Holds, lists-of-rows, starts-length, lists-length, bad-precision, bad-table, index-length, with-room, without, has-room}}
 use Rattle.index.proofs.SameIndex as SI
-use Rattle.index.specs.Building.{listsIn}
+use Rattle.index.specs.inner.Building.{listsIn}
 use Rattle.index.specs.Index.{fourAt, packedFrom, wordsFor, keptOf, recordsOf, listsFrom, joined, startsFrom, tiles, recordsAt, listsAt, indexOf, hasRoom, indexWith, indexIn, indexedBy, indexedOf}
-use Rattle.index.specs.Own.{isSame, heldAgainst, isIndexOf, isWord, isAt, standsFrom, listsStand, isEmptyFrom, comparedOf, restOf, ownWith}
-use Rattle.index.specs.{Table.{tableFrom, bottom, tableOf}, Tied.{wordAt, keepsFrom}}
+use Rattle.index.specs.{Own.{isSame, heldAgainst, isIndexOf}, inner.Own.{isWord, isAt, standsFrom, listsStand, isEmptyFrom, comparedOf, restOf, ownWith}}
+use Rattle.index.specs.{Table.{bottom, tableOf}, Tied.{wordAt, keepsFrom}}
+use Rattle.numbers.proofs.Replies.{given-one}
 
 -- ---- given, or refused by 36
 pub data Only {A : Type 0} : Reply A → Type 0 where
@@ -50,9 +52,6 @@ module _ (words : List ℕ) where
       let d = demanded (isWord words t at) (plain 36) e in
       let is : used ≡ at = given-one (d .1) in
       (so-both _ _ (d .0) refl, (refl, is ∙ sym (add-zero at)))
-    where
-      given-one : {a b : ℕ} → given a ≡ given b → a ≡ b
-      given-one e = cc
   lists-given t at (list ∷ lists) {used} e =
       let d = demanded (isWord words t at) (plain 36) e in
       let f = given-from (standsFrom words at list) (λ next. listsStand words (t + 1) next lists) (d .1) in

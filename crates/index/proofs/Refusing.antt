@@ -3,7 +3,7 @@ use Prim.Native.Nat.{ℕ}
 use lib.{IntN.{ℤ}, ListN.{length}}
 use mathlib.Core.{Bool.{false}, List.{List, [], _∷_, _++_}, Path.{_≡_, refl}}
 use native.Mathlib.Omega.{arith}
-use Rattle.border.proofs.Signs.{differ}
+use Rattle.numbers.proofs.Tests.{differ}
 use Rattle.numbers.proofs.{Refusals.{Listed, still-listed}, Replies.{NumberedReply, answers, refuses, then-reply, and-then, demands, number-of}}
 use Rattle.numbers.specs.{Lists.{zeros}, Reply.{Reply, given, refused, plain}, declared.refusal.Refusal.{Refusal}}
 use Rattle.header.{proofs.Numbered.{headerNumbers, head-numbered}, specs.declared.header.Head.{Head}}

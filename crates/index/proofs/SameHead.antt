@@ -11,10 +11,8 @@ use Rattle.header.specs.Header.{magicOf, isKind, preambleOf, blameOf, Texts, te
 use Rattle.header.specs.{Text.{within, remoteAt, stringAt, bytesOf, orBlamed, textAt}, Utf8.{isUtf8}}
 use Rattle.header.specs.declared.{header.{Head.{Head}, Preamble.{Preamble}, Sections.{Sections}}, text.{Blame.{Blame}, Text.{Text}}}
 use Rattle.index.proofs.SameReading.{reading-alike, found-from}
+use Rattle.numbers.proofs.Replies.{given-one}
 use Rattle.numbers.specs.Answer as A
-
-given-one : {A : Type 0} {a b : A} → given a ≡ given b → a ≡ b
-given-one e = cc
 
 -- ---- where a string ends
 abbrev behind : Numeral → ℕ

@@ -9,7 +9,7 @@ use Rattle.numbers.specs.{Answer.{Answer, found, if_then_else_, _>>=_}, Reply.{
 use Rattle.numbers.specs.Varint.{Numeral, isLast, valueOf, sizeOf, tooLong, forwardAt, isComplete, wholeOf, readingOf}
 use Rattle.table.{proofs.TableRows.{Grows}, specs.{Ordered.{lowest}, Rows.{tableEnd, after, rowsThen, rowBy, rowsWithin}, Table.{stepsBy, entryBy}}}
 use Rattle.table.specs.declared.{rows.{Cursor.{Cursor}, Row.{Row}}, table.Entry.{Entry}}
-use Rattle.index.proofs.Filling.{both}
+use Rattle.numbers.proofs.Tests.{both}
 use Rattle.index.specs.Table.{isNext, tableFrom}
 use Rattle.numbers.specs.Answer as A
 

@@ -4,9 +4,10 @@ use borrow.Author.Tests.{ltb-true, eqb-true, lt-ltb, le-ltb, eq-eqb, ne-eqb}
 use lib.{Dec.{ltb, eqb}, ListN.{length, getD, drop, length-append, drop-of-length-le}, Seq.{sets, drop-cons, getD-append-seam}}
 use mathlib.Core.{Bool.{Bool, true, false, _&&_}, List.{List, [], _∷_, _++_, append-assoc}, Path.{_≡_, refl, sym, ap, subst, _∙_}}
 use native.Mathlib.{Nat.{add-zero}, Omega.{arith}}
-use Rattle.border.proofs.Signs.{differ}
-use Rattle.index.proofs.{Filling.{both}, Sides.{and-first, and-rest}}
-use Rattle.index.specs.{Own.{isSame, isWord, isAt}, Tied.{wordAt}}
+use Rattle.numbers.proofs.Tests.{differ}
+use Rattle.numbers.proofs.Tests.{both}
+use Rattle.index.proofs.Sides.{and-first, and-rest}
+use Rattle.index.specs.{Own.{isSame}, inner.Own.{isWord, isAt}, Tied.{wordAt}}
 
 -- ---- tests one after the other
 pub goes : {r : Bool} (a b : Bool) → a ≡ true → r ≡ b → r ≡ (a && b)

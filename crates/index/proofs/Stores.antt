@@ -1,14 +1,11 @@
 -- Words that go into a lent buffer one after another, and stores that do not meet. Assumes nothing.
-use Prim.Native.Nat.{ℕ, suc, _+_, _-_, _<_, _≤_}
-use lib.{ListN.{length, set, drop, getD, length-append, length-replicate}, Seq.{sets, length-sets, sets-eq, set-comm, getD-set-other}}
+use Prim.Native.Nat.{ℕ, suc, _+_, _<_, _≤_}
+use lib.{ListN.{length, set, drop, getD, length-replicate}, Seq.{sets, sets-eq, set-comm, getD-set-other}}
 use mathlib.Core.{List.{List, [], _∷_, _++_}, Path.{_≡_, refl, sym, ap, subst, _∙_}}
-use native.Mathlib.{Nat.{add-zero}, Omega.{arith}}
-use Rattle.writer.specs.Stored.{Stored}
+use native.Mathlib.Omega.{arith}
+use Rattle.writer.specs.inner.Stored.{Stored}
 use Rattle.numbers.{proofs.Lists.{zeros-drop}, specs.Lists.{zeros, padded}}
-
-pub sets-append : (xs ys before : List ℕ) (at : ℕ) → sets before at (xs ++ ys) ≡ sets (sets before at xs) (at + length xs) ys
-sets-append [] ys before at = ap (λ (n : ℕ). sets before n ys) (sym (add-zero at))
-sets-append (x ∷ xs) ys before at = sets-append xs ys (set before at x) (suc at) ∙ ap (λ (n : ℕ). sets (sets (set before at x) (suc at) xs) n ys) (omega arith)
+use Rattle.writer.proofs.Stores.{Left}
 
 -- ---- stores that do not meet
 -- a word before others
@@ -28,38 +25,9 @@ pub read-above : (vs l : List ℕ) (i k d : ℕ) → i + length vs ≤ k → get
 read-above [] l i k d h = refl
 read-above (v ∷ vs) l i k d h = read-above vs (set l i v) (suc i) k d (omega arith) ∙ getD-set-other l i k v d (λ e. omega (arith, e))
 
--- ---- one after another
-pub stored-length : {before words after : List ℕ} {at next : ℕ} → Stored before at words after next → length after ≡ length before
-stored-length {before} {words} {after} {at} s = ap length (s .stored) ∙ length-sets before at words
-
--- `rest` is what is left to store of `all`
-pub record Left (before : List ℕ) (from : ℕ) (all now : List ℕ) (at : ℕ) (rest : List ℕ) : Type 0 where
-  pub places : at + length rest ≡ from + length all
-  pub same : sets now at rest ≡ sets before from all
-  pub size : length now ≡ length before
-
-module _ {before all : List ℕ} {from : ℕ} where
-  pub left-all : Left before from all before from all
-  left-all = record { places = refl; same = refl; size = refl }
-
-  pub left-step : {now after rest : List ℕ} {at next : ℕ} (words : List ℕ) → Left before from all now at (words ++ rest) → Stored now at words after next → Left before from all after next rest
-  left-step {now} {after} {rest} {at} {next} words l s =
-      record {
-        places = omega (arith, s .place-after, l .places, length-append words rest);
-        same = ap (λ (xs : List ℕ). sets xs next rest) (s .stored) ∙ ap (λ (n : ℕ). sets (sets now at words) n rest) (s .place-after) ∙ sym (sets-append words rest now at) ∙ l .same;
-        size = stored-length s ∙ l .size;
-      }
-
-  pub left-last : {now after : List ℕ} {at next : ℕ} (words : List ℕ) → Left before from all now at words → Stored now at words after next → Stored before from all after next
-  left-last {now} {after} {at} {next} words l s = record { place-after = omega (arith, s .place-after, l .places); stored = s .stored ∙ l .same }
-
-  -- what stood before all of it stands there still
-  pub left-below : {now rest : List ℕ} {at : ℕ} → Left before from all now at rest → from ≤ at → (i : ℕ) → i < from → getD now i 0 ≡ getD before i 0
-  left-below {now} {rest} {at} l h i k = sym (read-below rest now at i 0 (omega arith)) ∙ ap (λ (m : List ℕ). getD m i 0) (l .same) ∙ read-below all before from i 0 k
-
--- one after another
-pub stored-then : {before middle after : List ℕ} {at next end : ℕ} (xs ys : List ℕ) → Stored before at xs middle next → Stored middle next ys after end → Stored before at (xs ++ ys) after end
-stored-then {before} {middle} {after} {at} {next} {end} xs ys s t = left-last ys (left-step xs (left-all {before = before} {all = xs ++ ys} {from = at}) s) t
+-- what stood before all that is stored stands there still
+pub left-below : {before all now rest : List ℕ} {from at : ℕ} → Left before from all now at rest → from ≤ at → (i : ℕ) → i < from → getD now i 0 ≡ getD before i 0
+left-below {before} {all} {now} {rest} {from} {at} l h i k = sym (read-below rest now at i 0 (omega arith)) ∙ ap (λ (m : List ℕ). getD m i 0) (l .same) ∙ read-below all before from i 0 k
 
 -- ---- over zeros
 pub over-zeros : (n : ℕ) (xs : List ℕ) → length xs ≤ n → sets (zeros n) 0 xs ≡ padded n xs

@@ -8,11 +8,10 @@ use Rattle.numbers.{proofs.Replies.{given-from, demanded, met, onward}, specs.R
 use Rattle.table.specs.{Ordered.{lowest, Ordered, ends, next}, Rows.{Rows, row, tableEnd, unreadable, rowsIn}, declared.rows.Row.{Row}}
 use Rattle.header.specs.declared.header.Head.{Head}
 use Rattle.table.specs.Rows as T
-use Rattle.index.proofs.Filling.{both}
-use Rattle.index.specs.{AsRows.{asRows}, Table.{isNext, tableFrom, bottom, tableOf}}
-
-pub given-one : {A : Type 0} {a b : A} → given a ≡ given b → a ≡ b
-given-one e = cc
+use Rattle.numbers.proofs.Tests.{both}
+use Rattle.table.specs.Rows.{asRows}
+use Rattle.index.specs.Table.{isNext, tableFrom, bottom, tableOf}
+use Rattle.numbers.proofs.Replies.{given-one}
 
 module _ (end : ℕ) where
   in-front : {floor : ℤ} {r : Row} {table : Rows} (rest : List Row) → isNext end floor r ≡ true → (table ≡ asRows rest) × Ordered end (lowest r) table

@@ -4,15 +4,15 @@ use borrow.Author.Tests.{ltb-true, ltb-false, lt-leb, le-leb}
 use lib.{IntN.{ℤ, pos, negsuc}, ListN.{length, length-append}, Seq.{sets, append-snoc}, Signed.{ltZ, leZ}}
 use mathlib.Core.{Bool.{Bool, true, false}, List.{List, [], _∷_, _++_, append-nil, append-assoc}, Path.{_≡_, refl, sym, ap, _∙_}}
 use native.Mathlib.Omega.{arith}
-use Rattle.writer.specs.Stored.{Stored}
+use Rattle.writer.specs.inner.Stored.{Stored}
 use Rattle.numbers.{proofs.Answers.{found-one}, specs.{Answer.{Answer, found}, Reply.{Reply, given, refused, plain, demand, _>>=_, _>>_}, Varint.{readingOf}}}
 use Rattle.numbers.specs.Answer as A
 use Rattle.table.proofs.TableRows.{reading-grows, at-end, at-row, at-unreadable, at-refused, row-less}
 use Rattle.table.specs.{Ordered.{lowest}, Rows.{Rows, rowOf, after, startAt, rowBy, rowsFrom, rowsIn}, Table.{entryBy}}
 use Rattle.table.specs.declared.{table.Entry.{Entry}, rows.{Cursor.{Cursor}, Row.{Row}}}
 use Rattle.header.specs.declared.header.Head.{Head}
-use Rattle.index.proofs.Stores.{sets-append}
-use Rattle.index.specs.{Building.{Recorded}, Index.{recordOf, recordsAt, recordsOf}, Table.{isNext, tableFrom, bottom, tableOf}}
+use Rattle.writer.proofs.Stores.{sets-append}
+use Rattle.index.specs.{inner.Building.{Recorded}, Index.{recordOf, recordsAt, recordsOf}, Table.{isNext, tableFrom, bottom, tableOf}}
 
 -- ---- order
 pub above-not : (a b : ℤ) → ltZ a b ≡ true → leZ b a ≡ false

@@ -8,7 +8,8 @@ use Rattle.header.specs.{Header.{headOf}, declared.header.Head.{Head}}
 use Rattle.numbers.{proofs.Replies.{carried, onward, demanded}, specs.{Lists.{zeros}, Reply.{Reply, given, refused, plain, _>>_}, declared.refusal.Refusal.{Refusal}}}
 use Rattle.table.specs.{Find.{fixOf, isPrecision}, declared.location.Location.{Location}}
 use Rattle.zones.specs.{Lent.{Outcome, replied, repliedOf}, Lookup.{zonesListed, lookedListed}, declared.lookup.Zones.{Zones}}
-use Rattle.index.proofs.{Filling.{both}, TableInOrder.{given-one}, Tying.{begin-inside, end-inside}}
+use Rattle.numbers.proofs.{Tests.{both}, Replies.{given-one}}
+use Rattle.index.proofs.Tying.{begin-inside, end-inside}
 use Rattle.index.specs.{Index.{tiles, recordsAt}, Through.{startOf, isInside, placeOf, recordsIn, numbersIn, zonesThrough, lookedThrough, lookedIndexed}}
 use Rattle.index.specs.{Tied.{wordAt, isHeaded, tiedWith}, Tiles.{tileOf}, declared.place.Place.{Place}}
 

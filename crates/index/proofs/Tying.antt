@@ -7,7 +7,7 @@ use native.Mathlib.Omega.{arith}
 use Rattle.numbers.{proofs.Replies.{carried, onward, met, unmet}, specs.{Answer.{if_then_else_}, Reply.{given, refused, plain, demand}, declared.refusal.Refusal.{Refusal}}}
 use Rattle.table.specs.Find.{isPrecision}
 use Rattle.header.specs.{Header.{headOf}, declared.header.Head.{Head}}
-use Rattle.index.proofs.Filling.{both}
+use Rattle.numbers.proofs.Tests.{both}
 use Rattle.index.specs.{Index.{fourAt, wordsFor, recordsAt}, Tied.{wordAt, beginOf, isHeaded, keepsFrom, isTied, tiedWith, tiedOf}}
 
 -- ---- the head

@@ -7,8 +7,9 @@ use native.Mathlib.Omega.{arith}
 use Rattle.numbers.{proofs.Replies.{carried, onward, met, unmet}, specs.{Answer.{if_then_else_}, Reply.{given, refused, plain}, declared.refusal.Refusal.{Refusal}}}
 use Rattle.table.specs.{Find.{isPrecision}, declared.rows.Row.{Row}}
 use Rattle.header.specs.declared.header.Head.{Head}
-use Rattle.index.proofs.{Keeping.{packed-length}, Stores.{sets-append, sets-before, read-below}, Tabling.{records-length}}
-use Rattle.index.specs.Building.{isMetIn, listIn, listsIn, low}
+use Rattle.index.proofs.{Keeping.{packed-length}, Stores.{sets-before, read-below}, Tabling.{records-length}}
+use Rattle.writer.proofs.Stores.{sets-append}
+use Rattle.index.specs.inner.Building.{isMetIn, listIn, listsIn, low}
 use Rattle.index.specs.Index.{recordOf, recordsOf, wordsFor, keptOf, listFrom, listsFrom, joined, startsFrom, tiles, recordsAt, listsAt, indexOf, hasRoom, indexWith}
 use Rattle.index.specs.{Table.{tableOf}, Tiles.{wordOf, tileAt, meets}, declared.tiles.Tile.{Tile}}
 

@@ -1,9 +1,8 @@
 pub mod Tiles
 pub mod Table
 pub mod Index
-pub mod Building
 pub mod Complete
 pub mod Tied
-pub mod AsRows
 pub mod Through
 pub mod Own
+pub mod inner

@@ -2,9 +2,9 @@
 ghost use mathlib.Core.{Path.{_≡_}, List.{[], _∷_}};
 ghost use Prim.Native.Nat.{_^_, _<_};
 ghost use lib.{ListN.{length}, Seq.{sets}};
-ghost use Rattle.index.specs.{Building.{Made}, Index.{indexWith, indexed, indexedOf, toldBuilt}};
+ghost use Rattle.index.specs.{inner.Building.{Made}, Index.{indexWith, indexed, indexedOf, toldBuilt}};
 ghost use Rattle.numbers.specs.Lists.{zeros};
-ghost use Rattle.table.specs.Agreeing.{Agrees};
+ghost use Rattle.table.specs.inner.Agreeing.{Agrees};
 use crate::entries::put_table;
 use crate::kept::put_kept;
 use crate::lists::put_lists;

@@ -1,9 +1,9 @@
 // The table goes into the index row by row, if it can be read, does not run past its end, and is in order.
 ghost use mathlib.Core.Path.{_≡_};
 ghost use Prim.Native.Nat.{_^_, _<_};
-ghost use Rattle.writer.specs.Stored.{Stored};
-ghost use Rattle.index.specs.{Building.{Recorded, toldTable}, Index.{boxWords, recordOf}, Table.{isNext, tableOf}};
-ghost use Rattle.table.specs.Agreeing.{Agrees};
+ghost use Rattle.writer.specs.inner.Stored.{Stored};
+ghost use Rattle.index.specs.{inner.Building.{Recorded, toldTable}, Index.{boxWords, recordOf}, Table.{isNext, tableOf}};
+ghost use Rattle.table.specs.inner.Agreeing.{Agrees};
 use crate::build::RECORDS_AT;
 use crate::build::Table;
 use crate::words::put;

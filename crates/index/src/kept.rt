@@ -2,7 +2,7 @@
 ghost use mathlib.Core.Path.{_≡_};
 ghost use Prim.Native.Nat.{_^_, _<_};
 ghost use lib.ListN.{getD, take};
-ghost use Rattle.writer.specs.Stored.{Stored};
+ghost use Rattle.writer.specs.inner.Stored.{Stored};
 ghost use Rattle.index.specs.Index.{fourAt, keptOf};
 use crate::words::put;
 

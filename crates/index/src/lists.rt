@@ -2,8 +2,8 @@
 ghost use mathlib.Core.Path.{_≡_};
 ghost use Prim.Native.Nat.{_+_, _*_, _^_, _≤_, _<_};
 ghost use lib.ListN.{length};
-ghost use Rattle.writer.specs.Stored.{Stored};
-ghost use Rattle.index.specs.{Building.{isMetIn, listIn, listsIn, Listed}, Index.{recordsAt, tiles}};
+ghost use Rattle.writer.specs.inner.Stored.{Stored};
+ghost use Rattle.index.specs.{inner.Building.{isMetIn, listIn, listsIn, Listed}, Index.{recordsAt, tiles}};
 use crate::build::RECORDS_AT;
 use crate::tiles::Tile;
 use crate::tiles::meets;

@@ -2,9 +2,9 @@
 ghost use mathlib.Core.{Bool.{_&&_}, List.{[], _∷_}, Path.{_≡_}};
 ghost use Prim.Native.Nat.{_+_, _*_, _^_, _≤_, _<_};
 ghost use lib.ListN.{length};
-ghost use Rattle.index.specs.{Building.{listIn, listsIn}, Index.{boxWords, recordOf, recordsAt, tiles}, Tied.{toldTied}};
-ghost use Rattle.index.specs.Own.{isWord, isAt, standsFrom, listsStand, isEmptyFrom, comparedOf, Counted, restOf, ownWith, isIndexOf, toldCompared, toldNext};
-ghost use Rattle.table.specs.Agreeing.{Agrees};
+ghost use Rattle.index.specs.{inner.Building.{listIn, listsIn}, Index.{boxWords, recordOf, recordsAt, tiles}, Tied.{toldTied}};
+ghost use Rattle.index.specs.{inner.Own.{isWord, isAt, standsFrom, listsStand, isEmptyFrom, comparedOf, Counted, restOf, ownWith, toldCompared, toldNext}, Own.{isIndexOf}};
+ghost use Rattle.table.specs.inner.Agreeing.{Agrees};
 use crate::build::BAD_TABLE;
 use crate::build::RECORDS_AT;
 use crate::entries::is_next;

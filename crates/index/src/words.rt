@@ -1,8 +1,9 @@
 // Words into the lent index. A word that does not fit is counted and left out: the place is held against the room once, at the end.
 ghost use mathlib.Core.{Path.{_≡_}, List.{[], _∷_}};
 ghost use Prim.Native.Nat.{_^_, _<_};
-ghost use Rattle.writer.specs.Stored.{Stored};
+ghost use Rattle.writer.specs.inner.Stored.{Stored};
 ghost use Rattle.index.specs.Tiles.{wordOf};
+use numbers::point::bits_of;
 
 pub(crate) fn put(index: &mut [u32], at: usize, word: u32) -> usize
     requires { ⌜ at < 2 ^ 60 ⌝ }
@@ -15,12 +16,9 @@ pub(crate) fn put(index: &mut [u32], at: usize, word: u32) -> usize
     at + 1
 }
 
-// A coordinate's 32 bits. Both arms compile to no instruction.
+// A coordinate's 32 bits.
 pub(crate) fn word_of(coordinate: i32) -> u32
     ensures { λ r. ⌜ r ≡ wordOf coordinate ⌝ }
 {
-    if coordinate < 0 {
-        return 0xffff_ffff - (-1 - coordinate) as u32;
-    }
-    coordinate as u32
+    bits_of(coordinate)
 }

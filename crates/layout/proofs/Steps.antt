@@ -5,7 +5,7 @@ use mathlib.Core.{Bool.{Bool, true, false}, List.{List, [], _∷_}, Logic.{_⊎_
 use native.Mathlib.{Nat.{le-refl, eq-or-lt-of-le}, Omega.{arith}}
 use Rattle.numbers.{proofs.Spelling.{varint-few}, specs.{Answer.{if_then_else_}, Spelling.{varintOf}}}
 use Rattle.layout.proofs.Sizes.{size-rises}
-use Rattle.layout.specs.Layout.{wordSize, wordsSize, next, Fits, Least, after}
+use Rattle.layout.specs.inner.Layout.{wordSize, wordsSize, next, Fits, Least, after}
 
 -- longer records make no word shorter
 word-rises : (word a b : ℕ) → a ≤ b → wordSize word a ≤ wordSize word b

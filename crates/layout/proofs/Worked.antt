@@ -3,7 +3,7 @@ use Prim.Native.Nat.{ℕ}
 use mathlib.Core.{List.{List, [], _∷_}, Path.{_≡_, refl}}
 use Rattle.numbers.specs.Spelling.{digitsOf, varintOf}
 use Rattle.layout.proofs.Steps.{least-layout}
-use Rattle.layout.specs.{Layout.{wordSize, wordsSize, next, Fits, Least, after}, Order.{insertBy, sortedBy, keyOf}}
+use Rattle.layout.specs.{inner.Layout.{wordSize, wordsSize, next, Fits, Least, after}, Order.{insertBy, sortedBy, keyOf}}
 
 abbrev two : List ℕ
 two = 1 ∷ 1 ∷ []

@@ -1,4 +1,2 @@
 pub mod Order
-pub mod Merge
-pub mod Layout
-pub mod Answers
+pub mod inner

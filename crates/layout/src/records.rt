@@ -3,7 +3,7 @@ ghost use mathlib.Core.{Path.{_≡_}, List.{[]}};
 ghost use Prim.Native.Nat.{_+_, _^_, _<_};
 ghost use lib.ListN.{length};
 ghost use Rattle.numbers.specs.Spelling.{varintOf};
-ghost use Rattle.layout.specs.{Layout.{next}, Answers.{WordSize, WordsSize, LaidOut}};
+ghost use Rattle.layout.specs.inner.{Layout.{next}, Answers.{WordSize, WordsSize, LaidOut}};
 use numbers::write::write_varint;
 
 pub enum Laid {

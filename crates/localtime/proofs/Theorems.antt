@@ -10,10 +10,11 @@ use Rattle.localtime.specs.Found.{foundOf}
 use Rattle.localtime.specs.Local.{askIn, rulesIn, isRuled, byRule, answerBy, answerAt, localTimeBy, localTime, scaleIn, scaleOr, scaleBy, scaleAt}
 use Rattle.localtime.specs.declared.{local.Timed.{Timed}, rule.Rules.{Rules}, scale.Scale.{Scale}}
 use Rattle.localtime.specs.declared.rule.Rules.the-variants as R
-use Rattle.tzif.specs.{Reply.{Reply, given, refused, if_then_else_, _>>=_, _>>_}, Check.{correctionAt}, Local.{isAfterLast, byTable, lent, named, replied, Replied}, Number.{raised, lift}, Zone.{readZone}}
+use Rattle.tzif.specs.{Reply.{Reply, given, refused, _>>=_, _>>_}, Check.{correctionAt}, Local.{isAfterLast, byTable, lent, named, replied, Replied}, Number.{raised, lift}, Zone.{readZone}}
+use Rattle.numbers.specs.Answer.{if_then_else_}
 use Rattle.tzif.specs.declared.{block.Block.{Block}, local.{Found.{Found}, Local.{Local}, LocalTime.{LocalTime}}, refusal.Refusal.{Refusal}, zone.Zone.{Zone}}
 use Rattle.tzif.specs.declared.local.LocalTime.the-variants as L
-use Rattle.tzif.proofs.{Signs.{Octets}, Theorems.{transitionTime}}
+use Rattle.tzif.specs.Last.{Octets, transitionTime}
 use Rattle.tzif.proofs.Theorems as last
 use Rattle.tzif.specs.Local as plain
 use Rattle.tzrule.specs.{Ask.{corrected, inYears, clockAt, ask}, declared.rule.Tz.{Tz}}

@@ -10,7 +10,8 @@ use Rattle.localtime.specs.declared.rule.Rules.the-variants as R
 use Rattle.tzif.proofs.Beyond.{Beyond, Behind, found-behind, refused-one, transition-same, correction-same, type-same, type-behind, behind-same, after-same, table-same, table-behind, lent-same}
 use Rattle.tzif.proofs.{Marked.{PlainFour, markedThree, secondVersion, beyond, renamed, Second, ReadAlike, refuses, gives, zone-read}, Versions.{zone-v3-unchanged}}
 use Rattle.tzif.specs.{Block.{endOf}, Header.{rfc8536}, Local.{typeIn, typeBehind, byTable, lent}, Number.{octet, raised, lift}}
-use Rattle.tzif.specs.{Reply.{Reply, given, refused, refusal, demand, if_then_else_, _>>=_, _>>_}, Times.{timeIn, transitionsOf}}
+use Rattle.tzif.specs.{Reply.{Reply, given, refused, refusal, demand, _>>=_, _>>_}, Times.{timeIn, transitionsOf}}
+use Rattle.numbers.specs.Answer.{if_then_else_}
 use Rattle.tzif.specs.declared.{block.Block.{Block}, local.{Answer.{Answer}, Found.{Found}}, refusal.Refusal.{Refusal}, zone.Zone.{Zone}}
 use Rattle.tzrule.proofs.Tail.{Alike, faults, reads, TzFrom, string-alike}
 use Rattle.tzrule.specs.{Ask.{corrected, inYears, since, clockAt, ask}, String.{stringOf}, Summer.{isSummer}, declared.{ask.{Asked.{Asked}, Time.{Time}}, rule.Tz.{Tz}}}

@@ -10,7 +10,7 @@ use Rattle.localtime.proofs.Theorems.{throughout-by-string, after-last-
 use Rattle.localtime.specs.Found.{eastOf, foundOf, sameOctets, sameFound}
 use Rattle.localtime.specs.Local.{askIn, sameAs, agrees, orSixty, stringIn, rulesIn, isRuled, byRule, answerBy, answerAt, localTimeBy, localTime, scaleIn, scaleOr, scaleBy, scaleAt}
 use Rattle.localtime.specs.declared.rule.Rules.the-variants as R
-use Rattle.tzif.proofs.{Signs.{Octets, allOctets, octets-of}, Theorems.{transitionTime}}
+use Rattle.tzif.{specs.Last.{Octets, transitionTime}, proofs.Signs.{allOctets, octets-of}}
 use Rattle.tzif.specs.Check.{occursLater, correctionBefore, correctionAt, correctionOf, oneApart, isExpiry, nulEnd, checkTime, checkIndex, checkType, checkLeap, checkLeaps, checkStandard, isStandard, checkUt}
 use Rattle.tzif.specs.Header.{begins, isVersion, isFourth, versionFits, checkHeader, blockAt, noneOrAll, checkCounts, checkBlock, readBlock}
 use Rattle.tzif.specs.{Local.{typeIn, typeBehind, isAfterLast, byTable, replied, named, lent}, Number.{octets, be32, raised, timeAt, signedAt, lift}}

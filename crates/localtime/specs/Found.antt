@@ -3,7 +3,8 @@ use Prim.Native.Nat.{ℕ, zero, suc, _+_, _-_, _≤_}
 use lib.{Dec.{eqb}, IntN.{ℤ, pos, _-ℤ_}}
 use mathlib.Core.{Bool.{Bool, true, false}, List.{List}}
 use mir.{Syntax.{w32}, Val.{ofZ}}
-use Rattle.tzif.specs.{Reply.{if_then_else_}, Number.{octet}, declared.local.Found.{Found}}
+use Rattle.numbers.specs.Answer.{if_then_else_}
+use Rattle.tzif.specs.{Number.{octet}, declared.local.Found.{Found}}
 use Rattle.tzrule.specs.declared.ask.Time.{Time}
 
 -- seconds east, of seconds west more 604800

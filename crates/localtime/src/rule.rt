@@ -3,7 +3,7 @@ ghost use mathlib.Core.Path.{_≡_};
 ghost use Prim.Native.Nat.{_^_, _≤_};
 ghost use lib.ListN.{length};
 ghost use Rattle.localtime.specs.Local.{askIn, agrees, rulesIn, toldRules, Sound, HeldAsked, HeldStated};
-ghost use Rattle.tzrule.specs.String.{IsTz};
+ghost use Rattle.tzrule.specs.inner.String.{IsTz};
 use crate::found::found_of;
 use crate::found::same_found;
 use tzif::block::Block;

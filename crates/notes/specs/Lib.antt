@@ -1,5 +1,3 @@
 pub mod Chains
 pub mod Noted
-pub mod Weighed
-pub mod Nearby
-pub mod Quick
+pub mod inner

@@ -22,6 +22,10 @@ pub given-from : {A B : Type 0} {b : B} (answer : Reply A) (next : A → Reply B
 given-from (given a) next e = record { it = a; is = refl; onto = e }
 given-from (refused why) next e = let z : _≡_ {A = ℕ} 0 1 = cc in absurd (omega arith)
 
+-- what is given is one thing
+pub given-one : {A : Type 0} {a b : A} → given a ≡ given b → a ≡ b
+given-one e = cc
+
 -- what is only looked at was refused before
 pub refused-from : {A B : Type 0} {why : Refusal} (answer : Reply A) (shown : A → B) → refused why ≡ (answer >>= λ a. given (shown a)) → refused why ≡ answer
 refused-from (given a) shown e = let z : _≡_ {A = ℕ} 0 1 = cc in absurd (omega arith)

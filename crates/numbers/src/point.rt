@@ -1,6 +1,7 @@
 // Signed numbers, and points: a latitude and a longitude whose bits take turns.
 ghost use mathlib.Core.Path.{_≡_};
 ghost use Prim.Native.Nat.{_^_, _<_};
+ghost use mir.{Syntax.{w32}, Val.{ofZ}};
 ghost use Rattle.numbers.specs.Point.{readI32, signedOf, evenBits, bothBits, pointOf};
 
 pub struct RawPoint {
@@ -17,6 +18,16 @@ fn with_bits(bits: u32) -> i32
     } else {
         -1 - (0xffff_ffff - bits) as i32
     }
+}
+
+// The bits of an i32, the other way. Both arms compile to no instruction.
+pub fn bits_of(n: i32) -> u32
+    ensures { λ r. ⌜ r ≡ ofZ w32 n ⌝ }
+{
+    if n < 0 {
+        return 0xffff_ffff - (-1 - n) as u32;
+    }
+    n as u32
 }
 
 // Half the value, negated if odd, kept modulo 2^32.

@@ -1,8 +1,8 @@
 // Numbers into a lent buffer, and two numbers into one.
 ghost use mathlib.Core.Path.{_≡_};
 ghost use Prim.Native.Nat.{_+_};
-ghost use lib.{Dec.{ltb}, ListN.{length, set}};
-ghost use Rattle.numbers.specs.{Answer.{if_then_else_}, Spelling.{varintOf, interleaved, Put}};
+ghost use lib.{Dec.{ltb}, IntN.{_-ℤ_}, ListN.{length, set}};
+ghost use Rattle.numbers.specs.{Answer.{if_then_else_}, Spelling.{varintOf, interleaved, signedForm, Put}};
 
 // A byte at a place, or none past the buffer's end; and the place behind it, where there is one.
 fn put(out: &mut [u8], place: usize, byte: u8) -> usize
@@ -49,4 +49,15 @@ pub fn interleave(a: u64, b: u64) -> u64
         out = a / weight % 2 + b / weight % 2 * 2 + out * 4;
     }
     out
+}
+
+// The signed form of a difference: twice the size, odd only for negatives.
+pub fn form_of(from: i32, to: i32) -> u64
+    ensures { λ r. ⌜ r ≡ signedForm (to -ℤ from) ⌝ }
+{
+    let by = (to as i64) - (from as i64);
+    if by < 0 {
+        return ((0 - by) as u64) * 2 + 1;
+    }
+    (by as u64) * 2
 }

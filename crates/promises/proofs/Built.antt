@@ -1,5 +1,4 @@
--- What is known of a built file. Each file says what it proves. The first three are laws about border's definitions.
-pub mod AtPlace
+-- What is known of a built file. Each file says what it proves. The first two are laws about border's definitions.
 pub mod NearFloats
 pub mod NearBorders
 pub mod Strings

@@ -1,34 +1,44 @@
--- The page of promises: the questions of README in its order, each with the theorem that answers it, over what the entry points promise. A statement stands here in full, so that a reader looks up definitions alone; its proof is
--- the law of the crate where it belongs.
-use Prim.Native.Nat.{ℕ, _*_, _-_, _<_}
+-- The page of promises: the questions of README in its order, each with the theorem that answers it, over what the entry points promise. A statement stands here in full, so that a reader looks up
+-- definitions alone (`tools/floor` lists them); its proof is the law of the crate where it belongs.
+use Prim.Native.Nat.{ℕ, _+_, _*_, _-_, _<_, _≤_}
 use lib.{Ieee.{Float}, IntN.{ℤ}, ListN.{length, getD, take}, Signed.{ltZ}}
-use mathlib.Core.{Bool.{Bool, true}, List.{List, [], _∷_}, Logic.{_⊎_}, Path.{_≡_}}
+use mathlib.Core.{Bool.{Bool, true}, List.{List, [], _∷_}, Logic.{_↔_, _⊎_}, Path.{_≡_}}
 use mir.{Syntax.{w64}, Val.{SFits}}
 use Rattle.border.specs.{Encoding.{encodingOf}, declared.place.{FixedLat.{FixedLat}, FixedLon.{FixedLon}}}
 use Rattle.builder.specs.{File.{Room, builtOf}, Yards.{Lent, Plan, Yard, planOf}}
-use Rattle.calendar.specs.{Civil.{CivilOf}, declared.civil.Civil.{Civil}}
-use Rattle.draft.specs.Held.{Builder.{holding}, Totals.{totalsOf}}
+use Rattle.bundle.specs.{Bundle.{findOf}, First.{FoundAt}, declared.find.File.{File}}
+use Rattle.bundle.specs.Told as B
+use Rattle.bundle.specs.declared.find.Found.the-variants as F
+use Rattle.calendar.specs.{Calendar.{daysOfYears}, Civil.{CivilOf}, Epoch.{forwards, backwards}, declared.civil.Civil.{Civil}}
+use Rattle.draft.specs.Held.{Builder.{Builder, finish, holding}, Sound.{Sound, roomFor}, Space.{Space}, Totals.{totalsOf}}
 use Rattle.header.specs.{Header.{headBy, headOf}, declared.header.Head.{Head}}
-use Rattle.index.specs.{Index.{Indexed, indexedOf}, Own.{isIndexOf}, Through.{lookedThrough, lookedIndexed}}
+use Rattle.index.specs.{Index.{indexed, indexedOf}, Own.{isIndexOf}, Through.{lookedIndexed}}
 use Rattle.localtime.specs.{Found.{foundOf}, Local.{rulesIn, localTime}}
 use Rattle.localtime.specs.declared.rule.Rules.the-variants as R
-use Rattle.numbers.specs.{Lists.{zeros}, Reply.{Reply, given}}
+use Rattle.numbers.specs.{Lists.{zeros}, Reply.{given}}
 use Rattle.promises.specs.Built.Finds.{FindsInto}
+use Rattle.request.specs.{Clock.{Date, Time, utc}, Nearest.{Nearest}, Only.{OnlyAt}, Request.{Spelt, requestOf, speltOf}, Text.{lineOf}, declared.read.Fix.{Fix}}
+use Rattle.request.specs.Told as Q
+use Rattle.request.specs.declared.read.Asked.the-variants as A
 use Rattle.salvage.specs.{Kept.{keptOf}, Promises.{ListOf, KeptFile}, Salvage.{Counts, salvaged}}
 use Rattle.table.specs.{Rows.{rowsIn}, declared.location.Location.{Location}}
 use Rattle.tzif.specs.{Check.{correctionAt}, Local.{typeBehind, named}, Number.{lift}, Times.{transitionsOf, lastNotAfter}, Zone.{readZone}, declared.{block.Block.{Block}, zone.Zone.{Zone}}}
-use Rattle.tzif.proofs.{Signs.{Octets}, Theorems.{transitionTime, LastNotAfter}}
+use Rattle.tzif.specs.Last.{Octets, transitionTime, LastNotAfter}
 use Rattle.tzif.specs.Reply as T
 use Rattle.tzrule.specs.{Ask.{corrected, inYears, clockAt}, Summer.{isSummer, IsSummer, IsRule}, declared.rule.{Rule.{Rule}, Tz.{Tz}}}
 use Rattle.uskelzar.specs.{Calls.{Shelf, Called, Made, TotalsIn}, Spoken.{zonesValues, spoken, foundSpoken}}
 use Rattle.verdict.specs.Verdict.{judgedAt}
 use Rattle.writer.specs.WrittenAt.{WrittenAt}
 use Rattle.zones.specs.{Batch.{Many.{isTaken, fixesOf, lookedUpMany}, OneByOne.{oneByOne}}, Lookup.{lookedUp}, Unstopped.{lookedThroughAll}, declared.lookup.Zones.{Zones}}
+use Rattle.bundle.proofs.Theorems as bundle
+use Rattle.calendar.proofs.Epoch as epoch
 use Rattle.calendar.proofs.SameCivil as calendar
+use Rattle.draft.proofs.held.Ends as draft
 use Rattle.index.proofs.Owned as index
 use Rattle.localtime.proofs.Theorems as localtime
 use Rattle.promises.proofs.Built.BuiltLookup as built
 use Rattle.promises.proofs.Salvaged.Answered as salvage
+use Rattle.request.proofs.Theorems as request
 use Rattle.tzif.proofs.Theorems as tzif
 use Rattle.tzrule.proofs.SummerAt as tzrule
 use Rattle.uskelzar.proofs.Made as calls
@@ -57,7 +67,11 @@ pub many-is-one-by-one : (file : List ℕ) (lats lons : List Float) (asked : Boo
 many-is-one-by-one = batch.many-is-one-by-one
 
 -- ---- Does an index beside the file change an answer?
--- Not where `is_index` says 0 of its words, whoever wrote them.
+-- `is_index` says 0 of words exactly where building, lent as many, gives and leaves these for this file, whoever wrote them,
+pub is-index-exactly : (file words : List ℕ) → (isIndexOf file words ≡ given tt) ↔ ((used : ℕ) × (indexedOf file (length words) ≡ indexed (given used) words))
+is-index-exactly = index.is-index-exactly
+
+-- and where it says 0 a lookup through them is the plain one.
 pub is-index-is-plain : (file words : List ℕ) → isIndexOf file words ≡ given tt → (location : Location) (asked : Bool) (n room : ℕ)
     → lookedIndexed file words location asked n room ≡ lookedUp file location asked n room
 is-index-is-plain file words e location asked n room = index.is-index-is-plain file words e location asked n room
@@ -85,6 +99,11 @@ totals-fresh = calls.totals-fresh
 pub refused-changes-nothing : (plan : Plan) (room : ℕ) (yards : List Yard) (found left : Shelf) (number : ℕ) (change : List Yard → List Yard) → Made plan room yards found
     → Called found left number change → (number ≡ 0 → ⊥) → left ≡ found
 refused-changes-nothing = calls.refused-changes-nothing
+
+-- The file that a sound builder ends with is the one that building the yards held gives, and the end is refused as that is.
+pub finish-builds : (b : Builder) → Sound (b .plan) (b .room) → b .totals ≡ totalsOf (b .plan) → (out : ℕ) (space : Space)
+    → finish b out space ≡ builtOf (b .plan) (roomFor out (record { bytes = out; lists = space .lists }))
+finish-builds b sound fresh out space = draft.finish-builds b sound fresh out space
 
 -- ---- What is left of a damaged file?
 -- The file that was written opens strictly, and its table is that of the old file's whole entries, in the old order, each as it was.
@@ -118,3 +137,23 @@ summer-some rule instant good = tzrule.summer-some rule instant good
 -- What a clock shows is the one date and time whose seconds give instant and offset back.
 pub same-civil : (instant offset : ℤ) (a b : Civil) → CivilOf instant offset a → CivilOf instant offset b → a ≡ b
 same-civil = calendar.same-civil
+
+-- The days before 1 January of a year are counted from 1970, year by year, forwards and backwards; years before the year 1 are told by one whole rounds of 400 years later.
+pub days-from-1970 : (c k : ℕ) → (daysOfYears (1969 + k + 400 * c) ≡ 719162 + forwards k + 146097 * c)
+    × (k ≤ 1969 + 400 * c → daysOfYears (1969 + 400 * c - k) + backwards k ≡ 719162 + 146097 * c)
+days-from-1970 = epoch.days-from-1970
+
+-- ---- Is it the fix, the instant and the zone's file that were asked for?
+-- The two floats of a fix are the f32 nearest to the fractions that the request spells, ties to even;
+pub request-nearest : (text : List ℕ) {fix : Fix} {spelt : Spelt} → Q.told (A.Fix fix) ≡ requestOf text → given spelt ≡ speltOf (lineOf text)
+    → Nearest (spelt .lat) (fix .lat) × Nearest (spelt .lon) (fix .lon)
+request-nearest text e s = request.request-nearest text e s
+
+-- its instant is the one at which a clock in UTC shows the date and time that the request spells;
+pub request-instant : (text : List ℕ) {fix : Fix} {spelt : Spelt} {date : Date} {time : Time} → Q.told (A.Fix fix) ≡ requestOf text → given spelt ≡ speltOf (lineOf text)
+    → spelt .when ≡ utc date time → OnlyAt date time (fix .instant)
+request-instant text e s w = request.request-instant text e s w
+
+-- and the file that is found in a bundle lies in its data, where the first entry of the name says.
+pub found-first : (bundle name : List ℕ) {file : File} → B.told (F.At file) ≡ findOf bundle name → FoundAt bundle name file
+found-first = bundle.found-first

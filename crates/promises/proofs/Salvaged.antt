@@ -1,5 +1,4 @@
--- What is known of a salvaged file. Each file says what it proves. The first is about border's definitions.
-pub mod AtPlace
+-- What is known of a salvaged file. Each file says what it proves.
 pub mod Parts
 pub mod Opened
 pub mod TextsAgain

@@ -1,2 +1,3 @@
 pub mod Built
 pub mod Salvaged
+pub mod inner

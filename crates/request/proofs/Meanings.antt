@@ -7,7 +7,8 @@ use native.Mathlib.Omega.{arith}
 use Rattle.numbers.proofs.Replies.{given-from, demanded}
 use Rattle.numbers.specs.{Answer.{Answer, found, failed, if_then_else_, _>>=_}, Reply.{Reply, given, refusal, plain}}
 use Rattle.numbers.specs.Answer as A
-use Rattle.request.proofs.{Numerals.{ten-some, small-size}, Times.{both}}
+use Rattle.request.proofs.Numerals.{ten-some, small-size}
+use Rattle.numbers.proofs.Tests.{both}
 use Rattle.request.specs.{Text.{formed, until, count, field, word, pastWord, nextWord}, Number.{Size, Fraction, spelled, partOf, angleOf, sideOf, decimalOf, unsigned, isMinus, degreesOf}, Clock.{Date, Time, When, utc, since, isDate, isTime, timeOf, dateOf, momentForm, momentDate, momentTime, momentOf, secondsOf, whenOf}}
 use Rattle.request.specs.Request.{Spelt, at, starOf, bodyOf, isSealed, isAddress, isRmc, isMode, placeOf, placeIn, inField, inWord, turned, fixOf, fieldsOf, sentenceOf, plainOf, speltOf, meaning, requestOf}
 

@@ -6,7 +6,7 @@ use Rattle.calendar.specs.{Calendar.{weekdayOf, dayNumber}, Civil.{Shows, Civil
 use Rattle.numbers.proofs.{Refusals.{Listed}, Replies.{number-of}}
 use Rattle.numbers.specs.{Reply.{Reply, given, refused}, declared.refusal.Refusal.{Refusal}}
 use Rattle.request.proofs.{Meanings.{Civilly, Ranged, spelt-meant}, Nearing.{nearest-to}, Refusing.{fiveNumbers, request-told}, Replied.{shown-from}, Times.{in-date, in-time}}
-use Rattle.request.specs.{Nearest.{Nearest}, Text.{lineOf}, Clock.{Date, Time, When, utc, instantAt}, Request.{Spelt, speltOf, meaning, requestOf}, Told.{told}, declared.read.{Fix.{Fix}, Asked.{Asked}}}
+use Rattle.request.specs.{Only.{readingOf, OnlyAt}, Nearest.{Nearest}, Text.{lineOf}, Clock.{Date, Time, When, utc, instantAt}, Request.{Spelt, speltOf, meaning, requestOf}, Told.{told}, declared.read.{Fix.{Fix}, Asked.{Asked}}}
 use Rattle.request.specs.declared.read.Asked.the-variants as R
 
 -- ---- same-request
@@ -29,24 +29,6 @@ pub request-refusals : (text : List ℕ) {why : Refusal} → told (R.Refused why
 request-refusals text e = number-of (request-told text) (sym e)
 
 -- ---- request-instant
--- what a clock shows at a date and a time
-abbrev pub readingOf : Date → Time → Reading
-readingOf d t =
-    record {
-      year = d .year;
-      month = d .month;
-      day = d .day;
-      hour = t .hour;
-      minute = t .minute;
-      second = t .second;
-      weekday = weekdayOf (dayNumber (d .year) (d .month) (d .day));
-    }
-
--- at this instant, and at no other, a clock in UTC shows this date and time
-pub record OnlyAt (date : Date) (time : Time) (instant : ℤ) : Type 0 where
-  pub shown : CivilOf instant (pos 0) (Shown (readingOf date time))
-  pub alone : (other : ℤ) → CivilOf other (pos 0) (Shown (readingOf date time)) → other ≡ instant
-
 only-at : (date : Date) (time : Time) → Ranged date time → OnlyAt date time (instantAt (utc date time))
 unfolding CivilOf instantAt
 only-at date time r =

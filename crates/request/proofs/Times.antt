@@ -1,23 +1,18 @@
 -- Dates, times and instants, as the code works them out. Assumes nothing.
 use mathlib.Core.{Path.{_≡_, refl, ap, sym, _∙_, subst}, Bool.{Bool, true, false, _&&_, cond}, List.{List}}
-use Prim.Native.Nat.{ℕ, zero, suc, _+_, _-_, _*_, _^_, _≤_, _<_}
-use borrow.Author.{Needs.{sfits-of}, Tests.{lt-ltb, le-ltb, le-leb, lt-leb, leb-true, eq-eqb, ne-eqb}}
-use lib.{Dec.{leb, ltb, eqb}, IntN.{ℤ, pos, negsuc, _-ℤ_}, ListN.{length}, Signed.{mag}}
-use mir.{Syntax.{w64}, Val.{SFits, toZ, ofZ}, ValLaws.{toZ-ofZ, toZ-pos}}
+use Prim.Native.Nat.{ℕ, suc, _+_, _-_, _*_, _^_, _≤_, _<_}
+use borrow.Author.{Needs.{sfits-of}, Tests.{lt-ltb, le-ltb, le-leb, lt-leb, leb-true, ne-eqb}}
+use lib.{Dec.{leb, ltb}, IntN.{ℤ, pos, negsuc, _-ℤ_}, ListN.{length}, Signed.{mag}}
+use mir.{Syntax.{w64}, Val.{SFits, toZ}, ValLaws.{toZ-pos}}
 use native.Mathlib.Omega.{arith}
 use Rattle.calendar.proofs.{Dates.{number-short}, Laws.{epoch}, Months.{month-more}}
 use Rattle.calendar.specs.{Calendar.{isLeap, monthLength, daysOfMonths, dayNumber, IsDate}, Moments.{secondsTo, instantOf}, Rules.{dayOf}, declared.rule.When.the-variants.{Zero}}
-use Rattle.numbers.specs.{Answer.{Answer, found, failed, if_then_else_}, Reply.{Reply, given, refused, refusal}, declared.refusal.Refusal.{Refusal}}
+use Rattle.numbers.specs.{Answer.{found, if_then_else_}, Reply.{given, refused, refusal}, declared.refusal.Refusal.{Refusal}}
 use Rattle.request.specs.{Text.{digits, formed}, Number.{spelled, valueOf, partOf, hasForm, unsigned, isMinus}, Request.{at}, Told.{shown, timely, isMonth, dated, signedTo}}
 use Rattle.request.specs.Clock.{Date, Time, isDate, isTime, timeOf, fullYear, dateOf, momentForm, momentDate, momentTime, momentOf, signedOf, secondsOf, whenOf, secondOf, instantAt}
+use Rattle.numbers.proofs.Tests.{both}
 use Rattle.request.specs.Clock as C
 use Rattle.numbers.specs.Answer as A
-
--- what a conjunction that holds says
-pub both : (a b : Bool) → (a && b) ≡ true → (a ≡ true) × (b ≡ true)
-both true true e = (refl, refl)
-both true false e = absurd (let z : _≡_ {A = ℕ} 0 1 = cc in omega arith)
-both false b e = absurd (let z : _≡_ {A = ℕ} 0 1 = cc in omega arith)
 
 -- ---- times
 pub in-time : (t : Time) → isTime t ≡ true → (t .hour ≤ 23) × (t .minute ≤ 59) × (t .second ≤ 59)

@@ -4,3 +4,4 @@ pub mod Nearest
 pub mod Clock
 pub mod Request
 pub mod Told
+pub mod Only

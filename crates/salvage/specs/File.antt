@@ -3,7 +3,7 @@ use Prim.Native.Nat.{ℕ, zero, suc, _+_, _-_, _%_, _^_, _<_, _≤_}
 use mathlib.Core.{Bool.{Bool, true, false, _&&_}, Path.{_≡_}, List.{List, [], _∷_, _++_, flatMap}}
 use lib.{Dec.{leb, ltb}, IntN.{ℤ}, ListN.{length, take, drop}}
 use Rattle.header.specs.{Text.{stringAt}, declared.header.Head.{Head}}
-use Rattle.salvage.specs.Moves.{Laid.{cap, Capped}, Moves.{movesAt, movesBytes}}
+use Rattle.salvage.specs.{inner.Moves.Laid.{cap, Capped}, Moves.Moves.{movesAt, movesBytes}}
 use Rattle.border.specs.Encoding.{versionOf}
 use Rattle.numbers.specs.{Point.{readI32}, Reply.{Reply, given, refused, plain, demand, _orElse_, _>>=_, _>>_}, Spelling.{varintOf, signedForm}}
 use Rattle.table.specs.declared.{rows.Row.{Row}, table.Bounds.{Bounds}}

@@ -3,4 +3,4 @@ pub mod File
 pub mod Salvage
 pub mod Promises
 pub mod Moves
-pub mod Rescue
+pub mod inner

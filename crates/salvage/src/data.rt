@@ -1,6 +1,6 @@
 // The data section: the kept borders, one behind the other.
 ghost use mathlib.Core.List.{flatMap};
-ghost use Rattle.salvage.specs.Moves.Laid.{Capped};
+ghost use Rattle.salvage.specs.inner.Moves.Laid.{Capped};
 ghost use Rattle.table.specs.Rows.{rowsIn};
 ghost use Rattle.salvage.specs.{File.{borderBytes}, Kept.{keptOf}};
 use crate::entry::encoding_in;

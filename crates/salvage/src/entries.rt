@@ -1,17 +1,17 @@
 // Entries of the new table.
 ghost use mathlib.Core.Path.{_≡_};
-ghost use Rattle.salvage.specs.Moves.Laid.{Capped};
+ghost use Rattle.salvage.specs.inner.Moves.Laid.{Capped};
 ghost use Rattle.numbers.specs.Spelling.{signedForm};
 ghost use Rattle.table.specs.Rows.{rowsIn};
 ghost use Rattle.salvage.specs.{File.{idStep, boxBytes, entryBytes, borderBytes, tableFrom, allShort, Measured, Tabled}, Kept.{entryGood, keptOf}};
 use crate::entry::encoding_in;
 use crate::entry::section_place;
-use crate::moves::put::form_of;
 use crate::moves::put::put_number;
 use crate::moves::redraw::put_border;
 use crate::walk::Kept;
 use crate::walk::next_kept;
 use header::header::Head;
+use numbers::write::form_of;
 use table::rows::Row;
 use table::rows::after;
 use table::rows::start_at;

@@ -1,7 +1,7 @@
 -- Replies that agree: how to show it, and what it shows of the definition's reply. Assumes nothing.
 use mathlib.Core.Path.{_≡_, refl, sym, subst, ap}
 use Rattle.numbers.specs.{Reply.{Reply, given, refused}, declared.refusal.Refusal.{Refusal}}
-use Rattle.table.specs.Agreeing.{Agrees}
+use Rattle.table.specs.inner.Agreeing.{Agrees}
 
 module _ {A B : Type 0} (so : A → B → Type 0) {whole : Reply A} where
   pub agree-given : {a : A} {b : B} → given a ≡ whole → so a b → Agrees so whole (given b)

@@ -5,7 +5,7 @@ use borrow.Author.Tests.{leb-true, leb-false}
 use lib.{Dec.{leb}, ListN.{length}}
 use mathlib.Core.{Bool.{Bool, true, false}, List.{List}, Path.{_≡_, refl, sym, _∙_}}
 use native.Mathlib.Omega.{arith}
-use Rattle.border.proofs.Signs.{differ}
+use Rattle.numbers.proofs.Tests.{differ}
 use Rattle.numbers.proofs.{Answers.{All, then-all}, Laws.{Read, forward-read}}
 use Rattle.numbers.specs.{Answer.{Answer, found, failed, refused, if_then_else_, _>>=_}, Varint.{Numeral, forwardAt, isComplete, wholeOf, readingOf, nowhere, endOf}}
 use Rattle.table.specs.{Rest.{fiveBy}, Table.{stepsBy, entryBy}, declared.table.Entry.{Entry}}

@@ -2,7 +2,7 @@
 use Prim.Native.Nat.{ℕ, _+_, _≤_, _<_}
 use borrow.Author.Tests.{lt-ltb, eqb-true}
 use lib.{Dec.{ltb, eqb}, IntN.{pos}, ListN.{length, length-append}}
-use mathlib.Core.{Bool.{Bool, true, false}, List.{List, [], _∷_, _++_, append-assoc, append-nil}, Logic.{inl, inr}, Path.{_≡_, refl, sym, ap, subst, _∙_}}
+use mathlib.Core.{Bool.{Bool, true, false}, List.{List, [], _∷_, _++_, append-assoc, append-nil}, Path.{_≡_, refl, sym, ap, _∙_}}
 use native.Mathlib.Omega.{arith}
 use Rattle.verdict.{proofs.Unasked.{Agrees, judged-asked-or-not}, specs.Verdict.{Judgement, reached}, specs.declared.step.Verdict.the-variants.{InZone}}
 use Rattle.border.specs.declared.place.Point.{Point}
@@ -12,6 +12,7 @@ use Rattle.table.proofs.Joining.{halves-joined}
 use Rattle.table.specs.{Hits.{hitOf}, Joining.{_⧺_, groupsOf, _⋈_, matchesOf}, Merge.{merged}, Rows.{Rows, row, tableEnd, unreadable}}
 use Rattle.table.specs.{Search.{kindOf, rowHit, judgedTurn, rowTurn, Found, ended, afterTurn, judgeIn, farthest}, Table.{holds}, Unstopped.{seekAll}}
 use Rattle.table.specs.declared.{hits.Hit.{Hit}, rows.Row.{Row}, search.Turn.{the-variants.{On, Met, Stopped, Refused}, Turn}, table.Bounds.{Bounds}}
+use Rattle.numbers.proofs.Replies.{given-one}
 use Rattle.verdict.specs.Verdict as J
 use Rattle.numbers.specs.Reply as R
 use Rattle.table.specs.Rows as T
@@ -138,9 +139,6 @@ two-boards file head fix room₁ room₂ room first second f g e one e′ fits w
     let found = halves-searched (judgeIn file head fix true) (judgeIn file head fix false) (λ polygon. judged-asked-or-not file _ _ (fix .lat) (fix .lon)) fix room farthest room₁ room₂ farthest first second f g e one e′ fits in
     let is : w ≡ record { hits = f .hits ++ g .hits; mark = g .mark; least = farthest } = given-one (sym whole ∙ found) in
     (ap (λ (x : Found). merged (x .hits)) is ∙ halves-joined (f .hits) (g .hits), ap (λ (x : Found). x .mark) is)
-  where
-    given-one : {a b : Found} → given a ≡ given b → a ≡ b
-    given-one e = cc
 
 -- ---- a case, with borders that hold every location
 abbrev everywhere : Bounds

@@ -5,7 +5,8 @@ use lib.{Dec.{ltb}, IntN.{ℤ, pos, negsuc}, ListN.{length}, Signed.{leZ, ltZ}}
 use mathlib.Core.{Bool.{Bool, true, false, _&&_}, List.{List, _∷_, [], _++_}, Path.{_≡_, refl, sym, ap, subst, _∙_}}
 use native.Mathlib.Omega.{arith}
 use Rattle.verdict.{proofs.OutsideBox.{standing-outside-box}, specs.{Verdict.{Judgement, reached, judgedAt}, declared.step.Verdict.the-variants.{NotInZone}}}
-use Rattle.border.{proofs.Signs.{differ}, specs.{Box.{boxOf}, Encoding.{versionOf, encodedBy}, declared.place.Point.{Point}}}
+use Rattle.numbers.proofs.Tests.{differ}
+use Rattle.border.specs.{Box.{boxOf}, Encoding.{versionOf, encodedBy}, declared.place.Point.{Point}}
 use Rattle.numbers.specs.{Answer.{if_then_else_}, Reply.{Reply, plain}}
 use Rattle.table.proofs.{Unstopped.{unchanged}, rest.Remaining.{not-held}}
 use Rattle.table.proofs.search.Turns as W

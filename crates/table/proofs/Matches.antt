@@ -6,7 +6,7 @@ use native.Mathlib.Omega.{arith}
 use Rattle.header.specs.declared.header.Head.{Head}
 use Rattle.numbers.specs.Reply.{Reply, given, refused}
 use Rattle.table.proofs.Words.{padded-slots, padded-room}
-use Rattle.table.specs.{Agreeing.{Agrees}, Find.{Matched, matchedWith, Finding, finding, findingOf, foundWith, Matching}, GivenRows.{matchedListed, foundListed}}
+use Rattle.table.specs.{inner.Agreeing.{Agrees}, Find.{Matched, matchedWith, Finding, finding, findingOf, foundWith, Matching}, GivenRows.{matchedListed, foundListed}}
 use Rattle.table.specs.{Hits.{width, slots}, declared.{find.Matches.{Matches}, location.Location.{Location}}}
 
 module _ {n : ℕ} {ws : List ℕ} {found : Matched} {matches : Matches} (m : Matching n ws found matches) where

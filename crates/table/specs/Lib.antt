@@ -1,7 +1,6 @@
 pub mod Hits
 pub mod Table
 pub mod Rows
-pub mod Agreeing
 pub mod Rest
 pub mod Search
 pub mod Merge
@@ -11,5 +10,4 @@ pub mod Ending
 pub mod Unstopped
 pub mod Ordered
 pub mod GivenRows
-pub mod Passing
-pub mod Usual
+pub mod inner

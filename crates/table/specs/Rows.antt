@@ -1,7 +1,7 @@
 -- A table is a trace of rows, as a border is one of points: each entry with its place, its number and the sums up to it, and how the table ends.
 use Prim.Native.Nat.{ℕ, zero, suc, _+_, _-_, _%_, _^_}
 use lib.Dec.{ltb}
-use mathlib.Core.List.{List}
+use mathlib.Core.List.{List, [], _∷_}
 use Rattle.numbers.specs.{Answer.{Answer, found, if_then_else_, _>>=_}, Point.{low32, halfOf}, Varint.{Numeral, readingOf}}
 use Rattle.table.specs.{Table.{entryBy}, declared.{rows.{Cursor.{Cursor}, Reading.{Reading}, Row.{Row}}, table.Entry.{Entry}}}
 use Rattle.header.specs.declared.header.Head.{Head}
@@ -33,6 +33,11 @@ pub data Rows : Type 0 where
   tableEnd : Rows
   unreadable : Rows
   refused : ℕ → Rows
+
+-- the table that has these rows and ends behind the last
+unfoldable pub asRows : List Row → Rows
+asRows [] = tableEnd
+asRows (r ∷ rows) = row r (asRows rows)
 
 -- a row is followed by those after it
 unfoldable pub rowsThen : Answer Row → (Cursor → Rows) → Rows

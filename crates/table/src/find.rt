@@ -3,7 +3,7 @@ ghost use mathlib.Core.Path.{_≡_};
 ghost use Prim.Native.Nat.{_/_};
 ghost use lib.ListN.{length};
 ghost use Rattle.numbers.specs.Lists.{zeros};
-ghost use Rattle.table.specs.{Hits.{width}, Agreeing.{Agrees}, Find.{fixOf, isPrecision, matchedWith, foundWith, finding, toldFound, Matching}};
+ghost use Rattle.table.specs.{Hits.{width}, inner.Agreeing.{Agrees}, Find.{fixOf, isPrecision, matchedWith, foundWith, finding, toldFound, Matching}};
 use crate::codes::BAD_PRECISION;
 use crate::location::Location;
 use crate::merge::merge_front;

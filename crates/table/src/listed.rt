@@ -4,7 +4,7 @@ ghost use Prim.Native.Nat.{_*_, _/_, _^_, _<_};
 ghost use lib.ListN.{length};
 ghost use Rattle.numbers.specs.Lists.{zeros};
 ghost use Rattle.table.specs.{Find.{finding, toldFound, Matching}, GivenRows.{boxAt, rowAt, searchedListed, matchedListed, foundListed}, Hits.{width}};
-ghost use Rattle.table.specs.{Agreeing.{Agrees}, Search.{rowTurn, judgeIn, toldSearched, Sought}};
+ghost use Rattle.table.specs.{inner.Agreeing.{Agrees}, Search.{rowTurn, judgeIn, toldSearched, Sought}};
 use crate::codes::BAD_PRECISION;
 use crate::codes::HITS_FULL;
 use crate::codes::NO_RECORD;

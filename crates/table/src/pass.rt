@@ -3,7 +3,7 @@
 ghost use mathlib.Core.{Path.{_≡_}, Bool.{true, false}};
 ghost use Prim.Native.Nat.{_+_, _<_, _≤_};
 ghost use lib.ListN.{length};
-ghost use Rattle.table.specs.{Passing.{Shortly, Paired, Lons, MissedAt, AboveAt, Passing, PassedOver, Skipping, SkippedOver}, Table.{holds}};
+ghost use Rattle.table.specs.{inner.Passing.{Shortly, Paired, Lons, MissedAt, AboveAt, Passing, PassedOver, Skipping, SkippedOver}, Table.{holds}};
 use crate::rows::Cursor;
 use crate::rows::after;
 use crate::rows::row_of;

@@ -5,7 +5,7 @@ ghost use lib.ListN.{length};
 ghost use Rattle.border.specs.Encoding.{versionOf};
 ghost use Rattle.verdict.specs.Verdict.{told};
 ghost use Rattle.numbers.specs.Lists.{zeros};
-ghost use Rattle.table.specs.{Hits.{width}, Agreeing.{Agrees}, Search.{kindOf, judgedTurn, rowTurn, judgeIn, searched, toldSearched, Sought}};
+ghost use Rattle.table.specs.{Hits.{width}, inner.Agreeing.{Agrees}, Search.{kindOf, judgedTurn, rowTurn, judgeIn, searched, toldSearched, Sought}};
 use crate::codes::BROKEN;
 use crate::codes::EXCLUDED;
 use crate::codes::HITS_FULL;

@@ -5,7 +5,7 @@ ghost use mathlib.Core.{Path.{_≡_}, Bool.{true}};
 ghost use Prim.Native.Nat.{_+_, _<_};
 ghost use lib.{ListN.{length}, Signed.{leZ}};
 ghost use Rattle.numbers.specs.Point.{signedOf};
-ghost use Rattle.table.specs.Usual.{longAt, GoesOn, Ends, Others, FourLong, usualBounds, Under, Over};
+ghost use Rattle.table.specs.inner.Usual.{longAt, GoesOn, Ends, Others, FourLong, usualBounds, Under, Over};
 use crate::table::Bounds;
 use crate::table::bounds_of;
 use crate::table::lat_below;

@@ -8,7 +8,8 @@ use Rattle.tzif.proofs.{Lasts.{last-same}, Widths.{row}}
 use Rattle.tzif.specs.Block.{timePlace, indicesOf, designationsOf, standardsOf, utsOf, endOf}
 use Rattle.tzif.specs.Check.{nulEnd, isNul, typePlace, leapPlace, correctionOf, correctionBefore, occursLater, isExpiry, isStandard, checkTime, checkIndex, checkType, checkLeap, checkLeaps, checkStandard, checkUt}
 use Rattle.tzif.specs.{Header.{checkBlock}, Number.{octet, be32, raised, timeAt}, Part.{countOf, checkOf, checkPart}}
-use Rattle.tzif.specs.{Reply.{Reply, each, if_then_else_, _>>_}, Text.{firstWith}}
+use Rattle.tzif.specs.{Reply.{Reply, each, _>>_}, Text.{firstWith}}
+use Rattle.numbers.specs.Answer.{if_then_else_}
 use Rattle.tzif.specs.{Times.{timeIn, transitionsOf, occurrencesOf}, declared.{block.Block.{Block}, part.Part.{Part}}}
 use Rattle.tzif.specs.declared.part.Part.the-variants as P
 

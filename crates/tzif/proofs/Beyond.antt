@@ -7,7 +7,8 @@ use native.Mathlib.Omega.{arith}
 use Rattle.tzif.proofs.{Alike.{be32-same, time-same, first-same}, Lasts.{last-same}}
 use Rattle.tzif.specs.{Block.{timePlace, indicesOf, designationsOf}, Check.{typePlace, leapPlace, correctionOf, correctionBefore, correctionAt}}
 use Rattle.tzif.specs.{Local.{typeIn, typeBehind, isAfterLast, byTable, lent}, Number.{octet, be32}}
-use Rattle.tzif.specs.{Reply.{Reply, given, refused, refusal, demand, if_then_else_, _>>_}, Text.{isStop, runTo}}
+use Rattle.tzif.specs.{Reply.{Reply, given, refused, refusal, demand, _>>_}, Text.{isStop, runTo}}
+use Rattle.numbers.specs.Answer.{if_then_else_}
 use Rattle.tzif.specs.{Times.{timeIn, transitionsOf, occurrencesOf, lastNotAfter}, Zone.{stringSize, newlineAt, readFooter}}
 use Rattle.tzif.specs.declared.{block.Block.{Block}, local.{Answer.{Answer}, Found.{Found}}, refusal.Refusal.{Refusal}}
 use Rattle.tzif.specs.declared.local.Answer.the-variants as A

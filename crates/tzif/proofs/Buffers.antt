@@ -4,7 +4,7 @@ use lib.ListN.{length, getD, set, take, drop, length-append, length-drop, length
 use lib.Seq.{length-take-le, drop-cons, take-suc, set-at, append-snoc, take-length, drop-length}
 use mathlib.Core.{List.{List, [], _∷_, _++_, append-nil}, Path.{_≡_, refl, sym, ap, _∙_}}
 use native.Mathlib.{Numerals.{add-one}, Omega.{arith}}
-use Rattle.tzif.specs.Text.{zeros, padded}
+use Rattle.numbers.specs.Lists.{zeros, padded}
 
 -- what stands after i octets
 abbrev pub over : ℕ → List ℕ → List ℕ → List ℕ

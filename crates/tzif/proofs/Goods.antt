@@ -8,7 +8,8 @@ use Rattle.tzif.proofs.{Firsts.{first-within}, Lasts.{last-within}, Ris
 use Rattle.tzif.proofs.{Widths.{four-at-least}, Zones.{ReadFrom, zone-from}}
 use Rattle.tzif.specs.{Block.{Within, indicesOf, designationsOf, endOf}, Check.{typePlace, nulEnd, checkIndex, checkType, checkLeaps}}
 use Rattle.tzif.specs.{Header.{rfc9636, isFourth, blockAt, checkCounts, checkBlock, readBlock}, Local.{typeIn, typeBehind, isAfterLast, byTable, Good, Held}}
-use Rattle.tzif.specs.{Number.{octet}, Part.{countOf, checkOf, checkPart}, Reply.{given, if_then_else_}, Text.{isStop, runTo}}
+use Rattle.tzif.specs.{Number.{octet}, Part.{countOf, checkOf, checkPart}, Reply.{given}, Text.{isStop, runTo}}
+use Rattle.numbers.specs.Answer.{if_then_else_}
 use Rattle.tzif.specs.{Times.{transitionsOf, occurrencesOf, lastNotAfter, Rises}, Zone.{readZoneBy}, declared.{block.Block.{Block}, local.Found.{Found}, zone.Zone.{Zone}}}
 use Rattle.tzif.specs.declared.local.Answer.the-variants as A
 use Rattle.tzif.specs.declared.part.Part.the-variants as P

@@ -4,7 +4,8 @@ use borrow.Author.Tests.{ltb-true, ltb-false, le-leb, lt-leb}
 use lib.Dec.{ltb, leb}
 use mathlib.Core.{Bool.{Bool, true, false}, Path.{_≡_, refl, sym}}
 use native.Mathlib.Omega.{arith}
-use Rattle.tzif.specs.{Reply.{if_then_else_}, Times.{lastWith}}
+use Rattle.numbers.specs.Answer.{if_then_else_}
+use Rattle.tzif.specs.Times.{lastWith}
 
 module _ (holds : ℕ → Bool) where
   pub last-here : (n : ℕ) → 0 < n → holds (n - 1) ≡ true → n ≡ lastWith n holds

@@ -7,7 +7,6 @@ pub mod Rises
 pub mod Blocks
 pub mod Zones
 pub mod Signs
-pub mod Offsets
 pub mod Goods
 pub mod Designations
 pub mod Locals

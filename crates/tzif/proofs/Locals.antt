@@ -5,7 +5,8 @@ use lib.{IntN.{ℤ}, ListN.{length}}
 use mathlib.Core.{List.{List, []}, Path.{_≡_, ap}}
 use native.Mathlib.{Nat.{sub-zero}, Omega.{arith}}
 use Rattle.tzif.specs.{Local.{byTable, replied, named, lent, localTimeBy, localTime}, Number.{lift}, Reply.{given, refused, refusal, _>>=_}}
-use Rattle.tzif.specs.{Text.{slice, zeros, padded}, Zone.{readZone}, declared.{local.{Found.{Found}, LocalTime.{LocalTime}}, refusal.Refusal.{Refusal}, zone.Zone.{Zone}}}
+use Rattle.tzif.specs.{Text.{slice}, Zone.{readZone}, declared.{local.{Found.{Found}, LocalTime.{LocalTime}}, refusal.Refusal.{Refusal}, zone.Zone.{Zone}}}
+use Rattle.numbers.specs.Lists.{zeros, padded}
 use Rattle.tzif.specs.declared.local.Answer.the-variants as A
 use Rattle.tzif.specs.declared.local.LocalTime.the-variants as L
 

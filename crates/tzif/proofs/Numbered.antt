@@ -6,8 +6,10 @@ use native.Mathlib.Omega.{arith}
 use Rattle.numbers.proofs.Refusals.{Listed}
 use Rattle.tzif.specs.{Block.{endOf}, Check.{isExpiry, nulEnd, checkTime, checkIndex, checkType, checkLeap, checkLeaps, checkStandard, checkUt}}
 use Rattle.tzif.specs.{Header.{rfc9636, isFourth, checkHeader, blockAt, checkCounts, checkBlock, readBlock}, Local.{Replied, replied, lent, localTimeBy, localTime}}
-use Rattle.tzif.specs.{Number.{octet}, Part.{countOf, checkOf, checkPart}, Reply.{Reply, given, refused, refusal, demand, each, if_then_else_, _>>=_, _>>_}}
-use Rattle.tzif.specs.{Text.{slice, zeros, padded}, Zone.{readFooter, readShort, readLong, readZoneBy}}
+use Rattle.tzif.specs.{Number.{octet}, Part.{countOf, checkOf, checkPart}, Reply.{Reply, given, refused, refusal, demand, each, _>>=_, _>>_}}
+use Rattle.numbers.specs.Answer.{if_then_else_}
+use Rattle.tzif.specs.{Text.{slice}, Zone.{readFooter, readShort, readLong, readZoneBy}}
+use Rattle.numbers.specs.Lists.{zeros, padded}
 use Rattle.tzif.specs.declared.{block.Block.{Block}, local.{Answer.{Answer}, LocalTime.{LocalTime}}, part.Part.{Part}, refusal.Refusal.{Refusal}}
 use Rattle.tzif.specs.declared.local.Answer.the-variants as A
 use Rattle.tzif.specs.declared.local.LocalTime.the-variants as L

@@ -5,7 +5,8 @@ use lib.Dec.{ltb, eqb}
 use mathlib.Core.{Bool.{Bool, true, false, _&&_, _||_}, List.{List}, Path.{_≡_, refl}}
 use native.Mathlib.Omega.{arith}
 use Rattle.tzif.specs.Check.{leapPlace, correctionOf, correctionBefore, oneApart, occursLater, isExpiry, checkTime, checkLeap, checkLeaps}
-use Rattle.tzif.specs.{Part.{countOf, checkOf, checkPart}, Reply.{Reply, given, refused, refusal, demand, each, if_then_else_, _>>_}}
+use Rattle.tzif.specs.{Part.{countOf, checkOf, checkPart}, Reply.{Reply, given, refused, refusal, demand, each, _>>_}}
+use Rattle.numbers.specs.Answer.{if_then_else_}
 use Rattle.tzif.specs.{Times.{timeIn, transitionsOf, occurrencesOf, Rises}, declared.{block.Block.{Block}, refusal.Refusal.{Refusal}, times.Times.{Times}}}
 use Rattle.tzif.specs.declared.part.Part.the-variants as P
 

@@ -6,7 +6,8 @@ use mathlib.Core.{Bool.{Bool, true, false, _&&_}, List.{List, [], _∷_}, Path.{
 use mir.{Syntax.{w32, w64}, Val.{SFits, toZ, ofZ}, ValLaws.{toZ-ofZ, toZ-fits}}
 use native.Mathlib.Omega.{arith}
 use Rattle.numbers.proofs.Signed.{complement, complement-fits, widens}
-use Rattle.tzif.specs.{Number.{be32, raised, timeAt, signedAt, lift}, Reply.{if_then_else_}}
+use Rattle.tzif.specs.{Last.{Octets}, Number.{be32, raised, timeAt, signedAt, lift}}
+use Rattle.numbers.specs.Answer.{if_then_else_}
 
 -- ---- an instant of the code
 -- -1 less a negative number is what its form lacks of 2 ^ 63 - 1
@@ -53,9 +54,6 @@ module _ (z : ℤ) (h : SFits w64 z) where
   lifted-above e = from-zero e .lifted ∙ ap lift same
 
 -- ---- a time of the file: the form of its signed value, where octets are below 256
-pub Octets : List ℕ → Type 0
-Octets file = (k : ℕ) → getD file k 0 < 256
-
 first-of : (a b : Bool) → (a && b) ≡ true → a ≡ true
 first-of true b e = refl
 first-of false b e = e

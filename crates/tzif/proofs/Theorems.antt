@@ -6,28 +6,19 @@ use mathlib.Core.{Bool.{Bool, true, false, _&&_}, List.{List}, Logic.{_↔_}, Pa
 use mir.{Syntax.{w64}, Val.{SFits}}
 use native.Mathlib.Omega.{arith}
 use Rattle.tzif.proofs.{Lasts.{last-within, last-holds, last-fails, last-same}, Laws.{Least, least-fault, fault-of-least}}
-use Rattle.tzif.proofs.Signs.{Octets, time-is-signed, signed-fits, lift-keeps}
+use Rattle.tzif.specs.Last.{Octets, transitionTime, LastNotAfter, by-transition, by-type-0}
+use Rattle.tzif.proofs.Signs.{time-is-signed, signed-fits, lift-keeps}
 use Rattle.tzif.specs.{Block.{timePlace, indicesOf}, Local.{typeBehind, isAfterLast, byTable, Replied, replied, lent, localTimeBy, localTime}}
-use Rattle.tzif.specs.{Number.{octet, signedAt, lift}, Reply.{Reply, given, refused, refusal, each, if_then_else_, _>>=_}, Text.{slice, zeros, padded}}
-use Rattle.tzif.specs.{Header.{rfc9636, readBlock}, Times.{timeIn, transitionsOf, lastWith, lastNotAfter, Rises}, Told.{toldBlock, toldZone}, Zone.{readZone}}
+use Rattle.tzif.specs.{Number.{octet, signedAt, lift}, Reply.{Reply, given, refused, refusal, each, _>>=_}, Text.{slice}}
+use Rattle.numbers.specs.{Answer.{if_then_else_}, Lists.{zeros, padded}}
+use Rattle.tzif.specs.{Header.{rfc9636, readBlock}, Times.{timeIn, transitionsOf, lastWith, lastNotAfter, Rises}, inner.Told.{toldBlock, toldZone}, Zone.{readZone}}
 use Rattle.tzif.specs.declared.{block.Block.{Block}, header.Reading.{Reading}, local.{Answer.{Answer}, Found.{Found}, Local.{Local}, LocalTime.{LocalTime}}, refusal.Refusal.{Refusal}, zone.Read.{Read}}
 use Rattle.tzif.specs.declared.header.Reading.the-variants as R
 use Rattle.tzif.specs.declared.zone.Read.the-variants as Z
 use Rattle.tzif.specs.declared.local.Answer.the-variants as A
 use Rattle.tzif.specs.declared.local.LocalTime.the-variants as L
 
--- a transition time itself: that many octets in two's complement
-unfoldable pub transitionTime : List ℕ → Block → ℕ → ℤ
-transitionTime file block i = signedAt file (block .width) (timePlace block i)
-
 -- ---- last-not-after
--- the type that answers: that of the greatest index whose time is not after the instant; type 0 where there is none
-pub data LastNotAfter (file : List ℕ) (block : Block) (instant : ℤ) : ℕ → Type 0 where
-  by-transition : (i : ℕ) → i < block .timecnt → ltZ instant (transitionTime file block i) ≡ false
-      → ((k : ℕ) → i < k → k < block .timecnt → ltZ instant (transitionTime file block k) ≡ true)
-      → LastNotAfter file block instant (octet file (indicesOf block + i))
-  by-type-0 : ((k : ℕ) → k < block .timecnt → ltZ instant (transitionTime file block k) ≡ true) → LastNotAfter file block instant 0
-
 module _ (file : List ℕ) (octets : Octets file) (block : Block) (instant : ℤ) (fits : SFits w64 instant) where
   times : ℕ → ℕ
   times = timeIn file (transitionsOf block)

@@ -4,7 +4,8 @@ use borrow.Author.Tests.{ne-eqb}
 use lib.{Dec.{leb, eqb}, IntN.{ℤ}, ListN.{length}}
 use mathlib.Core.{Bool.{true, false}, List.{List}, Path.{_≡_, refl, ap}}
 use Rattle.tzif.specs.{Block.{endOf}, Header.{rfc8536, rfc9636, isFourth, isVersion, versionFits, checkHeader, readBlock}}
-use Rattle.tzif.specs.{Local.{byTable, lent, localTimeBy, localTime}, Number.{octet, lift}, Reply.{given, refusal, demand, if_then_else_, _>>=_, _>>_}}
+use Rattle.tzif.specs.{Local.{byTable, lent, localTimeBy, localTime}, Number.{octet, lift}, Reply.{given, refusal, demand, _>>=_, _>>_}}
+use Rattle.numbers.specs.Answer.{if_then_else_}
 use Rattle.tzif.specs.{Zone.{readShort, readLong, readZoneBy, readZone}, declared.block.Block.{Block}}
 
 module _ (file : List ℕ) (older : octet file 4 ≡ 0x34 → ⊥) where

@@ -3,7 +3,8 @@ use Prim.Native.Nat.{ℕ, zero, suc, _+_, _^_, _<_}
 use lib.IntN.{pos, negsuc}
 use mathlib.Core.{Bool.{true, false}, List.{List, [], _∷_}, Path.{_≡_, refl}}
 use native.Mathlib.Omega.{arith}
-use Rattle.tzif.proofs.{Marked.{secondVersion, markedThree, PlainFour}, Signs.{Octets, allOctets, octets-of}, Theorems.{LastNotAfter, last-not-after, transitionTime, BlockWidth, block-width}}
+use Rattle.tzif.proofs.{Marked.{secondVersion, markedThree, PlainFour}, Signs.{allOctets, octets-of}, Theorems.{last-not-after, BlockWidth, block-width}}
+use Rattle.tzif.specs.Last.{Octets, LastNotAfter, transitionTime}
 use Rattle.tzif.specs.Check.{occursLater, correctionBefore, correctionOf, oneApart, isExpiry, nulEnd, checkTime, checkIndex, checkType, checkLeap, checkLeaps, checkStandard, isStandard, checkUt}
 use Rattle.tzif.specs.Header.{rfc8536, begins, isVersion, isFourth, versionFits, checkHeader, blockAt, noneOrAll, checkCounts, checkBlock, readBlock}
 use Rattle.tzif.specs.{Local.{typeIn, typeBehind, isAfterLast, byTable, replied, lent, localTimeBy, localTime}, Number.{octets, be32, raised, timeAt, signedAt, lift}}

@@ -6,7 +6,8 @@ use mathlib.Core.{Bool.{Bool, true, false}, List.{List}, Path.{_≡_, refl, sym}
 use native.Mathlib.Omega.{arith}
 use Rattle.tzif.proofs.{Blocks.{first-true}, Rises.{both-given, held}}
 use Rattle.tzif.specs.{Block.{endOf}, Header.{rfc9636, checkHeader, readBlock}, Number.{octet}}
-use Rattle.tzif.specs.{Reply.{Reply, given, refused, refusal, demand, if_then_else_, _>>=_, _>>_}, Told.{toldBlock, toldFooter, toldZone}}
+use Rattle.tzif.specs.{Reply.{Reply, given, refused, refusal, demand, _>>=_, _>>_}, inner.Told.{toldBlock, toldFooter, toldZone}}
+use Rattle.numbers.specs.Answer.{if_then_else_}
 use Rattle.tzif.specs.Zone.{stringSize, newlineAt, readFooter, readShort, readLong, readZoneBy}
 use Rattle.tzif.specs.declared.{block.Block.{Block}, header.Reading.{Reading}, refusal.Refusal.{Refusal}, zone.{Footer.{Footer}, Read.{Read}, Zone.{Zone}}}
 use Rattle.tzif.specs.declared.header.Reading.the-variants as R

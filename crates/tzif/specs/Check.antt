@@ -3,7 +3,8 @@ use Prim.Native.Nat.{ℕ, _+_, _-_, _*_, _^_}
 use lib.Dec.{ltb, leb, eqb}
 use mathlib.Core.{Bool.{Bool, not, _&&_, _||_}, List.{List}}
 use Rattle.tzif.specs.{Block.{timePlace, indicesOf, typesOf, designationsOf, leapsOf, standardsOf, utsOf}, Number.{octet, be32, raised}}
-use Rattle.tzif.specs.{Reply.{Reply, given, refusal, demand, each, if_then_else_, _>>_}, Times.{timeIn, transitionsOf, occurrencesOf, lastWith, lastNotAfter}}
+use Rattle.tzif.specs.{Reply.{Reply, given, refusal, demand, each, _>>_}, Times.{timeIn, transitionsOf, occurrencesOf, lastWith, lastNotAfter}}
+use Rattle.numbers.specs.Answer.{if_then_else_}
 use Rattle.tzif.specs.declared.block.Block.{Block}
 
 -- ---- transition times

@@ -3,7 +3,8 @@ use Prim.Native.Nat.{ℕ, _+_, _^_, _<_, _≤_}
 use lib.{Dec.{leb, eqb}, ListN.{length}}
 use mathlib.Core.{Bool.{Bool, false, not, _&&_, _||_}, List.{List}, Path.{_≡_}}
 use Rattle.tzif.specs.{Block.{endOf}, Check.{nulEnd, checkLeaps}, Number.{octet, be32, octets}, Part.{checkPart}}
-use Rattle.tzif.specs.{Reply.{Reply, given, refusal, demand, if_then_else_, _>>_}, declared.block.Block.{Block}}
+use Rattle.tzif.specs.{Reply.{Reply, given, refusal, demand, _>>_}, declared.block.Block.{Block}}
+use Rattle.numbers.specs.Answer.{if_then_else_}
 use Rattle.tzif.specs.declared.part.Part.the-variants as P
 
 -- `TZif`

@@ -1,5 +1,4 @@
 pub mod Reply
-pub mod Told
 pub mod Number
 pub mod Block
 pub mod Times
@@ -9,3 +8,5 @@ pub mod Header
 pub mod Text
 pub mod Zone
 pub mod Local
+pub mod Last
+pub mod inner

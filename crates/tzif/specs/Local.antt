@@ -4,7 +4,8 @@ use lib.{Dec.{ltb, leb, eqb}, IntN.{ℤ}, ListN.{length}}
 use mathlib.Core.{Bool.{Bool, _&&_}, List.{List}}
 use mir.{Syntax.{w32}, Val.{toZ}}
 use Rattle.tzif.specs.{Block.{Within, indicesOf, designationsOf}, Check.{typePlace}, Header.{Rfc, rfc9636}, Number.{octet, be32, lift}}
-use Rattle.tzif.specs.{Reply.{Reply, given, refused, refusal, if_then_else_, _>>=_}, Text.{runTo, slice, zeros, padded}}
+use Rattle.tzif.specs.{Reply.{Reply, given, refused, refusal, _>>=_}, Text.{runTo, slice}}
+use Rattle.numbers.specs.{Answer.{if_then_else_}, Lists.{zeros, padded}}
 use Rattle.tzif.specs.{Times.{timeIn, transitionsOf, lastNotAfter, Rises}, Zone.{readZoneBy}}
 use Rattle.tzif.specs.declared.{block.Block.{Block}, local.{Found.{Found}, Local.{Local}, Answer.{Answer}, LocalTime.{LocalTime}}}
 use Rattle.tzif.specs.declared.local.Answer.the-variants as A

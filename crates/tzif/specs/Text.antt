@@ -1,8 +1,9 @@
 -- Texts in the file, which end at a NUL or a newline; and a text at the start of a lent one.
-use Prim.Native.Nat.{ℕ, zero, suc, _+_, _-_, _≤_}
-use lib.{Dec.{ltb, eqb}, ListN.{length, take, drop, replicate}}
-use mathlib.Core.{Bool.{Bool, _||_}, List.{List, _++_}, Path.{_≡_}}
-use Rattle.tzif.specs.{Number.{octet}, Reply.{if_then_else_}}
+use Prim.Native.Nat.{ℕ, zero, suc, _+_, _≤_}
+use lib.{Dec.{ltb, eqb}, ListN.{take, drop}}
+use mathlib.Core.{Bool.{Bool, _||_}, List.{List}, Path.{_≡_}}
+use Rattle.tzif.specs.Number.{octet}
+use Rattle.numbers.specs.Answer.{if_then_else_}
 
 -- the first index below a number of which the test holds; the number where there is none
 unfoldable pub firstWith : ℕ → (ℕ → Bool) → ℕ
@@ -25,10 +26,3 @@ pub record AtMost (most r n : ℕ) : Type 0 where
 -- so many octets from a place on
 abbrev pub slice : List ℕ → ℕ → ℕ → List ℕ
 slice file place size = take size (drop place file)
-
-abbrev pub zeros : ℕ → List ℕ
-zeros n = replicate n 0
-
--- xs, and zeros behind it up to n octets
-abbrev pub padded : ℕ → List ℕ → List ℕ
-padded n xs = xs ++ zeros (n - length xs)

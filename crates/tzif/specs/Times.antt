@@ -2,7 +2,8 @@
 use Prim.Native.Nat.{ℕ, zero, suc, _+_, _*_, _<_, _≤_}
 use lib.Dec.{leb}
 use mathlib.Core.{Bool.{Bool}, List.{List}}
-use Rattle.tzif.specs.{Block.{leapsOf}, Number.{timeAt}, Reply.{if_then_else_}, declared.{block.Block.{Block}, times.Times.{Times}}}
+use Rattle.tzif.specs.{Block.{leapsOf}, Number.{timeAt}, declared.{block.Block.{Block}, times.Times.{Times}}}
+use Rattle.numbers.specs.Answer.{if_then_else_}
 
 -- the time at an index, more 2 ^ 63
 unfoldable pub timeIn : List ℕ → Times → ℕ → ℕ

@@ -3,7 +3,8 @@ use Prim.Native.Nat.{ℕ, _+_, _-_}
 use lib.{Dec.{ltb, leb, eqb}, ListN.{length}}
 use mathlib.Core.{Bool.{Bool, true, false, _&&_}, List.{List}}
 use Rattle.numbers.specs.Limits.{largestFile}
-use Rattle.tzif.specs.{Block.{endOf}, Header.{Rfc, rfc9636, readBlock}, Number.{octet}, Reply.{Reply, given, refusal, demand, if_then_else_, _>>=_, _>>_}}
+use Rattle.tzif.specs.{Block.{endOf}, Header.{Rfc, rfc9636, readBlock}, Number.{octet}, Reply.{Reply, given, refusal, demand, _>>=_, _>>_}}
+use Rattle.numbers.specs.Answer.{if_then_else_}
 use Rattle.tzif.specs.{Text.{runTo}, declared.{block.Block.{Block}, zone.Zone.{Zone}}}
 
 -- how many octets from a place on are neither NUL nor newline

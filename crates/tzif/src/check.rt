@@ -2,7 +2,7 @@
 ghost use mathlib.Core.Path.{_≡_};
 ghost use Prim.Native.Nat.{_<_};
 ghost use lib.ListN.{length};
-ghost use Rattle.tzif.specs.{Block.{Within}, Told.{told}, Check.{nulEnd, checkTime, checkIndex, checkType, isStandard, checkStandard, checkUt}};
+ghost use Rattle.tzif.specs.{Block.{Within}, inner.Told.{told}, Check.{nulEnd, checkTime, checkIndex, checkType, isStandard, checkStandard, checkUt}};
 use crate::block::Block;
 use crate::number::be32;
 use crate::number::octet;

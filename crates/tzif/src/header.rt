@@ -2,7 +2,7 @@
 ghost use mathlib.Core.Path.{_≡_};
 ghost use Prim.Native.Nat.{_+_, _^_, _≤_, _<_};
 ghost use lib.{Dec.{leb}, ListN.{length}};
-ghost use Rattle.tzif.specs.{Block.{Within, endOf}, Number.{octet}, Told.{told, toldBlock}};
+ghost use Rattle.tzif.specs.{Block.{Within, endOf}, Number.{octet}, inner.Told.{told, toldBlock}};
 ghost use Rattle.tzif.specs.Header.{rfc9636, begins, isVersion, isFourth, versionFits, checkHeader, blockAt, Counted, noneOrAll, checkCounts, checkBlock, readBlock};
 use crate::block::Block;
 use crate::check::nul_end;

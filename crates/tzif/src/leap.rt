@@ -2,7 +2,7 @@
 ghost use mathlib.Core.{Path.{_≡_}, Bool.{_&&_, _||_}};
 ghost use Prim.Native.Nat.{_+_, _-_, _^_, _≤_, _<_};
 ghost use lib.{Dec.{ltb, leb, eqb}, ListN.{length}};
-ghost use Rattle.tzif.specs.{Block.{Within}, Told.{told}, Number.{Word}, Reply.{demand, refusal}, Times.{timeIn, occurrencesOf, Rises}};
+ghost use Rattle.tzif.specs.{Block.{Within}, inner.Told.{told}, Number.{Word}, Reply.{demand, refusal}, Times.{timeIn, occurrencesOf, Rises}};
 ghost use Rattle.tzif.specs.Check.{leapPlace, correctionOf, occursLater, correctionBefore, correctionAt, oneApart, isExpiry, checkLeap, checkLeaps};
 use crate::block::Block;
 use crate::number::be32;

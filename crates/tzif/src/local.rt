@@ -3,7 +3,8 @@ ghost use mathlib.Core.Path.{_≡_};
 ghost use Prim.Native.Nat.{_+_, _≤_, _<_};
 ghost use lib.ListN.{length};
 ghost use mir.{Syntax.{w32}, Val.{ofZ}};
-ghost use Rattle.tzif.specs.{Text.{zeros}, Local.{typeIn, typeBehind, isAfterLast, byTable, replied, named, localTime, Good, Held}};
+ghost use Rattle.numbers.specs.Lists.{zeros};
+ghost use Rattle.tzif.specs.Local.{typeIn, typeBehind, isAfterLast, byTable, replied, named, localTime, Good, Held};
 use crate::block::Block;
 use crate::number::be32;
 use crate::number::lifted;
@@ -20,6 +21,7 @@ use crate::times::time_in;
 use crate::times::transitions_of;
 use crate::zone::Read;
 use crate::zone::read_zone;
+use numbers::point::bits_of;
 
 // A local time whose abbreviation stands in the file: seconds east of UT, 1 for daylight time and else 0, the place and length of the abbreviation.
 pub struct Found {
@@ -51,11 +53,7 @@ pub enum LocalTime {
 pub fn offset_bits(local: Local) -> u64
     ensures { λ r. ⌜ r ≡ ofZ w32 (local .offset) ⌝ }
 {
-    let offset = local.offset;
-    if offset < 0 {
-        return 0xffff_ffff - (-1 - offset) as u64;
-    }
-    offset as u64
+    bits_of(local.offset) as u64
 }
 
 // What a local time type's record says.

@@ -2,7 +2,8 @@
 ghost use mathlib.Core.Path.{_≡_};
 ghost use Prim.Native.Nat.{_+_, _≤_};
 ghost use lib.ListN.{length, getD};
-ghost use Rattle.tzif.specs.Text.{isStop, runTo, AtMost, padded};
+ghost use Rattle.tzif.specs.Text.{isStop, runTo, AtMost};
+ghost use Rattle.numbers.specs.Lists.{padded};
 use crate::number::octet;
 
 fn is_stop(other: usize, byte: usize) -> bool

@@ -2,7 +2,7 @@
 ghost use mathlib.Core.Path.{_≡_};
 ghost use Prim.Native.Nat.{_<_};
 ghost use lib.ListN.{length};
-ghost use Rattle.tzif.specs.{Block.{Within}, Header.{rfc9636}, Told.{toldFooter, toldZone}, Zone.{newlineAt, readFooter, readShort, readLong, readZone}};
+ghost use Rattle.tzif.specs.{Block.{Within}, Header.{rfc9636}, inner.Told.{toldFooter, toldZone}, Zone.{newlineAt, readFooter, readShort, readLong, readZone}};
 use crate::block::Block;
 use crate::header::Reading;
 use crate::header::read_block;

@@ -3,7 +3,7 @@ use Prim.Native.Nat.{ℕ}
 use mathlib.Core.{Bool.{Bool, true, false}, List.{List}, Path.{_≡_, ap, sym, _∙_}}
 use Rattle.numbers.specs.Answer.{if_then_else_}
 use native.Mathlib.Omega.{arith}
-use Rattle.tzrule.specs.{Answer.{Answer, read, fault}, Ask.{Ruled, inYears, since, clockAt, ask}, String.{stringOf, toldString, IsClock, IsTz, GoodString}, Summer.{isSummer}}
+use Rattle.tzrule.specs.{Answer.{Answer, read, fault}, Ask.{Ruled, inYears, since, clockAt, ask}, String.{stringOf}, inner.String.{toldString, IsClock, IsTz, GoodString}, Summer.{isSummer}}
 use Rattle.tzrule.specs.declared.{ask.{Asked.the-variants.{Holds, Outside}, Time.{Time}}, rule.Tz.{Tz, the-variants.{Fixed, Changing}}}
 use Rattle.tzrule.specs.declared.string.{Parsed.{Parsed}, StringAt.{StringAt}}
 use Rattle.tzrule.specs.declared.string.Parsed.the-variants as parsed

@@ -5,3 +5,4 @@ pub mod Names
 pub mod Summer
 pub mod String
 pub mod Ask
+pub mod inner

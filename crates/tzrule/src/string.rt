@@ -3,7 +3,7 @@ ghost use mathlib.Core.Path.{_≡_};
 ghost use Prim.Native.Nat.{_≤_};
 ghost use lib.ListN.{length};
 ghost use Rattle.tzrule.specs.{Answer.{told, Within, Around}, Grammar.{signedOf}};
-ghost use Rattle.tzrule.specs.String.{dayHours, hoursOf, timeOf, changeOf, clockOf, summerOf, changingOf, stringOf, toldClock, toldChange, toldString, IsClock, GoodClock, GoodChange, GoodString};
+ghost use Rattle.tzrule.specs.{String.{dayHours, hoursOf, timeOf, changeOf, clockOf, summerOf, changingOf, stringOf}, inner.String.{toldClock, toldChange, toldString, IsClock, GoodClock, GoodChange, GoodString}};
 use crate::date::Found;
 use crate::date::date_at;
 use crate::name::Named;

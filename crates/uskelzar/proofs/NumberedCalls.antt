@@ -3,7 +3,7 @@ use Prim.Native.Nat.{ℕ, _≤_, _^_, min}
 use borrow.Author.Tests.{le-leb}
 use lib.{Dec.{ltb, leb, eqb}, IntN.{ℤ}, ListN.{length, take, drop}}
 use mathlib.Core.{Bool.{Bool, true, false, not, _&&_}, List.{List, [], _∷_, _++_}, Path.{_≡_, refl, sym, ap, subst, _∙_}}
-use Rattle.border.proofs.Signs.{both}
+use Rattle.numbers.proofs.Tests.{both}
 use Rattle.builder.specs.{Borders.{appended, withBorder}, File.{areTexts, headOf, isText, known, readable, upTo}, Yards.{Plan, Text}}
 use Rattle.header.specs.Header.{isKind}
 use Rattle.numbers.{proofs.{Refusals.{Listed, either}, Replies.{NumberedReply, answers, refuses, then-reply, and-then, demands, number-of}}, specs.{Answer.{if_then_else_}, Reply.{Reply, given, refused, refusal, plain, demand, _>>_}, declared.{point.RawPoint.{RawPoint}, refusal.Refusal.{Refusal}}}}

@@ -1,10 +1,10 @@
 -- What a returned 0 and a 1 in the reply's second word mean together: nothing was missed. Neither says it alone, since a refusal can leave a 1 there too. Assumes nothing.
 use Prim.Native.Nat.{ℕ}
 use lib.ListN.{getD}
-use mathlib.Core.{Bool.{Bool}, List.{List, [], _∷_}, Path.{_≡_, refl, sym, ap, _∙_}}
+use mathlib.Core.{Bool.{Bool, false}, List.{List, [], _∷_}, Path.{_≡_, refl, sym, ap, _∙_}}
 use Rattle.numbers.specs.Reply.{Reply, given, refused, refusal}
 use Rattle.table.specs.declared.location.Location.{Location}
-use Rattle.zones.proofs.WholeMeansWhole.{whole-means-whole, simple-whole-means-whole}
+use Rattle.zones.proofs.{WholeMeansWhole.{whole-means-whole, simple-whole-means-whole}, WorkedEnding.{printed, inTheZone, answered}}
 use Rattle.zones.specs.{Lent.{Replied}, Lookup.{lookedUp}, Simple.{simplyLooked}, Unstopped.{lookedThroughAll, simplyLookedThroughAll}, declared.{lookup.Zones.{Zones}, simple.Described.{Described}}}
 use Rattle.uskelzar.proofs.Numbered.{lookup-zero, simple-lookup-zero}
 use Rattle.uskelzar.specs.Spoken.{saidOf, zonesValues, describedValues, Spoken, spoken, foundSpoken}
@@ -40,3 +40,8 @@ simple-returned-whole file location n room promised zero one =
 pub one-alone : (saidOf zonesValues (refused (refusal 6 1 1)) .number ≡ 6) × (getD (saidOf zonesValues (refused (refusal 6 1 1)) .words) 1 0 ≡ 1)
 unfolding saidOf
 one-alone = (refl, refl)
+
+-- Document 01's printed file, asked at (5, 5) on its grid: one match under mark 1, returned with a 0, so nothing was missed.
+pub one-returned : spoken 0 (1 ∷ 1 ∷ 0 ∷ 4 ∷ 0 ∷ []) ((0 ∷ 0 ∷ 1 ∷ 16 ∷ []) ∷ (0 ∷ 0 ∷ 1 ∷ 0x41 ∷ []) ∷ []) ≡ foundSpoken zonesValues (lookedThroughAll printed inTheZone false 4 4)
+unfolding saidOf
+one-returned = returned-whole printed inTheZone false 4 4 (sym (ap (λ (r : Replied Zones). foundSpoken zonesValues r) answered)) refl refl

@@ -24,9 +24,8 @@ use edit::changing::begin::begin;
 use edit::changing::clear::clear;
 use edit::changing::drop::drop_last;
 use edit::replacing::replace::replace;
+use numbers::point::bits_of;
 use numbers::point::signed;
-use tzif::local::Local;
-use tzif::local::offset_bits;
 
 // A builder's numbers from their words, all but the last, which tells of its notes. Any words are a builder: what its lists cannot hold is refused by each call.
 fn state_of(words: [u64; 14]) -> Held
@@ -57,16 +56,11 @@ fn noted_of(words: [u64; 14]) -> usize
     words[13] as usize
 }
 
-// The 32 bits of the greatest lower latitude, which has the form of an offset.
+// The 32 bits of the greatest lower latitude.
 fn greatest_bits(held: Held) -> u64
     ensures { λ r. ⌜ (r ≡ ofZ w32 (held .greatest)) × SFits w32 (held .greatest) ⌝ }
 {
-    let greatest = held.greatest;
-    offset_bits(Local {
-        offset: greatest,
-        daylight: 0,
-        length: 0,
-    })
+    bits_of(held.greatest) as u64
 }
 
 fn words_of(held: Held, noted: usize) -> [u64; 14]

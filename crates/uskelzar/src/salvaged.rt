@@ -1,7 +1,7 @@
 // Salvage of a damaged file, for C.
 ghost use mathlib.Core.{Path.{_≡_}, List.{[], _∷_}};
 ghost use lib.ListN.{length};
-ghost use Rattle.salvage.specs.Rescue.Told.{toldRescued};
+ghost use Rattle.salvage.specs.inner.Rescue.Told.{toldRescued};
 ghost use Rattle.salvage.specs.Salvage.{salvaged};
 ghost use Rattle.uskelzar.specs.{Spoken.{saidOf, spoken}, Salvaged.{countsValues, salvageSpoken}};
 use crate::Said;

@@ -5,9 +5,11 @@ use lib.{Dec.{ltb}, IntN.{ℤ, pos, negsuc, negℤ, natAbs, sucℤ, _+ℤ_, _-�
 use mathlib.Core.{Bool.{Bool, true, false, cond, _&&_, _||_}, Path.{_≡_, refl, sym, ap, _∙_, subst}}
 use native.Mathlib.{Nat.{mul-le-mul, mod-eq-of-lt}, Omega.{arith}}
 use Rattle.verdict.proofs.{Checks.{checked-fits}, CutDifference.{close}, Gliding.{less-le, le-less, less-le-less, within-both, field-quadrant, gliding-measures}}
-use Rattle.border.{proofs.Signs.{differ, both}, specs.declared.place.Point.{Point}}
+use Rattle.numbers.proofs.Tests.{differ}
+use Rattle.border.specs.declared.place.Point.{Point}
+use Rattle.numbers.proofs.Tests.{both}
 use Rattle.verdict.specs.{Distance.{squared, toSegment, toVertex, distanceOf, measured}, Edge.{between, inBox, spotOf, edgeOf, closestOn, cutOf}}
-use Rattle.verdict.specs.{Gliding.{inSpan, beside, aside, within, farFrom, nearby, Remote, Calm}, Step.{Step, found}}
+use Rattle.verdict.specs.{inner.Gliding.{inSpan, beside, aside, within, farFrom, nearby, Remote, Calm}, Step.{Step, found}}
 use Rattle.verdict.specs.declared.{edge.Spot.{Spot}, field.{Span.{Span}, Field.{Field}}, step.Tally.{Tally}}
 use Rattle.numbers.specs.{Answer.{if_then_else_}, Float.{toF32, cut32, cut64, _⊟_}}
 

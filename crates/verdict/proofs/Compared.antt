@@ -5,7 +5,9 @@ use lib.{Dec.{leb, eqb}, IntN.{ℤ, pos, negsuc}}
 use mir.{Syntax.{w32}, Val.{SFits, toZ, ofZ}, Facts.{toZ-ofZ}}
 use borrow.Author.Tests.{leb-true, le-leb, eq-eqb, ne-eqb, eqb-true}
 use Rattle.verdict.specs.Edge.{sameZ, between}
-use Rattle.border.proofs.Signs.{differ, both, by-test}
+use Rattle.numbers.proofs.Tests.{differ}
+use Rattle.border.proofs.Signs.{by-test}
+use Rattle.numbers.proofs.Tests.{both}
 
 -- ---- equality
 

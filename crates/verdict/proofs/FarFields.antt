@@ -7,7 +7,7 @@ use mir.{Syntax.{w32}, Val.{SFits}}
 use native.Mathlib.Omega.{arith}
 use Rattle.border.specs.declared.place.Point.{Point}
 use Rattle.verdict.proofs.{Beyond.{remote-calm}, Gliding.{aside-of, quadrant-calm, or-true}}
-use Rattle.verdict.specs.Gliding.{beside, aside, nearby, farFrom, Held, Opens, OpensFar, FarSpan, FarAbout, LiftedTo, lowered}
+use Rattle.verdict.specs.inner.Gliding.{beside, aside, nearby, farFrom, Held, Opens, OpensFar, FarSpan, FarAbout, LiftedTo, lowered}
 use Rattle.verdict.specs.declared.{field.{Span.{Span}, Field.{Field}, Open.{Open, the-variants.{About, Shut}}}, step.Tally.{Tally}}
 
 -- ---- differences

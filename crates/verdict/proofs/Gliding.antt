@@ -5,14 +5,16 @@ use lib.{IntN.{ℤ, pos, negsuc, _+ℤ_}, ListN.{length}, Signed.{ltZ, leZ, mag}
 use mir.{Syntax.{w32}, Val.{SFits}}
 use mathlib.Core.{Bool.{Bool, true, false, not, _&&_, _||_, and-false}, List.{List}, Path.{_≡_, refl, sym, ap, _∙_, subst}}
 use native.Mathlib.{Nat.{le-refl}, Omega.{arith}}
-use Rattle.border.proofs.{Signs.{differ, both}, Trace.{gives-trace}}
+use Rattle.numbers.proofs.Tests.{differ}
+use Rattle.border.proofs.Trace.{gives-trace}
+use Rattle.numbers.proofs.Tests.{both}
 use Rattle.border.proofs.reader.Turns.{open-packed, open-plain, turn-move, backward-move, advances, counted-before, pair-read, pair-moves}
 use Rattle.border.specs.{Encoding.{encodedBy}, Place.{pointAt, moveBy, isStill, movedBy, negated}, Reader.{gives, shownBy, advanced, backwardFrom}}
 use Rattle.border.specs.Trace.{Trace, point, traceOf}
 use Rattle.border.specs.declared.place.Point.{Point}
 use Rattle.border.specs.declared.reader.{Reader.{Reader}, Encoding.{Encoding}, Version.{Version, the-variants.{Plain, Packed}}, Run.{Run, the-variants.{Idle, Backward}}}
 use Rattle.verdict.specs.{Distance.{measured}, Edge.{sameZ, samePoint, straight, between, inBox, quadrantOf}}
-use Rattle.verdict.specs.Gliding.{sameSide, inOneQuadrant, inSpan, beside, aside, within, Glides, stays, glides, GlidesTo, standing, GlidesForth, GlidesBack, GlidesPlain, points, Calm}
+use Rattle.verdict.specs.inner.Gliding.{sameSide, inOneQuadrant, inSpan, beside, aside, within, Glides, stays, glides, GlidesTo, standing, GlidesForth, GlidesBack, GlidesPlain, points, Calm}
 use Rattle.verdict.specs.{Verdict.{after, along, passing, thenOn, judge}, Winding.{quarterBy, clearOf, woundBy}}
 use Rattle.verdict.specs.declared.{field.{Span.{Span}, Field.{Field}}, step.Tally.{Tally}}
 use Rattle.numbers.specs.{Answer.{found, checked, if_then_else_}, Point.{signedOf, pointOf}, Varint.{Numeral, numeral, readingOf, backwardAt}}

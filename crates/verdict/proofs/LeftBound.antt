@@ -8,7 +8,8 @@ use mir.{Syntax.{w32}, Val.{SFits}}
 use borrow.Author.Tests.{le-leb, ltb-true, ltb-false}
 use Rattle.numbers.specs.Answer.{if_then_else_}
 use Rattle.verdict.specs.{Step.{found, checked}, Edge.{quadrantOf}}
-use Rattle.border.{specs.declared.place.Point.{Point}, proofs.Signs.{differ}}
+use Rattle.border.specs.declared.place.Point.{Point}
+use Rattle.numbers.proofs.Tests.{differ}
 use Rattle.verdict.proofs.Checks.{checked-fits}
 
 abbrev least : ℤ

@@ -8,7 +8,8 @@ use borrow.Author.Tests.{leb-true, leb-false, le-leb}
 use Rattle.numbers.specs.Answer.{if_then_else_}
 use Rattle.border.specs.{Encoding.{encodedIn}, Place.{pointAt}, Trace.{point, closed}, Written.{Stands, pointsThen, roundTrip}}
 use Rattle.border.specs.{Box.{Box, minZ, maxZ, grown, boxOver, boxOf, holds}, declared.{place.Point.{Point}, reader.Version.{Version}}}
-use Rattle.border.proofs.{Signs.{differ}, Delivered.{delivered}}
+use Rattle.numbers.proofs.Tests.{differ}
+use Rattle.border.proofs.Delivered.{delivered}
 use Rattle.verdict.specs.{Step.{Step, found, _>>=_, checked}, Edge.{samePoint, between, inBox, quadrantOf}, Winding.{turned, quarterBy, clearOf, woundBy}}
 use Rattle.verdict.specs.{Distance.{measured}, Verdict.{Judgement, reached, failed, refused, none, after, along, passing, closedAt, thenOn, judge, judgedAt}}
 use Rattle.verdict.specs.declared.step.{Tally.{Tally}, Verdict.the-variants.{NotInZone}}

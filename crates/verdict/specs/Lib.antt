@@ -3,5 +3,4 @@ pub mod Edge
 pub mod Winding
 pub mod Distance
 pub mod Verdict
-pub mod Kept
-pub mod Gliding
+pub mod inner

@@ -1,7 +1,7 @@
 // Edges of a border in f32, each operation rounded once, in the order of the Rust; boxes; quadrants.
 ghost use mathlib.Core.{Path.{_≡_}, Bool.{_&&_}};
 ghost use lib.Signed.{leZ};
-ghost use Rattle.verdict.specs.{Edge.{samePoint, between, inBox, quadrantOf, spotOf, slopeOf, edgeOf, closestOn, cutOf, straight}, Kept.{seenFrom}};
+ghost use Rattle.verdict.specs.{Edge.{samePoint, between, inBox, quadrantOf, spotOf, slopeOf, edgeOf, closestOn, cutOf, straight}, inner.Kept.{seenFrom}};
 use border::place::FixedLat;
 use border::place::FixedLon;
 use border::place::Point;

@@ -1,7 +1,7 @@
 // Fields so far from a location that no edge in them comes nearer than the least distance so far.
 ghost use mathlib.Core.Path.{_≡_};
 ghost use Prim.Native.Nat.{_+_, _*_, _≤_, _<_};
-ghost use Rattle.verdict.specs.Gliding.{lowered, LiftedTo, FarSpan, FarAbout, OpensFar, Opens};
+ghost use Rattle.verdict.specs.inner.Gliding.{lowered, LiftedTo, FarSpan, FarAbout, OpensFar, Opens};
 use crate::field::Field;
 use crate::field::Open;
 use crate::field::Span;

@@ -2,7 +2,7 @@
 ghost use mathlib.Core.{Path.{_≡_}, Bool.{true}};
 ghost use Prim.Native.Nat.{_^_, _<_};
 ghost use lib.Signed.{mag};
-ghost use Rattle.verdict.specs.Gliding.{inSpan, beside, aside, within, Held};
+ghost use Rattle.verdict.specs.inner.Gliding.{inSpan, beside, aside, within, Held};
 use border::place::Point;
 
 // The numbers between two others.

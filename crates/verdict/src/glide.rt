@@ -1,7 +1,7 @@
 // A border that stays in a field, read quickly. A reader of the verdict may skip this file: it only hurries.
 ghost use mathlib.Core.{Path.{_≡_}, Bool.{true, false}};
 ghost use Rattle.border.specs.Encoding.{encodedBy};
-ghost use Rattle.verdict.specs.Gliding.{LedTo, GlidesForth, GlidesBack, GlidesPlain, GlidesTo, standing};
+ghost use Rattle.verdict.specs.inner.Gliding.{LedTo, GlidesForth, GlidesBack, GlidesPlain, GlidesTo, standing};
 use crate::field::Field;
 use crate::field::lies_in;
 use border::place::Away;

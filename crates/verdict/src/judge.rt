@@ -1,6 +1,6 @@
 // A border's verdict on a location, over its points as they are read.
 ghost use mathlib.Core.Path.{_≡_};
-ghost use Rattle.verdict.specs.{Kept.{Sighted, lastOf, endedAt}, Verdict.{told, after, along, passing, onBorder, closedAt, thenOn, judgedAt}};
+ghost use Rattle.verdict.specs.{inner.Kept.{Sighted, lastOf, endedAt}, Verdict.{told, after, along, passing, onBorder, closedAt, thenOn, judgedAt}};
 ghost use Rattle.verdict.specs.Verdict as verdict;
 ghost use Rattle.verdict.specs.Step as step;
 use crate::distance::measure;

@@ -6,8 +6,9 @@ use lib.{Dec.{eqb}, IntN.{ℤ, pos, negsuc, negℤ, _-ℤ_}, Signed.{ltZ, leZ}}
 use mir.{Syntax.{w32}, Val.{SFits, toZ, ofZ}}
 use borrow.Author.Tests.{ltb-true, ltb-false, le-leb, lt-leb, ne-eqb, eq-eqb}
 use Rattle.numbers.specs.{Answer.{if_then_else_}, Point.{pointOf}, declared.point.RawPoint.{RawPoint}, Spelling.{signedForm}}
-use Rattle.border.{specs.Place.{isStill, isZero}, proofs.Signs.{differ}}
-use Rattle.writer.specs.{Moves.{isMove, turnedBack, sameMove}, Writer.{near}, Stored.{gapAt, moveAt}}
+use Rattle.border.specs.Place.{isStill, isZero}
+use Rattle.numbers.proofs.Tests.{differ}
+use Rattle.writer.specs.{Moves.{isMove, turnedBack, sameMove}, Writer.{near}, inner.Stored.{gapAt, moveAt}}
 use Rattle.writer.proofs.Signs.{form-zero, formed, from-zero}
 
 -- ---- coordinates

@@ -5,8 +5,9 @@ use mathlib.Core.{Path.{_≡_, sym, ap, _∙_}, Bool.{true, false, _&&_}, List.{
 use lib.{Dec.{ltb, leb, eqb}, IntN.{ℤ}, ListN.{length, take, drop}}
 use borrow.Author.Tests.{lt-ltb, le-ltb, le-leb, lt-leb, ltb-true, leb-true, eqb-true}
 use Rattle.numbers.specs.{Reply.{given, refused, refusal, plain, demand, _>>_}, declared.point.RawPoint.{RawPoint}}
-use Rattle.writer.specs.{Moves.{movesOf, isMove}, Writer.{every, near, sized, checks}, Stored.{moveAt}}
-use Rattle.border.proofs.Signs.{both, and-true}
+use Rattle.writer.specs.{Moves.{movesOf, isMove}, Writer.{every, near, sized, checks}, inner.Stored.{moveAt}}
+use Rattle.numbers.proofs.Tests.{both}
+use Rattle.border.proofs.Signs.{and-true}
 use Rattle.writer.proofs.Indexed.{moves-next}
 
 -- what a border of good size has

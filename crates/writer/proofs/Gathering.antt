@@ -4,7 +4,7 @@ use native.Mathlib.{Numerals.{add-one}, Omega.{arith}}
 use mathlib.Core.{Path.{_≡_, refl, sym, ap, _∙_}, Bool.{Bool, true, false}, List.{List, [], _∷_, _++_}}
 use lib.{ListN.{length, take, set, length-set, length-append}, Seq.{take-suc-set}}
 use Rattle.numbers.specs.{Answer.{if_then_else_}, declared.point.RawPoint.{RawPoint}}
-use Rattle.writer.specs.{Pieces.{accepted, goodPieces, pieceAt, firstPieces}, Stored.{endOf, Checked}, declared.{write.Piece.{Piece}, pieces.Check.{Check}}}
+use Rattle.writer.specs.{Pieces.{accepted, goodPieces, pieceAt, firstPieces}, inner.Stored.{endOf, Checked}, declared.{write.Piece.{Piece}, pieces.Check.{Check}}}
 
 module _ (earlier : List ℕ) (moves : List RawPoint) where
   pub empty : (c : Check) → c .seen ≡ 0 → c .good ≡ 0 → c .free ≡ 0 → length (c .kept) ≡ 16 → Checked earlier moves [] c

@@ -6,7 +6,7 @@ use mathlib.Core.{Path.{_≡_, refl, sym, ap, _∙_}, Bool.{Bool, true, false, _
 use lib.{IntN.{ℤ, pos, _-ℤ_}, Dec.{ltb}, ListN.{length, getD, drop, length-take, length-drop, length-append}, Seq.{slice, slice-cons, drop-cons, take-all, take-length}}
 use Rattle.numbers.specs.declared.point.RawPoint.{RawPoint}
 use Rattle.border.specs.{Place.{pointAt, moveBy}, declared.place.Point.{Point}}
-use Rattle.writer.specs.{Moves.{moveTo, movesFrom, pointsOf, movesOf}, Writer.{every}, Stored.{gapAt, moveAt}}
+use Rattle.writer.specs.{Moves.{moveTo, movesFrom, pointsOf, movesOf}, Writer.{every}, inner.Stored.{gapAt, moveAt}}
 
 -- ---- the coordinate before an index
 pub before-first : (zs : List ℤ) (i : ℕ) → i ≡ 0 → pos 0 ≡ getD (pos 0 ∷ zs) i (pos 0)

@@ -5,7 +5,8 @@ use mathlib.Core.{Path.{_≡_, sym, ap, _∙_}, Bool.{true, false}}
 use lib.IntN.{natAbs}
 use Rattle.numbers.proofs.Spelling.{signed-back, point-zero, point-back, point-small}
 use Rattle.numbers.specs.{Point.{signedOf, pointOf}, Spelling.{signedForm}, declared.point.RawPoint.{RawPoint}}
-use Rattle.border.{specs.Place.{moveBy, isStill}, proofs.Signs.{differ}}
+use Rattle.border.specs.Place.{moveBy, isStill}
+use Rattle.numbers.proofs.Tests.{differ}
 use Rattle.writer.specs.Moves.{packedNumber}
 
 -- a move of a border: both numbers below 2 ^ 31 in size, and not two zeros

@@ -4,7 +4,7 @@ use native.Mathlib.Omega.{arith}
 use mathlib.Core.{Path.{_≡_, sym, ap, _∙_, subst}, Bool.{Bool, true, false}, List.{List, [], _∷_, _++_, flatMap}}
 use lib.{Dec.{eqb}, IntN.{ℤ}, ListN.{length, take, drop, getD, length-append}, Seq.{slice, drop-cons, getD-take, length-take-le, drop-length}}
 use Rattle.numbers.{specs.{Answer.{if_then_else_}, declared.point.RawPoint.{RawPoint}, Spelling.{varintOf}}, proofs.Spelling.{varint-few, varint-byte}}
-use Rattle.writer.specs.{Moves.{packedMoveBytes, movesOf}, Pieces.{pieceBytes, packedFrom}, Stored.{Stored}, declared.write.Piece.{Piece}}
+use Rattle.writer.specs.{Moves.{packedMoveBytes, movesOf}, Pieces.{pieceBytes, packedFrom}, inner.Stored.{Stored}, declared.write.Piece.{Piece}}
 use Rattle.writer.proofs.{Indexed.{border-length, slice-ends, slice-rest}, Lengths.{packed-few}, Stores.{Left, left-step, left-last}}
 
 abbrev pub none : Piece

@@ -7,7 +7,7 @@ use borrow.Author.Tests.{leb-true, le-leb, lt-leb, eq-eqb, ne-eqb}
 use Rattle.numbers.{proofs.{Lists.{zeros-drop}, Replies.{demanded}}, specs.{Answer.{if_then_else_}, Lists.{zeros}, Reply.{Reply, given, refused, refusal, plain, _>>_}}}
 use Rattle.numbers.specs.{declared.{refusal.Refusal.{Refusal}, point.RawPoint.{RawPoint}}, Spelling.{varintOf}}
 use Rattle.writer.specs.{Moves.{plainMoveBytes, movesOf}, Pieces.{packedFrom}}
-use Rattle.writer.specs.{Writer.{sized, checks, plainBorder, packedBorder, borderOf, Replied, replied, fitted}, Stored.{Stored, Checked}}
+use Rattle.writer.specs.{Writer.{sized, checks, plainBorder, packedBorder, borderOf, Replied, replied, fitted}, inner.Stored.{Stored, Checked}}
 use Rattle.writer.specs.declared.{write.{Piece.{Piece}, Written.the-variants.{Wrote, Refused}}, pieces.Check.{Check}}
 use Rattle.writer.proofs.{Faults.{Sizes, sizes}, Indexed.{border-length}, Stores.{stored-front, stored-length}}
 

@@ -7,7 +7,7 @@ use lib.Seq.{drop-cons, length-take-le, getD-drop, getD-take, drop-length, getD-
 use borrow.Author.Tests.{ltb-false, ltb-true, le-leb, lt-leb, ne-eqb, eq-eqb}
 use Rattle.numbers.specs.{Answer.{Answer, if_then_else_}, Point.{pointOf}, Varint.{Numeral, told, forwardAt}}
 use Rattle.numbers.{specs.declared.{point.RawPoint.{RawPoint}, varint.Varint.{Varint, the-variants.{Number, Failed, Refused}}}, proofs.Laws.{caseOf}}
-use Rattle.writer.specs.{Moves.{movesOf, turnedBack, sameMove}, Pieces.{lentMoves, readAnd, spells}, Stored.{moveAt}, declared.write.Piece.{Piece}}
+use Rattle.writer.specs.{Moves.{movesOf, turnedBack, sameMove}, Pieces.{lentMoves, readAnd, spells}, inner.Stored.{moveAt}, declared.write.Piece.{Piece}}
 use Rattle.writer.proofs.Indexed.{still, border-length, move-at}
 
 reverse-at : (ms : List RawPoint) (j : ℕ) → j < length ms → getD (reverse ms) j still ≡ getD ms (length ms - 1 - j) still

@@ -10,14 +10,17 @@ use Rattle.numbers.specs.{Answer.{Answer, found, failed, refused, if_then_else_
 use Rattle.numbers.specs.{declared.point.RawPoint.{RawPoint}, Spelling.{varintOf, signedForm}, Reply.{Reply, given, refusal, plain, demand, _>>_}}
 use Rattle.numbers.proofs.{Wholes.{read-whole}, Spelling.{one-byte, varint-whole, signed-small, even-back, odd-back, form-one}, Replies.{demanded}}
 use Rattle.border.specs.{Place.{pointAt, moveBy, isStill, movedBy, negated}, Encoding.{versionOf}, Written.{Splits, Turned, Borrowed, Version1, Pairs, Version0, Leads, Border}}
-use Rattle.border.{specs.declared.{place.Point.{Point}, reader.Version.the-variants.{Plain, Packed}}, proofs.Signs.{differ, both}}
+use Rattle.border.specs.declared.{place.Point.{Point}, reader.Version.the-variants.{Plain, Packed}}
+use Rattle.numbers.proofs.Tests.{differ}
+use Rattle.numbers.proofs.Tests.{both}
 use Rattle.writer.specs.Moves.{plainMoveBytes, packedMoveBytes, packedNumber, moveTo, movesFrom, pointsOf, movesOf, isMove, turnedBack, sameMove}
 use Rattle.writer.specs.Pieces.{lentBy, lentMoves, readAnd, spells, clearBefore, accepted, goodPieces, pieceBytes, packedFrom}
 use Rattle.writer.specs.{Writer.{every, near, sized, checks, plainBorder, packedBorder, borderOf}, declared.write.Piece.{Piece}}
 use Rattle.numbers.specs.Reply as R
 use Rattle.border.specs.Written as W
 use Rattle.writer.proofs.{Faults.{sizes}, Indexed.{points-length, moves-length}, Inverse.{Moves, pair-back, packed-back, packed-some, packed-small}}
-use Rattle.writer.proofs.Signs.{size-sum, size-neg, mag-size}
+use Rattle.numbers.proofs.write.Gaps.{size-sum, size-neg, mag-size}
+use Rattle.numbers.proofs.Replies.{given-one}
 
 -- ---- from a point to the next
 not-true : (t : Bool) → not t ≡ true → t ≡ false
@@ -299,9 +302,6 @@ module _ (earlier : List ℕ) (room : length earlier ≤ 2 ^ 30) where
 then-given : {A : Type 0} {rest : Reply A} {a : A} (r : Reply (Unit {0})) → (r >> rest) ≡ given a → (given tt ≡ r) × (rest ≡ given a)
 then-given (given u) e = (refl, e)
 then-given (R.refused why) e = absurd (let z : _≡_ {A = ℕ} 0 1 = cc in omega arith)
-
-given-one : {a b : List ℕ} → given a ≡ given b → a ≡ b
-given-one e = cc
 
 module _ (version : ℕ) (lats lons : List ℤ) (pieces : List Piece) (earlier bytes : List ℕ) where
   record Passes : Type 0 where

@@ -2,5 +2,5 @@ pub mod Limits
 pub mod Moves
 pub mod Pieces
 pub mod Writer
-pub mod Stored
 pub mod WrittenAt
+pub mod inner

@@ -2,7 +2,7 @@
 ghost use mathlib.Core.{Path.{_≡_}, List.{_++_}};
 ghost use Prim.Native.Nat.{_+_, _^_, _<_};
 ghost use lib.ListN.{length};
-ghost use Rattle.writer.specs.Stored.{Stored};
+ghost use Rattle.writer.specs.inner.Stored.{Stored};
 ghost use Rattle.numbers.specs.{Lists.{zeros}, Spelling.{varintOf}};
 use numbers::write::write_varint;
 

@@ -3,10 +3,11 @@ ghost use mathlib.Core.{Path.{_≡_}, List.{_∷_, flatMap}};
 ghost use Prim.Native.Nat.{_+_, _^_, _≤_, _<_};
 ghost use lib.{IntN.{pos, negℤ, _-ℤ_}, ListN.{length, getD}, Dec.{eqb}, Seq.{slice}};
 ghost use Rattle.numbers.specs.{Answer.{if_then_else_}, Point.{pointOf}, Spelling.{signedForm}};
-ghost use Rattle.writer.specs.{Moves.{packedNumber, plainMoveBytes, packedMoveBytes, movesOf, isMove, turnedBack, sameMove}, Stored.{Stored, gapAt, moveAt}};
+ghost use Rattle.writer.specs.{Moves.{packedNumber, plainMoveBytes, packedMoveBytes, movesOf, isMove, turnedBack, sameMove}, inner.Stored.{Stored, gapAt, moveAt}};
 use crate::bytes::put_two;
 use crate::bytes::put_varint;
 use numbers::point::decode_point;
+use numbers::write::form_of;
 use numbers::write::interleave;
 
 // The coordinate before the ith one; before the first it is 0.
@@ -18,17 +19,6 @@ fn before(list: &[i32], i: usize) -> i32
         return 0;
     }
     list[i - 1]
-}
-
-// The signed form of a difference: twice the size, odd only for negatives.
-fn form_of(from: i32, to: i32) -> u64
-    ensures { λ r. ⌜ r ≡ signedForm (to -ℤ from) ⌝ }
-{
-    let by = (to as i64) - (from as i64);
-    if by < 0 {
-        return ((0 - by) as u64) * 2 + 1;
-    }
-    (by as u64) * 2
 }
 
 // The signed form of a coordinate's difference to the one before it.

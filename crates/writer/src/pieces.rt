@@ -3,7 +3,7 @@ ghost use mathlib.Core.{Path.{_≡_}, List.{List, [], _∷_, _++_}};
 ghost use Prim.Native.Nat.{ℕ, _+_, _-_, _*_, _/_, _^_, _≤_, _<_};
 ghost use lib.{IntN.{ℤ}, ListN.{length}, Dec.{eqb}};
 ghost use Rattle.numbers.specs.Answer.{if_then_else_};
-ghost use Rattle.writer.specs.{Moves.{movesOf}, Pieces.{lentMoves, spells, clearBefore, accepted, pieceBytes, pieceAt, piecesOf}, Stored.{Stored, Checked}};
+ghost use Rattle.writer.specs.{Moves.{movesOf}, Pieces.{lentMoves, spells, clearBefore, accepted, pieceBytes, pieceAt, piecesOf}, inner.Stored.{Stored, Checked}};
 use crate::bytes::put_two;
 use crate::limits::MOST_PIECES;
 use crate::moves::is_lent;

@@ -3,7 +3,7 @@ ghost use mathlib.Core.{Path.{_≡_}, List.{List, [], _∷_, _++_, flatMap}};
 ghost use Prim.Native.Nat.{_≤_, min};
 ghost use lib.{ListN.{length, take}, Dec.{leb}};
 ghost use Rattle.numbers.specs.{Answer.{if_then_else_}, Lists.{zeros}, Spelling.{varintOf}};
-ghost use Rattle.writer.specs.{Moves.{plainMoveBytes, movesOf}, Pieces.{packedFrom, piecesOf}, Stored.{Stored, Checked}, Writer.{borderOf, replied, fitted}};
+ghost use Rattle.writer.specs.{Moves.{plainMoveBytes, movesOf}, Pieces.{packedFrom, piecesOf}, inner.Stored.{Stored, Checked}, Writer.{borderOf, replied, fitted}};
 use crate::bytes::put_two;
 use crate::bytes::put_varint;
 use crate::bytes::zero_bytes;

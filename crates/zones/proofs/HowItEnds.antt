@@ -10,6 +10,7 @@ use Rattle.table.proofs.SearchEnds.{endMarks, met-check, behind-marks, matched-
 use Rattle.table.specs.{Ending.{Behind, Answered}, Find.{Matched, matchedWith}, Hits.{width, words}, declared.{hits.Hit.{Hit}, location.Location.{Location}}}
 use Rattle.zones.specs.{Fields.{fieldsOf}, Lent.{Outcome, repliedOf}, Lookup.{zonesFrom, zonesWith, zonesIn, lookedUp}}
 use Rattle.zones.specs.{Simple.{checked, wordedOf, describedFrom, describedWith, describedIn, simplyLooked}, declared.{lookup.Zones.{Zones}, simple.Described.{Described}}}
+use Rattle.numbers.proofs.Replies.{given-one}
 
 -- what a reply with its lent words was made of
 pub record Outcame {A : Type 0} (n room : ℕ) (reply : Reply (Outcome A)) (answer : A) : Type 0 where
@@ -22,9 +23,6 @@ pub outcame : {A : Type 0} (n room : ℕ) (reply : Reply (Outcome A)) (answer : 
 unfolding repliedOf
 outcame n room (given o) answer e = record { outcome = o; is = refl; said = cc; kept = refl }
 outcame n room (R.refused why) answer e = let z : _≡_ {A = ℕ} 0 1 = cc in absurd (omega arith)
-
-given-one : {A : Type 0} {a b : A} → given a ≡ given b → a ≡ b
-given-one e = cc
 
 -- an outcome tells of the matches that it was made of
 pub record Tells {A : Type 0} (marked counted : A → ℕ) (m : Matched) (o : Outcome A) : Type 0 where

@@ -3,7 +3,8 @@ use Prim.Native.Nat.{ℕ, zero, suc, _+_, _-_, _/_}
 use lib.{Dec.{ltb, leb, eqb}, ListN.{length}}
 use mathlib.Core.{Bool.{Bool, true, false}, List.{List, [], _∷_, _++_}, Path.{_≡_, refl, subst}}
 use native.Mathlib.Omega.{arith}
-use Rattle.border.{proofs.Signs.{differ}, specs.declared.place.Point.{Point}}
+use Rattle.numbers.proofs.Tests.{differ}
+use Rattle.border.specs.declared.place.Point.{Point}
 use Rattle.verdict.{proofs.Numbered.{NumberedJudgement, judged, unjudged, not-judged, judged-numbered}, specs.Verdict.{Judgement}}
 use Rattle.numbers.proofs.{Refusals.{Listed, still-listed, Numbered, as-found, as-failed, as-refused, either, then-numbered}, Readings.{reading-numbered}}
 use Rattle.numbers.proofs.Replies.{NumberedReply, answers, refuses, then-reply, and-then, demands, number-of}

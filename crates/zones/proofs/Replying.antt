@@ -3,7 +3,7 @@ use mathlib.Core.{Path.{_≡_, subst, ap, _∙_}, List.{List}}
 use Prim.Native.Nat.{ℕ}
 use native.Mathlib.Omega.{arith}
 use Rattle.numbers.specs.{Lists.{zeros}, Reply.{Reply, given, refused}, declared.refusal.Refusal.{Refusal}}
-use Rattle.table.{specs.Agreeing.{Agrees}, proofs.Agreeing.{gave, refused-so}}
+use Rattle.table.{specs.inner.Agreeing.{Agrees}, proofs.Agreeing.{gave, refused-so}}
 use Rattle.zones.specs.Lent.{Outcome, Replied, replied, repliedOf, Filled}
 
 -- filled in buffers that were zeroed, in the lengths that were lent

@@ -20,12 +20,12 @@ use Rattle.table.specs.{Rows.{row, tableEnd, rowsThen, rowBy, rowsWithin, rowsF
 use Rattle.table.specs.{declared.{location.Location.{Location}, rows.Row.{Row}}, Rest.{restMark}}
 use Rattle.zones.proofs.{HowItEnds.{lookup-ends}, PlaceIsTheEntry.{Begins, begins, place-is-the-entry}, WholeMeansWhole.{whole-means-whole, mark-four}}
 
-abbrev printed : List ℕ
+abbrev pub printed : List ℕ
 printed =
     0x50 ∷ 0x4C ∷ 0x42 ∷ 0x43 ∷ 0x01 ∷ 0x10 ∷ 0x01 ∷ 0x04 ∷ 0xCE ∷ 0xE1 ∷ 0xED ∷ 0xE5 ∷ 0x00 ∷ 0x06 ∷ 0x02 ∷ 0x09 ∷ 0x04 ∷ 0x04 ∷ 0x14
     ∷ 0x14 ∷ 0x00 ∷ 0x00 ∷ 0x01 ∷ 0xC1 ∷ 0x30 ∷ 0x80 ∷ 0x02 ∷ 0x80 ∷ 0x04 ∷ 0x81 ∷ 0x02 ∷ 0x00 ∷ 0x00 ∷ []
 
-abbrev inTheZone : Location
+abbrev pub inTheZone : Location
 inTheZone = record { lat = fin false 225 (negsuc 13); lon = fin false 225 (negsuc 12) }
 
 pub answered : lookedUp printed inTheZone false 4 4

@@ -3,7 +3,7 @@ ghost use mathlib.Core.{Path.{_≡_}, List.{[]}};
 ghost use Prim.Native.Nat.{_/_, _≤_};
 ghost use lib.ListN.{length, take};
 ghost use Rattle.numbers.specs.Lists.{zeros, padded};
-ghost use Rattle.table.specs.{Hits.{width, slots}, Agreeing.{Agrees}};
+ghost use Rattle.table.specs.{Hits.{width, slots}, inner.Agreeing.{Agrees}};
 ghost use Rattle.zones.specs.Fields.{fieldsPlace, fieldsFrom, fieldsOf, toldFields, Wrote};
 use header::field::Written;
 use header::field::write_field;

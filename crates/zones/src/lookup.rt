@@ -3,7 +3,7 @@ ghost use mathlib.Core.{Path.{_≡_}, List.{[]}};
 ghost use Prim.Native.Nat.{_/_, _≤_};
 ghost use lib.ListN.{length, take};
 ghost use Rattle.numbers.specs.Lists.{zeros};
-ghost use Rattle.table.specs.{Agreeing.{Agrees}, Hits.{width, slots}};
+ghost use Rattle.table.specs.{inner.Agreeing.{Agrees}, Hits.{width, slots}};
 ghost use Rattle.zones.specs.{Fields.{fieldsOf}, Lent.{Filled, replied}};
 ghost use Rattle.zones.specs.Lookup.{safezoneBits, zonesWith, zonesListed, lookedWith, lookedBy, lookedUp, lookedStrictly, lookedListed, Told, toldLooked};
 use crate::fields::Fields;

@@ -4,7 +4,7 @@ ghost use Prim.Native.Nat.{_+_, _/_, _≤_};
 ghost use lib.ListN.{length, take};
 ghost use Rattle.numbers.specs.Lists.{zeros};
 ghost use Rattle.header.specs.{Utf8.{unmasked}, Text.{bytesOf}};
-ghost use Rattle.table.specs.{Hits.{width, slots}, Agreeing.{Agrees}};
+ghost use Rattle.table.specs.{Hits.{width, slots}, inner.Agreeing.{Agrees}};
 ghost use Rattle.zones.specs.{Fields.{toldFields, Wrote}, Lent.{Filled, replied}};
 ghost use Rattle.zones.specs.Simple.{same, partOf, begun, newer, pickedFrom, checked, fitting, wordedOf, toldPicks, toldChecked, toldWorded, Worded, describedWith, simplyLookedWith, simplyLooked, toldSimple};
 use crate::fields::Fields;

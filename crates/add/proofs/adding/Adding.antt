@@ -11,7 +11,7 @@ use Rattle.draft.proofs.held.{Fronts.{front-take}, Standing.{held-names, held-y
 use Rattle.draft.specs.Held.{Builder.{Builder, Offered, yardOf, joined, summed, fitting, add}, Space.{Space, longEnough, standing}, State.{Lists, Holds, Answers}, Totals.{dataOf}}
 use Rattle.draft.specs.declared.held.{room.Rooms.{Rooms}, state.{Held.{Held}, Changed.{Changed}}}
 use Rattle.draft.specs.declared.held.state.Changed.the-variants as C
-use Rattle.add.specs.Joining.Joins.{Joining, Joins}
+use Rattle.add.specs.inner.Joining.Joins.{Joining, Joins}
 use Rattle.numbers.specs.{Lists.{zeros}, Reply.{Reply, given, refused, plain, demand, _>>_}, declared.refusal.Refusal.{Refusal}}
 use Rattle.add.specs.Offered.Offers.{offeredAs, offerGood, borderBehind, dataWith, Offers}
 use Rattle.writer.specs.Writer.{checks}

@@ -4,19 +4,20 @@ use borrow.Author.Tests.{leb-true, le-leb, lt-leb, not-false}
 use lib.{Dec.{leb}, IntN.{ℤ}, ListN.{length, take, drop, length-append}, Seq.{length-take-le, drop-at}}
 use mathlib.Core.{Bool.{Bool, true, false, not, _&&_}, List.{List, _++_}, Path.{_≡_, refl, sym, ap, subst, _∙_}}
 use native.Mathlib.{Nat.{mul-comm, mul-suc}, Numerals.{add-one}, Omega.{arith}}
-use Rattle.build.{proofs.{Planned.{both}, Slices.{texts-few}}, specs.Room.{enough, workOf}}
+use Rattle.numbers.proofs.Tests.{both}
+use Rattle.build.{proofs.Slices.{texts-few}, specs.Room.{enough, workOf}}
 use Rattle.builder.proofs.Counting.{lengths-room}
 use Rattle.builder.specs.{File.{areTexts, isText, upTo}, Yards.{cutBy, sumOf}, declared.borders.Border.{Border}}
 use Rattle.builder.specs.declared.borders.Border.the-variants as B
-use Rattle.builder.{proofs.drawing.Sections.{appended-fits}, specs.Drawing.Section.{LentFor}}
+use Rattle.builder.{proofs.drawing.Sections.{appended-fits}, specs.inner.Drawing.Section.{LentFor}}
 use Rattle.draft.proofs.held.Stood.{Own, Stood, own-parts, stood as stood-is}
 use Rattle.draft.specs.{Held.{Builder.{Offered}, Space.{ownEnough, longEnough, roomsOf, standing}, State.{Lists, listsAs}}, declared.held.{room.Rooms.{Rooms}, state.Held.{Held}}}
 use Rattle.numbers.specs.{Lists.{zeros}, Reply.{given}}
 use Rattle.writer.specs.{Pieces.{piecesOf}, Writer.{every, borderOf}}
 use Rattle.add.specs.Growing.Notes.{NotesRoom}
 use Rattle.add.proofs.joining.Joining.{Fine, fine}
-use Rattle.add.specs.Joining.Joins.{Measuring}
-use Rattle.add.specs.Offered.{Offers.{offeredAs, offerGood, dataWith, Offers}, Puts.{Placed, lengthsEnd}}
+use Rattle.add.specs.inner.Joining.Joins.{Measuring}
+use Rattle.add.specs.{Offered.Offers.{offeredAs, offerGood, dataWith, Offers}, inner.Offered.Puts.{Placed, lengthsEnd}}
 use Rattle.add.specs.{Adding.Adds.{Few, notesEnough, usedOut}, declared.adding.room.NoteRooms.{NoteRooms}}
 
 -- ---- lists that are long enough

@@ -6,12 +6,12 @@ use mathlib.Core.{List.{List}, Path.{_≡_, refl, ap, _∙_}}
 use native.Mathlib.Omega.{arith}
 use Rattle.build.specs.declared.room.Work.{Work}
 use Rattle.builder.specs.{Borders.{Drawn}, Yards.{Yard}}
-use Rattle.add.specs.Growing.{Joins.{Grew, Renoted}, Notes.{Notes, NotedLists, NotesRoom}}
+use Rattle.add.specs.{inner.Growing.Joins.{Grew}, Growing.{Joins.{Renoted}, Notes.{Notes, NotedLists, NotesRoom}}}
 use Rattle.draft.proofs.held.state.Changed as K
 use Rattle.draft.specs.{Held.State.{Stands}, declared.held.state.{Held.{Held}, Changed.{Changed}}}
 use Rattle.draft.specs.declared.held.state.Changed.the-variants as C
 use Rattle.draft.proofs.summed.Reached.{reached}
-use Rattle.add.specs.{Afresh.Afresh.{Lying, Measures, Measuring, Notable, Values, gathered}, declared.afresh.measure.Measured.{Measured}}
+use Rattle.add.specs.{inner.Afresh.Afresh.{Lying, Measures, Measuring, Notable, Values, gathered}, declared.afresh.measure.Measured.{Measured}}
 
 -- ---- what can be measured can be noted
 pub measured-notable : (held : Held) (size borders lengths texts : ℕ) (work : Work) → Measuring held size borders lengths texts work → (places marks chains groups begins : ℕ) → places ≡ work .places

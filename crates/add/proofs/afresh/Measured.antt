@@ -5,12 +5,12 @@ use lib.{IntN.{ℤ}, ListN.{length}}
 use mathlib.Core.{List.{List}, Path.{_≡_, sym, ap, _∙_}}
 use native.Mathlib.Omega.{arith}
 use Rattle.builder.specs.{Borders.{Drawn}, Yards.{Yard}}
-use Rattle.add.specs.Growing.Joins.{measuredAs, totalsWith}
+use Rattle.add.specs.inner.Growing.Joins.{measuredAs, totalsWith}
 use Rattle.draft.specs.{Held.{State.{Stands}, Totals.{Totals, totalsFor}}, declared.held.state.{Held.{Held}, Changed.{Changed}}}
 use Rattle.draft.proofs.summed.sums.Summed as K
-use Rattle.draft.specs.{Summed.Sums.{SumsUp, sumsOf}, declared.summed.sums.{Sums.{Sums}, Summed.{Summed}}}
+use Rattle.draft.specs.{inner.Summed.Sums.{SumsUp, sumsOf}, declared.summed.sums.{Sums.{Sums}, Summed.{Summed}}}
 use Rattle.draft.specs.declared.summed.sums.Summed.the-variants as S
-use Rattle.add.specs.{Afresh.Afresh.{Lying, Measures}, declared.afresh.measure.Measured.{Measured}}
+use Rattle.add.specs.{inner.Afresh.Afresh.{Lying, Measures}, declared.afresh.measure.Measured.{Measured}}
 
 module _ (held : Held) (strings size : ℕ) (boxes : List ℤ) (borders lengths texts places : List ℕ) (s : Summed)
     (told : (yards : List Yard) (drawn : Drawn) → Stands yards drawn (held .names) (held .yards + 1) boxes borders lengths texts → SumsUp yards drawn places s) where

@@ -10,11 +10,11 @@ use Rattle.builder.specs.Grouping.Items.{startsFrom}
 use Rattle.add.specs.Growing.Notes.{Notes, notesAs, NotedLists, valuesIn}
 use Rattle.draft.{proofs.held.Fronts.{front-made}, specs.Held.State.{Front}}
 use Rattle.build.specs.Metadata.Kept.{joined}
-use Rattle.notes.specs.Noted.Noting.{NotesAll}
+use Rattle.notes.specs.inner.Noted.Noting.{NotesAll}
 use Rattle.numbers.{proofs.Lists.{zeros-drop}, specs.Lists.{zeros}}
-use Rattle.draft.specs.Summed.Sums.{beginsOf}
+use Rattle.draft.specs.inner.Summed.Sums.{beginsOf}
 use Rattle.build.proofs.recording.Fewer.{joined-sum}
-use Rattle.add.specs.Afresh.Afresh.{Notable, Values, gathered}
+use Rattle.add.specs.inner.Afresh.Afresh.{Notable, Values, gathered}
 
 -- ---- the lists that are lent
 module _ (names count : ℕ) (lengths : List ℕ) (places marks chains groups begins : ℕ) (n : Notable names count (length lengths) places marks chains groups begins) where

@@ -5,10 +5,11 @@ use denote.Enum.Declared.{tagOf, declared}
 use lib.{Dec.{ltb, leb, eqb}, IntN.{ℤ, pos}, ListN.{length, take, drop, length-append}, Seq.{sets, length-sets, length-take-le}}
 use mathlib.Core.{Bool.{Bool, true, false, _&&_}, List.{List, [], _∷_, _++_, map}, Path.{_≡_, refl, sym, ap, subst, _∙_}}
 use native.Mathlib.Omega.{arith}
-use Rattle.build.proofs.Planned.{both}
+use Rattle.numbers.proofs.Tests.{both}
 use Rattle.builder.specs.{Borders.{Drawn, withBorder}, File.{areTexts, headOf, isText, upTo}, Yards.{Plan, Yard, cutBy, sumOf}}
 use Rattle.build.specs.Entries.Corners.{cornersOf}
-use Rattle.add.specs.{Growing.{Joins.{Growing, Grew, Renoted, grown, measuredAs}, Notes.{Notes, NotedBy}}, declared.growing.grow.Added.{Added}}
+use Rattle.add.specs.{inner.Growing.Joins.{Growing, Grew, measuredAs}, Growing.{Joins.{Renoted}, Notes.{Notes, NotedBy}}, declared.growing.grow.Added.{Added}}
+use Rattle.draft.specs.Held.State.{heldWith}
 use Rattle.draft.proofs.held.{Fronts.{front-put, front-back}, Kept.{looked, joined-data, joined-sound}, Lying.{lies-joined, holds-joined}, Redrawn.{drawnWith, data-many}}
 use Rattle.draft.proofs.held.Standing.{corners-many, texts-many, stands-more, held-names, held-yards, held-bytes, held-front, held-strings}
 use Rattle.draft.proofs.held.Texts.{corners-one, joined-corners, joined-front, joined-head, joined-lengths, joined-strings, joined-yards}
@@ -21,8 +22,8 @@ use Rattle.build.proofs.metadata.Itemed.{cut-lengths}
 use Rattle.build.specs.Metadata.Kept as Words
 use Rattle.numbers.specs.{Answer.{if_then_else_}, Reply.{Reply, given, refused, plain, demand, _>>_}, declared.refusal.Refusal.{Refusal}}
 use Rattle.writer.specs.Writer.{checks, every}
-use Rattle.add.specs.Offered.{Offers.{offeredAs, offerGood}, Puts.{Placed, Puts, Ended, lengthsEnd, cornersFor}}
-use Rattle.add.specs.Joining.Joins.{valuesEnd, valueLengths, valueTexts, Settles, Joining, Joins}
+use Rattle.add.specs.{Offered.Offers.{offeredAs, offerGood}, inner.Offered.Puts.{Placed, Puts, Ended, lengthsEnd, cornersFor}}
+use Rattle.add.specs.inner.Joining.Joins.{valuesEnd, valueLengths, valueTexts, Settles, Joining, Joins}
 
 -- ---- what the checks of an add say
 pub record Fine (yards names : ℕ) (o : Offered) : Type 0 where
@@ -185,9 +186,9 @@ module _ (b : Builder) (held : Held) (lats lons : List ℤ) (pieces sizes texts 
         unfolding Answers measuredAs
         joins-into next is space long = go fits refl (sym is ∙ measured-here)
           where
-            go : (t : Bool) → fits ≡ t → C.Into next ≡ (if t then C.Into (grown held (held .strings + length values) (totalsOf all)) else C.Refused (plain 28)) → Answers (fitting space (summed all (b .room))) before after (C.Into next)
+            go : (t : Bool) → fits ≡ t → C.Into next ≡ (if t then C.Into (heldWith held (held .strings + length values) (totalsOf all)) else C.Refused (plain 28)) → Answers (fitting space (summed all (b .room))) before after (C.Into next)
             go true t e =
-                let same : next ≡ grown held (held .strings + length values) (totalsOf all) = cc in (
+                let same : next ≡ heldWith held (held .strings + length values) (totalsOf all) = cc in (
                   summed all (b .room),
                   (
                     fitting-is space long ∙ ap (λ (x : Bool). demand x (plain 28) >> given (summed all (b .room))) t,
@@ -215,7 +216,7 @@ module _ (b : Builder) (held : Held) (lats lons : List ℤ) (pieces sizes texts 
         unfolding Answers measuredAs
         joins-not why is again ended space long = go fits refl (sym is ∙ measured-here)
           where
-            go : (t : Bool) → fits ≡ t → C.Refused why ≡ (if t then C.Into (grown held (held .strings + length values) (totalsOf all)) else C.Refused (plain 28)) → Answers (fitting space (summed all (b .room))) before again (C.Refused why)
+            go : (t : Bool) → fits ≡ t → C.Refused why ≡ (if t then C.Into (heldWith held (held .strings + length values) (totalsOf all)) else C.Refused (plain 28)) → Answers (fitting space (summed all (b .room))) before again (C.Refused why)
             go true t e = let z : _≡_ {A = ℕ} 0 1 = cc in absurd (omega arith)
             go false t e =
                 let same : why ≡ plain 28 = cc in

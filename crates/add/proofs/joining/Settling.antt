@@ -4,22 +4,22 @@ use denote.Enum.Declared.{tagOf, declared}
 use lib.{IntN.{ℤ}, ListN.{length, take, drop, length-drop, length-take}}
 use mathlib.Core.{Bool.{true}, List.{List, [], _∷_, _++_, map}, Path.{_≡_, refl, sym, ap, subst, _∙_}}
 use native.Mathlib.{Nat.{mul-comm}, Omega.{arith}}
-use Rattle.add.specs.Afresh.Afresh.{Lying}
-use Rattle.add.specs.Afresh.Afresh as Afresh
+use Rattle.add.specs.inner.Afresh.Afresh.{Lying}
+use Rattle.add.specs.inner.Afresh.Afresh as Afresh
 use Rattle.build.specs.{Room.{enough, workOf}, declared.room.Work.{Work}}
 use Rattle.builder.proofs.Counting.{lengths-room}
 use Rattle.builder.specs.{Borders.{Drawn}, Yards.{Yard, sumOf}}
-use Rattle.add.specs.{Growing.{Joins.{Growing, Grew, Renoted, measuredAs}, Notes.{Notes, NotedBy, NotesRoom}}, declared.growing.grow.Added.{Added}}
+use Rattle.add.specs.{inner.Growing.Joins.{Growing, Grew, measuredAs}, Growing.{Joins.{Renoted}, Notes.{Notes, NotedBy, NotesRoom}}, declared.growing.grow.Added.{Added}}
 use Rattle.draft.specs.{Held.{State.{Idle, Lists}, Totals.{totalsFor}}, declared.held.state.{Held.{Held}, Changed.{Changed}}}
 use Rattle.draft.specs.declared.held.state.Changed.the-variants as C
 use Rattle.numbers.specs.{Lists.{zeros}, declared.refusal.Refusal.{Refusal}}
-use Rattle.add.specs.Offered.Puts.{Placed}
-use Rattle.draft.specs.Summed.Sums.{Summing}
-use Rattle.add.specs.{Surely.Sure.{Joinable, SurelyAs}, declared.surely.sure.Surely.{Surely}}
+use Rattle.add.specs.inner.Offered.Puts.{Placed}
+use Rattle.draft.specs.inner.Summed.Sums.{Summing}
+use Rattle.add.specs.{inner.Surely.Sure.{Joinable, SurelyAs}, declared.surely.sure.Surely.{Surely}}
 use Rattle.add.proofs.surely.sure.Surely as K
-use Rattle.add.specs.Surely.Sure as Sure
+use Rattle.add.specs.inner.Surely.Sure as Sure
 use Rattle.add.specs.declared.surely.sure.Surely.the-variants as S
-use Rattle.add.specs.Joining.Joins.{Measuring, Settles, Rests, idle, valuesEnd, valueLengths, valueTexts}
+use Rattle.add.specs.{inner.Joining.Joins.{Measuring, Settles, valuesEnd, valueLengths, valueTexts}, Joining.Joins.{Rests, idle}}
 
 -- ---- the third answer of a sure step
 pub unsure-tag : (s : Surely) → tagOf (declared K.enum) s ≡ 2 → s ≡ S.Unsure

@@ -4,11 +4,11 @@ use borrow.Author.Tests.{leb-true, le-ltb, lt-ltb, eq-eqb, ne-eqb, not-false, no
 use lib.{Dec.{leb, ltb, eqb}, IntN.{ℤ}, ListN.{length, take, length-append}}
 use mathlib.Core.{Bool.{Bool, true, false, not, _&&_}, List.{List, [], _++_}, Path.{_≡_, refl, sym, ap, subst, _∙_}}
 use native.Mathlib.Omega.{arith}
-use Rattle.build.proofs.Planned.{both}
+use Rattle.numbers.proofs.Tests.{both}
 use Rattle.writer.specs.{Pieces.{piecesOf}, Writer.{sized, checks, borderOf}, declared.write.Piece.{Piece}}
 use Rattle.builder.specs.{Borders.{appended, passed, Draws, Lends}, File.{areTexts, upTo}, declared.borders.Border.{Border}}
 use Rattle.builder.specs.declared.borders.Border.the-variants as B
-use Rattle.builder.{proofs.drawing.{Lending.{border-size, demanded, never-given}, Parted.{pieces-many}}, specs.Drawing.Section.{LentFor}}
+use Rattle.builder.{proofs.drawing.{Lending.{border-size, demanded, never-given}, Parted.{pieces-many}}, specs.inner.Drawing.Section.{LentFor}}
 use Rattle.draft.specs.{Held.Builder.{Offered}, declared.held.state.Held.{Held}}
 use Rattle.numbers.specs.{Reply.{Reply, given, refused, plain, demand, _>>_}, declared.refusal.Refusal.{Refusal}}
 use Rattle.add.specs.Offered.Offers.{offeredAs, offerGood, borderBehind, dataWith, Offers}

@@ -4,7 +4,7 @@ use lib.{IntN.{ℤ, pos}, ListN.{length, take, drop, replicate, length-drop, len
 use mathlib.Core.{List.{List, [], _∷_, _++_, append-nil, append-assoc}, Path.{_≡_, refl, sym, ap, subst, _∙_}}
 use native.Mathlib.Omega.{arith}
 use Rattle.builder.specs.{Entries.{boxOf}, declared.boxes.Bounds.{Bounds}}
-use Rattle.add.specs.Offered.Puts.{cornersFor, endedAt}
+use Rattle.add.specs.inner.Offered.Puts.{cornersFor, endedAt}
 
 pub corners-put : (bounds : Bounds) (lats lons : List ℤ) → bounds ≡ boxOf lats lons → (boxes after : List ℤ) (at : ℕ) → after ≡ sets boxes at (bounds .south ∷ bounds .west ∷ bounds .north ∷ bounds .east ∷ []) → after ≡ sets boxes at (cornersFor lats lons)
 corners-put bounds lats lons is boxes after at e = e ∙ ap (λ (b : Bounds). sets boxes at (b .south ∷ b .west ∷ b .north ∷ b .east ∷ [])) is

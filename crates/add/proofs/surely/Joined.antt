@@ -5,13 +5,13 @@ use mathlib.Core.{List.{List, [], _∷_, _++_}, Path.{_≡_, refl, sym, ap, subs
 use native.Mathlib.Omega.{arith}
 use Rattle.builder.specs.{Borders.{Drawn}, Yards.{Yard}}
 use Rattle.builder.specs.Grouping.Items.{startsFrom}
-use Rattle.add.specs.Growing.{Joins.{Growing, measuredAs}, Notes.{Noted, NotedBy, notesAs}}
+use Rattle.add.specs.{inner.Growing.Joins.{Growing, measuredAs}, Growing.Notes.{Noted, NotedBy, notesAs}}
 use Rattle.draft.specs.{Held.Totals.{Totals, totalsFor}, declared.held.state.Held.{Held}}
-use Rattle.notes.specs.Noted.Noting.{NotesOne}
+use Rattle.notes.specs.inner.Noted.Noting.{NotesOne}
 use Rattle.numbers.specs.declared.refusal.Refusal.{Refusal}
-use Rattle.notes.specs.{Quick.Steps.{Grown, Steps}, declared.quick.step.{Stepped.{Stepped}, Sureness.{Sureness}}}
+use Rattle.notes.specs.{inner.Quick.Steps.{Grown, Steps}, declared.quick.step.{Stepped.{Stepped}, Sureness.{Sureness}}}
 use Rattle.add.proofs.surely.Marked.{unmarked, stepping, noted-more}
-use Rattle.add.specs.{Surely.Sure.{Growths, Joinable, Joins, SureRoom, SurelyAs, Weighing, endedAt, totalsBy}, declared.surely.sure.{Growth.{Growth}, Next.{Next}}}
+use Rattle.add.specs.{inner.Surely.Sure.{Growths, Joinable, Joins, SureRoom, SurelyAs, Weighing, endedAt, totalsBy}, declared.surely.sure.{Growth.{Growth}, Next.{Next}}}
 use Rattle.add.specs.declared.surely.sure.Growth.the-variants as G
 use Rattle.add.specs.declared.surely.sure.Surely.the-variants as S
 

@@ -6,13 +6,13 @@ use native.Mathlib.{Nat.{mul-comm}, Omega.{arith}}
 use Rattle.builder.specs.{Borders.{Drawn}, Metadata.{fieldsOf}, Yards.{Text, Yard, sumOf}}
 use Rattle.notes.specs.Chains.Entered.{Indexed}
 use Rattle.builder.specs.Grouping.Items.{startsFrom}
-use Rattle.add.specs.Growing.{Joins.{Growing}, Notes.{Noted, notesAs, valuesIn}}
+use Rattle.add.specs.{inner.Growing.Joins.{Growing}, Growing.Notes.{Noted, notesAs, valuesIn}}
 use Rattle.draft.{proofs.held.{Everyone.{every-take}, Fronts.{front-take, front-put, front-back}, Standing.{fields-many}}, specs.{Held.State.{Front}, declared.held.state.Held.{Held}}}
 use Rattle.build.{proofs.metadata.Shared.{map-more, flat-more, fields-more, fields-one}, specs.Metadata.Kept.{joined}}
-use Rattle.notes.{proofs.noted.{Growing.{indexed-more}, Noting.{yard-next}}, specs.Noted.{Records.{beginIn}, Noting.{NotesOne}}}
-use Rattle.notes.specs.{Quick.Steps.{Stepping, Grown}, declared.quick.step.Stepped.{Stepped}}
+use Rattle.notes.{proofs.noted.{Growing.{indexed-more}, Noting.{yard-next}}, specs.{Noted.Records.{beginIn}, inner.Noted.Noting.{NotesOne}}}
+use Rattle.notes.specs.{inner.Quick.Steps.{Stepping, Grown}, declared.quick.step.Stepped.{Stepped}}
 use Rattle.build.proofs.recording.Fewer.{joined-sum}
-use Rattle.add.specs.Surely.Sure.{endedAt, numbersOf}
+use Rattle.add.specs.inner.Surely.Sure.{endedAt, numbersOf}
 
 -- ---- where parts begin, with more behind
 starts-many : (at : ℕ) (ns : List ℕ) → length (startsFrom at ns) ≡ suc (length ns)

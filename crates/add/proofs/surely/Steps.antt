@@ -4,13 +4,13 @@ use lib.{IntN.{ℤ}, ListN.{length, take}, Seq.{length-take-le}}
 use mathlib.Core.{List.{List}, Path.{_≡_, refl, sym, ap, subst, _∙_}}
 use native.Mathlib.Omega.{arith}
 use Rattle.builder.specs.{Borders.{Drawn}, Yards.{Yard}}
-use Rattle.add.specs.Growing.Joins.{measuredAs, totalsWith}
+use Rattle.add.specs.inner.Growing.Joins.{measuredAs, totalsWith}
 use Rattle.draft.specs.declared.held.state.{Held.{Held}, Changed.{Changed}}
 use Rattle.draft.specs.declared.held.state.Changed.the-variants as C
 use Rattle.numbers.specs.declared.refusal.Refusal.{Refusal}
-use Rattle.notes.specs.{Quick.Steps.{Room, Stepping, Steps}, declared.quick.step.{Stepped.{Stepped}, Sureness.{Sureness}}}
+use Rattle.notes.specs.{inner.Quick.Steps.{Room, Stepping, Steps}, declared.quick.step.{Stepped.{Stepped}, Sureness.{Sureness}}}
 use Rattle.notes.specs.declared.quick.step.Sureness.the-variants as Q
-use Rattle.add.specs.Surely.Sure.{Growths, SureRoom, Weighing, totalsBy}
+use Rattle.add.specs.inner.Surely.Sure.{Growths, SureRoom, Weighing, totalsBy}
 use Rattle.add.specs.declared.surely.sure.Growth.the-variants as G
 
 -- ---- the marks that are lent

@@ -2,7 +2,7 @@
 ghost use mathlib.Core.{List.{_++_}, Path.{_≡_}};
 ghost use Prim.Native.Nat.{_+_, _≤_, min};
 ghost use lib.ListN.{length, drop};
-ghost use Rattle.builder.specs.Drawing.Section.{LentFor};
+ghost use Rattle.builder.specs.inner.Drawing.Section.{LentFor};
 ghost use Rattle.add.specs.Growing.Notes.{notesAs};
 ghost use Rattle.draft.specs.Held.{Space.{roomsOf}, State.{listsAs}};
 ghost use Rattle.add.specs.Joining.Joins.{Rests};

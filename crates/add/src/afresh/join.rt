@@ -2,8 +2,8 @@
 ghost use Prim.Native.Nat.{_+_};
 ghost use lib.ListN.{length};
 ghost use Rattle.build.specs.Room.{workOf};
-ghost use Rattle.add.specs.Growing.{Joins.{Grew}, Notes.{notesAs, NotesRoom}};
-ghost use Rattle.add.specs.Afresh.Afresh.{Measuring, Lying};
+ghost use Rattle.add.specs.{inner.Growing.Joins.{Grew}, Growing.Notes.{notesAs, NotesRoom}};
+ghost use Rattle.add.specs.inner.Afresh.Afresh.{Measuring, Lying};
 use crate::afresh::measure::measure;
 use crate::afresh::note::note_afresh;
 use crate::growing::grow::Added;

@@ -2,7 +2,7 @@
 ghost use Prim.Native.Nat.{_+_};
 ghost use lib.ListN.{length};
 ghost use Rattle.build.specs.Room.{workOf};
-ghost use Rattle.add.specs.Afresh.Afresh.{Measuring, Measures, Lying};
+ghost use Rattle.add.specs.inner.Afresh.Afresh.{Measuring, Measures, Lying};
 use crate::growing::grow::grow;
 use crate::growing::grow::no_room;
 use draft::held::state::Changed;

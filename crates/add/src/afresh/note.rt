@@ -3,7 +3,7 @@ ghost use mathlib.Core.List.{List};
 ghost use lib.ListN.{length};
 ghost use Rattle.builder.specs.Yards.{Yard};
 ghost use Rattle.add.specs.Growing.Notes.{notesAs, NotedLists};
-ghost use Rattle.add.specs.Afresh.Afresh.{Notable, Values};
+ghost use Rattle.add.specs.inner.Afresh.Afresh.{Notable, Values};
 use builder::grouping::items::mark_starts;
 use draft::summed::sums::is_sum;
 use header::zero::zero_words;

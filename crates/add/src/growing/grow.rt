@@ -1,7 +1,7 @@
 // What a builder becomes with a yard more.
 ghost use mathlib.Core.Path.{_≡_};
 ghost use Rattle.numbers.specs.Reply.{plain};
-ghost use Rattle.add.specs.Growing.Joins.{Grows, measuredAs, totalsWith};
+ghost use Rattle.add.specs.inner.Growing.Joins.{Grows, measuredAs, totalsWith};
 use builder::borders::OUTPUT_FULL;
 use draft::held::state::Changed;
 use draft::held::state::Held;

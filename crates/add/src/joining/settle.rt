@@ -2,7 +2,7 @@
 ghost use lib.ListN.{length};
 ghost use Rattle.build.specs.Room.{workOf};
 ghost use Rattle.add.specs.Growing.Notes.{notesAs};
-ghost use Rattle.add.specs.Joining.Joins.{Measuring, Settles, Rests};
+ghost use Rattle.add.specs.{inner.Joining.Joins.{Measuring, Settles}, Joining.Joins.{Rests}};
 use crate::afresh::join::join_afresh;
 use crate::growing::grow::Added;
 use crate::surely::sure::Surely;

@@ -3,7 +3,7 @@ ghost use mathlib.Core.{Path.{_≡_}, List.{List}};
 ghost use Prim.Native.Nat.{ℕ, _≤_, min};
 ghost use lib.ListN.{length, take};
 ghost use Rattle.builder.specs.{Borders.{Draws}, File.{upTo}};
-ghost use Rattle.builder.specs.Drawing.Section.{LentFor};
+ghost use Rattle.builder.specs.inner.Drawing.Section.{LentFor};
 ghost use Rattle.add.specs.Offered.Offers.{borderBehind, offeredAs, Offers};
 use crate::offered::checks::check_offer;
 use build::room::data_room;

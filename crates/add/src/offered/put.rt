@@ -1,7 +1,7 @@
 // A yard into the lists of a builder, behind what it holds, and out of them again.
 ghost use lib.ListN.{length};
 ghost use Rattle.draft.specs.Held.State.{listsAs};
-ghost use Rattle.add.specs.Offered.Puts.{Placed, Puts, Ended};
+ghost use Rattle.add.specs.inner.Offered.Puts.{Placed, Puts, Ended};
 use build::entries::corners::put_corners;
 use build::metadata::kept::put_words;
 use build::zero::zero_numbers;

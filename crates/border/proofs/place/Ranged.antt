@@ -4,7 +4,8 @@ use lib.{Dec.{ltb}, IntN.{ℤ, pos, negℤ, _-ℤ_, +ℤ-idl}, Signed.{mag}}
 use mathlib.Core.{Bool.{Bool, true, false}, Path.{_≡_, sym, _∙_}}
 use mir.{Facts.{toZ-ofZ}, Syntax.{w32, w64}, Val.{SFits, toZ, ofZ}}
 use Rattle.numbers.specs.Answer.{Answer, refused, _>>=_, checked}
-use Rattle.border.proofs.place.Whole.{widened, negation-fits}
+use Rattle.numbers.proofs.write.Gaps.{widened}
+use Rattle.border.proofs.place.Whole.{negation-fits}
 
 module _ {A : Type 0} (z : ℤ) {t : Bool} (e : t ≡ ltb (mag z) (2 ^ 31)) (next : ℤ → Answer A) where
   pub within : t ≡ true → next z ≡ (checked 31 z >>= next)

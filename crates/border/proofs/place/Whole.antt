@@ -1,18 +1,11 @@
 -- Whole numbers of an i32 and an i64: ranges, tests and the way from one to the other. Assumes nothing.
 use Prim.Native.Nat.{ℕ, zero, suc, _+_, _-_, _<_, _≤_, _^_}
 use native.Mathlib.{Nat.{lt-of-le-of-lt}, Omega.{arith}}
-use mathlib.Core.{Path.{_≡_, refl, ap, _∙_}, Bool.{Bool, true, false, cond}}
+use mathlib.Core.{Path.{_≡_, refl}, Bool.{Bool, true, false, cond}}
 use lib.{Dec.{ltb, eqb}, IntN.{ℤ, pos, negsuc, negℤ, _+ℤ_, _-ℤ_}, Signed.{mag}}
-use mir.{Syntax.{w32, w64}, Val.{SFits, toZ, ofZ}, Facts.{toZ-ofZ, sfits-widen}}
+use mir.{Syntax.{w32, w64}, Val.{SFits, ofZ}}
 use borrow.Author.Tests.{ne-eqb}
 use Rattle.border.specs.Place.{isZero}
-
--- an i32 that is read as an i64
-pub widened : {z : ℤ} → SFits w32 z → toZ w64 (ofZ w64 (toZ w32 (ofZ w32 z))) ≡ z
-widened h = ap (λ (x : ℤ). toZ w64 (ofZ w64 x)) (toZ-ofZ h) ∙ toZ-ofZ (sfits-widen tt h)
-
-pub widens : {z : ℤ} → SFits w32 z → SFits w64 (toZ w32 (ofZ w32 z))
-widens h = rw (toZ-ofZ h) (sfits-widen tt h)
 
 mag-cond : (t : Bool) (a b : ℕ) (m : ℕ) → a ≤ m → b ≤ m → mag (cond t (negsuc a) (pos b)) ≤ m
 mag-cond true a b m h k = h

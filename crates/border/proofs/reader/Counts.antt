@@ -2,7 +2,7 @@
 use mathlib.Core.{Path.{_≡_, refl}, Bool.{Bool, true, false}}
 use lib.Dec.{eqb}
 use Rattle.numbers.specs.{Answer.{Answer, found, failed, refused, if_then_else_, _>>=_}, Varint.{Numeral}}
-use Rattle.border.specs.{Reader.{Turn, Reading, onward, plainPair, plainTurn}, Told.{counted}, declared.reader.{Reader.{Reader}, Run.the-variants.{Idle}}}
+use Rattle.border.specs.{Reader.{Turn, Reading, onward, plainPair, plainTurn}, inner.Told.{counted}, declared.reader.{Reader.{Reader}, Run.the-variants.{Idle}}}
 
 module _ (k : Numeral → Answer Turn) where
   chosen : (t : Bool) (n : Numeral) → ((if t then failed else found n) >>= k) ≡ (if t then failed else k n)

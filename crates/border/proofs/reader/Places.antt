@@ -1,11 +1,12 @@
 -- Places of references: sums modulo 2 ^ 32, and the i64 that a start and a length must stay in. Assumes nothing.
 use Prim.Native.Nat.{ℕ, zero, suc, _+_, _-_, _<_, _≤_, _%_, _^_}
 use native.Mathlib.{Nat.{mod-eq-of-lt}, Omega.{arith}}
-use mathlib.Core.{Path.{_≡_, refl, sym, ap, _∙_, subst}, Bool.{Bool, true, false, cond}}
-use lib.{Dec.{T, ltb}, IntN.{ℤ, pos, negsuc, _+ℤ_, _-ℤ_}, Signed.{mag, ltZ}}
+use mathlib.Core.{Path.{_≡_, refl, sym, ap, _∙_}, Bool.{Bool, true, false, cond}}
+use lib.{Dec.{ltb}, IntN.{ℤ, pos, negsuc, _+ℤ_, _-ℤ_}, Signed.{mag, ltZ}}
 use borrow.Author.Tests.{ltb-true, ltb-false, lt-ltb, le-ltb}
 use Rattle.numbers.specs.{Answer.{found, refused, if_then_else_, checked}, Point.{low32}}
 use Rattle.border.specs.{Reader.{dataPlace, asI64, opened}, declared.reader.Run.the-variants.{Idle, Forward, Backward}}
+use Rattle.numbers.proofs.Tests.{differ}
 
 -- ---- modulo 2 ^ 32
 
@@ -110,9 +111,6 @@ unfolding opened
 none-opened base start = refl
 
 -- ---- the sign of a length
-
-differ : {A : Type 0} → false ≡ true → A
-differ e = absurd (subst T (sym e) tt)
 
 module _ (z : ℤ) where
   pub below : ltZ z (pos 0) ≡ true → negsuc (mag z) ≡ z

@@ -3,7 +3,7 @@ use mathlib.Core.{Path.{_≡_, refl}, List.{[], _∷_}}
 use types.Run.{OneOf, miss}
 use denote.Enum.Declared.{tagOf}
 use Rattle.numbers.specs.Answer.{Answer, _>>=_}
-use Rattle.border.specs.{Told.{toldTurn, settledBy}, Trace.{Given, roundAgain}}
+use Rattle.border.specs.{inner.Told.{toldTurn, settledBy}, Trace.{Given, roundAgain}}
 use Rattle.border.specs.declared.reader.{Reader.{Reader}, Turn.{Turn, the-variants.{Gives, Again, Ended, Failed, Refused}}}
 use Rattle.border.proofs.reader.Turn.{the-type}
 

@@ -7,7 +7,7 @@ use native.Mathlib.Omega.{arith}
 use Rattle.writer.specs.Pieces.{piecesOf}
 use Rattle.builder.{proofs.Counting.{yards-many}, specs.{Entries.{wordOfYard}, Yards.{Text, Yard, yardsFrom, partOf}}}
 use Rattle.builder.{proofs.grouping.Listed.{numbers-many}, specs.Grouping.Keys.{numbersFrom}}
-use Rattle.layout.specs.{Answers.{Sorted}, Order.{keyOf, sortedBy}}
+use Rattle.layout.specs.{inner.Answers.{Sorted}, Order.{keyOf, sortedBy}}
 use Rattle.numbers.specs.Answer.{if_then_else_}
 use Rattle.build.specs.Entries.Corners.{cornersOf, InOrder}
 

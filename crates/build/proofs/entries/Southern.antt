@@ -5,7 +5,7 @@ use lib.{Dec.{T, ltb}, IntN.{ℤ, pos, negsuc, natAbs, _+ℤ_}, ListN.{getD}, Si
 use mathlib.Core.{Bool.{Bool, true, false, cond}, List.{List}, Path.{_≡_, refl, sym, ap, subst, _∙_}}
 use mir.{Facts.{toZ-ofZ}, Syntax.{w32, w64}, Val.{SFits, toZ, ofZ}}
 use native.Mathlib.Omega.{arith}
-use Rattle.border.proofs.place.Whole.{widened}
+use Rattle.numbers.proofs.write.Gaps.{widened}
 use Rattle.builder.specs.Entries.{fromSouth, boundsAt, wordOfYard}
 
 -- the sum of the code

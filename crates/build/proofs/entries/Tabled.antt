@@ -6,7 +6,7 @@ use native.Mathlib.Omega.{arith}
 use Rattle.builder.proofs.Ordered.{table-is}
 use Rattle.builder.specs.{Borders.{Drawn, withBorder, drawnFrom}, Entries.{Entry, boxOf, boundsAt, placesAt, entryAt, entryOfWord, wordOfYard, tableFrom, tableOf}, File.{entryOf}}
 use Rattle.builder.specs.{Metadata.{recordsOf, startOf}, Sharing.{sameTexts, firsts}, Yards.{Text, Yard, yardsFrom}, declared.boxes.Bounds.{Bounds}}
-use Rattle.builder.specs.Drawing.Section.{spread}
+use Rattle.builder.specs.inner.Drawing.Section.{spread}
 use Rattle.builder.specs.Grouping.{Items.{startsFrom, itemAt}, Keys.{numbersFrom}}
 use Rattle.layout.specs.Order.{keyOf, sortedBy}
 use Rattle.build.proofs.metadata.Begun.{spread-at}

@@ -6,13 +6,13 @@ use native.Mathlib.{Nat.{suc-mul}, Numerals.{add-one}, Omega.{arith}}
 use Rattle.builder.proofs.Inlines.{word-few}
 use Rattle.builder.specs.{Metadata.{fieldsOf, written, layoutOf, startOf, joinedFrom, fieldBytes}, Sharing.{sameTexts, isIn, firstsAfter, sizeBefore, goodOnes}}
 use Rattle.builder.specs.Yards.{Text, cutBy, sumOf}
-use Rattle.builder.{proofs.drawing.Sections.{spread-more}, specs.Drawing.Section.{spread}}
+use Rattle.builder.{proofs.drawing.Sections.{spread-more}, specs.inner.Drawing.Section.{spread}}
 use Rattle.builder.proofs.grouping.{Keyed.{texts-equal}, Listed.{numbers-many}, Meant.{First, first-means, starts-inside, texts-itself}, Walks.{item-among, fewer-inside}}
 use Rattle.builder.specs.Grouping.{Items.{startsFrom, itemAt, Inside}, Keys.{numbersFrom, alike, firstOf}}
 use Rattle.build.proofs.metadata.Begun.{cut-join, field-written, record-written, numbers-split, spread-behind, spread-at, values-on, fields-new, fields-old, fields-there, fields-part}
 use Rattle.build.proofs.metadata.{Itemed.{map-take, map-drop, item-lengths, item-bytes, starts-climb}, Keeping.{starts-within}}
 use Rattle.build.proofs.metadata.{Offsets.{total, used, new-place, total-old, total-new}, Shared.{numbers-more, map-more, in-none, in-some}}
-use Rattle.build.specs.Metadata.{Kept.{valuesTo, fieldsTo, joined, beginOf, Ready}, Words.{wordIn}}
+use Rattle.build.specs.{Metadata.Kept.{valuesTo, fieldsTo, joined, beginOf, Ready}, inner.Metadata.Words.{wordIn}}
 
 -- the bytes of a record, if all have these fields
 abbrev sizeIn : List Text → List Text → ℕ

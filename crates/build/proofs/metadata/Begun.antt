@@ -7,11 +7,11 @@ use mathlib.Core.{Bool.{Bool, true, false}, List.{List, [], _∷_, _++_, map, fl
 use native.Mathlib.{Numerals.{add-one}, Omega.{arith}}
 use Rattle.builder.specs.Metadata.{inlined, fieldsOf, isRemote, offsetOf, written, layoutOf, startOf, joinedFrom, wordBytes, fieldBytes}
 use Rattle.builder.specs.{Sharing.{sameTexts, isIn, firstsAfter, sizeBefore, goodOnes}, Yards.{Text, cutBy, sumOf}}
-use Rattle.builder.specs.Drawing.Section.{spread}
+use Rattle.builder.specs.inner.Drawing.Section.{spread}
 use Rattle.builder.{proofs.grouping.{Keyed.{texts-equal}, Listed.{numbers-many}, Meant.{texts-itself}}, specs.Grouping.{Items.{startsFrom, itemAt}, Keys.{numbersFrom}}}
 use Rattle.build.proofs.metadata.Offsets.{total, used, new-place, total-old, total-new}
 use Rattle.build.proofs.metadata.Shared.{numbers-more, map-more, flat-more, fields-more, fields-one, firsts-new, firsts-old}
-use Rattle.build.specs.Metadata.{Kept.{valuesTo, fieldsTo, joined}, Words.{wordIn}}
+use Rattle.build.specs.{Metadata.Kept.{valuesTo, fieldsTo, joined}, inner.Metadata.Words.{wordIn}}
 use Rattle.numbers.specs.{Answer.{if_then_else_}, Spelling.{varintOf}}
 
 -- ---- texts cut from their own bytes

@@ -3,9 +3,9 @@ use Prim.Native.Nat.{ℕ, zero, suc, _+_, _-_, _*_, _^_, _≤_, _<_}
 use lib.ListN.{length, take, drop, getD, set, length-map, length-set, length-take, length-drop}
 use mathlib.Core.{Bool.{Bool, true, false}, List.{List, [], _∷_, _++_, map, flatMap}, Path.{_≡_, refl, sym, ap, subst, _∙_}}
 use native.Mathlib.{Nat.{suc-mul}, Numerals.{add-one}, Omega.{arith}}
-use Rattle.writer.{proofs.Stores.{stored-then}, specs.Stored.{Stored}}
+use Rattle.writer.{proofs.Stores.{stored-then}, specs.inner.Stored.{Stored}}
 use Rattle.builder.specs.{Metadata.{fieldsOf}, Sharing.{isIn, firstsAfter, sameTexts}, Yards.{Text, sumOf}}
-use Rattle.builder.{proofs.drawing.Sections.{spread-more}, specs.Drawing.Section.{spread}}
+use Rattle.builder.{proofs.drawing.Sections.{spread-more}, specs.inner.Drawing.Section.{spread}}
 use Rattle.builder.proofs.grouping.{Keyed.{texts-equal}, Listed.{numbers-many}, Meant.{First, first-means, starts-inside}, Walks.{item-among, fewer-inside}}
 use Rattle.builder.specs.Grouping.{Items.{startsFrom, itemAt, Inside}, Keys.{numbersFrom, alike, firstOf}}
 use Rattle.build.proofs.metadata.Itemed.{item-lengths, item-bytes, starts-climb, starts-most}

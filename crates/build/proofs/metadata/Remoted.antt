@@ -3,13 +3,13 @@ use Prim.Native.Nat.{ℕ, zero, suc, _+_, _-_, _*_, _^_, _≤_, _<_}
 use lib.{ListN.{length, take, drop, getD, length-append, length-take}, Seq.{take-suc, getD-take, drop-cons, drop-drop, drop-length, length-take-le, take-all}}
 use mathlib.Core.{Bool.{Bool, true, false}, List.{List, [], _∷_, _++_, map, flatMap, append-nil}, Path.{_≡_, refl, sym, ap, subst, _∙_}}
 use native.Mathlib.{Numerals.{add-one}, Omega.{arith}}
-use Rattle.writer.{proofs.Stores.{stored-then}, specs.Stored.{Stored}}
+use Rattle.writer.{proofs.Stores.{stored-then}, specs.inner.Stored.{Stored}}
 use Rattle.builder.proofs.Inlines.{inlined-few}
 use Rattle.builder.specs.{Metadata.{inlined, isRemote, remotes, offsetOf}, Sharing.{sameText, isIn, firstsAfter, goodOnes}, Yards.{Text, cutBy, sumOf}}
 use Rattle.builder.proofs.grouping.{Keyed.{text-equal}, Meant.{text-itself}}
 use Rattle.build.proofs.metadata.{Offsets.{used-plain, used-again, used-first}, Shared.{flat-more}}
 use Rattle.build.proofs.metadata.Worded.{at-map, many, plain-word, far-word, offset-new, offset-old, some-size}
-use Rattle.build.specs.Metadata.Words.{wordIn, remoteIn}
+use Rattle.build.specs.inner.Metadata.Words.{wordIn, remoteIn}
 
 one : (t : Text) → flatMap inlined (t ∷ []) ≡ inlined t
 unfolding flatMap

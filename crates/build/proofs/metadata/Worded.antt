@@ -13,7 +13,7 @@ use Rattle.builder.specs.Grouping.{Items.{startsFrom, textAt, itemAt, Inside}, 
 use Rattle.layout.proofs.Sizes.{size-least}
 use Rattle.build.proofs.metadata.{Itemed.{cut-lengths}, Offsets.{total, used, new-place, old-place, total-bad, total-old, total-new}}
 use Rattle.build.proofs.metadata.Shared.{numbers-more, map-more, in-none, in-some}
-use Rattle.build.specs.Metadata.Words.{wordIn, inlineIn, remoteIn, Marked, WordsTo, Wording, Added}
+use Rattle.build.specs.inner.Metadata.Words.{wordIn, inlineIn, remoteIn, Marked, WordsTo, Wording, Added}
 use Rattle.numbers.{proofs.Spelling.{varint-few}, specs.{Answer.{if_then_else_}, Spelling.{varintOf}}}
 use Rattle.header.specs.Utf8.{unmasked}
 

@@ -6,9 +6,9 @@ use native.Mathlib.{Nat.{suc-mul}, Omega.{arith}}
 use Rattle.builder.proofs.{Counting.{cut-many}, Inlines.{word-few}, Shortest.{records-size, layout-least}}
 use Rattle.builder.specs.{Metadata.{fieldsOf, written, layoutOf}, Sharing.{isIn, firstsAfter, sameTexts}, Yards.{Text, cutBy, sumOf}}
 use Rattle.builder.{proofs.grouping.{Meant.{item-part}, Walks.{item-among}}, specs.Grouping.{Items.{startsFrom, itemAt}, Keys.{numbersFrom}}}
-use Rattle.layout.specs.Layout.{Fits}
+use Rattle.layout.specs.inner.Layout.{Fits}
 use Rattle.build.proofs.metadata.{Begun.{field-written}, Itemed.{cut-lengths}}
-use Rattle.build.specs.Metadata.{Kept.{valuesTo, fieldsTo, joined}, Words.{wordIn}}
+use Rattle.build.specs.{Metadata.Kept.{valuesTo, fieldsTo, joined}, inner.Metadata.Words.{wordIn}}
 use Rattle.numbers.specs.Answer.{if_then_else_}
 
 -- ---- lists by their numbers

@@ -3,8 +3,8 @@ use Prim.Native.Nat.{ℕ, _+_}
 use lib.ListN.{length}
 use mathlib.Core.{List.{List, [], _∷_, map}, Path.{_≡_, refl, sym, ap, subst, _∙_}}
 use Rattle.builder.{proofs.Shortest.{wordOf, inlineOf, layout-is, layout-least}, specs.{Metadata.{inlined, isRemote, layoutOf}, Yards.{Text}}}
-use Rattle.layout.specs.Layout.{Least}
-use Rattle.build.specs.Metadata.Words.{wordIn, inlineIn}
+use Rattle.layout.specs.inner.Layout.{Least}
+use Rattle.build.specs.inner.Metadata.Words.{wordIn, inlineIn}
 use Rattle.numbers.specs.Answer.{if_then_else_}
 
 inline-same : (fields ts : List Text) → inlineIn fields ts ≡ inlineOf fields ts

@@ -6,15 +6,15 @@ use mathlib.Core.{List.{List, _++_, map}, Path.{_≡_, sym, ap, subst, _∙_}}
 use native.Mathlib.Omega.{arith}
 use Rattle.writer.proofs.Stores.{stored-front, stored-length}
 use Rattle.builder.{proofs.Counting.{cut-many}, specs.{Metadata.{layoutOf}, Yards.{Text, cutBy, sumOf}}}
-use Rattle.builder.specs.Drawing.Section.{spread}
+use Rattle.builder.specs.inner.Drawing.Section.{spread}
 use Rattle.builder.{proofs.grouping.Meant.{starts-inside}, specs.Grouping.{Items.{startsFrom, Inside}, Keys.{numbersFrom, keysOf, firstOf}}}
-use Rattle.layout.specs.{Answers.{LaidOut}, Layout.{Least}, declared.records.Laid.{the-variants.{Records, TooLong}, Laid}}
+use Rattle.layout.specs.{inner.{Answers.{LaidOut}, Layout.{Least}}, declared.records.Laid.{the-variants.{Records, TooLong}, Laid}}
 use Rattle.layout.proofs.records.Laid as K
 use Rattle.build.proofs.metadata.{Begun.{cut-join}, Itemed.{cut-lengths}}
-use Rattle.build.specs.Metadata.{Kept.{fieldsTo, joined, Keeps, beginOf, Ready}, Words.{Marked, Wording}}
+use Rattle.build.specs.{Metadata.Kept.{fieldsTo, joined, Keeps, beginOf, Ready}, inner.Metadata.Words.{Marked, Wording}}
 use Rattle.build.proofs.recording.{Fewer.{fields-few, fields-short, layout-few, joined-sum}, Laying.{layout-found, layout-there}}
 use Rattle.build.proofs.recording.Spreading.{spread-size, spread-again, spread-read, numbered-many}
-use Rattle.build.specs.Recording.Recorded.{Short, Shares, Fields, Fielded, Laying, Recorded}
+use Rattle.build.specs.inner.Recording.Recorded.{Short, Shares, Fields, Fielded, Laying, Recorded}
 
 -- ---- a list of which the front was lent
 pub front-same : (d e : List ℕ) (n whole : ℕ) → length e ≡ length (take n d) → length d ≡ whole → length (e ++ drop n d) ≡ whole

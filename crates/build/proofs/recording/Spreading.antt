@@ -3,7 +3,7 @@ use Prim.Native.Nat.{ℕ, zero, suc, _+_, _*_, _≤_, _<_}
 use lib.{ListN.{length, set, getD, length-set, length-map}, Seq.{set-set, set-comm}}
 use mathlib.Core.{List.{List, [], _∷_, map}, Path.{_≡_, refl, ap, _∙_}}
 use native.Mathlib.Omega.{arith}
-use Rattle.builder.specs.Drawing.Section.{spread}
+use Rattle.builder.specs.inner.Drawing.Section.{spread}
 use Rattle.builder.{proofs.grouping.Listed.{numbers-many}, specs.Grouping.Keys.{numbersFrom}}
 use Rattle.build.proofs.metadata.Begun.{spread-at}
 

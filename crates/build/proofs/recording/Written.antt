@@ -5,11 +5,11 @@ use mathlib.Core.{List.{List, _++_, map, flatMap}, Path.{_≡_, sym, ap, _∙_}}
 use native.Mathlib.Omega.{arith}
 use Rattle.builder.proofs.Shortest.{records-size, layout-least}
 use Rattle.builder.specs.{Metadata.{inlined, remotes, layoutOf, written, metadataOf, joinedFrom, fieldBytes}, Sharing.{firsts, sameTexts}, Yards.{Text, cutBy, sumOf}}
-use Rattle.layout.specs.Layout.{Fits}
+use Rattle.layout.specs.inner.Layout.{Fits}
 use Rattle.build.proofs.metadata.Begun.{cut-join, record-written}
-use Rattle.build.specs.Metadata.{Kept.{valuesTo, fieldsTo}, Words.{wordIn}}
+use Rattle.build.specs.{Metadata.Kept.{valuesTo, fieldsTo}, inner.Metadata.Words.{wordIn}}
 use Rattle.build.proofs.recording.Fewer.{fields-few, fields-short, joined-sum}
-use Rattle.build.specs.Recording.Recorded.{Recorded}
+use Rattle.build.specs.inner.Recording.Recorded.{Recorded}
 
 module _ (names count : ℕ) (lengths texts before kept held words places : List ℕ) (records remote sizes bytes : ℕ) (r : Recorded names count lengths texts before kept held words places records remote sizes bytes) where
   abbrev fields : List Text

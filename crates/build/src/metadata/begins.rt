@@ -3,7 +3,7 @@ ghost use mathlib.Core.{Path.{_≡_}, List.{map}};
 ghost use Prim.Native.Nat.{_+_, _*_, _^_, _≤_, _<_};
 ghost use lib.ListN.{length};
 ghost use Rattle.builder.specs.{Metadata.{fieldBytes, joinedFrom}, Yards.{cutBy, sumOf}};
-ghost use Rattle.builder.specs.Drawing.Section.{spread};
+ghost use Rattle.builder.specs.inner.Drawing.Section.{spread};
 ghost use Rattle.builder.specs.Grouping.Keys.{numbersFrom};
 ghost use Rattle.build.specs.Metadata.Kept.{beginOf, Ready};
 use builder::records::put_records;

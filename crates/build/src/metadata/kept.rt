@@ -2,7 +2,7 @@
 ghost use mathlib.Core.{Path.{_≡_}, List.{[], _∷_}};
 ghost use Prim.Native.Nat.{_+_, _*_, _^_, _≤_, _<_};
 ghost use lib.ListN.{length, set};
-ghost use Rattle.writer.specs.Stored.{Stored};
+ghost use Rattle.writer.specs.inner.Stored.{Stored};
 ghost use Rattle.builder.specs.Yards.{sumOf};
 ghost use Rattle.builder.specs.Grouping.{Items.{startsFrom}, Keys.{keysOf}};
 ghost use Rattle.build.specs.Metadata.Kept.{Keeps};

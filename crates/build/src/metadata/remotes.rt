@@ -2,9 +2,9 @@
 ghost use mathlib.Core.{Path.{_≡_}, List.{map, flatMap}};
 ghost use Prim.Native.Nat.{_+_, _*_, _^_, _≤_, _<_};
 ghost use lib.ListN.{length, take};
-ghost use Rattle.writer.specs.Stored.{Stored};
+ghost use Rattle.writer.specs.inner.Stored.{Stored};
 ghost use Rattle.builder.specs.{Metadata.{inlined, remotes}, Yards.{cutBy, sumOf}};
-ghost use Rattle.build.specs.Metadata.Words.{wordIn};
+ghost use Rattle.build.specs.inner.Metadata.Words.{wordIn};
 use builder::put::put_text;
 
 // A field is the first use of its text if its word says that it begins where the texts so far end.

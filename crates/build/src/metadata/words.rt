@@ -4,7 +4,7 @@ ghost use Prim.Native.Nat.{_+_, _^_, _≤_, _<_};
 ghost use lib.ListN.{length, take, getD};
 ghost use Rattle.builder.specs.Yards.{cutBy};
 ghost use Rattle.numbers.specs.Spelling.{varintOf};
-ghost use Rattle.build.specs.Metadata.Words.{wordIn, remoteIn, Marked, WordsTo, Wording, Added};
+ghost use Rattle.build.specs.inner.Metadata.Words.{wordIn, remoteIn, Marked, WordsTo, Wording, Added};
 use builder::grouping::first::first_of;
 use builder::grouping::first::is_twice;
 use layout::records::size_of_varint;

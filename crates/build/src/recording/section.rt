@@ -1,9 +1,9 @@
 // From the values of all yards to the layout of the metadata section.
 ghost use lib.ListN.{length};
 ghost use Rattle.builder.specs.Yards.{cutBy};
-ghost use Rattle.layout.specs.Layout.{Least};
+ghost use Rattle.layout.specs.inner.Layout.{Least};
 ghost use Rattle.build.specs.Metadata.Kept.{Keeps};
-ghost use Rattle.build.specs.Recording.Recorded.{Short, Shares, Fields, Fielded, Laying, Recorded};
+ghost use Rattle.build.specs.inner.Recording.Recorded.{Short, Shares, Fields, Fielded, Laying, Recorded};
 use crate::metadata::begins::place_records;
 use crate::metadata::kept::Sizes;
 use crate::metadata::kept::keep_records;

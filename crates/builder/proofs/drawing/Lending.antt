@@ -11,7 +11,7 @@ use Rattle.builder.specs.Borders.{Lends}
 use Rattle.numbers.proofs.Spelling.{varint-few}
 use Rattle.numbers.specs.{Answer.{if_then_else_}, Reply.{Reply, given, refused, refusal, plain, demand, _>>=_, _>>_}, Spelling.{varintOf, signedForm}}
 use Rattle.numbers.specs.declared.{refusal.Refusal.{Refusal}, point.RawPoint.{RawPoint}}
-use Rattle.builder.specs.Drawing.Section.{LentFor}
+use Rattle.builder.specs.inner.Drawing.Section.{LentFor}
 
 -- ---- what stands before an answer was passed
 module _ {A : Type 0} where

@@ -9,7 +9,7 @@ use Rattle.builder.proofs.Checking.{part-is}
 use Rattle.builder.specs.{Borders.{appended, Draws}, Yards.{partOf, partEnd, nextPart}, declared.borders.Border.{Border}}
 use Rattle.builder.specs.declared.borders.Border.the-variants as B
 use Rattle.numbers.specs.{Answer.{if_then_else_}, Reply.{Reply, given}}
-use Rattle.builder.specs.Drawing.Section.{yardAppended}
+use Rattle.builder.specs.inner.Drawing.Section.{yardAppended}
 
 first-many : (n : ℕ) (words : List ℕ) → length (firstPieces n words) ≡ n
 unfolding firstPieces

@@ -5,14 +5,14 @@ use lib.{Dec.{ltb, leb}, IntN.{ℤ}, ListN.{length, take, drop, getD, set, lengt
 use lib.Seq.{sets, sets-eq, take-at, append-snoc, length-take-le, length-sets}
 use mathlib.Core.{Bool.{Bool, true, false, not}, List.{List, [], _∷_, _++_, append-nil, append-assoc}, Path.{_≡_, refl, sym, ap, subst, _∙_}}
 use native.Mathlib.Omega.{arith}
-use Rattle.writer.specs.{Pieces.{piecesOf}, Stored.{Stored}, Writer.{borderOf}}
+use Rattle.writer.specs.{Pieces.{piecesOf}, inner.Stored.{Stored}, Writer.{borderOf}}
 use Rattle.builder.proofs.Checking.{four-words, next-is, begins-inside}
 use Rattle.builder.specs.{Borders.{Drawn, appended, withBorder, drawnFrom, drawnOf, Draws}, Yards.{Text, Yard, partOf, nextPart, yardsFrom}}
 use Rattle.builder.specs.declared.borders.Border.{Border}
 use Rattle.builder.specs.declared.borders.Border.the-variants as B
 use Rattle.numbers.specs.{Answer.{if_then_else_}, Reply.{Reply, given, refused, refusal, plain, demand, _>>=_, _>>_}, declared.refusal.Refusal.{Refusal}}
 use Rattle.builder.proofs.drawing.Lending.{never-given, past, demanded, given-same}
-use Rattle.builder.specs.Drawing.Section.{yardAppended, spread, Whole, DrawsAll}
+use Rattle.builder.specs.inner.Drawing.Section.{yardAppended, spread, Whole, DrawsAll}
 
 -- ---- an answer, with the places so far before its own
 abbrev carried : List ℕ → Reply Drawn → Reply Drawn

@@ -1,22 +1,19 @@
 -- Words in the order of their hashes: what stands for which item, and that equal items have equal keys. Assumes nothing.
-use Prim.Native.Nat.{ℕ, zero, suc, _+_, _-_, _*_, _/_, _%_, _^_, _≤_, _<_}
+use Prim.Native.Nat.{ℕ, zero, suc, _+_, _*_, _/_, _%_, _^_, _≤_, _<_}
 use borrow.Author.Tests.{eqb-true, le-leb}
-use lib.{Dec.{eqb, ltb}, ListN.{length, set, drop, getD, length-map, List·getD-map}, Seq.{drop-length}}
-use mathlib.Core.{Bool.{Bool, true, false, _&&_}, List.{List, [], _∷_, _++_, map, append-nil}, Path.{_≡_, refl, sym, ap, subst, _∙_}}
-use native.Mathlib.{Numerals.{add-one}, Omega.{arith}}
+use lib.{Dec.{eqb, ltb}, ListN.{length, getD, length-map, List·getD-map}}
+use mathlib.Core.{Bool.{Bool, true, false}, List.{List, [], _∷_, map}, Path.{_≡_, refl, sym, ap, subst, _∙_}}
+use native.Mathlib.Omega.{arith}
 use Rattle.builder.specs.{Sharing.{sameBy, sameText, sameTexts}, Yards.{Text}}
-use Rattle.layout.{proofs.Orders.{sorted-rises, sorted-size, sorted-map}, specs.{Answers.{Sorted}, Order.{keyOf, insertBy, sortedBy, Under, Rising}}}
+use Rattle.layout.{proofs.Orders.{sorted-rises, sorted-map}, specs.{inner.Answers.{Sorted}, Order.{keyOf, insertBy, sortedBy, Rising}}}
 use Rattle.numbers.specs.Answer.{if_then_else_}
 use Rattle.builder.proofs.grouping.Listed.{numbers-many}
 use Rattle.builder.specs.Grouping.{Items.{itemAt, hashTexts, Inside}, Keys.{numbersFrom, itemOf, hashOf, keyWord, alike, keysOf, Members, Sorting}}
+use Rattle.numbers.proofs.Tests.{both}
 
 -- ---- the same is equal
 never : false ≡ true → ⊥
 never e = let z : _≡_ {A = ℕ} 0 1 = cc in omega arith
-
-both : (a b : Bool) → (a && b) ≡ true → (a ≡ true) × (b ≡ true)
-both true b e = (refl, e)
-both false b e = absurd (never e)
 
 same-equal : {A : Type 0} (same : A → A → Bool) → ((x y : A) → same x y ≡ true → x ≡ y) → (xs ys : List A) → sameBy same xs ys ≡ true → xs ≡ ys
 unfolding sameBy

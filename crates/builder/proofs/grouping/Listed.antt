@@ -3,7 +3,7 @@ use Prim.Native.Nat.{ℕ, zero, suc, _+_, _-_, _≤_, _<_}
 use lib.{ListN.{length, set, drop, length-map}, Seq.{drop-length}}
 use mathlib.Core.{List.{List, [], _∷_, _++_, map, append-nil}, Path.{_≡_, refl, ap, subst, _∙_}}
 use native.Mathlib.{Numerals.{add-one}, Omega.{arith}}
-use Rattle.writer.{proofs.Stores.{Left, left-all, left-step, left-none, stored-one, stored-front}, specs.Stored.{Stored}}
+use Rattle.writer.{proofs.Stores.{Left, left-all, left-step, left-none, stored-one, stored-front}, specs.inner.Stored.{Stored}}
 use Rattle.builder.specs.Grouping.Keys.{numbersFrom}
 
 pub numbers-many : (i n : ℕ) → length (numbersFrom i n) ≡ n

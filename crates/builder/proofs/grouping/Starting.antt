@@ -3,7 +3,7 @@ use Prim.Native.Nat.{ℕ, suc, _+_, _-_, _^_, _≤_, _<_}
 use lib.{ListN.{length, set, drop, getD}, Seq.{drop-cons, drop-length}}
 use mathlib.Core.{List.{List, [], _∷_, _++_, append-nil}, Path.{_≡_, refl, sym, ap, subst, _∙_}}
 use native.Mathlib.{Numerals.{add-one}, Omega.{arith}}
-use Rattle.writer.{proofs.Stores.{Left, left-all, left-step, left-none, stored-one, stored-front}, specs.Stored.{Stored}}
+use Rattle.writer.{proofs.Stores.{Left, left-all, left-step, left-none, stored-one, stored-front}, specs.inner.Stored.{Stored}}
 use Rattle.builder.specs.Yards.{sumOf}
 use Rattle.builder.specs.Grouping.Items.{startsFrom}
 

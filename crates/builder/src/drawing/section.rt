@@ -3,7 +3,7 @@ ghost use mathlib.Core.{Path.{_≡_}, List.{[]}};
 ghost use Prim.Native.Nat.{_+_, _≤_, _<_};
 ghost use lib.ListN.{length, set, getD};
 ghost use Rattle.builder.specs.{Borders.{drawnOf}, Yards.{yardsFrom}};
-ghost use Rattle.builder.specs.Drawing.Section.{DrawsAll};
+ghost use Rattle.builder.specs.inner.Drawing.Section.{DrawsAll};
 use crate::borders::Border;
 use crate::drawing::yard::draw_yard;
 use crate::put::put_bytes;

@@ -2,7 +2,7 @@
 ghost use Prim.Native.Nat.{_*_, _≤_, _<_, _^_};
 ghost use lib.ListN.{length, drop};
 ghost use Rattle.builder.specs.Borders.{Draws};
-ghost use Rattle.builder.specs.Drawing.Section.{yardAppended, LentFor};
+ghost use Rattle.builder.specs.inner.Drawing.Section.{yardAppended, LentFor};
 use crate::borders::Border;
 use crate::borders::draw_border;
 use crate::yards::next_part;

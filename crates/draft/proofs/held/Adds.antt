@@ -5,7 +5,7 @@ use lib.{Dec.{ltb, leb, eqb}, ListN.{length}}
 use mathlib.Core.{Bool.{Bool, true, false, _&&_}, List.{List, [], _∷_}, Path.{_≡_, refl, sym, ap, _∙_}}
 use native.Mathlib.Omega.{arith}
 use Rattle.writer.specs.Writer.{checks}
-use Rattle.build.proofs.Planned.{both}
+use Rattle.numbers.proofs.Tests.{both}
 use Rattle.builder.specs.{Borders.{Drawn, withBorder, drawnOf}, File.{areTexts, bordersGood, builtOf, counted, fileOf, headOf, known, readable, upTo}, Yards.{Plan}}
 use Rattle.numbers.{proofs.Replies.{demanded}, specs.Reply.{Reply, given, refused, plain, demand, _>>=_, _>>_}}
 use Rattle.draft.proofs.held.{Kept.{borders-all, joined-data, joined-sound, known-more, looked, readable-more}, Redrawn.{drawnWith, drawn-more, drawn-same, sound-draws}, Sums.{size-is}}

@@ -7,7 +7,7 @@ use native.Mathlib.Omega.{arith}
 use Rattle.builder.proofs.Shortest.{wordOf, inlineOf, records-size, layout-least}
 use Rattle.builder.specs.{Metadata.{fieldsOf, inlined, isRemote, remotes, offsetOf, written, layoutOf, startOf, metadataOf}, Sharing.{sameText, sameTexts, isIn, firstsAfter, goodOnes, sizeBefore}, Yards.{Text}}
 use Rattle.builder.proofs.grouping.{Keyed.{text-equal}, Meant.{text-itself, texts-itself}}
-use Rattle.layout.{proofs.{Everyone.{Every}, Sizes.{size-rises, size-least}}, specs.Layout.{wordSize, wordsSize, next, Fits}}
+use Rattle.layout.{proofs.{Everyone.{Every}, Sizes.{size-rises, size-least}}, specs.inner.Layout.{wordSize, wordsSize, next, Fits}}
 use Rattle.build.proofs.metadata.{Offsets.{total, old-place}, Shared.{fields-more, fields-one, flat-more, map-more}}
 use Rattle.header.specs.Utf8.{unmasked}
 use Rattle.numbers.specs.{Answer.{if_then_else_}, Spelling.{varintOf}}

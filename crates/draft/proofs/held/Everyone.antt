@@ -2,7 +2,7 @@
 use Prim.Native.Nat.{ℕ, zero, suc}
 use lib.ListN.{length, take, set}
 use mathlib.Core.{Bool.{Bool, true, _&&_, and-true}, List.{List, [], _∷_, _++_}, Path.{_≡_, refl, ap, _∙_}}
-use Rattle.build.proofs.Planned.{both}
+use Rattle.numbers.proofs.Tests.{both}
 use Rattle.writer.specs.Writer.{every}
 use Rattle.draft.specs.Held.Builder.{changedAt}
 

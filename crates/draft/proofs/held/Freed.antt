@@ -4,7 +4,7 @@ use borrow.Author.Tests.{eq-eqb, lt-ltb}
 use lib.{Dec.{leb, eqb}, ListN.{length, take}, Seq.{take-at}}
 use mathlib.Core.{Bool.{Bool, true, _&&_}, List.{List, [], _∷_, _++_}, Path.{_≡_, sym, ap, _∙_}}
 use native.Mathlib.Omega.{arith}
-use Rattle.build.proofs.Planned.{both}
+use Rattle.numbers.proofs.Tests.{both}
 use Rattle.builder.specs.{File.{areTexts, fileOf, headOf, isText, upTo}, Yards.{Plan, Yard, cutBy, sumOf}}
 use Rattle.numbers.{proofs.Replies.{met}, specs.Reply.{given, plain, demand, _>>_}}
 use Rattle.writer.specs.Writer.{every}

@@ -4,7 +4,7 @@ use lib.{ListN.{length, take, drop, set, replicate, length-append, length-drop, 
 use mathlib.Core.{List.{List, [], _∷_, _++_, append-assoc, append-nil}, Logic.{_⊎_, inl, inr}, Path.{_≡_, refl, sym, ap, _∙_}}
 use native.Mathlib.Omega.{arith}
 use Rattle.draft.specs.Held.State.{Front}
-use Rattle.writer.specs.Stored.{Stored}
+use Rattle.writer.specs.inner.Stored.{Stored}
 
 module _ {A : Type 0} where
   -- what is stored from a place on leaves what is before it

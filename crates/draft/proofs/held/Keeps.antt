@@ -4,7 +4,7 @@ use borrow.Author.Tests.{ltb-true}
 use lib.{Dec.{ltb, leb}, ListN.{length, take}}
 use mathlib.Core.{Bool.{Bool, true, false, _&&_}, List.{List, [], _∷_}, Path.{_≡_, refl, sym, subst}}
 use native.Mathlib.Omega.{arith}
-use Rattle.build.proofs.Planned.{both}
+use Rattle.numbers.proofs.Tests.{both}
 use Rattle.builder.specs.{Borders.{drawnFrom, drawnOf}, File.{bordersGood, builtOf, headOf, isText, known, readable, upTo}, Yards.{Text, Plan}}
 use Rattle.numbers.{proofs.Replies.{demanded}, specs.{Reply.{Reply, given, refused, plain, demand, _>>=_, _>>_}, declared.refusal.Refusal.{Refusal}}}
 use Rattle.writer.specs.Writer.{every}

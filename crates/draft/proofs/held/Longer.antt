@@ -4,7 +4,7 @@ use borrow.Author.Tests.{leb-true, leb-false}
 use lib.{Dec.{leb}, ListN.{length}}
 use mathlib.Core.{Bool.{Bool, true, false}, List.{List, [], _∷_, _++_}, Path.{_≡_, refl, ap, sym, _∙_}}
 use native.Mathlib.Omega.{arith}
-use Rattle.layout.{proofs.Steps.{words-rise, next-rises, inline-first, least-layout, least-unique}, specs.Layout.{wordSize, wordsSize, next, Fits, Least, after}}
+use Rattle.layout.{proofs.Steps.{words-rise, next-rises, inline-first, least-layout, least-unique}, specs.inner.Layout.{wordSize, wordsSize, next, Fits, Least, after}}
 
 module _ (inline : ℕ) (words : List ℕ) where
   under : (other : ℕ) → next inline words other ≤ other → (n : ℕ) → after inline words n ≤ other

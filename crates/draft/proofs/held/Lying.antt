@@ -10,28 +10,11 @@ use Rattle.numbers.specs.Reply.{given}
 use Rattle.draft.proofs.held.{Kept.{cleared-data, dropped-data, dropped-sound, joined-data, replaced-data}, Redrawn.{data-many, place-inside}, Standing.{corners-many, texts-many}}
 use Rattle.draft.proofs.held.Texts.{cleared-corners, cleared-texts, corners-changed, corners-split, dropped-lengths, dropped-strings, joined-corners, joined-lengths, joined-strings, restValues}
 use Rattle.draft.specs.Held.{Builder.{Builder, Offered, holding, joined, summed, yardOf, changedAt, withValue}, Sound.{Sound}, State.{Front, Holds, Lies, Lists, frontOf, heldAs, textsOf}}
-use Rattle.draft.specs.Held.Totals.{Totals, dataOf, totalsOf}
+use Rattle.draft.specs.Held.Totals.{dataOf, totalsOf}
 use Rattle.draft.specs.declared.held.state.Held.{Held}
+use Rattle.draft.specs.Held.State.{heldWith}
 
 -- ---- the numbers: of what a plan is like none changes; the bytes of all texts and the totals do
-abbrev pub heldWith : Held → ℕ → Totals → Held
-heldWith held strings t =
-    record {
-      kind = held .kind;
-      version = held .version;
-      precision = held .precision;
-      names = held .names;
-      room = held .room;
-      head = held .head;
-      front = held .front;
-      strings = strings;
-      table = t .table;
-      metadata = t .metadata;
-      bytes = t .bytes;
-      yards = t .yards;
-      greatest = t .greatest;
-    }
-
 module _ (b : Builder) (held : Held) (lists : Lists) (h : Holds b held lists) (strings : ℕ) (after : Lists) where
   -- with other yards
   module _ (yards : List Yard) where

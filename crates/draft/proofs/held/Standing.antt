@@ -4,7 +4,7 @@ use borrow.Author.Tests.{eqb-true, le-leb, leb-true}
 use lib.{Dec.{eqb, leb}, IntN.{pos}, ListN.{length, take, drop, length-append, length-map}}
 use mathlib.Core.{Bool.{Bool, true, _&&_}, List.{List, [], _∷_, _++_, map, map-append}, Path.{_≡_, refl, sym, ap, subst, _∙_}}
 use native.Mathlib.{Nat.{mul-suc}, Omega.{arith}}
-use Rattle.build.proofs.Planned.{both}
+use Rattle.numbers.proofs.Tests.{both}
 use Rattle.builder.specs.{File.{isText, readable}, Metadata.{fieldsOf}, Yards.{Text, Plan, Yard, sumOf}}
 use Rattle.build.specs.Entries.Corners.{cornersOf}
 use Rattle.build.{proofs.metadata.Shared.{flat-more}, specs.Metadata.Kept.{joined}}

@@ -3,7 +3,8 @@ use Prim.Native.Nat.{ℕ, _+_, _-_, _*_, _^_, _≤_}
 use borrow.Author.Tests.{leb-true}
 use lib.Dec.{leb}
 use mathlib.Core.{Bool.{Bool, true, _&&_}, Path.{_≡_}}
-use Rattle.build.{proofs.Planned.{both}, specs.Room.{enough, workOf}}
+use Rattle.numbers.proofs.Tests.{both}
+use Rattle.build.specs.Room.{enough, workOf}
 use Rattle.draft.specs.{Held.Space.{longEnough, ownEnough, standing}, declared.held.{room.Rooms.{Rooms}, state.Held.{Held}}}
 
 pub record Own (r : Rooms) (names yards strings : ℕ) : Type 0 where

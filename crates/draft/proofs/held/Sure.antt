@@ -7,7 +7,7 @@ use native.Mathlib.Omega.{arith}
 use Rattle.builder.proofs.Shortest.{wordOf, inlineOf, layout-is, layout-least}
 use Rattle.builder.specs.{Metadata.{inlined, isRemote, remotes, offsetOf, layoutOf}, Sharing.{sameText, isIn, timesIn, firstsAfter, goodOnes, sizeBefore}, Yards.{Text}}
 use Rattle.builder.proofs.grouping.{Keyed.{text-equal}, Meant.{text-itself}}
-use Rattle.layout.{proofs.Everyone.{Every}, specs.Layout.{wordsSize, Least}}
+use Rattle.layout.{proofs.Everyone.{Every}, specs.inner.Layout.{wordsSize, Least}}
 use Rattle.build.proofs.metadata.{Offsets.{used-plain, used-again}, Shared.{map-more}}
 use Rattle.numbers.specs.Answer.{if_then_else_}
 use Rattle.draft.proofs.held.Longer.{longer}

@@ -4,7 +4,7 @@ use borrow.Author.Tests.{eqb-true, leb-true}
 use lib.{Dec.{eqb, leb}, IntN.{ℤ}, ListN.{length, take, drop, getD, set, length-append, take-append-drop}, Seq.{set-append-left, set-split, split-at, take-add}}
 use mathlib.Core.{Bool.{true}, List.{List, [], _∷_, _++_, map, flatMap, append-assoc, append-nil}, Path.{_≡_, refl, sym, ap, _∙_}}
 use native.Mathlib.{Nat.{mul-comm, suc-mul}, Omega.{arith}}
-use Rattle.build.proofs.Planned.{both}
+use Rattle.numbers.proofs.Tests.{both}
 use Rattle.builder.specs.{Entries.{boxOf}, File.{areTexts, headOf, isText}, Metadata.{fieldsOf}, Yards.{Text, Plan, Yard, cutBy, sumOf}}
 use Rattle.build.specs.Entries.Corners.{cornersOf}
 use Rattle.builder.proofs.grouping.Walks.{item-among}

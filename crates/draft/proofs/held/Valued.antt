@@ -6,7 +6,8 @@ use mathlib.Core.{Bool.{true}, List.{List, [], _∷_, _++_, map}, Path.{_≡_, r
 use native.Mathlib.{Nat.{mul-comm}, Omega.{arith}}
 use Rattle.writer.specs.Writer.{every}
 use Rattle.builder.specs.{Borders.{Drawn}, Entries.{boxOf, lowestOf}, Metadata.{fieldsOf}, Yards.{Text, Yard, cutBy, sumOf}, declared.boxes.Bounds.{Bounds}}
-use Rattle.build.proofs.{Planned.{both}, Valued.{part, map-next, shift}}
+use Rattle.numbers.proofs.Tests.{both}
+use Rattle.build.proofs.Valued.{part, map-next, shift}
 use Rattle.build.specs.Entries.Corners.{cornersOf}
 use Rattle.builder.{proofs.grouping.{Meant.{item-part}, Walks.{item-among}}, specs.Grouping.{Items.{startsFrom, itemAt}, Keys.{numbersFrom}}}
 use Rattle.build.{proofs.metadata.Begun.{cut-join}, specs.Metadata.Kept.{valuesTo}}

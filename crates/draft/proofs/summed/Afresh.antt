@@ -7,7 +7,7 @@ use native.Mathlib.{Nat.{mul-comm}, Omega.{arith}}
 use Rattle.builder.proofs.Counting.{lengths-room}
 use Rattle.builder.specs.{Borders.{Drawn}, Entries.{entryOfWord, highestOf, lowestOf, tableFrom, tableOf, wordOfYard}, File.{entryOf}}
 use Rattle.builder.specs.{Metadata.{fieldsOf, layoutOf, metadataOf, recordsOf}, Sharing.{firsts, sameTexts}, Yards.{Text, Yard, sumOf}}
-use Rattle.builder.specs.Drawing.Section.{spread}
+use Rattle.builder.specs.inner.Drawing.Section.{spread}
 use Rattle.build.{proofs.entries.Tabled.{begins-are, table-over}, specs.Entries.Corners.{cornersOf}}
 use Rattle.builder.specs.Grouping.Keys.{numbersFrom}
 use Rattle.draft.proofs.held.Valued.{souths-from, held-all, held-boxes, held-values, held-whole}
@@ -15,7 +15,7 @@ use Rattle.draft.specs.Held.{State.{Stands}, Totals.{totalsFor}}
 use Rattle.layout.specs.Order.{keyOf, sortedBy}
 use Rattle.build.specs.Metadata.Kept.{beginOf, valuesTo}
 use Rattle.build.proofs.recording.{Fewer.{map-same}, Spreading.{spread-read, spread-size}, Written.{recorded-size}}
-use Rattle.draft.specs.Summed.Sums.{Arranged, SumsUp, beginsOf, southsOf}
+use Rattle.draft.specs.inner.Summed.Sums.{Arranged, SumsUp, beginsOf, southsOf}
 use Rattle.draft.specs.declared.summed.sums.Summed.the-variants as S
 
 module _ (yards : List Yard) (drawn : Drawn) (names count : ℕ) (boxes : List ℤ) (borders lengths texts : List ℕ) (s : Stands yards drawn names count boxes borders lengths texts) where

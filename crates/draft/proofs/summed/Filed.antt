@@ -5,14 +5,14 @@ use mathlib.Core.{List.{List, map, zipWith}, Path.{_≡_, refl, sym, ap, _∙_}}
 use native.Mathlib.{Nat.{mul-comm}, Omega.{arith}}
 use Rattle.builder.specs.{Entries.{entryOfWord, tableFrom, tableOf}, File.{assembled, entryOf, fileOf, headFrom, headOf}, Metadata.{metadataOf, recordsOf}, Sharing.{firsts, sameTexts}, Yards.{Text, Plan, cutBy}}
 use Rattle.build.proofs.Filing.{Reach, laid-section, reaches}
-use Rattle.build.specs.{Puts.{Headed, SectionIn, sectionFrom}, Room.{enough}, declared.room.Work.{Work}}
-use Rattle.builder.specs.Drawing.Section.{spread}
+use Rattle.build.specs.{inner.Puts.{Headed, SectionIn, sectionFrom}, Room.{enough}, declared.room.Work.{Work}}
+use Rattle.builder.specs.inner.Drawing.Section.{spread}
 use Rattle.draft.proofs.held.{Fronts.{front-take}, Standing.{held-bytes, holds-stands}, Valued.{held-values}}
 use Rattle.draft.specs.{Held.{Builder.{Builder}, State.{Holds, Lists, frontOf}, Totals.{dataOf}}, declared.held.state.Held.{Held}}
 use Rattle.build.proofs.metadata.Begun.{cut-join}
 use Rattle.build.proofs.recording.Written.{recorded-section}
 use Rattle.draft.proofs.summed.{Afresh.{held-table}, Reached.{arranging-laying}, Wholes.{front-lengths, front-sum, front-texts, strings-small, values-sum}}
-use Rattle.draft.specs.Summed.{Ends.{Putting}, Sums.{Arranged, Arranging}}
+use Rattle.draft.specs.{Summed.Ends.{Putting}, inner.Summed.Sums.{Arranged, Arranging}}
 
 module _ (held : Held) (lengths texts : List ℕ) (borders bytes : ℕ) (work : Work) (p : Putting held lengths (length texts) borders bytes work) where
   abbrev from : ℕ

@@ -4,10 +4,10 @@ use borrow.Author.Tests.{le-ltb, lt-ltb, not-false, not-true}
 use lib.{Dec.{leb}, IntN.{ℤ}, ListN.{length}}
 use mathlib.Core.{Bool.{Bool, true, false, not, _&&_}, List.{List, []}, Path.{_≡_, refl, sym, ap, subst, _∙_}}
 use native.Mathlib.Omega.{arith}
-use Rattle.writer.specs.Stored.{Stored}
+use Rattle.writer.specs.inner.Stored.{Stored}
 use Rattle.builder.specs.{File.{fileOf, headOf, upTo}, Yards.{Plan}}
 use Rattle.build.proofs.Ending.{long-fills, settled-fits, short-fills, whole-fills}
-use Rattle.build.specs.{Room.{workOf}, Whole.{Fills, Settles, endsAs}, declared.file.Built.{Built}}
+use Rattle.build.specs.{Room.{workOf}, inner.Whole.{Fills, Settles, endsAs}, declared.file.Built.{Built}}
 use Rattle.build.specs.declared.file.Built.the-variants as W
 use Rattle.draft.proofs.held.{Standing.{held-yards, holds-standing}, Stood.{stood, work-enough}, Sums.{size-is}}
 use Rattle.draft.specs.Held.{Builder.{Builder, finish}, Space.{Space, longEnough, roomsOf, standing}, State.{Holds, Idle, Lists, listsAs}, Totals.{dataOf, fileSize, totalsOf}}

@@ -7,7 +7,7 @@ use native.Mathlib.Omega.{arith}
 use Rattle.builder.specs.File.{upTo}
 use Rattle.draft.specs.Held.Totals.{fileSize}
 use Rattle.numbers.specs.Spelling.{varintOf}
-use Rattle.draft.specs.Summed.Sums.{sized}
+use Rattle.draft.specs.inner.Summed.Sums.{sized}
 
 module _ (head table metadata bytes room : ℕ) where
   over : 2 ^ 30 < fileSize head (sized table metadata bytes) → false ≡ leb (fileSize head (sized table metadata bytes)) (upTo room)

@@ -6,11 +6,11 @@ use mathlib.Core.{Bool.{Bool, false, not}, List.{List, _++_, map}, Path.{_≡_, 
 use native.Mathlib.{Nat.{mul-comm}, Omega.{arith}}
 use Rattle.builder.{proofs.Counting.{lengths-room}, specs.{Entries.{wordOfYard}, Yards.{sumOf}}}
 use Rattle.build.{proofs.Filing.{Reach, reaches}, specs.declared.room.Work.{Work}}
-use Rattle.builder.specs.Drawing.Section.{spread}
+use Rattle.builder.specs.inner.Drawing.Section.{spread}
 use Rattle.builder.{proofs.grouping.Listed.{numbers-many}, specs.Grouping.Keys.{numbersFrom}}
 use Rattle.layout.{proofs.Orders.{sorted-size}, specs.Order.{keyOf, sortedBy}}
-use Rattle.build.specs.Recording.Recorded.{Laying, Recorded}
-use Rattle.draft.specs.Summed.Sums.{Arranged, Arranging, Summing}
+use Rattle.build.specs.inner.Recording.Recorded.{Laying, Recorded}
+use Rattle.draft.specs.inner.Summed.Sums.{Arranged, Arranging, Summing}
 
 pub reached : (names count lengths borders texts : ℕ) (work : Work) → Summing names count lengths borders texts work → Reach work count (names * count) texts
 reached names count lengths borders texts work s = reaches work count (names * count) texts (s .room)

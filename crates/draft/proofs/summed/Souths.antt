@@ -6,7 +6,7 @@ use mir.{Facts.{toZ-ofZ}, Syntax.{w32}, Val.{SFits, toZ, ofZ}}
 use native.Mathlib.Omega.{arith}
 use Rattle.builder.{proofs.Bests.{Choosing, highest-none, highest-starts, read-back, choose-goes, choose-ends}, specs.Entries.{greater, highestOf}}
 use Rattle.builder.{proofs.grouping.Listed.{numbers-many}, specs.Grouping.Keys.{numbersFrom}}
-use Rattle.draft.specs.Summed.Sums.{southsOf}
+use Rattle.draft.specs.inner.Summed.Sums.{southsOf}
 
 abbrev southAt : List ℤ → ℕ → ℤ
 southAt boxes yard = getD boxes (4 * yard) (pos 0)

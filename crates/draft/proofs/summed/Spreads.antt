@@ -5,9 +5,9 @@ use lib.{IntN.{ℤ}, ListN.{length, drop, getD, set, length-set, length-map}, Se
 use mathlib.Core.{Bool.{Bool, true}, List.{List, map}, Path.{_≡_, refl, sym, ap, _∙_}}
 use native.Mathlib.{Numerals.{add-one}, Omega.{arith}}
 use Rattle.builder.specs.Entries.{wordOfYard}
-use Rattle.builder.specs.Drawing.Section.{spread}
+use Rattle.builder.specs.inner.Drawing.Section.{spread}
 use Rattle.builder.{proofs.grouping.Listed.{numbers-many}, specs.Grouping.Keys.{numbersFrom}}
-use Rattle.layout.specs.{Answers.{Sorted}, Order.{keyOf, sortedBy}}
+use Rattle.layout.specs.{inner.Answers.{Sorted}, Order.{keyOf, sortedBy}}
 use Rattle.numbers.specs.Answer.{if_then_else_}
 
 -- the loop's invariant

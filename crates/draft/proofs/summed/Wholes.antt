@@ -6,7 +6,8 @@ use mathlib.Core.{Bool.{Bool, true, false, not, _&&_}, List.{List, _++_, map}, P
 use native.Mathlib.Omega.{arith}
 use Rattle.writer.specs.Writer.{every}
 use Rattle.builder.specs.{File.{isText}, Yards.{Text, Plan, cutBy, sumOf}}
-use Rattle.build.proofs.{Planned.{both}, Slices.{texts-few}}
+use Rattle.numbers.proofs.Tests.{both}
+use Rattle.build.proofs.Slices.{texts-few}
 use Rattle.draft.proofs.held.{Everyone.{every-more}, Fronts.{front-of-more}, Valued.{held-whole}}
 use Rattle.draft.proofs.held.Standing.{few-names, front-first, front-many, held-front, held-names, holds-stands, lengths-split, names-few, readable-parts, strings-inside, texts-split}
 use Rattle.draft.specs.{Held.{Builder.{Builder}, State.{Front, Holds, Lists, frontOf, valuesOf}, Totals.{dataOf}}, declared.held.state.Held.{Held}}

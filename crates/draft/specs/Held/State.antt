@@ -1,5 +1,5 @@
 -- How a builder lies in its lists: each begins with what is held, and is zero behind it.
-use Prim.Native.Nat.{ℕ, _+_, _-_, _*_, _≤_}
+use Prim.Native.Nat.{ℕ, _-_, _*_, _≤_}
 use lib.{Dec.{eqb}, IntN.{ℤ, pos}, ListN.{length, take, replicate}}
 use mathlib.Core.{Bool.{true}, List.{List, _∷_, [], _++_, map}, Path.{_≡_}}
 use Rattle.writer.specs.Writer.{every}
@@ -7,7 +7,7 @@ use Rattle.builder.specs.{Borders.{Drawn}, File.{headOf}, Metadata.{fieldsOf}, 
 use Rattle.build.specs.Entries.Corners.{cornersOf}
 use Rattle.build.specs.Metadata.Kept.{joined}
 use Rattle.numbers.specs.{Lists.{zeros}, Reply.{Reply, given, refused}}
-use Rattle.draft.specs.Held.{Builder.{Builder}, Sound.{Sound}, Totals.{dataOf, totalsOf}}
+use Rattle.draft.specs.Held.{Builder.{Builder}, Sound.{Sound}, Totals.{Totals, dataOf, totalsOf}}
 use Rattle.draft.specs.declared.held.state.{Held.{Held}, Changed.{Changed}}
 use Rattle.draft.specs.declared.held.state.Changed.the-variants as C
 
@@ -77,6 +77,25 @@ heldAs b =
       bytes = totals .bytes;
       yards = totals .yards;
       greatest = totals .greatest;
+    }
+
+-- a builder's numbers with so many bytes of texts and other totals
+abbrev pub heldWith : Held → ℕ → Totals → Held
+heldWith held strings t =
+    record {
+      kind = held .kind;
+      version = held .version;
+      precision = held .precision;
+      names = held .names;
+      room = held .room;
+      head = held .head;
+      front = held .front;
+      strings = strings;
+      table = t .table;
+      metadata = t .metadata;
+      bytes = t .bytes;
+      yards = t .yards;
+      greatest = t .greatest;
     }
 
 -- a builder that calls have made, in its numbers and lists

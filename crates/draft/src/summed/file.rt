@@ -1,7 +1,7 @@
 // The file of the held yards, written.
 ghost use mathlib.Core.Path.{_≡_};
 ghost use lib.ListN.{length};
-ghost use Rattle.writer.specs.Stored.{Stored};
+ghost use Rattle.writer.specs.inner.Stored.{Stored};
 ghost use Rattle.builder.specs.File.{fileOf};
 ghost use Rattle.build.specs.Room.{workOf};
 ghost use Rattle.draft.specs.Held.{Builder.{Builder}, State.{Holds, listsAs}, Totals.{dataOf}};

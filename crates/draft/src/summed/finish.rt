@@ -1,7 +1,7 @@
 // The end of a builder: its file, at the front of an output lent then.
 ghost use mathlib.Core.{Bool.{false}, Path.{_≡_}, List.{[]}};
 ghost use lib.ListN.{length};
-ghost use Rattle.build.specs.Whole.{Fills};
+ghost use Rattle.build.specs.inner.Whole.{Fills};
 ghost use Rattle.draft.specs.Held.{Builder.{Builder, finish}, State.{Holds, Idle, listsAs}};
 ghost use Rattle.draft.specs.Held.Space.{roomsOf, standing};
 ghost use Rattle.numbers.specs.{Lists.{zeros}, Reply.{plain}, declared.refusal.Refusal.{Refusal}};

@@ -5,7 +5,7 @@ ghost use lib.{Dec.{eqb, leb}, ListN.{length}};
 ghost use Rattle.builder.specs.{Borders.{Drawn}, Entries.{highestOf}, File.{upTo}, Yards.{Yard, sumOf}};
 ghost use Rattle.build.specs.Room.{workOf};
 ghost use Rattle.draft.specs.Held.{State.{Stands}, Totals.{fileSize}};
-ghost use Rattle.draft.specs.Summed.Sums.{Summing, SumsUp, southsOf, sized};
+ghost use Rattle.draft.specs.inner.Summed.Sums.{Summing, SumsUp, southsOf, sized};
 use crate::summed::arrange::lay_out;
 use build::room::up_to;
 use build::write::table_size;

@@ -10,9 +10,9 @@ use Rattle.draft.specs.{Held.Totals.{dataOf}, declared.held.state.{Changed.{Cha
 use Rattle.draft.specs.declared.held.state.Changed.the-variants as C
 use Rattle.build.{proofs.metadata.Itemed.{cut-lengths}, specs.Metadata.Kept.{joined}}
 use Rattle.numbers.{proofs.Lists.{zeros-drop}, specs.{Lists.{over, zeros}, declared.refusal.Refusal.{Refusal}}}
-use Rattle.writer.{proofs.Stores.{stored-front, stored-length}, specs.Stored.{Stored}}
+use Rattle.writer.{proofs.Stores.{stored-front, stored-length}, specs.inner.Stored.{Stored}}
 use Rattle.edit.proofs.changing.{Cuts.{cut-all, lists-same}, Firsts.{front-is}, Nothing.{none-lies}}
-use Rattle.edit.specs.{Changing.{Begun.{Begins, Checked, Checks, blank, firstPlan, frontSpace}, Cut.{cutTo}}, declared.changing.cut.Ends.{Ends}}
+use Rattle.edit.specs.{Changing.Begun.{Begins, Checked, Checks, blank, firstPlan, frontSpace}, inner.Changing.Cut.{cutTo}, declared.changing.cut.Ends.{Ends}}
 
 -- nothing of any list
 abbrev pub noEnds : Ends

@@ -4,7 +4,7 @@ use lib.{IntN.{ℤ, pos}, ListN.{length, take, drop, replicate, length-append, l
 use mathlib.Core.{List.{List, _++_}, Path.{_≡_, refl, ap, subst, _∙_}}
 use native.Mathlib.Omega.{arith}
 use Rattle.draft.{proofs.held.Fronts.{cleared, front-cut, front-of-more}, specs.Held.State.{Front, Lists, SameRooms, listsAs}}
-use Rattle.edit.specs.{Changing.Cut.{cutAt, cutTo, Inside}, declared.changing.cut.Ends.{Ends}}
+use Rattle.edit.specs.{inner.Changing.Cut.{cutAt, cutTo, Inside}, declared.changing.cut.Ends.{Ends}}
 
 -- what comes back for `&mut list[at..]`, zero
 pub cut-back : {A : Type 0} (none : A) (list lent : List A) (at : ℕ) → lent ≡ replicate (length (take (length list - at) (drop at list))) none → take at list ++ (lent ++ drop (length list - at) (drop at list)) ≡ cutAt none at list

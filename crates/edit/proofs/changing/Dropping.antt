@@ -9,7 +9,7 @@ use Rattle.build.specs.Room.{enough, workOf}
 use Rattle.builder.proofs.Counting.{lengths-room}
 use Rattle.builder.specs.{Borders.{Drawn}, File.{isText}, Yards.{Plan, Text, Yard, sumOf}}
 use Rattle.build.specs.Entries.Corners.{cornersOf}
-use Rattle.draft.proofs.held.{Everyone.{every-take}, Fronts.{front-of-more, front-part}, Kept.{dropped-data}, Lying.{Splits, boxes-end, borders-end, bytes-end, heldWith, holds-other, lengths-end}}
+use Rattle.draft.{proofs.held.{Everyone.{every-take}, Fronts.{front-of-more, front-part}, Kept.{dropped-data}, Lying.{Splits, boxes-end, borders-end, bytes-end, holds-other, lengths-end}}, specs.Held.State.{heldWith}}
 use Rattle.draft.proofs.held.{Lying.{lies-dropped, lies-splits}, Redrawn.{drawnTo}, Standing.{fields-short, front-many, held-front, held-names, readable-parts}, Stood.{Stood, stood, work-enough}}
 use Rattle.draft.proofs.held.Texts.{dropped-values, restValues, valuesIn}
 use Rattle.draft.specs.Held.{Builder.{Builder, dropLast, holding, summed}, Space.{longEnough, roomsOf}, State.{Answers, Holds, Idle, Lies, Lists, SameRooms, Stands, frontOf, listsAs, textsOf}}
@@ -17,12 +17,12 @@ use Rattle.draft.specs.{Held.{State.{valuesOf}, Totals.{Totals, dataOf, totalsF
 use Rattle.draft.specs.declared.held.state.Changed.the-variants as C
 use Rattle.build.{proofs.metadata.Shared.{flat-more, map-more}, specs.Metadata.Kept.{joined}}
 use Rattle.numbers.specs.{Lists.{zeros}, Reply.{Reply, given, plain, demand, _>>_}, declared.refusal.Refusal.{Refusal}}
-use Rattle.draft.specs.{Summed.Sums.{Summing, SumsUp, sumsOf}, declared.summed.sums.{Summed.{Summed}, Sums.{Sums}}}
+use Rattle.draft.specs.{inner.Summed.Sums.{Summing, SumsUp, sumsOf}, declared.summed.sums.{Summed.{Summed}, Sums.{Sums}}}
 use Rattle.draft.proofs.summed.sums.Summed as K
 use Rattle.draft.specs.declared.summed.sums.Summed.the-variants as S
 use Rattle.writer.specs.Writer.{every}
 use Rattle.edit.proofs.changing.{Cuts.{cut-front, cut-rooms}, Lasts.{fewer-sound, kept-many, last-place, left-is, left-less, left-many, left-strings}}
-use Rattle.edit.specs.Changing.{Cut.{Inside, cutTo}, Dropped.{Drops, Lent, Shortened, Shortens, endsOf, lastSize, leftSpace, shortOf, withSums}}
+use Rattle.edit.specs.{inner.Changing.{Cut.{Inside, cutTo}, Dropped.{Lent, Shortened, Shortens, endsOf, shortOf, withSums}}, Changing.Dropped.{Drops, lastSize, leftSpace}}
 
 -- the lists as they are lent
 pub lent-here : {boxes : List ℤ} {borders lengths texts bytes : List ℕ} {starts keys spare kept held words places : ℕ} → Lent (roomsOf (length boxes) (length borders) (length lengths) (length texts) (length bytes) starts keys spare kept held words places) (listsAs boxes borders lengths texts bytes)

@@ -12,7 +12,7 @@ use Rattle.draft.specs.declared.held.state.Changed.the-variants as C
 use Rattle.build.specs.Metadata.Kept.{joined}
 use Rattle.numbers.specs.{Lists.{zeros}, Reply.{plain}}
 use Rattle.edit.proofs.changing.{Cuts.{cut-all, cut-front, cut-rooms}, Lasts.{data-some}, Nothing.{none-held, none-lies}}
-use Rattle.edit.specs.{Changing.{Cut.{Inside, cutTo}, Emptied.{Clears, emptiedOf, ownRooms}}, declared.changing.cut.Ends.{Ends}}
+use Rattle.edit.specs.{inner.Changing.Cut.{Inside, cutTo}, Changing.Emptied.{Clears, emptiedOf, ownRooms}, declared.changing.cut.Ends.{Ends}}
 
 -- the names and the notice stay
 abbrev pub frontEnds : Held → Ends

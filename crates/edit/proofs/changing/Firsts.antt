@@ -5,7 +5,8 @@ use lib.{Dec.{leb, ltb}, ListN.{length, take, getD, length-take}, Seq.{length-ta
 use mathlib.Core.{Bool.{Bool, true, false, not, _&&_}, List.{List, [], _∷_, _++_}, Path.{_≡_, refl, sym, ap, subst, _∙_}}
 use native.Mathlib.Omega.{arith}
 use Rattle.writer.specs.Writer.{every}
-use Rattle.build.proofs.{Planned.{both}, Slices.{texts-few}, Valued.{cut-take}}
+use Rattle.numbers.proofs.Tests.{both}
+use Rattle.build.proofs.{Slices.{texts-few}, Valued.{cut-take}}
 use Rattle.builder.proofs.Counting.{cut-many}
 use Rattle.builder.specs.{File.{areTexts, headFrom, headOf, isText, known, readable}, Yards.{Plan, Text, countedLengths, cutBy, planOf, sumOf, valuesFrom}}
 use Rattle.header.specs.Header.{isKind}

@@ -11,7 +11,7 @@ use Rattle.draft.specs.declared.held.state.Held.{Held}
 use Rattle.draft.specs.declared.held.state.Changed.the-variants as C
 use Rattle.numbers.specs.{Reply.{Reply, given, refused, plain, demand, _>>_}, declared.refusal.Refusal.{Refusal}}
 use Rattle.edit.proofs.changing.Lasts.{last-fits, place-fits}
-use Rattle.edit.specs.Changing.Dropped.{Lent, Shortens, lastSize, leftSpace, shortOf, withSums}
+use Rattle.edit.specs.{inner.Changing.Dropped.{Lent, Shortens, shortOf, withSums}, Changing.Dropped.{lastSize, leftSpace}}
 
 module _ (builder : Held) (rooms : Rooms) (borders lengths : List ℕ) where
   abbrev Refuses : Refusal → Type 0

@@ -7,7 +7,7 @@ use native.Mathlib.Omega.{arith}
 use Rattle.build.proofs.Rooms.{Summing, sum-starts, sum-room, sum-goes, sum-ends}
 use Rattle.builder.specs.Yards.{sumOf}
 use Rattle.edit.proofs.changing.sum.Sum as K
-use Rattle.edit.specs.{Changing.Sum.{SumsTo}, declared.changing.sum.Sum.{Sum}}
+use Rattle.edit.specs.{inner.Changing.Sum.{SumsTo}, declared.changing.sum.Sum.{Sum}}
 use Rattle.edit.specs.declared.changing.sum.Sum.the-variants as S
 
 pub record Bounded (lengths : List ℕ) (most sum i : ℕ) : Type 0 where

@@ -3,7 +3,7 @@ use Prim.Native.Nat.{ℕ, _<_}
 use borrow.Author.Tests.{ltb-true}
 use lib.{Dec.{ltb, leb}, ListN.{length}}
 use mathlib.Core.{Bool.{Bool, true, false, _&&_}, Path.{_≡_, refl, sym, ap, _∙_}}
-use Rattle.build.proofs.Planned.{both}
+use Rattle.numbers.proofs.Tests.{both}
 use Rattle.builder.specs.{File.{headOf, isText, upTo}, Yards.{Text, Plan}}
 use Rattle.draft.proofs.held.Standing.{held-names, held-yards, held-front, held-strings, holds-standing}
 use Rattle.draft.specs.{Held.{Builder.{Builder, fitting, replace, summed}, Space.{longEnough, standing}, State.{Holds, Lists, frontOf, textsOf}, Totals.{fileSize}}, declared.held.room.Rooms.{Rooms}}
@@ -11,7 +11,7 @@ use Rattle.draft.specs.declared.held.state.Held.{Held}
 use Rattle.build.specs.Metadata.Kept.{joined}
 use Rattle.numbers.specs.Reply.{Reply, given, refused, plain, demand, _>>=_, _>>_}
 use Rattle.edit.proofs.replacing.Placed.{value-within, size-new}
-use Rattle.edit.specs.{Replacing.{Replaced.{afterChecks, replaced, spaceFor}, Spot.{textAt, spotIn, within, sizeWith, checkedOf}}, declared.replacing.check.Spot.{Spot}}
+use Rattle.edit.specs.{inner.Replacing.{Replaced.{afterChecks}, Spot.{textAt, spotIn, within, sizeWith, checkedOf}}, Replacing.Replaced.{replaced, spaceFor}, declared.replacing.check.Spot.{Spot}}
 
 compared : (a t w l m fit : Bool) (spot : Spot) (next : Builder) → (a ≡ true → w ≡ true) → (a ≡ true → m ≡ l)
     → ((demand a (plain 30) >> (demand t (plain 26) >> (demand w (plain 28) >> (demand m (plain 28) >> given spot)))) >>= λ s. (demand (true && fit) (plain 28) >> given next))

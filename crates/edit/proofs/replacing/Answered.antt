@@ -4,17 +4,18 @@ use borrow.Author.Tests.{leb-true, ltb-true}
 use lib.{Dec.{ltb, leb}, IntN.{ℤ}, ListN.{length, take, drop, length-take}}
 use mathlib.Core.{Bool.{Bool, true, false, _&&_}, List.{List}, Path.{_≡_, refl, sym, ap, subst, _∙_}}
 use native.Mathlib.Omega.{arith}
-use Rattle.build.{proofs.Planned.{both}, specs.{Room.{enough, workOf}, declared.room.Work.{Work}}}
+use Rattle.numbers.proofs.Tests.{both}
+use Rattle.build.specs.{Room.{enough, workOf}, declared.room.Work.{Work}}
 use Rattle.builder.specs.{File.{isText}, Yards.{Text}}
 use Rattle.draft.proofs.held.{Standing.{held-names, held-yards, holds-standing}, Stood.{Own, Stood, own-parts, stood}}
 use Rattle.draft.specs.{Held.{Builder.{Builder, fitting, replace, summed}, Space.{longEnough, ownEnough, standing}, State.{Answers, Holds, Idle, Lists, listsAs}}, declared.held.room.Rooms.{Rooms}}
 use Rattle.draft.specs.declared.held.state.{Changed.{Changed}, Held.{Held}}
 use Rattle.draft.specs.declared.held.state.Changed.the-variants as C
 use Rattle.numbers.{proofs.Replies.{demanded}, specs.{Lists.{zeros}, Reply.{Reply, given, refused, plain, demand, _>>=_, _>>_}, declared.refusal.Refusal.{Refusal}}}
-use Rattle.writer.{proofs.Stores.{stored-length}, specs.Stored.{Stored}}
+use Rattle.writer.{proofs.Stores.{stored-length}, specs.inner.Stored.{Stored}}
 use Rattle.edit.proofs.replacing.{Agreed.{checked-as}, Found.{text-few}, Renewed.{renews}, Spots.{Within, fallen, index-inside, spot-ordered, within-parts}}
-use Rattle.edit.specs.Replacing.{Exchange.{Exchanging}, Replaced.{PutIn, Putting, Renews, Replaces, Resumming, Resums, TakenBack, afterChecks, replaced, spaceFor, spotUpTo}, Spot.{checkedOf}}
-use Rattle.edit.specs.Replacing.Spot.{sizeWith, spotIn, textAt, told, within}
+use Rattle.edit.specs.{inner.Replacing.{Exchange.{Exchanging}, Replaced.{PutIn, Putting, Renews, Resumming, Resums, TakenBack, afterChecks, spotUpTo}, Spot.{checkedOf}}, Replacing.Replaced.{Replaces, replaced, spaceFor}}
+use Rattle.edit.specs.inner.Replacing.Spot.{sizeWith, spotIn, textAt, told, within}
 use Rattle.edit.specs.declared.replacing.check.{Spot.{Spot}, Checked.{Checked}}
 use Rattle.edit.specs.declared.replacing.check.Checked.the-variants as D
 

@@ -4,9 +4,9 @@ use lib.{ListN.{length, take, drop, replicate, length-append, length-replicate, 
 use mathlib.Core.{List.{List, [], _∷_, _++_, append-assoc}, Path.{_≡_, refl, sym, ap, subst, _∙_}}
 use native.Mathlib.Omega.{arith}
 use Rattle.numbers.specs.Lists.{zeros}
-use Rattle.writer.{specs.Stored.{Stored}, proofs.Stores.{stored-front, stored-length, stored-then}}
+use Rattle.writer.{specs.inner.Stored.{Stored}, proofs.Stores.{stored-front, stored-length, stored-then}}
 use Rattle.draft.{proofs.held.Fronts.{front-behind}, specs.Held.State.{Front}}
-use Rattle.edit.specs.Replacing.Exchange.{Exchanging, Exchanged}
+use Rattle.edit.specs.inner.Replacing.Exchange.{Exchanging, Exchanged}
 
 -- behind its front a list is zero, from any place on
 front-drop : (front list : List ℕ) → Front 0 front list → (n : ℕ) → length front ≤ n → drop n list ≡ zeros (length list - n)

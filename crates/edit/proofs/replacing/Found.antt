@@ -6,7 +6,7 @@ use mathlib.Core.{Bool.{Bool, true, false, _&&_}, List.{List, [], _∷_}, Path.{
 use native.Mathlib.Omega.{arith}
 use Rattle.writer.specs.Writer.{every}
 use Rattle.header.specs.Utf8.{isUtf8}
-use Rattle.build.proofs.Planned.{both}
+use Rattle.numbers.proofs.Tests.{both}
 use Rattle.builder.specs.{File.{isText, areTexts}, Yards.{Text, cutBy, sumOf}}
 
 pub long-no-text : (text : Text) → 255 < length text → false ≡ isText text

@@ -4,7 +4,7 @@ use borrow.Author.Tests.{le-leb}
 use lib.{Dec.{leb}, ListN.{length, take, drop, getD, replicate, length-append, length-map, List·getD-append}, Seq.{take-append-le, take-append-add}}
 use mathlib.Core.{Bool.{Bool, true, _&&_}, List.{List, [], _∷_, _++_, map, flatMap}, Path.{_≡_, refl, sym, ap, _∙_}}
 use native.Mathlib.Omega.{arith}
-use Rattle.build.proofs.Planned.{both}
+use Rattle.numbers.proofs.Tests.{both}
 use Rattle.builder.{proofs.Counting.{lengths-room}, specs.{File.{isText}, Metadata.{fieldsOf}, Yards.{Text, Plan, Yard, sumOf}}}
 use Rattle.draft.proofs.held.Standing.{readable-parts, texts-many, texts-split, front-many, names-few, held-names, held-front, held-strings}
 use Rattle.draft.proofs.held.Texts.{textIndex, index-inside, beforeText, behindText, strings-around, replaced-strings, changed}
@@ -13,7 +13,7 @@ use Rattle.build.{proofs.metadata.{Itemed.{map-take}, Shared.{flat-more}, Worde
 use Rattle.build.proofs.recording.Fewer.{joined-sum}
 use Rattle.writer.specs.Writer.{every}
 use Rattle.edit.proofs.replacing.{Found.{text-few}, Spots.{short-last}}
-use Rattle.edit.specs.{Replacing.Spot.{textAt, spotIn, within, sizeWith}, declared.replacing.check.Spot.{Spot}}
+use Rattle.edit.specs.{inner.Replacing.Spot.{textAt, spotIn, within, sizeWith}, declared.replacing.check.Spot.{Spot}}
 
 -- ---- what is read of the front of a list
 front-takes : (front list : List ℕ) → Front 0 front list → (n : ℕ) → n ≤ length front → take n list ≡ take n front

@@ -6,7 +6,7 @@ use native.Mathlib.Omega.{arith}
 use Rattle.builder.specs.{Borders.{Drawn}, File.{headOf, isText, upTo}, Yards.{Text, Plan}}
 use Rattle.build.specs.Entries.Corners.{cornersOf}
 use Rattle.draft.proofs.held.{Everyone.{length-changed}, Fronts.{front-one, front-part, front-set}, Kept.{replaced-data, replaced-sound}, Lying.{holds-other, lies-replaced}}
-use Rattle.draft.proofs.held.Lying as L
+use Rattle.draft.specs.Held.State as L
 use Rattle.draft.proofs.held.Standing.{held-names, held-yards, held-bytes, held-front, held-strings, stands-more}
 use Rattle.draft.proofs.held.Texts.{corners-changed, replaced-lengths, replaced-strings, replaced-head, strings-around}
 use Rattle.draft.specs.Held.{Builder.{Builder, fitting, summed, withValue}, Sound.{Sound}, State.{Answers, Front, Holds, Lies, Lists, SameRooms, Stands, heldAs, listsAs, textsOf}, Totals.{Totals}}
@@ -14,9 +14,9 @@ use Rattle.draft.specs.{Held.Totals.{dataOf, fileSize, totalsFor, totalsOf}, de
 use Rattle.draft.specs.declared.held.state.Changed.the-variants as C
 use Rattle.build.specs.Metadata.Kept.{joined}
 use Rattle.numbers.specs.{Answer.{if_then_else_}, Reply.{Reply, given, refused, plain, demand, _>>_}, declared.refusal.Refusal.{Refusal}}
-use Rattle.writer.{specs.Stored.{Stored}, proofs.Stores.{stored-front}}
+use Rattle.writer.{specs.inner.Stored.{Stored}, proofs.Stores.{stored-front}}
 use Rattle.edit.proofs.replacing.Placed as P
-use Rattle.edit.specs.Replacing.{Exchange.{Exchanged}, Replaced.{PutIn, Renews, Resums, afterChecks, heldWith, replaced, resummed, sizeFits, spotUpTo, TakenBack}, Spot.{spotIn, textAt}}
+use Rattle.edit.specs.{inner.Replacing.{Exchange.{Exchanged}, Replaced.{PutIn, Renews, Resums, afterChecks, heldWith, resummed, sizeFits, spotUpTo, TakenBack}, Spot.{spotIn, textAt}}, Replacing.Replaced.{replaced}}
 use Rattle.edit.specs.declared.replacing.check.Spot.{Spot}
 
 -- ---- what is made of the sums

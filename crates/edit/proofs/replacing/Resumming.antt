@@ -9,11 +9,11 @@ use Rattle.builder.specs.{Borders.{Drawn}, File.{upTo}, Yards.{Yard}}
 use Rattle.draft.specs.{Held.{State.{Stands}, Totals.{fileSize, totalsFor}}, declared.held.state.{Changed.{Changed}, Held.{Held}}}
 use Rattle.draft.specs.declared.held.state.Changed.the-variants as C
 use Rattle.numbers.specs.{Reply.{plain}, declared.refusal.Refusal.{Refusal}}
-use Rattle.draft.specs.{Summed.Sums.{Summing, SumsUp, sized, sumsOf}, declared.summed.sums.{Sums.{Sums}, Summed.{Summed}}}
+use Rattle.draft.specs.{inner.Summed.Sums.{Summing, SumsUp, sized, sumsOf}, declared.summed.sums.{Sums.{Sums}, Summed.{Summed}}}
 use Rattle.draft.proofs.summed.sums.Summed as K
 use Rattle.draft.specs.declared.summed.sums.Summed.the-variants as S
 use Rattle.edit.proofs.replacing.Renewed.{resum-fits, resum-long}
-use Rattle.edit.specs.Replacing.Replaced.{Resumming, Resums, heldWith, resummed, sizeFits}
+use Rattle.edit.specs.inner.Replacing.Replaced.{Resumming, Resums, heldWith, resummed, sizeFits}
 
 module _ (held : Held) (strings : ℕ) (sums : Sums) where
   size-is : leb (fileSize (held .head) (sized (sums .table) (sums .metadata) (held .bytes))) (upTo (held .room)) ≡ sizeFits held (sums .table) (sums .metadata)

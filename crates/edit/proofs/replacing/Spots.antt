@@ -4,11 +4,11 @@ use borrow.Author.Tests.{le-leb, lt-leb, le-ltb, lt-ltb, leb-true}
 use lib.{Dec.{ltb, leb}, ListN.{length, take, getD}}
 use mathlib.Core.{Bool.{Bool, true, false, _&&_}, List.{List}, Path.{_≡_, refl, sym, ap, _∙_}}
 use native.Mathlib.{Nat.{suc-mul, mul-le-mul-right, mul-comm}, Omega.{arith}}
-use Rattle.build.proofs.Planned.{both}
+use Rattle.numbers.proofs.Tests.{both}
 use Rattle.builder.{proofs.Counting.{lengths-room}, specs.{File.{isText}, Yards.{Text, sumOf}}}
 use Rattle.draft.specs.{Held.Space.{longEnough, ownEnough, standing}, declared.held.{room.Rooms.{Rooms}, state.Held.{Held}}}
 use Rattle.numbers.specs.Reply.{Reply, given, refused, plain, demand, _>>=_, _>>_}
-use Rattle.edit.specs.{Replacing.Spot.{textAt, spotIn, within, sizeWith, checkedOf, told}, declared.replacing.check.{Spot.{Spot}, Checked.{Checked}}}
+use Rattle.edit.specs.{inner.Replacing.Spot.{textAt, spotIn, within, sizeWith, checkedOf, told}, declared.replacing.check.{Spot.{Spot}, Checked.{Checked}}}
 use Rattle.edit.specs.declared.replacing.check.Checked.the-variants as C
 
 -- ---- the index of a value

@@ -5,24 +5,11 @@ use mathlib.Core.{Bool.{false}, Path.{_≡_}}
 use Rattle.draft.specs.{Held.{Builder.{Builder, clear}, Space.{standing}, State.{Answers, Holds, Lists}}, declared.held.{room.Rooms.{Rooms}, state.{Changed.{Changed}, Held.{Held}}}}
 use Rattle.draft.specs.declared.held.state.Changed.the-variants as C
 use Rattle.numbers.specs.Reply.{given, plain}
+use Rattle.draft.specs.Held.State.{heldWith}
 
 unfoldable pub emptiedOf : Held → Held
 emptiedOf h =
-    record {
-      kind = h .kind;
-      version = h .version;
-      precision = h .precision;
-      names = h .names;
-      room = h .room;
-      head = h .head;
-      front = h .front;
-      strings = h .front;
-      table = 0;
-      metadata = 0;
-      bytes = 1;
-      yards = 0;
-      greatest = pos 0;
-    }
+    heldWith h (h .front) (record { table = 0; metadata = 0; bytes = 1; yards = 0; greatest = pos 0 })
 
 -- the builder's own lists, and none to work in
 abbrev pub ownRooms : ℕ → ℕ → ℕ → ℕ → ℕ → Rooms

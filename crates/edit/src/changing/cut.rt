@@ -1,7 +1,7 @@
 // A builder's lists, zero behind what is kept of each.
 ghost use mathlib.Core.Path.{_≡_};
 ghost use Rattle.draft.specs.Held.State.{listsAs};
-ghost use Rattle.edit.specs.Changing.Cut.{Inside, cutTo};
+ghost use Rattle.edit.specs.inner.Changing.Cut.{Inside, cutTo};
 use build::zero::zero_numbers;
 use header::field::zero;
 use header::zero::zero_words;

@@ -2,7 +2,7 @@
 ghost use mathlib.Core.{Path.{_≡_}, List.{[]}};
 ghost use lib.ListN.{length};
 ghost use Rattle.draft.specs.Held.{Space.{roomsOf}, State.{Idle, listsAs}};
-ghost use Rattle.edit.specs.Changing.Dropped.{Drops, Shortens, withSums};
+ghost use Rattle.edit.specs.{Changing.Dropped.{Drops}, inner.Changing.Dropped.{Shortens, withSums}};
 use crate::changing::begin::refused;
 use crate::changing::cut::Ends;
 use crate::changing::cut::cut_lists;

@@ -1,6 +1,6 @@
 // The sum of some lengths, if it is no more than there is room for.
 ghost use mathlib.Core.Path.{_≡_};
-ghost use Rattle.edit.specs.Changing.Sum.{SumsTo};
+ghost use Rattle.edit.specs.inner.Changing.Sum.{SumsTo};
 
 pub(crate) enum Sum {
     Within(usize),

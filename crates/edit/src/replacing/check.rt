@@ -3,7 +3,7 @@ ghost use mathlib.Core.Path.{_≡_};
 ghost use Prim.Native.Nat.{_+_, _*_, _^_, _≤_, _<_};
 ghost use lib.ListN.{length};
 ghost use Rattle.numbers.specs.Reply.{plain};
-ghost use Rattle.edit.specs.Replacing.Spot.{textAt, spotIn, within, checkedOf, told};
+ghost use Rattle.edit.specs.inner.Replacing.Spot.{textAt, spotIn, within, checkedOf, told};
 use crate::replacing::find::is_value;
 use crate::replacing::find::place_behind;
 use draft::held::room::Rooms;

@@ -1,7 +1,7 @@
 // One text in the place of another.
 ghost use mathlib.Core.Path.{_≡_};
 ghost use lib.ListN.{length, set};
-ghost use Rattle.edit.specs.Replacing.Exchange.{Exchanging, Exchanged};
+ghost use Rattle.edit.specs.inner.Replacing.Exchange.{Exchanging, Exchanged};
 use builder::put::put_bytes;
 use header::field::zero;
 

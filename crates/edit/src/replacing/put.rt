@@ -4,7 +4,7 @@ ghost use Prim.Native.Nat.{ℕ, _^_, _≤_, _<_};
 ghost use lib.ListN.{length};
 ghost use Rattle.build.specs.Room.{workOf};
 ghost use Rattle.draft.specs.Held.State.{listsAs};
-ghost use Rattle.edit.specs.Replacing.{Exchange.{Exchanging}, Replaced.{Putting, PutIn, Renews, TakenBack, spotUpTo}};
+ghost use Rattle.edit.specs.inner.Replacing.{Exchange.{Exchanging}, Replaced.{Putting, PutIn, Renews, TakenBack, spotUpTo}};
 use crate::replacing::check::Spot;
 use crate::replacing::exchange::exchange;
 use crate::replacing::resum::resum;

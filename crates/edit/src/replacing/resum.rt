@@ -2,7 +2,7 @@
 ghost use mathlib.Core.Path.{_≡_};
 ghost use lib.ListN.{length};
 ghost use Rattle.build.specs.Room.{workOf};
-ghost use Rattle.edit.specs.Replacing.Replaced.{Resumming, Resums, resummed};
+ghost use Rattle.edit.specs.inner.Replacing.Replaced.{Resumming, Resums, resummed};
 use draft::held::state::Changed;
 use draft::held::state::Held;
 use draft::summed::sums::Summed;

@@ -7,15 +7,11 @@ use lib.{Dec.{leb, ltb}, ListN.{length}}
 use Rattle.numbers.specs.Answer.{if_then_else_}
 use Rattle.header.specs.Utf8.{Range, _∈_, characters, Fits, none, next, Among, here, later, Octets, ended, char, Pending, due, wrong, startedBy, begunBy, followed, goesOn, isUtf8}
 use Rattle.header.proofs.utf8.Octets.{stays-wrong}
+use Rattle.numbers.proofs.Tests.{both}
 
 -- ---- tests
 never : _≡_ {A = Bool} false true → ⊥
 never e = let z : _≡_ {A = ℕ} 0 1 = cc in omega arith
-
-both : (x y : Bool) → (x && y) ≡ true → (x ≡ true) × (y ≡ true)
-both true true e = (refl, refl)
-both true false e = absurd (never e)
-both false y e = absurd (never e)
 
 neither : (x : Bool) → (x && false) ≡ false
 neither true = refl

@@ -3,7 +3,7 @@ use Prim.Native.Nat.{ℕ, _^_, _≤_, _<_}
 use mathlib.Core.{List.{List}, Path.{_≡_}}
 use native.Mathlib.{Nat.{le-refl}, Omega.{arith}}
 use Rattle.layout.proofs.Steps.{next-rises, next-under, inline-first, inline-under}
-use Rattle.layout.specs.{Answers.{LaidOut}, Layout.{next, Fits}, declared.records.Laid.the-variants.{Records, TooLong}}
+use Rattle.layout.specs.{inner.{Answers.{LaidOut}, Layout.{next, Fits}}, declared.records.Laid.the-variants.{Records, TooLong}}
 
 -- the loop's invariant
 pub record Rising (inline : ℕ) (words : List ℕ) (records : ℕ) : Type 0 where

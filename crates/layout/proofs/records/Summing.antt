@@ -3,7 +3,7 @@ use Prim.Native.Nat.{ℕ, _+_, _*_, _≤_, _<_, _^_}
 use lib.{ListN.{length, getD, drop}, Seq.{drop-cons, drop-length}}
 use mathlib.Core.{List.{List}, Path.{_≡_, ap, subst}}
 use native.Mathlib.{Numerals.{add-one}, Omega.{arith}}
-use Rattle.layout.specs.{Answers.{WordSize, WordsSize}, Layout.{wordSize, wordsSize}}
+use Rattle.layout.specs.inner.{Answers.{WordSize, WordsSize}, Layout.{wordSize, wordsSize}}
 use Rattle.layout.proofs.Sizes.{size-35}
 use Rattle.numbers.specs.Spelling.{varintOf}
 use borrow.Author.Tests.{ne-eqb}

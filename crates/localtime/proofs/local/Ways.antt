@@ -11,12 +11,13 @@ use Rattle.localtime.specs.declared.local.Said.the-variants as S
 use Rattle.localtime.specs.declared.rule.Rules.the-variants as R
 use Rattle.localtime.specs.declared.rule.Stated.the-variants as Q
 use Rattle.tzif.specs.{Reply.{Reply, given, refused, refusal, _>>=_}, Header.{rfc9636}, Local.{isAfterLast, byTable, lent, named, replied, Held}}
-use Rattle.tzif.specs.{Number.{lift}, Text.{zeros}, Zone.{readZone}}
+use Rattle.tzif.specs.{Number.{lift}, Zone.{readZone}}
+use Rattle.numbers.specs.Lists.{zeros}
 use Rattle.tzif.specs.declared.{block.Block.{Block}, local.{Answer.{Answer}, Found.{Found}, LocalTime.{LocalTime}}, refusal.Refusal.{Refusal}, zone.Zone.{Zone}}
 use Rattle.tzif.proofs.Goods.{zone-good, zone-leaps-rise, zone-string}
 use Rattle.tzif.specs.declared.local.Answer.the-variants as A
 use Rattle.tzif.specs.declared.local.LocalTime.the-variants as L
-use Rattle.tzrule.specs.{String.{IsTz}, declared.{ask.{Asked.{Asked}, Time.{Time}}, rule.Tz.{Tz}}}
+use Rattle.tzrule.specs.{inner.String.{IsTz}, declared.{ask.{Asked.{Asked}, Time.{Time}}, rule.Tz.{Tz}}}
 use Rattle.tzrule.specs.declared.ask.Asked.the-variants as K
 
 -- what the transitions say

@@ -10,7 +10,7 @@ use Rattle.localtime.specs.declared.rule.Stated.the-variants as Q
 use Rattle.tzif.specs.{Reply.{refusal, demand, _>>=_, _>>_}, Block.{endOf}, Check.{correctionAt}, Local.{typeIn, typeBehind, Good, Held}, Times.{timeIn, transitionsOf}}
 use Rattle.tzif.{specs.declared.{block.Block.{Block}, local.Found.{Found}, times.Times.{Times}, zone.Zone.{Zone}}, proofs.Goods.{type-below, type-held}}
 use Rattle.tzrule.proofs.Laws.{asked-clock}
-use Rattle.tzrule.specs.{Answer.{read, fault}, Ask.{corrected, ask}, String.{stringOf, IsClock, IsTz}, declared.{ask.{Asked.{Asked}, Time.{Time}}, rule.Tz.{Tz}}}
+use Rattle.tzrule.specs.{Answer.{read, fault}, Ask.{corrected, ask}, String.{stringOf}, inner.String.{IsClock, IsTz}, declared.{ask.{Asked.{Asked}, Time.{Time}}, rule.Tz.{Tz}}}
 use Rattle.tzrule.specs.declared.ask.Asked.the-variants as K
 
 -- the instant less its leap seconds

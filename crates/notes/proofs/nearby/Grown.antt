@@ -8,7 +8,7 @@ use Rattle.builder.specs.Grouping.Keys.{numbersFrom}
 use Rattle.draft.proofs.held.Inserted.{lowIn, highIn, gap, recordOf, borderOf, table-grown}
 use Rattle.layout.{proofs.Orders.{sorted-map}, specs.Order.{sortedBy}}
 use Rattle.numbers.{proofs.Spelling.{varint-few}, specs.{Answer.{if_then_else_}, Spelling.{varintOf, signedForm}}}
-use Rattle.notes.specs.Nearby.Nearby.{entryFor, entriesAt, entryWith, southAt, numbered, lowTo, highTo, Nears, placesOf, sizeBehind}
+use Rattle.notes.specs.inner.Nearby.Nearby.{entryFor, entriesAt, entryWith, southAt, numbered, lowTo, highTo, Nears, placesOf, sizeBehind}
 
 -- ---- an entry is its box and two steps of at most ten bytes
 record Parts (box size : ℕ) : Type 0 where

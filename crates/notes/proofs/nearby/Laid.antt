@@ -7,9 +7,9 @@ use Rattle.builder.specs.{Entries.{Entry, boundsAt, boxOf, entryAt, tableOf}, F
 use Rattle.build.specs.Entries.Corners.{cornersOf}
 use Rattle.builder.specs.Grouping.Keys.{numbersFrom}
 use Rattle.draft.proofs.held.Standing.{corners-many}
-use Rattle.notes.specs.Noted.OneMore.{OneMore}
+use Rattle.notes.specs.inner.Noted.OneMore.{OneMore}
 use Rattle.notes.proofs.noted.OneMore.{entryNew, entries-more}
-use Rattle.notes.specs.Nearby.Nearby.{entryFor, entriesAt, entryWith}
+use Rattle.notes.specs.inner.Nearby.Nearby.{entryFor, entriesAt, entryWith}
 
 -- numbers from the next one on
 map-next : {A : Type 0} (f : ℕ → A) (i n : ℕ) → map f (numbersFrom (suc i) n) ≡ map (λ (k : ℕ). f (suc k)) (numbersFrom i n)

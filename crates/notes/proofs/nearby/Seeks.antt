@@ -9,7 +9,7 @@ use Rattle.draft.proofs.held.Inserted.{lowIn, highIn, notBelow, below, lowStep,
 use Rattle.layout.specs.Order.{sortedBy}
 use Rattle.build.proofs.metadata.Shared.{numbers-more}
 use Rattle.numbers.specs.Answer.{if_then_else_}
-use Rattle.notes.specs.Nearby.Nearby.{southAt, numbered, lowTo, highTo, Nears}
+use Rattle.notes.specs.inner.Nearby.Nearby.{southAt, numbered, lowTo, highTo, Nears}
 
 -- the first yards, and one more
 pub numbers-one : (yard : ℕ) → numbersFrom 0 (yard + 1) ≡ numbersFrom 0 yard ++ (yard ∷ [])

@@ -6,7 +6,7 @@ use native.Mathlib.{Numerals.{add-one}, Omega.{arith}}
 use Rattle.builder.specs.Yards.{sumOf}
 use Rattle.builder.{proofs.grouping.Listed.{numbers-many}, specs.Grouping.{Items.{startsFrom}, Keys.{numbersFrom}}}
 use Rattle.numbers.{proofs.Lists.{zeros-drop}, specs.Lists.{zeros}}
-use Rattle.writer.{proofs.Stores.{Left, left-all, left-step, left-none, stored-one, stored-front}, specs.Stored.{Stored}}
+use Rattle.writer.{proofs.Stores.{Left, left-all, left-step, left-none, stored-one, stored-front}, specs.inner.Stored.{Stored}}
 
 -- ---- the first so many words by a rule
 module _ (word : ℕ → ℕ) (count : ℕ) where

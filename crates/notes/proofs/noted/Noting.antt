@@ -8,7 +8,7 @@ use Rattle.notes.proofs.chains.Entering.{chained-out, chained-none}
 use Rattle.notes.specs.Chains.{Chains.{lastWith, Chained, meets, ItemsInside}, Entered.{bucketOf, isFirst, isField, Indexed}}
 use Rattle.builder.{proofs.grouping.{Meant.{starts-inside}, Walks.{fewer-inside}}, specs.Grouping.Items.{startsFrom}}
 use Rattle.notes.proofs.noted.Sharing.{is-first, not-first, field-of}
-use Rattle.notes.specs.Noted.Noting.{EntersAll, NotesOne, NotesAll}
+use Rattle.notes.specs.inner.Noted.Noting.{EntersAll, NotesOne, NotesAll}
 use Rattle.numbers.specs.Lists.{zeros}
 
 -- ---- numbers

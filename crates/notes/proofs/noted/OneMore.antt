@@ -10,7 +10,7 @@ use Rattle.layout.proofs.Everyone.{Every}
 use Rattle.build.proofs.metadata.Shared.{map-more, firsts-new, firsts-old}
 use Rattle.numbers.specs.{Answer.{if_then_else_}, Spelling.{varintOf}}
 use Rattle.notes.specs.Noted.Records.{fieldsIn, beginIn}
-use Rattle.notes.specs.Noted.OneMore.{OneMore}
+use Rattle.notes.specs.inner.Noted.OneMore.{OneMore}
 
 never : {A : Type 0} → true ≡ false → A
 never e = let z : _≡_ {A = ℕ} 0 1 = cc in absurd (omega arith)

@@ -3,9 +3,9 @@ use Prim.Native.Nat.{ℕ, _-_, _^_, _≤_}
 use lib.IntN.{ℤ}
 use mathlib.Core.{List.{List}, Path.{_≡_, subst}}
 use Rattle.builder.specs.{Borders.{Drawn}, Yards.{Yard}}
-use Rattle.notes.specs.Noted.OneMore.{OneMore}
+use Rattle.notes.specs.inner.Noted.OneMore.{OneMore}
 use Rattle.notes.proofs.quick.Beginning.{beside}
-use Rattle.notes.specs.Quick.{Placed.{AddsAtMost, Beside, Places}, Steps.{Grown, Stepping, Steps}}
+use Rattle.notes.specs.inner.Quick.{Placed.{AddsAtMost, Beside, Places}, Steps.{Grown, Stepping, Steps}}
 use Rattle.notes.specs.declared.quick.{place.Placing.{Placing}, step.{Numbers.{Numbers}, Stepped.{Stepped}}}
 use Rattle.notes.specs.declared.quick.place.Placing.the-variants as P
 use Rattle.notes.specs.declared.quick.step.Sureness.the-variants as S

@@ -9,7 +9,7 @@ use Rattle.builder.{proofs.grouping.Listed.{numbers-many}, specs.Grouping.{Item
 use Rattle.draft.{proofs.held.{Begins.{section-size}, Valued.{held-all, held-values, held-whole}}, specs.Held.Totals.{totalsFor}}
 use Rattle.build.{proofs.metadata.{Begun.{values-on}, Shared.{map-more}}, specs.Metadata.Kept.{valuesTo}}
 use Rattle.notes.specs.Noted.Records.{fieldsIn}
-use Rattle.notes.specs.Quick.{Placed.{Beside}, Steps.{Stepping}}
+use Rattle.notes.specs.inner.Quick.{Placed.{Beside}, Steps.{Stepping}}
 use Rattle.notes.specs.declared.quick.step.Numbers.{Numbers}
 
 -- two lists that are equal with an item more

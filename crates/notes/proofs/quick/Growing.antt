@@ -6,10 +6,11 @@ use Rattle.builder.specs.{Borders.{Drawn}, Entries.{Entry, highestOf, lowestOf,
 use Rattle.build.specs.Entries.Corners.{cornersOf}
 use Rattle.draft.{proofs.held.{Standing.{corners-many}, Texts.{corners-more}, Valued.{held-boxes, souths-from}}, specs.Held.Totals.{totalsFor}}
 use Rattle.notes.proofs.nearby.Laid.{entries-are, tables-are}
-use Rattle.notes.specs.Nearby.Nearby.{entriesAt, entryWith, southsAt}
-use Rattle.notes.specs.Noted.{OneMore.{OneMore}, Records.{beginIn}}
+use Rattle.notes.specs.inner.Nearby.Nearby.{entriesAt, entryWith}
+use Rattle.draft.specs.inner.Summed.Sums.{southsOf}
+use Rattle.notes.specs.{inner.Noted.OneMore.{OneMore}, Noted.Records.{beginIn}}
 use Rattle.notes.proofs.noted.OneMore.{begins-more}
-use Rattle.notes.specs.Quick.Steps.{Grown, Stepping}
+use Rattle.notes.specs.inner.Quick.Steps.{Grown, Stepping}
 use Rattle.notes.specs.declared.quick.step.Numbers.{Numbers}
 
 module _ (yards : List Yard) (y : Yard) (drawn drawn′ : Drawn) (names count : ℕ) (numbers : Numbers) (boxes : List ℤ) (borders lengths starts texts chains groups begins : List ℕ)
@@ -58,18 +59,18 @@ module _ (yards : List Yard) (y : Yard) (drawn drawn′ : Drawn) (names count : 
       ∙ ap (λ (l : List ℕ). length (tableOf (zipWith (entryOf more) more l))) (sym (s .placed)))
 
   -- ---- the greatest lower latitude
-  souths-were : southsAt boxes count ≡ map (λ (x : Yard). lowestOf (x .lats)) yards
-  unfolding southsAt
-  souths-were = ap (southsAt boxes) (s .many) ∙ souths-from boxes 0 yards (cornersOf (y ∷ []) ++ bs) front-boxes
+  souths-were : southsOf boxes count ≡ map (λ (x : Yard). lowestOf (x .lats)) yards
+  unfolding southsOf
+  souths-were = ap (southsOf boxes) (s .many) ∙ souths-from boxes 0 yards (cornersOf (y ∷ []) ++ bs) front-boxes
 
-  souths-are : southsAt boxes (count + 1) ≡ map (λ (x : Yard). lowestOf (x .lats)) (yards ++ (y ∷ []))
-  unfolding southsAt
-  souths-are = ap (southsAt boxes) (s .stands .many) ∙ souths-from boxes 0 more bs all-boxes
+  souths-are : southsOf boxes (count + 1) ≡ map (λ (x : Yard). lowestOf (x .lats)) (yards ++ (y ∷ []))
+  unfolding southsOf
+  souths-are = ap (southsOf boxes) (s .stands .many) ∙ souths-from boxes 0 more bs all-boxes
 
   -- ---- all of them
   pub grows : (by begin : ℕ) → OneMore yards y by begin → (table : ℕ) (greatest : ℤ)
       → (numbers .table ≡ length (tableOf (entriesAt boxes begins borders count)) → table ≡ length (tableOf (entriesAt boxes begins borders count ++ (entryWith boxes borders count begin ∷ []))))
-      → (numbers .greatest ≡ highestOf (southsAt boxes count) → greatest ≡ highestOf (southsAt boxes (count + 1)))
+      → (numbers .greatest ≡ highestOf (southsOf boxes count) → greatest ≡ highestOf (southsOf boxes (count + 1)))
       → Grown yards y drawn′ (record { records = numbers .records + by; metadata = numbers .metadata + by; table = table; greatest = greatest; begin = begin })
   unfolding totalsFor
   grows by begin m table greatest new-table new-greatest = record {

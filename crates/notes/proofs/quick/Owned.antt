@@ -5,13 +5,13 @@ use mathlib.Core.{Bool.{false}, List.{List, flatMap, map}, Path.{_≡_, sym, ap,
 use Rattle.builder.specs.{Metadata.{fieldsOf, inlined, layoutOf, remotes, written}, Sharing.{firsts, isIn, sameTexts}, Yards.{Text, Yard}}
 use Rattle.builder.specs.Grouping.Items.{itemAt}
 use Rattle.build.specs.Metadata.Kept.{fieldsTo}
-use Rattle.notes.specs.Noted.{OneMore.{OneMore}, Records.{fieldsIn}}
+use Rattle.notes.specs.{inner.Noted.OneMore.{OneMore}, Noted.Records.{fieldsIn}}
 use Rattle.notes.proofs.noted.OneMore.{own-more}
 use Rattle.numbers.specs.Spelling.{varintOf}
 use Rattle.notes.proofs.weighed.Lengths.{one-word, weights-written}
-use Rattle.notes.specs.Weighed.Weighing.{AtMost, Noted, WeighsAs}
+use Rattle.notes.specs.inner.Weighed.Weighing.{AtMost, Noted, WeighsAs}
 use Rattle.notes.specs.declared.weighed.weigh.Weight.{Weight, the-variants.{Takes}}
-use Rattle.notes.specs.Quick.Placed.{Behind, Places, AddsAtMost}
+use Rattle.notes.specs.inner.Quick.Placed.{Behind, Places, AddsAtMost}
 use Rattle.notes.specs.declared.quick.place.Placing.{Placing}
 use Rattle.notes.specs.declared.quick.place.Placing.the-variants as P
 

@@ -9,10 +9,10 @@ use Rattle.build.proofs.entries.Tabled.{begins-are}
 use Rattle.builder.{proofs.grouping.{Meant.{starts-inside}, Walks.{fewer-inside}}, specs.Grouping.Items.{itemAt, startsFrom}}
 use Rattle.build.specs.Metadata.Kept.{beginOf, valuesTo}
 use Rattle.notes.proofs.noted.{Noting.{Finds}, OneMore.{shared-more}, Sharing.{found-some, groups-shared}}
-use Rattle.notes.specs.Noted.OneMore.{OneMore}
+use Rattle.notes.specs.inner.Noted.OneMore.{OneMore}
 use Rattle.build.proofs.recording.Spreading.{numbered-at}
 use Rattle.notes.proofs.quick.Owned.{PlacesOwn}
-use Rattle.notes.specs.Quick.Placed.{AddsAtMost, Beside, Places}
+use Rattle.notes.specs.inner.Quick.Placed.{AddsAtMost, Beside, Places}
 use Rattle.notes.specs.declared.quick.place.Placing.{Placing}
 use Rattle.notes.specs.declared.quick.place.Placing.the-variants as P
 

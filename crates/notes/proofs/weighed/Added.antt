@@ -6,7 +6,7 @@ use Rattle.builder.specs.Yards.{Text}
 use Rattle.builder.{proofs.grouping.Walks.{item-among}, specs.Grouping.Items.{textAt, itemAt}}
 use Rattle.build.specs.Metadata.Kept.{fieldsTo}
 use Rattle.notes.proofs.weighed.{Counted.{item-more}, Weighed.{weighed-sure}}
-use Rattle.notes.specs.{Weighed.{Weights.{Weight as Known, Weighed, weightOf}, Weighing.{Noted, weightsOf, AtMost, WeighsOne, Weighs, WeighsAs}}, declared.weighed.weigh.Weight.{Weight}}
+use Rattle.notes.specs.{inner.Weighed.{Weights.{Weight as Known, Weighed, weightOf}, Weighing.{Noted, weightsOf, AtMost, WeighsOne, Weighs, WeighsAs}}, declared.weighed.weigh.Weight.{Weight}}
 use Rattle.notes.specs.declared.weighed.weigh.Weight.the-variants.{Takes, Unsure}
 
 -- a value of a yard stands among those of the yards before it and its own

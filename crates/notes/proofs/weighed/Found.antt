@@ -11,7 +11,7 @@ use Rattle.header.specs.Utf8.{unmasked}
 use Rattle.build.specs.Metadata.Kept.{fieldsTo}
 use Rattle.numbers.{proofs.Spelling.{varint-byte}, specs.{Answer.{if_then_else_}, Spelling.{varintOf}}}
 use Rattle.notes.proofs.weighed.{Counted.{countWith, count-none, count-last, fields-counted, alike-one}, Weighed.{in-neither}}
-use Rattle.notes.specs.Weighed.Weights.{Weight, nothing, behind, unmet, weightOf}
+use Rattle.notes.specs.inner.Weighed.Weights.{Weight, nothing, behind, unmet, weightOf}
 
 -- ---- how often a value stands in the fields
 module _ (names : ℕ) (lengths starts texts : List ℕ) (begin : starts ≡ startsFrom 0 lengths) (count value : ℕ) where

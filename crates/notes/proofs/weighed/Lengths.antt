@@ -7,7 +7,7 @@ use Rattle.builder.specs.{Metadata.{inlined, isRemote, remotes, offsetOf, writt
 use Rattle.draft.proofs.held.Begins.{word-inside}
 use Rattle.layout.proofs.Sizes.{size-rises}
 use Rattle.numbers.specs.{Answer.{if_then_else_}, Spelling.{varintOf}}
-use Rattle.notes.specs.Weighed.{Weights.{weightOf}, Weighing.{weightsOf}}
+use Rattle.notes.specs.inner.Weighed.{Weights.{weightOf}, Weighing.{weightsOf}}
 
 module _ (fields : List Text) (records word : ℕ) where
   -- each text behind the records is met by a word of this length

@@ -9,7 +9,7 @@ use Rattle.builder.{proofs.grouping.{Meant.{starts-inside}, Walks.{fewer-inside
 use Rattle.build.specs.Metadata.Kept.{fieldsTo}
 use Rattle.numbers.{proofs.Spelling.{varint-few}, specs.Spelling.{varintOf}}
 use Rattle.notes.proofs.weighed.Found.{met-none, met-twice, empty-weight, new-weight, far-weight}
-use Rattle.notes.specs.{Weighed.Weighing.{Noted, AtMost, WeighsOne, Weighs}, declared.weighed.weigh.Weight.the-variants.{Takes, Unsure}}
+use Rattle.notes.specs.{inner.Weighed.Weighing.{Noted, AtMost, WeighsOne, Weighs}, declared.weighed.weigh.Weight.the-variants.{Takes, Unsure}}
 
 -- the bytes of a value, by where it begins and where the next one does
 abbrev pub sizeAt : List ℕ → ℕ → ℕ

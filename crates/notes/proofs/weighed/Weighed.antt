@@ -8,7 +8,7 @@ use Rattle.builder.specs.{Metadata.{fieldsOf, isRemote}, Sharing.{sameText, sam
 use Rattle.builder.proofs.grouping.{Keyed.{text-equal}, Meant.{text-itself}}
 use Rattle.draft.proofs.held.Sure.{Sure, empty, far, alone, times-none, times-more, in-more}
 use Rattle.layout.proofs.Everyone.{Every}
-use Rattle.notes.specs.Weighed.Weights.{Weight, Weighed, nothing, behind, unmet}
+use Rattle.notes.specs.inner.Weighed.Weights.{Weight, Weighed, nothing, behind, unmet}
 use Rattle.numbers.specs.Answer.{if_then_else_}
 
 -- ---- in one list or another

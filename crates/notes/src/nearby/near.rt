@@ -3,7 +3,8 @@ ghost use mathlib.Core.{Path.{_≡_}, List.{[], _∷_, _++_}};
 ghost use Prim.Native.Nat.{_+_, _*_, _^_, _≤_, _<_};
 ghost use lib.ListN.{length};
 ghost use Rattle.builder.specs.Entries.{boundsAt, entryAt, entryBytes, highestOf, tableOf};
-ghost use Rattle.notes.specs.Nearby.Nearby.{entriesAt, entryWith, southsAt, southAt, Nears, placesOf, sizeBehind, Reaching};
+ghost use Rattle.notes.specs.inner.Nearby.Nearby.{entriesAt, entryWith, southAt, Nears, placesOf, sizeBehind, Reaching};
+ghost use Rattle.draft.specs.inner.Summed.Sums.{southsOf};
 use builder::boxes::Bounds;
 use builder::entry::Places;
 use builder::entry::put_entry;
@@ -139,7 +140,7 @@ pub(crate) fn table_more(
 // The greatest lower latitude with that of yard number `count`, which is the greatest if it is the only one.
 pub(crate) fn greatest_with(greatest: i32, boxes: &[i32], count: usize) -> i32
     requires { ⌜ (4 * count < length (now boxes)) × (count < 4096) ⌝ }
-    ensures { λ r. ⌜ (greatest ≡ highestOf (southsAt (now (boxes .entry)) count) → r ≡ highestOf (southsAt (now (boxes .entry)) (count + 1))) ⌝ }
+    ensures { λ r. ⌜ (greatest ≡ highestOf (southsOf (now (boxes .entry)) count) → r ≡ highestOf (southsOf (now (boxes .entry)) (count + 1))) ⌝ }
 {
     let south = boxes[4 * count];
     if count == 0 {

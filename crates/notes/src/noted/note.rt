@@ -5,7 +5,7 @@ ghost use lib.{ListN.{length, getD, drop}, Seq.{sets}};
 ghost use Rattle.builder.specs.Yards.{sumOf};
 ghost use Rattle.builder.specs.Grouping.{Items.{startsFrom}, Keys.{numbersFrom}};
 ghost use Rattle.numbers.specs.Lists.{zeros};
-ghost use Rattle.notes.specs.Noted.Noting.{EntersAll, NotesOne, NotesAll};
+ghost use Rattle.notes.specs.inner.Noted.Noting.{EntersAll, NotesOne, NotesAll};
 use crate::chains::enter::enter;
 use crate::chains::find::find;
 use header::zero::zero_words;

@@ -3,7 +3,7 @@ ghost use mathlib.Core.{Bool.{false}, List.{List, map}, Path.{_≡_}};
 ghost use Prim.Native.Nat.{ℕ, _+_, _*_, _^_, _≤_, _<_};
 ghost use lib.ListN.{length};
 ghost use Rattle.builder.specs.{Sharing.{sameTexts, isIn}, Yards.{Yard}};
-ghost use Rattle.notes.specs.Quick.Placed.{Behind, Beside, Places, AddsAtMost};
+ghost use Rattle.notes.specs.inner.Quick.Placed.{Behind, Beside, Places, AddsAtMost};
 use crate::chains::find::find;
 use crate::weighed::weigh::Weight;
 use crate::weighed::weigh::weigh;

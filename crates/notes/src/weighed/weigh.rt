@@ -5,7 +5,7 @@ ghost use lib.ListN.{length};
 ghost use Rattle.builder.specs.Sharing.{sameText, isIn};
 ghost use Rattle.builder.specs.Grouping.Items.{Inside, textAt, itemAt};
 ghost use Rattle.build.specs.Metadata.Kept.{fieldsTo};
-ghost use Rattle.notes.specs.Weighed.Weighing.{Noted, AtMost, Weighs, WeighsAs};
+ghost use Rattle.notes.specs.inner.Weighed.Weighing.{Noted, AtMost, Weighs, WeighsAs};
 use crate::chains::find::find;
 use crate::chains::find::find_before;
 use crate::chains::texts::same_items;

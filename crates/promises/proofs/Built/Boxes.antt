@@ -4,7 +4,8 @@ use borrow.Author.Tests.{ltb-true, ltb-false, leb-true, le-leb, lt-leb, eqb-true
 use lib.{Dec.{ltb, leb, eqb}, IntN.{ℤ, pos, negsuc, natAbs}, ListN.{length}, Signed.{ltZ, leZ}}
 use mathlib.Core.{Bool.{Bool, true, false, _&&_}, List.{List, [], _∷_, zipWith}, Path.{_≡_, refl, sym, ap, _∙_}}
 use native.Mathlib.Omega.{arith}
-use Rattle.border.{proofs.Signs.{both}, specs.{Box.{minZ, maxZ, boxOver}, Place.{pointAt}}}
+use Rattle.numbers.proofs.Tests.{both}
+use Rattle.border.specs.{Box.{minZ, maxZ, boxOver}, Place.{pointAt}}
 use Rattle.writer.specs.{Moves.{pointsOf}, Writer.{every, sized, near}}
 use Rattle.border.specs.Box as B
 use Rattle.builder.specs.Entries.{lesser, greater, bestBy, lowestOf, highestOf, boxOf, fromSouth}

@@ -4,7 +4,8 @@ use borrow.Author.Tests.{eqb-true}
 use lib.{Dec.{leb, ltb, eqb}, ListN.{length}}
 use mathlib.Core.{Bool.{Bool, true, false}, List.{List, [], _∷_, _++_, flatMap, zipWith, append-nil, append-assoc}, Path.{_≡_, refl, sym, ap, subst, _∙_}}
 use native.Mathlib.Omega.{arith}
-use Rattle.border.{proofs.Signs.{both}, specs.declared.place.Point.{Point}}
+use Rattle.numbers.proofs.Tests.{both}
+use Rattle.border.specs.declared.place.Point.{Point}
 use Rattle.verdict.specs.{Verdict.{Judgement, reached}, declared.step.Verdict.{Verdict, the-variants.{NotInZone}}}
 use Rattle.writer.specs.Writer.{every}
 use Rattle.builder.specs.{Borders.{Drawn}, File.{Room, builtOf}, Metadata.{recordsOf, startOf}, Yards.{Text, Yard, Plan}}

@@ -3,10 +3,11 @@ use Prim.Native.Nat.{ℕ, _+_, _≤_, _<_}
 use lib.{Dec.{leb, ltb}, ListN.{length, length-append}}
 use mathlib.Core.{Bool.{Bool, true, _&&_}, List.{List, [], _∷_, _++_, flatMap}, Path.{_≡_, ap, _∙_}}
 use native.Mathlib.Omega.{arith}
-use Rattle.border.proofs.Signs.{both}
+use Rattle.numbers.proofs.Tests.{both}
 use Rattle.writer.specs.Writer.{every}
 use Rattle.builder.specs.{Borders.{Drawn}, File.{Room, headFrom, headOf, isText, readable, known, builtOf}, Metadata.{inlined}, Yards.{Text, Plan}}
-use Rattle.promises.proofs.Built.{Header.{texts-read, sections-read}, AtPlace.{at-behind}, Parts.{Built, built-from, sizes, sections, in-parts, at-sizes, file-length}}
+use Rattle.promises.proofs.Built.{Header.{texts-read, sections-read}, Parts.{Built, built-from, sizes, sections, in-parts, at-sizes, file-length}}
+use Rattle.border.proofs.AtPlace.{at-behind}
 use Rattle.header.{proofs.ReadBack.{preamble-is}, specs.{Field.{entry}, Header.{isKind, preambleOf, textsOf, sectionsAt, Contents, contentsBy, headBy}, Opening.{openedBy}}}
 use Rattle.header.proofs.ReadBack as R
 use Rattle.promises.specs.Built.{Opens.{textsOut, openedAs}, Seats.{tableIn, metadataIn, tablePlace, headIn}}

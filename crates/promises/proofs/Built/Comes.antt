@@ -4,7 +4,8 @@ use borrow.Author.Tests.{leb-true}
 use lib.{Dec.{leb, ltb, eqb}, IntN.{ℤ, pos, natAbs}, ListN.{length}, Signed.{leZ}}
 use mathlib.Core.{Bool.{Bool, true, false, _&&_}, List.{List, [], _∷_, zipWith}, Path.{_≡_, refl, sym, ap, subst, _∙_}}
 use native.Mathlib.{Nat.{le-refl}, Omega.{arith}}
-use Rattle.border.{proofs.Signs.{both}, specs.{Place.{pointAt}, Written.{roundTrip}, declared.place.Point.{Point}, Box.{between}}}
+use Rattle.numbers.proofs.Tests.{both}
+use Rattle.border.specs.{Place.{pointAt}, Written.{roundTrip}, declared.place.Point.{Point}, Box.{between}}
 use Rattle.verdict.{proofs.Unasked.{Agrees, asked-or-not}, specs.{Verdict.{Judgement, reached, none}, declared.step.Verdict.{Verdict}}}
 use Rattle.writer.specs.{Moves.{pointsOf}, Writer.{sized}}
 use Rattle.builder.specs.{Borders.{Drawn}, File.{Room}, Yards.{Plan}}

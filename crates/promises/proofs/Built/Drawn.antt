@@ -2,7 +2,7 @@
 use Prim.Native.Nat.{ℕ, _+_, _^_}
 use lib.{Dec.{leb, ltb, eqb}, IntN.{ℤ}, ListN.{length}}
 use mathlib.Core.{Bool.{true, not, _&&_}, List.{List, [], _∷_, _++_, append-nil, append-assoc}, Path.{_≡_, refl, sym, ap, subst, _∙_}}
-use Rattle.border.proofs.Signs.{both}
+use Rattle.numbers.proofs.Tests.{both}
 use Rattle.writer.specs.{Moves.{movesOf}, Writer.{every, sized, near, checks, plainBorder, packedBorder, borderOf}, declared.write.Piece.{Piece}}
 use Rattle.builder.specs.{Borders.{appended, withBorder, Drawn, drawnFrom}, Yards.{Yard}}
 use Rattle.promises.proofs.Built.Parts.{looked-at}

@@ -4,15 +4,17 @@ use borrow.Author.Tests.{leb-true}
 use lib.{Dec.{leb, eqb}, ListN.{length, length-append}}
 use mathlib.Core.{Bool.{Bool, true, false, not, _&&_}, List.{List, [], _∷_, _++_, map, flatMap, append-assoc}, Path.{_≡_, refl, sym, ap, _∙_}}
 use native.Mathlib.{Nat.{add-assoc}, Omega.{arith}}
-use Rattle.border.proofs.{OnWay.{At, at-first, at-next, some-bytes}, Signs.{both}}
+use Rattle.border.proofs.OnWay.{At, at-first, at-next, some-bytes}
+use Rattle.numbers.proofs.Tests.{both}
 use Rattle.writer.specs.Writer.{every}
 use Rattle.builder.proofs.Shortest.{records-size, layout-least}
 use Rattle.builder.specs.{File.{isText}, Metadata.{inlined, fieldsOf, isRemote, remotes, offsetOf, written, layoutOf, startOf, metadataOf}}
 use Rattle.builder.specs.{Sharing.{sameText, sameTexts, isIn, timesIn}, Yards.{Text}}
-use Rattle.promises.proofs.Built.{Shared.{stood, twice-in, texts-decided, records-decided}, Strings.{inline-says, remote-says}, AtPlace.{at-inside, at-place, at-part}}
+use Rattle.promises.proofs.Built.{Shared.{stood, twice-in, texts-decided, records-decided}, Strings.{inline-says, remote-says}}
+use Rattle.border.proofs.AtPlace.{at-inside, at-place, at-part}
 use Rattle.header.{proofs.ReadBack.{Says, says-field}, specs.{Field.{Field, field}, Utf8.{unmasked, isUtf8}, declared.header.Head.{Head}}}
 use Rattle.promises.specs.Built.Finds.{fieldsInto}
-use Rattle.layout.specs.Layout.{Fits}
+use Rattle.layout.specs.inner.Layout.{Fits}
 use Rattle.numbers.{proofs.Spelling.{varint-whole}, specs.{Answer.{if_then_else_}, Reply.{Reply, given, plain, demand, _>>=_, _>>_}, Spelling.{varintOf}}}
 use Rattle.zones.specs.Fields as Z
 

@@ -4,11 +4,13 @@ use borrow.Author.Tests.{leb-true}
 use lib.{Dec.{leb}, ListN.{length, length-append}}
 use mathlib.Core.{Bool.{Bool, true, _&&_}, List.{List, [], _∷_, _++_, flatMap}, Path.{_≡_, refl, sym, ap, _∙_}}
 use native.Mathlib.{Nat.{add-zero}, Omega.{arith}}
-use Rattle.border.proofs.{OnWay.{At, at-first, at-next}, Signs.{both}}
+use Rattle.border.proofs.OnWay.{At, at-first, at-next}
+use Rattle.numbers.proofs.Tests.{both}
 use Rattle.writer.specs.Writer.{every}
 use Rattle.builder.specs.{File.{isText}, Metadata.{inlined}}
 use Rattle.header.{specs.{Utf8.{isUtf8}, Field.{entry}, Header.{textsFrom, sectionsAt}}, proofs.ReadBack.{no-texts, says-texts, sections-are}}
-use Rattle.promises.proofs.Built.{Strings.{inline-says}, AtPlace.{number-at}}
+use Rattle.promises.proofs.Built.Strings.{inline-says}
+use Rattle.border.proofs.AtPlace.{number-at}
 use Rattle.numbers.specs.{Reply.{given}, Spelling.{varintOf}}
 
 -- ---- names and notice

@@ -4,7 +4,7 @@ use borrow.Author.Tests.{leb-true, eqb-true, eq-eqb}
 use lib.{Dec.{leb, ltb, eqb}, IntN.{ℤ}, ListN.{length, take, drop, length-take, length-drop}}
 use mathlib.Core.{Bool.{true}, List.{List, [], _∷_}, Path.{_≡_, refl, _∙_}}
 use native.Mathlib.{Nat.{mul-suc}, Omega.{arith}}
-use Rattle.border.proofs.Signs.{both}
+use Rattle.numbers.proofs.Tests.{both}
 use Rattle.writer.specs.Writer.{every}
 use Rattle.builder.{proofs.Counting.{cut-many}, specs.{File.{counted}, Yards.{Text, Yard, Lent, cutBy, yardsFrom, valuesFrom, countedLengths, planOf}}}
 use Rattle.promises.specs.Built.Finds.{Valued}

@@ -10,8 +10,11 @@ use Rattle.verdict.specs.Verdict.{Judgement, reached, Last, none, after, along,
 use Rattle.verdict.specs.Winding.{turned, quarterBy, halfTurn, turnAt, crossingOf, acrossBy, clearOf, woundBy}
 use Rattle.verdict.specs.declared.edge.{Spot.{Spot}, Edge.{Edge, the-variants.{Sloped, EqualLongitude, EqualLatitude}}}
 use Rattle.verdict.specs.declared.step.{Tally.{Tally}, Verdict.{Verdict, the-variants.{OnBorderSegment}}}
-use Rattle.border.{proofs.Signs.{both, differ}, specs.{Trace.{point, closed}, Written.{pointsThen, roundTrip}, declared.place.{FixedLon.{FixedLon}, Point.{Point}}}}
-use Rattle.writer.{proofs.Signs.{size-sum, size-neg, mag-size}, specs.{Moves.{pointsOf}, Writer.{every, near}}}
+use Rattle.numbers.proofs.Tests.{both}
+use Rattle.numbers.proofs.Tests.{differ}
+use Rattle.border.specs.{Trace.{point, closed}, Written.{pointsThen, roundTrip}, declared.place.{FixedLon.{FixedLon}, Point.{Point}}}
+use Rattle.numbers.proofs.write.Gaps.{size-sum, size-neg, mag-size}
+use Rattle.writer.specs.{Moves.{pointsOf}, Writer.{every, near}}
 use Rattle.promises.proofs.Built.NearFloats.{cut-upto, upto-cut, whole-upto, difference-upto}
 use Rattle.numbers.specs.{Answer.{if_then_else_}, Float.{cut64, _⊟_}}
 

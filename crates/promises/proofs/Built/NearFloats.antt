@@ -5,7 +5,7 @@ use lib.Ieee.{Float, nan, inf, fin, binary32, prec, emax, low, up, down, odd, un
 use lib.{Ieee.{Nearest.{div-mono}, Order.{round-mono}}, IntN.{ℤ, pos, negsuc, negℤ, natAbs}}
 use mathlib.Core.{Bool.{Bool, true, false, cond, _&&_, _||_, Bool·beq}, Path.{_≡_, refl, sym, subst}}
 use native.Mathlib.{Nat.{div-one, mul-one, one-mul, mul-pos, mul-assoc, mul-comm, mul-le-mul-right, div-lt-iff-lt-mul, le-of-lt}, Omega.{arith}}
-use Rattle.writer.proofs.Signs.{size-neg}
+use Rattle.numbers.proofs.write.Gaps.{size-neg}
 use Rattle.numbers.{proofs.float.Rounding.{round-neg}, specs.Float.{toF32, cut32, _⊟_}}
 
 -- a float is no number, or finite and at most so great in size

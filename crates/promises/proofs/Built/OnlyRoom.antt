@@ -4,7 +4,8 @@ use borrow.Author.Tests.{leb-true, le-leb}
 use lib.{Dec.{leb, ltb, eqb}, ListN.{length}}
 use mathlib.Core.{Bool.{Bool, true, false, _&&_}, List.{List, [], _∷_, _++_}, Path.{_≡_, refl, sym, ap, subst, _∙_}}
 use native.Mathlib.Omega.{arith}
-use Rattle.border.{proofs.Signs.{both}, specs.declared.place.Point.{Point}}
+use Rattle.numbers.proofs.Tests.{both}
+use Rattle.border.specs.declared.place.Point.{Point}
 use Rattle.verdict.specs.Verdict.{Judgement}
 use Rattle.builder.specs.{Borders.{Drawn}, Entries.{entryBytes}, File.{Room, known, builtOf}, Yards.{Text, Plan}}
 use Rattle.promises.proofs.Built.{BuiltFinds.{match-fields, gathered, search-all}, BuiltOpens.{head-is}, Comes.{alone-comes}, Judged.{judged-alone}, Matches.{SatOf}}

@@ -4,8 +4,9 @@ use borrow.Author.Tests.{leb-true}
 use lib.{Dec.{leb}, ListN.{length, length-append}}
 use mathlib.Core.{Bool.{true, _&&_}, List.{List, [], _++_, append-nil, append-assoc}, Path.{_≡_, refl, sym, ap, _∙_}}
 use native.Mathlib.Omega.{arith}
-use Rattle.promises.proofs.Built.AtPlace.{at-behind, at-place}
-use Rattle.border.proofs.{OnWay.{At, at-first, at-next}, Signs.{both}}
+use Rattle.border.proofs.AtPlace.{at-behind, at-place}
+use Rattle.border.proofs.OnWay.{At, at-first, at-next}
+use Rattle.numbers.proofs.Tests.{both}
 use Rattle.builder.specs.{Borders.{Drawn, drawnOf}, File.{Room, upTo, bordersGood, counted, readable, known, headOf, assembled, fileOf, builtOf}, Yards.{Plan}}
 use Rattle.promises.specs.Built.Seats.{tableIn, metadataIn, tablePlace}
 use Rattle.numbers.{proofs.Replies.{given-from, demanded}, specs.{Reply.{Reply, given, refused, plain, _>>_}, Spelling.{varintOf}}}

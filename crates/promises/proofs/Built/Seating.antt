@@ -4,12 +4,13 @@ use borrow.Author.Tests.{leb-true}
 use lib.{Dec.{leb, ltb}, ListN.{length, length-append}}
 use mathlib.Core.{Bool.{Bool, true}, List.{List, [], _∷_, _++_, map, flatMap, zipWith, append-assoc}, Path.{_≡_, refl, sym, ap, _∙_}}
 use native.Mathlib.Omega.{arith}
-use Rattle.border.proofs.Signs.{both}
+use Rattle.numbers.proofs.Tests.{both}
 use Rattle.writer.specs.Writer.{every}
 use Rattle.builder.specs.{Borders.{Drawn, drawnOf}, Entries.{Entry, tableFrom, fromSouth, tableOf}, File.{Room, isText, readable, counted, entryOf}}
 use Rattle.builder.specs.{Metadata.{inlined, recordsOf, fieldsOf, remotes, written, layoutOf, startOf, metadataOf}, Sharing.{sameTexts, isIn}, Yards.{Text, Yard, Plan}}
 use Rattle.promises.proofs.Built.{Boxes.{lowest-small, highest-small}, Drawn.{Lies, AllLie, none, one, all-lie, accepted-checked}, Fields.{fields-flat}}
-use Rattle.promises.proofs.Built.{Parts.{Built, at-table, file-length}, AtPlace.{at-as}, Shared.{stood, firsts-in, map-in, records-decided}}
+use Rattle.promises.proofs.Built.{Parts.{Built, at-table, file-length}, Shared.{stood, firsts-in, map-in, records-decided}}
+use Rattle.border.proofs.AtPlace.{at-as}
 use Rattle.promises.proofs.Built.TableRead.{Small, AllSmall, entryIn, rows-read}
 use Rattle.layout.{proofs.{Everyone.{Every, every-sorted}, Orders.{sorted-map, sorted-size}}, specs.Order.{sortedBy}}
 use Rattle.promises.specs.Built.Seats.{Entered, enteredOf, tableIn, metadataIn, tablePlace, headIn, seatsOf, rowsOf}

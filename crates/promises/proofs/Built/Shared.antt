@@ -4,7 +4,8 @@ use borrow.Author.Tests.{eqb-true, eq-eqb, leb-true}
 use lib.{Dec.{eqb, leb}, ListN.{length, length-append}}
 use mathlib.Core.{Bool.{Bool, true, false, _||_}, List.{List, [], _∷_, _++_, map, flatMap, append-assoc}, Path.{_≡_, refl, sym, ap, _∙_}}
 use native.Mathlib.Omega.{arith}
-use Rattle.border.proofs.Signs.{both, differ}
+use Rattle.numbers.proofs.Tests.{both}
+use Rattle.numbers.proofs.Tests.{differ}
 use Rattle.builder.specs.Sharing.{sameBy, sameText, sameTexts, isIn, timesIn, firstsAfter, firsts, sizeBefore, goodOnes}
 use Rattle.numbers.specs.Answer.{if_then_else_}
 

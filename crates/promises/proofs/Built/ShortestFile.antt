@@ -9,7 +9,7 @@ use Rattle.builder.specs.{Borders.{Drawn}, Entries.{Entry, boxOf, lowestOf, box
 use Rattle.builder.specs.Metadata.{inlined, recordsOf, fieldsOf, isRemote, remotes, offsetOf, written, fits, layoutOf, startOf, metadataOf}
 use Rattle.builder.specs.{Sharing.{sameTexts, sizeBefore}, Yards.{Text, Yard, Plan}}
 use Rattle.promises.specs.Built.Laid.{startFor, metadataFor, entryFor, fileFor}
-use Rattle.layout.{proofs.{Orders.{sorted-map}, Sizes.{size-rises}}, specs.{Layout.{Fits}, Order.{sortedBy}}}
+use Rattle.layout.{proofs.{Orders.{sorted-map}, Sizes.{size-rises}}, specs.{inner.Layout.{Fits}, Order.{sortedBy}}}
 use Rattle.numbers.specs.{Answer.{if_then_else_}, Spelling.{varintOf, signedForm}}
 
 -- ---- two places of one layout and the same two of another: in the same order, and no nearer to each other

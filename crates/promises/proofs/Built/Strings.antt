@@ -3,7 +3,7 @@ use Prim.Native.Nat.{ℕ, _+_, _^_, _≤_, _<_}
 use lib.ListN.{length, take, drop, length-append, length-map}
 use mathlib.Core.{Bool.{Bool}, List.{List, map}, Path.{_≡_, sym, ap, _∙_}}
 use native.Mathlib.Omega.{arith}
-use Rattle.promises.proofs.Built.AtPlace.{at-inside, at-take, number-at}
+use Rattle.border.proofs.AtPlace.{at-inside, at-take, number-at}
 use Rattle.border.proofs.OnWay.{At, at-first, at-next}
 use Rattle.builder.{proofs.Masks.{unmask-twice}, specs.Metadata.{inlined}}
 use Rattle.header.{proofs.ReadBack.{Says, Masked}, specs.Utf8.{unmasked}}

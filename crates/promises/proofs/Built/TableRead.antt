@@ -6,7 +6,7 @@ use mathlib.Core.{Bool.{Bool, true, false}, List.{List, [], _∷_, _++_, map, ap
 use native.Mathlib.Omega.{arith}
 use Rattle.border.proofs.OnWay.{At, at-first, at-next, some-bytes}
 use Rattle.builder.{proofs.Steps.{step-down, step-up}, specs.Entries.{Entry, boxBytes, entryBytes, tableFrom}}
-use Rattle.promises.proofs.Built.AtPlace.{at-as, number-at}
+use Rattle.border.proofs.AtPlace.{at-as, number-at}
 use Rattle.promises.specs.Built.Seats.{Entered, boundsIn, seatsFrom, rowsOf}
 use Rattle.numbers.proofs.Spelling.{signed-back, signed-small, varint-whole}
 use Rattle.numbers.specs.{Answer.{Answer, found}, Point.{low32, halfOf}, Spelling.{varintOf, signedForm}, Varint.{Numeral, numeral, readingOf}}

@@ -12,9 +12,11 @@ use Rattle.salvage.specs.File.{headTexts, borderBytes, boxBytes, idStep, entryB
 use Rattle.salvage.specs.Kept.{encodingIn, borderPlace, borderGood, stringInside, fieldGood, fieldsGood, recordPlace, entryGood, keptOf, linesFrom}
 use Rattle.salvage.specs.{Promises.{SalvageAgain}, Salvage.{salvagedOf}}
 use Rattle.table.specs.{Rows.{rowsIn}, declared.{rows.Row.{Row}, table.Bounds.{Bounds}}}
-use Rattle.promises.proofs.Salvaged.{AtPlace.{at-take}, KeptAgain.{rows-are, rows-carried}, Opens.{new-opens, texts-inline, first-bytes}, Parts.{made-from, at-metadata}}
+use Rattle.border.proofs.AtPlace.{at-take}
+use Rattle.promises.proofs.Salvaged.{KeptAgain.{rows-are, rows-carried}, Opens.{new-opens, texts-inline, first-bytes}, Parts.{made-from, at-metadata}}
 use Rattle.promises.proofs.Salvaged.{Carried.{SameTexts, no-more, one-more, Carried, AllCarried, no-rows, next-row}, Sound.{Every, Sound, kept-sound}}
-use Rattle.promises.specs.Salvaged.Seats.{tablePlace, newHead, seatsOf, rowsOf}
+use Rattle.promises.specs.inner.Salvaged.Seats.{tablePlace, newHead, seatsOf}
+use Rattle.table.specs.Rows.{asRows}
 
 -- ---- an entry of the new file is good
 field-step : (file : List ℕ) (head : Head) (more place : ℕ) (text : Text) → textAt (head .strict) file (head .sections .metadata) place (record { number = 15; detail = 0 }) ≡ given text
@@ -46,13 +48,13 @@ module _ {file new : List ℕ} {head head′ : Head} (preamble : head′ .preamb
       ∙ ap (λ (n : ℕ). boxBytes (old .bounds) ++ (varintOf (signedForm (idStep id n)) ++ varintOf size)) (c .id)
 
   -- ---- so all are kept, and the sections are the same
-  kept-again : {olds rows : List Row} → AllCarried file new head head′ olds rows → keptOf new head′ (rowsOf rows) ≡ rows
-  unfolding keptOf rowsOf
+  kept-again : {olds rows : List Row} → AllCarried file new head head′ olds rows → keptOf new head′ (asRows rows) ≡ rows
+  unfolding keptOf asRows
   kept-again no-rows = refl
   kept-again (next-row {r = r} c later) = rw (good-again c) (ap (λ (rs : List Row). r ∷ rs) (kept-again later))
 
-  lines-again : {olds rows : List Row} (number : ℕ) → AllCarried file new head head′ olds rows → linesFrom new head′ number (rowsOf rows) ≡ []
-  unfolding linesFrom rowsOf
+  lines-again : {olds rows : List Row} (number : ℕ) → AllCarried file new head head′ olds rows → linesFrom new head′ number (asRows rows) ≡ []
+  unfolding linesFrom asRows
   lines-again number no-rows = refl
   lines-again number (next-row c later) = rw (good-again c) (lines-again (number + 1) later)
 

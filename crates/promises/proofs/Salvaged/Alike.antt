@@ -14,7 +14,7 @@ use Rattle.table.specs.{Table.{isAbove, holds}, declared.{hits.Hit.{Hit}, rows.
 use Rattle.table.proofs.Merged.{Each, end, next, both}
 use Rattle.zones.{proofs.PlaceLeftOut.{bareHit, bare, bare-append}, specs.Fields.{fieldsPlace}}
 use Rattle.promises.proofs.Salvaged.Carried.{SameTexts}
-use Rattle.promises.specs.Salvaged.Seats.{rowsOf}
+use Rattle.table.specs.Rows.{asRows}
 
 -- what is compared
 abbrev pub compared : {A B : Type 0} → (A → B) → Reply A → Reply B
@@ -101,15 +101,15 @@ module _ (f f′ : List ℕ) (h h′ : Head) where
           go-on true = by-judgement (judge (r .polygon) least)
           go-on false = on least hits hits′ e
 
-    pub seek-like : {rows rows′ : List Row} → AllLike rows rows′ → Alike (seek judge′ fix last′ room (rowsOf rows′)) (seek judge fix last room (rowsOf rows))
-    unfolding seek rowsOf
+    pub seek-like : {rows rows′ : List Row} → AllLike rows rows′ → Alike (seek judge′ fix last′ room (asRows rows′)) (seek judge fix last room (asRows rows))
+    unfolding seek asRows
     seek-like none-like least hits hits′ e = λ i. given (record { hits = e i; mark = 0; least = least })
     seek-like (next-like {r = r} {r′ = r′} {rows = rows} {rows′ = rows′} l later) least hits hits′ e =
-        ap (λ (b : Bounds). compared bareFound (if isAbove b fix then ended hits′ (restMark last′ fix (row r′ (rowsOf rows′))) least else afterTurn (rowTurn judge′ fix r′ least) hits′ room (seek judge′ fix last′ room (rowsOf rows′)))) (l .box)
-        ∙ by-above (isAbove (r .bounds) fix) _ _ (by-row (seek judge′ fix last′ room (rowsOf rows′)) (seek judge fix last room (rowsOf rows)) (seek-like later) r r′ l hits hits′ e least)
+        ap (λ (b : Bounds). compared bareFound (if isAbove b fix then ended hits′ (restMark last′ fix (row r′ (asRows rows′))) least else afterTurn (rowTurn judge′ fix r′ least) hits′ room (seek judge′ fix last′ room (asRows rows′)))) (l .box)
+        ∙ by-above (isAbove (r .bounds) fix) _ _ (by-row (seek judge′ fix last′ room (asRows rows′)) (seek judge fix last room (asRows rows)) (seek-like later) r r′ l hits hits′ e least)
       where
         by-above : (above : Bool) (on′ on : Reply Found) → compared bareFound on′ ≡ compared bareFound on
-            → compared bareFound (if above then ended hits′ (restMark last′ fix (row r′ (rowsOf rows′))) least else on′) ≡ compared bareFound (if above then ended hits (restMark last fix (row r (rowsOf rows))) least else on)
+            → compared bareFound (if above then ended hits′ (restMark last′ fix (row r′ (asRows rows′))) least else on′) ≡ compared bareFound (if above then ended hits (restMark last fix (row r (asRows rows))) least else on)
         by-above true on′ on k = λ i. given (record { hits = e i; mark = 0; least = least })
         by-above false on′ on k = k
 
@@ -145,11 +145,11 @@ module _ (f f′ : List ℕ) (h h′ : Head) where
         by-box true = by-judgement (judge (r .polygon) least)
         by-box false = on least hits each
 
-    pub seek-each : {rows rows′ : List Row} → AllLike rows rows′ → Stays (seek judge fix last room (rowsOf rows))
-    unfolding seek rowsOf
+    pub seek-each : {rows rows′ : List Row} → AllLike rows rows′ → Stays (seek judge fix last room (asRows rows))
+    unfolding seek asRows
     seek-each none-like least hits each = each
-    seek-each (next-like {r = r} {rows = rows} l later) least hits each = by-above (isAbove (r .bounds) fix) _ (turn-each (seek judge fix last room (rowsOf rows)) (seek-each later) r (l .strings) hits each least)
+    seek-each (next-like {r = r} {rows = rows} l later) least hits each = by-above (isAbove (r .bounds) fix) _ (turn-each (seek judge fix last room (asRows rows)) (seek-each later) r (l .strings) hits each least)
       where
-        by-above : (above : Bool) (on : Reply Found) → Each-given on → Each-given (if above then ended hits (restMark last fix (row r (rowsOf rows))) least else on)
+        by-above : (above : Bool) (on : Reply Found) → Each-given on → Each-given (if above then ended hits (restMark last fix (row r (asRows rows))) least else on)
         by-above true on k = each
         by-above false on k = k

@@ -10,7 +10,8 @@ use Rattle.salvage.specs.{Kept.{entryGood, lineIf, keptOf, linesFrom}, Promises
 use Rattle.promises.proofs.Salvaged.{Again.{salvage-again}, KeptAgain.{salvage-kept}, Opens.{salvaged-strict, salvaged-opens-alike}, Parts.{Made, made-from}}
 use Rattle.promises.proofs.Salvaged.SameLookups.{salvage-same, salvage-same-simply}
 use Rattle.promises.specs.Salvaged.{Opens.{OpensStrictly}, Same.{SameAnswers, SameSimply}}
-use Rattle.table.specs.{Rows.{Rows, row, tableEnd, unreadable, rowsIn}, declared.rows.Row.{Row}}
+use Rattle.table.specs.Rows.{Rows, row, tableEnd, unreadable, rowsIn}
+use Rattle.numbers.proofs.Replies.{given-one}
 use Rattle.table.specs.Rows as T
 
 pub record Answered (file : List ℕ) (words room : ℕ) (counts : Counts) : Type 0 where
@@ -58,9 +59,6 @@ nothing-dropped {file} {words} {room} {counts} a zero-lines =
     go : (m : Made file words room (a .s)) → length (a .s .lines) / 2 ≡ 0 → (linesFrom file (m .head) 0 (rowsIn file (m .head)) ≡ []) ⊎ (2 ≤ length (linesFrom file (m .head) 0 (rowsIn file (m .head)))) → a .s .lines ≡ []
     go m few (inl none) = m .lines-are ∙ none
     go m few (inr some) = absurd (omega (arith, few, some, ap length (m .lines-are)))
-
-given-one : {A : Type 0} {x y : A} → given x ≡ given y → x ≡ y
-given-one e = cc (e)
 
 -- ---- the file that was written, and theorems in the words of the lent outputs
 pub written-file : {file : List ℕ} {words room : ℕ} {counts : Counts} (a : Answered file words room counts) → take (counts .length′) (salvaged file words room .out) ≡ a .s .file

@@ -10,9 +10,10 @@ use Rattle.numbers.{proofs.{Answers.{found-one}, Replies.{given-from, demanded}
 use Rattle.salvage.proofs.data.Drawing.{kept-closes}
 use Rattle.salvage.specs.{File.{borderBytes}, Kept.{encodingIn, borderPlace, borderGood, stringInside, fieldGood, fieldsGood, recordPlace, entryGood}}
 use Rattle.table.specs.declared.rows.Row.{Row}
-use Rattle.promises.proofs.Salvaged.{AtPlace.{at-place}, Moved.{StringMoved, string-moves}, Sound.{Every, none, one, Sound}}
+use Rattle.border.proofs.AtPlace.{at-place}
+use Rattle.promises.proofs.Salvaged.{Moved.{StringMoved, string-moves}, Sound.{Every, none, one, Sound}}
 use Rattle.promises.proofs.Salvaged.TextsAgain.{lain-bytes, TextFound, text-found, text-given}
-use Rattle.promises.specs.Salvaged.Seats.{seatsFrom}
+use Rattle.promises.specs.inner.Salvaged.Seats.{seatsFrom}
 
 -- ---- strings of one record, in both files
 pub data SameTexts (file new : List ℕ) (head head′ : Head) : ℕ → ℕ → ℕ → Type 0 where

@@ -13,7 +13,8 @@ use Rattle.zones.specs.Simple.{partOf, begun, newer, joined, pickedFrom, picked
 use Rattle.zones.specs.declared.simple.Value.the-variants as X
 use Rattle.promises.proofs.Salvaged.{Alike.{compared, bareMatched, both-given, SameRecord, AllLike}, Carried.{SameTexts, no-more, one-more}}
 use Rattle.promises.proofs.Salvaged.{LookedAlike.{Read, Matches-read, matched-like, matched-each}, TextsAgain.{SameNames, no-names, one-name}}
-use Rattle.promises.specs.Salvaged.{Same.{unmarkedSimple}, Seats.{rowsOf}}
+use Rattle.promises.specs.Salvaged.Same.{unmarkedSimple}
+use Rattle.table.specs.Rows.{asRows}
 
 module _ (f f′ : List ℕ) (h h′ : Head) (preamble : h′ .preamble ≡ h .preamble) where
   -- ---- what is picked has the same bytes
@@ -126,7 +127,7 @@ module _ (f f′ : List ℕ) (h h′ : Head) (preamble : h′ .preamble ≡ h .p
     worded-like room xs ys e each = ap (λ (r : Reply (Option (List ℕ))). r >>= λ description. fitting room (bytesIn description) >>= λ bytes. given description) (description-like xs ys e each)
 
     -- ---- the answer
-    module _ (rows rows′ : List Row) (like : AllLike f f′ h h′ rows rows′) (old-rows : rowsIn f h ≡ rowsOf rows) (new-rows : rowsIn f′ h′ ≡ rowsOf rows′) (location : Location) where
+    module _ (rows rows′ : List Row) (like : AllLike f f′ h h′ rows rows′) (old-rows : rowsIn f h ≡ asRows rows) (new-rows : rowsIn f′ h′ ≡ asRows rows′) (location : Location) where
       abbrev outcome : Matched → Option (List ℕ) → Outcome Described
       outcome found description = record { answer = record { matches = length (found .matches); mark = found .mark; description = lengthIn description }; matches = found .matches; text = bytesIn description }
 

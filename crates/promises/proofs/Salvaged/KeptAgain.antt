@@ -12,8 +12,11 @@ use Rattle.salvage.specs.Promises.{valuesFrom, KeptEntry, KeptAs, none, some, K
 use Rattle.table.specs.{Rows.{rowsIn}, declared.rows.Row.{Row}}
 use Rattle.promises.proofs.Salvaged.Carried.{SameTexts, no-more, one-more, Shifted, Carried, AllCarried, no-rows, next-row, all-carried}
 use Rattle.promises.proofs.Salvaged.{Opened.{Opened, opened-from, opened-small}, Opens.{new-opens}, Parts.{made-from, at-table, at-metadata, at-data, new-length}}
-use Rattle.promises.proofs.Salvaged.{Sound.{Every, Sound, kept-sound}, AtPlace.{at-place}, TableAgain.{rows-read, entries-many}}
-use Rattle.promises.specs.Salvaged.Seats.{tablePlace, newHead, seatsOf, rowsOf}
+use Rattle.promises.proofs.Salvaged.{Sound.{Every, Sound, kept-sound}, TableAgain.{rows-read, entries-many}}
+use Rattle.border.proofs.AtPlace.{at-place}
+use Rattle.promises.specs.inner.Salvaged.Seats.{tablePlace, newHead, seatsOf}
+use Rattle.table.specs.Rows.{asRows}
+use Rattle.numbers.proofs.Replies.{given-one}
 
 -- ---- the values of a record
 values-step : (file : List ℕ) (head : Head) (more place : ℕ) (text : Text) → textAt (head .strict) file (head .sections .metadata) place (record { number = 15; detail = 0 }) ≡ given text
@@ -39,8 +42,8 @@ kept-entry {file} {new} {head} {head′} {old} {r} preamble c =
       border = same-judgement file new (encodingIn file head) (encodingIn new head′) (borderPlace file head old) (borderPlace new head′ r) (c .border);
     }
 
-kept-as : {file new : List ℕ} {head head′ : Head} {olds rows : List Row} → head′ .preamble ≡ head .preamble → AllCarried file new head head′ olds rows → KeptAs file new head head′ olds (rowsOf rows)
-unfolding rowsOf
+kept-as : {file new : List ℕ} {head head′ : Head} {olds rows : List Row} → head′ .preamble ≡ head .preamble → AllCarried file new head head′ olds rows → KeptAs file new head head′ olds (asRows rows)
+unfolding asRows
 kept-as preamble no-rows = none
 kept-as preamble (next-row c later) = some (kept-entry preamble c) (kept-as preamble later)
 
@@ -73,7 +76,7 @@ module _ (file : List ℕ) (head : Head) (texts : List ℕ) (kept : List Row) (n
           preamble = refl;
         }
 
-    pub rows-are : rowsIn new (newHead file head strict texts kept) ≡ rowsOf (seatsOf file head texts kept)
+    pub rows-are : rowsIn new (newHead file head strict texts kept) ≡ asRows (seatsOf file head texts kept)
     unfolding rowsIn newHead seatsOf
     rows-are =
         rows-read file head strict new (tablePlace file head texts kept + length (tableFrom file head 0 0 kept)) kept sound (tablePlace file head texts kept) 0 0 0 0 (omega arith) (omega (arith, whole, small))
@@ -87,9 +90,6 @@ module _ (file : List ℕ) (head : Head) (texts : List ℕ) (kept : List Row) (n
         all-carried file head new (newHead file head strict texts kept) shifted kept sound (tablePlace file head texts kept) 0 0 0 0 (at-place none-yet (at-data file head texts kept new is)) (omega (arith, whole, small))
 
 -- ---- the theorem
-given-one : {A : Type 0} {a b : A} → given a ≡ given b → a ≡ b
-given-one e = cc (e)
-
 pub salvage-kept : SalvageKept
 salvage-kept file words room head s opens e =
     let m = made-from file words room s e in

@@ -13,7 +13,8 @@ use Rattle.table.proofs.Merged.{Each, end, next, both, either}
 use Rattle.zones.proofs.PlaceLeftOut.{bareHit, bare, merged-bare}
 use Rattle.zones.specs.{Fields.{fieldsFrom, fieldsOf, fieldsPlace}, Lent.{Outcome}, Lookup.{safezoneBits, zonesWith}, declared.lookup.Zones.{Zones}}
 use Rattle.promises.proofs.Salvaged.{Alike.{compared, bareFound, bareMatched, after, both-given, SameRecord, AllLike, Each-given, seek-like, seek-each}, FieldsAlike.{fields-from}}
-use Rattle.promises.specs.Salvaged.{Same.{unmarked}, Seats.{rowsOf}}
+use Rattle.promises.specs.Salvaged.Same.{unmarked}
+use Rattle.table.specs.Rows.{asRows}
 
 -- what a search's answer is merged to
 abbrev merging : Found → Reply Matched
@@ -57,7 +58,7 @@ module _ (f f′ : List ℕ) (h h′ : Head) (preamble : h′ .preamble ≡ h .p
       ∙ ap (λ (r : Reply (List ℕ)). r >>= fieldsOf f′ h′ room xs) (record-fields (y .metadata) own room text)
       ∙ after (fieldsFrom f h room (h .preamble .count) 0 (fieldsPlace h (y .metadata)) text) (fields-like room xs ys rest later)
 
-  module _ (rows rows′ : List Row) (like : AllLike f f′ h h′ rows rows′) (old-rows : rowsIn f h ≡ rowsOf rows) (new-rows : rowsIn f′ h′ ≡ rowsOf rows′) (location : Location) (asked : Bool) where
+  module _ (rows rows′ : List Row) (like : AllLike f f′ h h′ rows rows′) (old-rows : rowsIn f h ≡ asRows rows) (new-rows : rowsIn f′ h′ ≡ asRows rows′) (location : Location) (asked : Bool) where
     -- ---- the matches
     module _ (fix : Point) (room : ℕ) where
       searched-like : compared bareFound (searched f′ h′ fix asked room) ≡ compared bareFound (searched f h fix asked room)

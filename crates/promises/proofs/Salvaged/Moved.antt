@@ -5,7 +5,9 @@ use lib.{Dec.{leb, ltb}, ListN.{length, take, drop, length-append, length-drop, 
 use lib.Seq.{length-take-le, drop-drop, drop-append-le, take-append-le, take-append-seam}
 use mathlib.Core.{Bool.{Bool, true, false, _&&_}, List.{List, _++_}, Path.{_≡_, refl, sym, ap, _∙_}}
 use native.Mathlib.Omega.{arith}
-use Rattle.border.proofs.{OnWay.{At}, Signs.{both, differ}}
+use Rattle.border.proofs.OnWay.{At}
+use Rattle.numbers.proofs.Tests.{differ}
+use Rattle.numbers.proofs.Tests.{both}
 use Rattle.header.specs.{Text.{within, remoteAt, stringAt}, declared.{header.Head.{Head}, text.Text.{Text}}}
 use Rattle.salvage.proofs.moves.Standing.{reads-both}
 use Rattle.numbers.proofs.{Readings.{Strictly, cut, same, reading-strictly, plain-reading}, Wholes.{ReadWhole, read-whole, whole-some}}

@@ -10,10 +10,11 @@ use Rattle.header.specs.declared.{header.Head.{Head}, opening.Opening.{Opening}
 use Rattle.numbers.specs.{Reply.{Reply, given, refused, plain, demand, _>>_}, Spelling.{varintOf}}
 use Rattle.salvage.specs.{File.{headTexts, tableFrom, metadataOf, newFile}, Salvage.{Salvaged, salvagedOf}}
 use Rattle.table.specs.declared.rows.Row.{Row}
-use Rattle.promises.proofs.Salvaged.{AtPlace.{at-behind, number-at}, Opened.{Opened, Seven, opened-from, opened-seven, preamble-again}}
+use Rattle.border.proofs.AtPlace.{at-behind, number-at}
+use Rattle.promises.proofs.Salvaged.Opened.{Opened, Seven, opened-from, opened-seven, preamble-again}
 use Rattle.promises.proofs.Salvaged.{TextsAgain.{SameNames, Both, texts-again}, Parts.{made-from, dataIn, sizes, sections, in-parts, at-sizes, new-length}}
 use Rattle.header.proofs.ReadBack as R
-use Rattle.promises.specs.Salvaged.{Opens.{OpensStrictly}, Seats.{tablePlace, newHead}}
+use Rattle.promises.specs.{Salvaged.Opens.{OpensStrictly}, inner.Salvaged.Seats.{tablePlace, newHead}}
 
 module _ (file : List ℕ) (head : Head) (texts : List ℕ) (kept : List Row) (new : List ℕ) (is : new ≡ newFile file head texts kept) (small : length new ≤ 2 ^ 30) (opens : headBy true file ≡ given head)
     (inline : headTexts file head ≡ given texts) (strict : Bool) where

@@ -4,13 +4,14 @@ use borrow.Author.Tests.{leb-true, ltb-true}
 use lib.{Dec.{leb, ltb}, ListN.{length, take, length-append}}
 use mathlib.Core.{Bool.{true, _&&_}, List.{List, [], _++_, flatMap, append-nil, append-assoc}, Path.{_≡_, sym, ap, _∙_}}
 use native.Mathlib.Omega.{arith}
-use Rattle.border.proofs.{OnWay.{At, at-first, at-next}, Signs.{both}}
+use Rattle.border.proofs.OnWay.{At, at-first, at-next}
+use Rattle.numbers.proofs.Tests.{both}
 use Rattle.header.specs.{Header.{headBy}, declared.header.Head.{Head}}
 use Rattle.numbers.{proofs.Replies.{given-from, demanded}, specs.{Reply.{given, plain}, Spelling.{varintOf}}}
 use Rattle.salvage.specs.{File.{headTexts, borderBytes, tableFrom, metadataOf, assembled, newFile}, Kept.{keptOf, linesFrom}, Salvage.{Salvaged, salvagedOf}}
 use Rattle.table.specs.{Rows.{rowsIn}, declared.rows.Row.{Row}}
-use Rattle.promises.proofs.Salvaged.AtPlace.{at-behind, at-place}
-use Rattle.promises.specs.Salvaged.Seats.{tablePlace}
+use Rattle.border.proofs.AtPlace.{at-behind, at-place}
+use Rattle.promises.specs.inner.Salvaged.Seats.{tablePlace}
 
 pub record Made (file : List ℕ) (words room : ℕ) (s : Salvaged) : Type 0 where
   pub head : Head

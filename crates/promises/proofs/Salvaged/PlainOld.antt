@@ -19,13 +19,13 @@ use Rattle.table.specs.{Rows.{Rows, startAt, rowsFrom, rowsIn}, Search.{judgeIn
 use Rattle.table.proofs.StrictRows as Q
 use Rattle.table.specs.Rows as T
 use Rattle.promises.proofs.Salvaged.{Carried.{SameTexts, Shifted, fields-same, kept-fields}, Opened.{Opened, opened-from, opened-small}, TextsAgain.{SameNames, no-names, one-name}}
-use Rattle.promises.specs.Salvaged.Seats.{rowsOf}
+use Rattle.table.specs.Rows.{asRows}
 
 -- ---- rows, traces and header
-plain-rows : {mark : Rows → ℕ} {strict plainly : Rows} → StrictRows mark strict plainly → (rows : List Row) → strict ≡ rowsOf rows → plainly ≡ strict
-unfolding rowsOf
+plain-rows : {mark : Rows → ℕ} {strict plainly : Rows} → StrictRows mark strict plainly → (rows : List Row) → strict ≡ asRows rows → plainly ≡ strict
+unfolding asRows
 plain-rows (row m h) [] e = let z : _≡_ {A = ℕ} 0 1 = cc in absurd (omega arith)
-plain-rows (row {r = r} {strict = strict} m h) (q ∷ rows) e = let rest : strict ≡ rowsOf rows = cc (e) in ap (T.row r) (plain-rows h rows rest)
+plain-rows (row {r = r} {strict = strict} m h) (q ∷ rows) e = let rest : strict ≡ asRows rows = cc (e) in ap (T.row r) (plain-rows h rows rest)
 plain-rows Q.cut-off [] e = let z : _≡_ {A = ℕ} 0 1 = cc in absurd (omega arith)
 plain-rows Q.cut-off (q ∷ rows) e = let z : _≡_ {A = ℕ} 0 1 = cc in absurd (omega arith)
 plain-rows at-end rows e = refl
@@ -93,12 +93,12 @@ module _ (file : List ℕ) (head : Head) (opens : headBy true file ≡ given hea
   pub plain-texts : (r : Row) → entryGood file head r ≡ given tt → SameTexts file file head plainly (head .preamble .count) (recordPlace file head r) (recordPlace file head r)
   plain-texts r good = fields-same file head file plainly stands (head .preamble .count) (recordPlace file head r) (recordPlace file head r) (λ low high. omega (arith, low)) (kept-fields file head r good)
 
-  pub plain-rows-are : (rows : List Row) → rowsIn file head ≡ rowsOf rows → rowsIn file plainly ≡ rowsOf rows
+  pub plain-rows-are : (rows : List Row) → rowsIn file head ≡ asRows rows → rowsIn file plainly ≡ asRows rows
   unfolding rowsIn
   plain-rows-are rows e =
       let m = head .sections .metadata in
       let start = startAt (head .sections .table) in
-      let strictly : rowsFrom (readingOf true file) m start ≡ rowsOf rows = ap (λ (t : Bool). rowsFrom (readingOf t file) m start) (sym (opened .strict)) ∙ e in
+      let strictly : rowsFrom (readingOf true file) m start ≡ asRows rows = ap (λ (t : Bool). rowsFrom (readingOf t file) m start) (sym (opened .strict)) ∙ e in
       plain-rows (rows-strictly file m (table-within true file opens) (pointAt (pos 0) (pos 0)) start) rows strictly ∙ strictly
 
 -- ---- the names, read plainly

@@ -8,7 +8,8 @@ use Rattle.table.specs.declared.rows.Row.{Row}
 use Rattle.promises.proofs.Salvaged.{Carried.{Carried, AllCarried, no-rows, next-row}, KeptAgain.{values-same, kept-entry, shifted, rows-are, rows-carried}}
 use Rattle.promises.proofs.Salvaged.{Opens.{new-opens}, Parts.{made-from}, PlainOld.{plainly, plain-head, plain-judged, plain-texts}, Sound.{Every, Sound, kept-sound}}
 use Rattle.promises.proofs.Salvaged.Sound as E
-use Rattle.promises.specs.Salvaged.{Opens.{KeptPlainly}, Seats.{newHead, rowsOf}}
+use Rattle.promises.specs.{Salvaged.Opens.{KeptPlainly}, inner.Salvaged.Seats.{newHead}}
+use Rattle.table.specs.Rows.{asRows}
 
 module _ (file : List ℕ) (head : Head) (opens : headBy true file ≡ given head) (new : List ℕ) (head′ : Head) (preamble : head′ .preamble ≡ head .preamble) where
   plain-entry : {old r : Row} → Sound file head old → Carried file new head head′ old r → KeptEntry file new (plainly file head opens) head′ old r
@@ -21,8 +22,8 @@ module _ (file : List ℕ) (head : Head) (opens : headBy true file ≡ given hea
         border = λ lat lon asked least. kept .border lat lon asked least ∙ sym (plain-judged file head opens old (kept-closes file head old (sound .good)) (record { lat = lat; lon = lon }) asked least);
       }
 
-  plain-entries : {olds rows : List Row} → Every (Sound file head) olds → AllCarried file new head head′ olds rows → KeptAs file new (plainly file head opens) head′ olds (rowsOf rows)
-  unfolding rowsOf
+  plain-entries : {olds rows : List Row} → Every (Sound file head) olds → AllCarried file new head head′ olds rows → KeptAs file new (plainly file head opens) head′ olds (asRows rows)
+  unfolding asRows
   plain-entries E.none no-rows = none
   plain-entries (E.one sound more) (next-row c later) = some (plain-entry sound c) (plain-entries more later)
 

@@ -20,7 +20,8 @@ use Rattle.promises.proofs.Salvaged.{PlainOld.{opened, plainly, plain-h
 use Rattle.promises.proofs.Salvaged.{Parts.{Made, made-from, new-length}, Sound.{Every, Sound, kept-sound}, TableAgain.{entries-many}, DescribedAlike.{described-like}}
 use Rattle.promises.proofs.Salvaged.TextsAgain.{SameNames, no-names, one-name}
 use Rattle.promises.proofs.Salvaged.Sound as E
-use Rattle.promises.specs.Salvaged.{Same.{unmarked, comparedBy, SameAnswers, unmarkedSimple, simplyCompared, SameSimply}, Seats.{newHead, seatsFrom, seatsOf, rowsOf}}
+use Rattle.promises.specs.{Salvaged.Same.{unmarked, comparedBy, SameAnswers, unmarkedSimple, simplyCompared, SameSimply}, inner.Salvaged.Seats.{newHead, seatsFrom, seatsOf}}
+use Rattle.table.specs.Rows.{asRows}
 
 -- ---- rows are numbered one by one
 data Numbered : ℕ → List Row → Type 0 where
@@ -32,23 +33,23 @@ module _ (read : ℕ → Answer Numeral) (grows : Grows read) (last : ℕ) where
   unfolding rowBy
   row-number at = then-all (λ (entry : Entry). Unit {0}) (λ (r : Row). r .id ≡ at .id) (entryBy read (at .place)) _ (any (entryBy read (at .place))) (λ entry u. refl)
 
-  numbered : (rows : List Row) (at : Cursor) → rowsFrom read last at ≡ rowsOf rows → at .id + length rows < 2 ^ 32 → Numbered (at .id) rows
-  unfolding rowsOf rowsThen
+  numbered : (rows : List Row) (at : Cursor) → rowsFrom read last at ≡ asRows rows → at .id + length rows < 2 ^ 32 → Numbered (at .id) rows
+  unfolding asRows rowsThen
   numbered [] at e few = no-one
   numbered (r ∷ rows) at e few = go (ltb (at .place) last) (sym (rows-step read grows last at) ∙ e) (numbered rows)
     where
-      found-row : (answer : Answer Row) → All (λ (r : Row). r .id ≡ at .id) answer → rowsThen answer (rowsFrom read last) ≡ T.row r (rowsOf rows)
-          → ((at : Cursor) → rowsFrom read last at ≡ rowsOf rows → at .id + length rows < 2 ^ 32 → Numbered (at .id) rows) → Numbered (at .id) (r ∷ rows)
+      found-row : (answer : Answer Row) → All (λ (r : Row). r .id ≡ at .id) answer → rowsThen answer (rowsFrom read last) ≡ T.row r (asRows rows)
+          → ((at : Cursor) → rowsFrom read last at ≡ asRows rows → at .id + length rows < 2 ^ 32 → Numbered (at .id) rows) → Numbered (at .id) (r ∷ rows)
       found-row (found q) own e later =
           let same : q ≡ r = cc (e) in
-          let rest : rowsFrom read last (after q) ≡ rowsOf rows = cc (e) in
+          let rest : rowsFrom read last (after q) ≡ asRows rows = cc (e) in
           let next : (q .id + 1) % 2 ^ 32 ≡ at .id + 1 = omega (arith, own, few) in
           one-by-one (ap (λ (x : Row). x .id) (sym same) ∙ own) (subst (λ (n : ℕ). Numbered n rows) next (later (after q) rest (omega (arith, next, few))))
       found-row failed own e later = let z : _≡_ {A = ℕ} 0 1 = cc in absurd (omega arith)
       found-row (A.refused n) own e later = let z : _≡_ {A = ℕ} 0 1 = cc in absurd (omega arith)
 
-      go : (test : Bool) → (if test then rowsThen (rowBy read at) (rowsFrom read last) else tableEnd) ≡ T.row r (rowsOf rows)
-          → ((at : Cursor) → rowsFrom read last at ≡ rowsOf rows → at .id + length rows < 2 ^ 32 → Numbered (at .id) rows) → Numbered (at .id) (r ∷ rows)
+      go : (test : Bool) → (if test then rowsThen (rowBy read at) (rowsFrom read last) else tableEnd) ≡ T.row r (asRows rows)
+          → ((at : Cursor) → rowsFrom read last at ≡ asRows rows → at .id + length rows < 2 ^ 32 → Numbered (at .id) rows) → Numbered (at .id) (r ∷ rows)
       go true e later = found-row (rowBy read at) (row-number at) e later
       go false e later = let z : _≡_ {A = ℕ} 0 1 = cc in absurd (omega arith)
 
@@ -69,12 +70,12 @@ module _ (file : List ℕ) (head : Head) (new : List ℕ) (head′ : Head) (prea
 
 -- ---- nothing was dropped
 module _ (file : List ℕ) (head : Head) where
-  none-dropped : (number : ℕ) (rows : Rows) → linesFrom file head number rows ≡ [] → rows ≡ rowsOf (keptOf file head rows)
-  unfolding linesFrom keptOf rowsOf
+  none-dropped : (number : ℕ) (rows : Rows) → linesFrom file head number rows ≡ [] → rows ≡ asRows (keptOf file head rows)
+  unfolding linesFrom keptOf asRows
   none-dropped number (T.row r rows) e = go (entryGood file head r) e (none-dropped (number + 1) rows)
     where
-      go : (g : Reply (Unit {0})) → lineIf g number (linesFrom file head (number + 1) rows) ≡ [] → (linesFrom file head (number + 1) rows ≡ [] → rows ≡ rowsOf (keptOf file head rows))
-          → T.row r rows ≡ rowsOf (keptIf g r (keptOf file head rows))
+      go : (g : Reply (Unit {0})) → lineIf g number (linesFrom file head (number + 1) rows) ≡ [] → (linesFrom file head (number + 1) rows ≡ [] → rows ≡ asRows (keptOf file head rows))
+          → T.row r rows ≡ asRows (keptIf g r (keptOf file head rows))
       go (given tt) e later = ap (T.row r) (later e)
       go (R.refused why) e later = let z : _≡_ {A = ℕ} 0 1 = cc in absurd (omega arith)
   none-dropped number tableEnd e = refl
@@ -120,8 +121,8 @@ module _ (file : List ℕ) (words room : ℕ) (s : Salvaged) (e : salvagedOf fil
   sound : Every (Sound file head) (s .kept)
   sound = subst (λ (rows : List Row). Every (Sound file head) rows) (sym (made .kept-are)) (kept-sound file head)
 
-  old-rows : rowsIn file head ≡ rowsOf (s .kept)
-  old-rows = none-dropped file head 0 (rowsIn file head) (sym (made .lines-are) ∙ dropped) ∙ ap rowsOf (sym (made .kept-are))
+  old-rows : rowsIn file head ≡ asRows (s .kept)
+  old-rows = none-dropped file head 0 (rowsIn file head) (sym (made .lines-are) ∙ dropped) ∙ ap asRows (sym (made .kept-are))
 
   in-turn : Numbered 0 (s .kept)
   unfolding rowsIn

@@ -12,8 +12,10 @@ use Rattle.numbers.specs.{Answer.{Answer, found, if_then_else_}, Point.{low32, 
 use Rattle.salvage.specs.File.{borderBytes, boxBytes, idStep, entryBytes, tableFrom}
 use Rattle.table.proofs.{SixNumbers.{six-read, entry-row}, TableRows.{reading-grows, at-end, at-row}}
 use Rattle.table.specs.{Rows.{row, rowBy, rowsFrom}, Table.{entryBy}, declared.rows.Row.{Row}}
-use Rattle.promises.proofs.Salvaged.{AtPlace.{at-as, number-at}, Sound.{Every, one, Fits, Sound}}
-use Rattle.promises.specs.Salvaged.Seats.{seatsFrom, rowsOf}
+use Rattle.border.proofs.AtPlace.{at-as, number-at}
+use Rattle.promises.proofs.Salvaged.Sound.{Every, one, Fits, Sound}
+use Rattle.promises.specs.inner.Salvaged.Seats.{seatsFrom}
+use Rattle.table.specs.Rows.{asRows}
 
 -- ---- the step of a metadata id, and back
 record Stepped (low : ℕ) (z : ℤ) : Type 0 where
@@ -140,8 +142,8 @@ entries-many file head (r ∷ rows) (one s later) id size =
 module _ (file : List ℕ) (head : Head) (strict : Bool) (new : List ℕ) (end : ℕ) where
   pub rows-read : (rows : List Row) → Every (Sound file head) rows → (place number id size polygon : ℕ) → id < 2 ^ 32 → polygon + size + length (flatMap (borderBytes file head) rows) < 2 ^ 32
       → At new place (tableFrom file head id size rows) → place + length (tableFrom file head id size rows) ≡ end → number + length rows < 2 ^ 32
-      → rowsFrom (readingOf strict new) end (record { place = place; id = number; metadata = id; polygon = polygon }) ≡ rowsOf (seatsFrom file head place number id size polygon rows)
-  unfolding tableFrom seatsFrom rowsOf flatMap
+      → rowsFrom (readingOf strict new) end (record { place = place; id = number; metadata = id; polygon = polygon }) ≡ asRows (seatsFrom file head place number id size polygon rows)
+  unfolding tableFrom seatsFrom asRows flatMap
   rows-read [] sound place number id size polygon h k here whole few =
       at-end (readingOf strict new) (reading-grows strict new) (record { place = place; id = number; metadata = id; polygon = polygon }) (omega arith)
   rows-read (r ∷ rows) (one s later) place number id size polygon h k here whole few =

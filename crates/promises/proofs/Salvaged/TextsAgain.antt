@@ -12,7 +12,7 @@ use Rattle.numbers.proofs.Replies.{given-from, demanded}
 use Rattle.numbers.specs.{Answer.{Answer, found, failed, refused, if_then_else_}, Reply.{given, refusal, plain, _orElse_}, Spelling.{varintOf}}
 use Rattle.numbers.specs.Reply as R
 use Rattle.salvage.specs.File.{textsInline}
-use Rattle.promises.proofs.Salvaged.AtPlace.{at-as, at-inside, at-take, number-at}
+use Rattle.border.proofs.AtPlace.{at-as, at-inside, at-take, number-at}
 
 -- ---- a string, by its bytes as they stand
 pub record Lain (file : List ℕ) (answer : Answer Text) (raw : List ℕ) (next : ℕ) : Type 0 where

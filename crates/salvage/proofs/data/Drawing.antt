@@ -5,7 +5,7 @@ use native.Mathlib.Omega.{arith}
 use Rattle.border.specs.{Trace.{traceOf, borderAt}, declared.reader.Encoding.{Encoding}}
 use Rattle.header.specs.declared.header.Head.{Head}
 use Rattle.salvage.proofs.moves.{Capping.{capped-none, capped-then, capped-as}, pairs.Pairing.{bytes-next}}
-use Rattle.salvage.specs.Moves.{Laid.{Capped, Copied}, Moves.{endOf, movesAt, closedMoves, movesBytes}}
+use Rattle.salvage.specs.{inner.Moves.Laid.{Capped, Copied}, Moves.Moves.{endOf, movesAt, closedMoves, movesBytes}}
 use Rattle.numbers.specs.{Answer.{Answer, found, failed, refused, _>>=_}, Reply.{Reply, given, plain, _orElse_, _>>_}, declared.refusal.Refusal.{Refusal}}
 use Rattle.numbers.specs.Reply as R
 use Rattle.table.specs.{Rows.{startAt, after, rowsIn}, declared.rows.{Cursor.{Cursor}, Row.{Row}}}

@@ -5,7 +5,7 @@ use lib.IntN.{pos, negsuc, _-ℤ_}
 use mathlib.Core.{List.{List, _++_}, Path.{_≡_, ap}}
 use native.Mathlib.Omega.{arith}
 use Rattle.salvage.proofs.moves.Capping.{capped-then}
-use Rattle.salvage.specs.Moves.Laid.{Capped}
+use Rattle.salvage.specs.inner.Moves.Laid.{Capped}
 use Rattle.numbers.{proofs.Spelling.{form-positive, form-negative}, specs.{Point.{readI32}, Spelling.{signedForm}}}
 
 -- a residue modulo 2 ^ 32 as an i32, in its signed form

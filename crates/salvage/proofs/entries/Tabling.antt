@@ -4,10 +4,10 @@ use borrow.Author.Tests.{ltb-true, ltb-false}
 use lib.{Dec.{ltb}, ListN.{length}}
 use mathlib.Core.{Bool.{Bool, true, false}, List.{List, [], _++_, append-assoc, append-nil}, Path.{_≡_, refl, sym, ap, _∙_, subst}}
 use native.Mathlib.Omega.{arith}
-use Rattle.border.proofs.Signs.{both}
+use Rattle.numbers.proofs.Tests.{both}
 use Rattle.header.specs.declared.header.Head.{Head}
 use Rattle.salvage.proofs.moves.Capping.{capped-none, capped-then}
-use Rattle.salvage.specs.Moves.Laid.{cap, Capped}
+use Rattle.salvage.specs.inner.Moves.Laid.{cap, Capped}
 use Rattle.numbers.specs.Reply.{Reply, given, refused}
 use Rattle.table.specs.{Rows.{startAt, after, rowsIn}, declared.rows.{Cursor.{Cursor}, Row.{Row}}}
 use Rattle.salvage.specs.{File.{borderBytes, entryBytes, tableFrom, Sized, Measured, allShort, Tabled}, Kept.{entryGood, keptOf, keptFrom, LedTo}}

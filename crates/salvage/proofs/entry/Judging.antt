@@ -3,7 +3,7 @@ use Prim.Native.Nat.{ℕ}
 use mathlib.Core.{List.{List}, Path.{_≡_, ap, _∙_}}
 use Rattle.border.specs.{Trace.{traceOf, borderAt}, declared.reader.Encoding.{Encoding}}
 use Rattle.header.specs.declared.header.Head.{Head}
-use Rattle.salvage.specs.{Moves.{Laid.{toldEnd}, Moves.{endOf}}, declared.moves.ending.End.{End}}
+use Rattle.salvage.specs.{inner.Moves.Laid.{toldEnd}, Moves.Moves.{endOf}, declared.moves.ending.End.{End}}
 use Rattle.numbers.specs.{Answer.{Answer}, Reply.{Reply, given, refused, plain, _orElse_, _>>_}, declared.refusal.Refusal.{Refusal}}
 use Rattle.table.specs.declared.rows.Row.{Row}
 use Rattle.salvage.specs.Kept.{encodingIn, borderPlace, recordPlace, borderGood, fieldsGood, entryGood}

@@ -7,7 +7,7 @@ use Rattle.border.specs.declared.{place.{FixedLat.{FixedLat}, FixedLon.{FixedLo
 use Rattle.verdict.specs.Verdict.{none, judge, judgedAt}
 use Rattle.numbers.specs.{Answer.{Answer, found, failed, refused, _>>=_}, Varint.{readingOf}, declared.point.RawPoint.{RawPoint}}
 use Rattle.salvage.proofs.moves.{Packed.{packed-again}, Plain.{plain-readable, plain-same, plain-again}}
-use Rattle.salvage.specs.Moves.{Laid.{Capped, Copied}, Moves.{endOf, stepsFrom, origin, plainMoves, orNone, movesBy, movesAt, closedMoves, movesBytes}}
+use Rattle.salvage.specs.{inner.Moves.Laid.{Capped, Copied}, Moves.Moves.{endOf, stepsFrom, origin, plainMoves, orNone, movesBy, movesAt, closedMoves, movesBytes}}
 
 -- the border at a place of one file is that at a place of another
 pub record SameBorder (f f′ : List ℕ) (encoding encoding′ : Encoding) (place place′ : ℕ) : Type 0 where

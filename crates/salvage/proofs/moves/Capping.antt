@@ -6,7 +6,7 @@ use mathlib.Core.{Bool.{Bool, true, false}, List.{List, [], _++_}, Path.{_≡_, 
 use native.Mathlib.{Nat.{add-zero}, Omega.{arith}}
 use Rattle.writer.proofs.Stores.{stored-put, stored-then, stored-length}
 use Rattle.numbers.specs.Spelling.{Put, varintOf}
-use Rattle.salvage.specs.Moves.Laid.{cap, Capped}
+use Rattle.salvage.specs.inner.Moves.Laid.{cap, Capped}
 
 -- a number below the cap, and none past it
 pub capped-put : {before bytes after : List ℕ} {place size : ℕ} → Put before place bytes after size → Capped before place bytes after (place + size)

@@ -7,10 +7,10 @@ use types.Run.{OneOf, miss}
 use Rattle.border.proofs.Trace.{point-trace}
 use Rattle.border.specs.{Trace.{Trace, traceThen, traceOf, nextPoint, reaches}, declared.reader.{Reader.{Reader}, Next.{Next}, Encoding.{Encoding}}}
 use Rattle.border.proofs.reader.Next as Next'
-use Rattle.border.specs.Told as R
+use Rattle.border.specs.inner.Told as R
 use Rattle.border.specs.declared.reader.Next.the-variants as N
 use Rattle.numbers.specs.Answer.{found, failed, refused}
-use Rattle.salvage.specs.Moves.{Laid.{endedBy}, Moves.{endOf}}
+use Rattle.salvage.specs.{inner.Moves.Laid.{endedBy}, Moves.Moves.{endOf}}
 
 -- no further point
 pub end-stops : (n : Next) (rest : Reader → Trace) → OneOf (1 ∷ 2 ∷ 3 ∷ []) (tagOf Next'.the-type n) → endedBy n ≡ endOf (traceThen (R.told n) rest)

@@ -5,8 +5,11 @@ use lib.{Dec.{ltb, lit<}, IntN.{ℤ, pos, negsuc, negℤ, natAbs, _-ℤ_, +ℤ-i
 use mathlib.Core.{Bool.{Bool, true, false}, Path.{_≡_, refl, sym, ap, _∙_, subst}}
 use mir.{Facts.{toZ-ofZ}, Syntax.{w32}, Val.{SFits, toZ, ofZ}}
 use native.Mathlib.Omega.{arith}
-use Rattle.border.{proofs.Signs.{differ, both}, specs.Place.{moveBy, isZero, isStill, negated}}
-use Rattle.writer.{proofs.{Inverse.{packed-back, packed-some, packed-small}, Signs.{size-neg}}, specs.Moves.{packedNumber}}
+use Rattle.numbers.proofs.Tests.{differ}
+use Rattle.border.specs.Place.{moveBy, isZero, isStill, negated}
+use Rattle.numbers.proofs.Tests.{both}
+use Rattle.writer.{proofs.Inverse.{packed-back, packed-some, packed-small}, specs.Moves.{packedNumber}}
+use Rattle.numbers.proofs.write.Gaps.{size-neg}
 use Rattle.numbers.proofs.{Answers.{All}, Spelling.{even-back, odd-back, signed-back, form-positive}, point.Joined.{even-lt}}
 use Rattle.numbers.specs.{Answer.{found, refused, if_then_else_, inRange, checked, _>>=_}, Point.{low32, readI32, halfOf, signedOf, evenBits, pointOf}}
 use Rattle.numbers.specs.{Spelling.{signedForm, interleaved}, declared.point.RawPoint.{RawPoint}}

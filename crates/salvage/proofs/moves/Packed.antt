@@ -3,7 +3,8 @@ use Prim.Native.Nat.{ℕ, _+_, _<_}
 use lib.{Dec.{lit<}, IntN.{ℤ, _+ℤ_, _-ℤ_, +ℤ-comm, +ℤ-negℤ-cancel}, ListN.{length}}
 use mathlib.Core.{Bool.{Bool, true, false}, List.{List, [], _∷_, _++_, flatMap, append-assoc}, Logic.{inl, inr}, Path.{_≡_, refl, sym, ap, _∙_, subst}}
 use native.Mathlib.Omega.{arith}
-use Rattle.border.proofs.{OnWay.{At, at-first, at-next, onWay}, Signs.{differ}, Trace.{trace-step}}
+use Rattle.border.proofs.{OnWay.{At, at-first, at-next, onWay}, Trace.{trace-step}}
+use Rattle.numbers.proofs.Tests.{differ}
 use Rattle.border.proofs.reader.Turns.{turn-move, turn-marker, mark-closes, advances, open-packed}
 use Rattle.border.specs.{Place.{pointAt, movedBy}, Reader.{Turn, gives, onward, closing, advanced}}
 use Rattle.border.specs.Trace.{Given, reaches, ended, nextPoint, Trace, point, closed, traceThen, traceOf, borderAt}

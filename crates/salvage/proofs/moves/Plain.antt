@@ -17,7 +17,7 @@ use Rattle.numbers.specs.{Varint.{Numeral, told, readingOf}, declared.{point.Ra
 use Rattle.numbers.specs.declared.varint.Varint.the-variants as N
 use Rattle.salvage.proofs.moves.{Capping.{capped-then, capped-as}, Ends.{unfound, unrefused}, Forms.{signed-mag, form-again, form-few}, Standing.{reads-both}}
 use Rattle.salvage.proofs.moves.{Turning.{turn, traceBy, trace-turn, closed-trace}, pairs.Pairing.{pair-is}}
-use Rattle.salvage.specs.{Moves.{Laid.{Capped, Copied}, Moves.{endOf, origin, pairAt, pairsFrom, plainMoves, movesBytes}}, declared.moves.pairs.Pair.{Pair}}
+use Rattle.salvage.specs.{inner.Moves.Laid.{Capped, Copied}, Moves.Moves.{endOf, origin, pairAt, pairsFrom, plainMoves, movesBytes}, declared.moves.pairs.Pair.{Pair}}
 
 -- ---- a turn is a pair, then its move
 abbrev pairOf : Numeral → Numeral → Pair

@@ -4,7 +4,7 @@ use mathlib.Core.{List.{List}, Path.{_≡_, refl, sym, ap, _∙_}}
 use native.Mathlib.Omega.{arith}
 use Rattle.numbers.specs.{Lists.{zeros}, Reply.{Reply, given, refused}, declared.refusal.Refusal.{Refusal}}
 use Rattle.salvage.specs.Salvage.{Salvaged, Counts, Replied, repliedOf, salvagedOf, salvaged}
-use Rattle.salvage.specs.{Rescue.Told.{toldRescued, replied}, declared.rescue.reply.Rescued.{Rescued}}
+use Rattle.salvage.specs.{inner.Rescue.Told.{toldRescued, replied}, declared.rescue.reply.Rescued.{Rescued}}
 use Rattle.salvage.specs.declared.rescue.reply.Rescued.the-variants as R
 
 back : Reply Counts → Rescued

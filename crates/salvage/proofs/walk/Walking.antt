@@ -2,7 +2,7 @@
 use Prim.Native.Nat.{ℕ, _-_, _<_, _≤_}
 use mathlib.Core.{Bool.{Bool, true, false}, List.{List, [], _∷_}, Path.{_≡_, refl, sym, ap, _∙_}}
 use native.Mathlib.Omega.{arith}
-use Rattle.border.proofs.Signs.{differ}
+use Rattle.numbers.proofs.Tests.{differ}
 use Rattle.header.specs.declared.header.Head.{Head}
 use Rattle.numbers.specs.{Answer.{Answer, found, failed}, Reply.{Reply, given, refused}, Varint.{Numeral, readingOf}}
 use Rattle.numbers.specs.Answer as A

@@ -1,7 +1,7 @@
 // A whole border: how it ends.
 ghost use mathlib.Core.Path.{_≡_};
 ghost use Rattle.border.specs.Trace.{traceOf, borderAt};
-ghost use Rattle.salvage.specs.Moves.{Laid.{toldEnd, endedBy}, Moves.{endOf}};
+ghost use Rattle.salvage.specs.{inner.Moves.Laid.{toldEnd, endedBy}, Moves.Moves.{endOf}};
 use border::reader::Encoding;
 use border::reader::Next;
 use border::reader::next_point;

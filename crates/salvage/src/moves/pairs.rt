@@ -4,13 +4,13 @@ ghost use Prim.Native.Nat.{suc};
 ghost use Rattle.writer.specs.Moves.{plainMoveBytes};
 ghost use Rattle.border.specs.declared.reader.Version.the-variants.{Plain};
 ghost use Rattle.numbers.specs.Varint.{readingOf};
-ghost use Rattle.salvage.specs.Moves.{Laid.{Capped, Copied, toldPair, stoppedPair}, Moves.{pairAt, pairsFrom, plainMoves, movesBytes}};
-use crate::moves::put::form_of;
+ghost use Rattle.salvage.specs.{inner.Moves.Laid.{Capped, Copied, toldPair, stoppedPair}, Moves.Moves.{pairAt, pairsFrom, plainMoves, movesBytes}};
 use crate::moves::put::put_number;
 use numbers::point::RawPoint;
 use numbers::point::signed;
 use numbers::varint::Varint;
 use numbers::varint::read_number;
+use numbers::write::form_of;
 
 // A move, and the place behind its two numbers.
 pub struct Pair {

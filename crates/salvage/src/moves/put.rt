@@ -1,9 +1,8 @@
 // Numbers into the output. What does not fit is counted and left out; counting stops at 2^31, since repeated runs can make a border longer than
 // any number.
 ghost use mathlib.Core.Path.{_≡_};
-ghost use lib.IntN.{_-ℤ_};
-ghost use Rattle.numbers.specs.Spelling.{varintOf, signedForm};
-ghost use Rattle.salvage.specs.Moves.Laid.{Capped};
+ghost use Rattle.numbers.specs.Spelling.{varintOf};
+ghost use Rattle.salvage.specs.inner.Moves.Laid.{Capped};
 use numbers::write::write_varint;
 
 // The shortest varint, and the place behind it.
@@ -14,15 +13,4 @@ pub(crate) fn put_number(out: &mut [u8], place: usize, value: u64) -> usize
         return place + write_varint(out, place, value);
     }
     place
-}
-
-// The signed form of a difference: twice the size, odd only for negatives.
-pub(crate) fn form_of(from: i32, to: i32) -> u64
-    ensures { λ r. ⌜ r ≡ signedForm (to -ℤ from) ⌝ }
-{
-    let by = (to as i64) - (from as i64);
-    if by < 0 {
-        return ((0 - by) as u64) * 2 + 1;
-    }
-    (by as u64) * 2
 }

@@ -1,5 +1,5 @@
 // A border, written again from its moves.
-ghost use Rattle.salvage.specs.Moves.{Laid.{Copied}, Moves.{closedMoves, movesBytes}};
+ghost use Rattle.salvage.specs.{inner.Moves.Laid.{Copied}, Moves.Moves.{closedMoves, movesBytes}};
 use crate::moves::pairs::put_plain;
 use crate::moves::steps::put_steps;
 use border::reader::Encoding;

@@ -2,8 +2,7 @@
 ghost use mathlib.Core.Path.{_≡_};
 ghost use Rattle.writer.specs.Moves.{moveTo};
 ghost use Rattle.border.specs.{Encoding.{encodedBy}, declared.reader.Version.the-variants.{Packed}};
-ghost use Rattle.salvage.specs.Moves.{Laid.{Copied}, Moves.{stepNumber, movesBytes, closedMoves}};
-use crate::moves::put::form_of;
+ghost use Rattle.salvage.specs.{inner.Moves.Laid.{Copied}, Moves.Moves.{stepNumber, movesBytes, closedMoves}};
 use crate::moves::put::put_number;
 use border::place::Point;
 use border::reader::Encoding;
@@ -11,6 +10,7 @@ use border::reader::Next;
 use border::reader::Version;
 use border::reader::next_point;
 use border::reader::open_border;
+use numbers::write::form_of;
 use numbers::write::interleave;
 
 // The number of the move between two points; 0 would be no move, so a zero move is 3.

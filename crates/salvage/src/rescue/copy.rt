@@ -1,7 +1,7 @@
 // Bytes of the old file in the new one. What does not fit is counted and left out, up to 2^31.
 ghost use mathlib.Core.List.{[], _∷_};
 ghost use lib.ListN.{take, drop};
-ghost use Rattle.salvage.specs.Moves.Laid.{Capped};
+ghost use Rattle.salvage.specs.inner.Moves.Laid.{Capped};
 
 fn put_byte(out: &mut [u8], at: usize, byte: u8) -> usize
     ensures { λ r. ⌜ Capped (now (out .entry)) at (byte ∷ []) (now (out .exit)) r ⌝ }

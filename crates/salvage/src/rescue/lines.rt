@@ -2,11 +2,11 @@
 ghost use mathlib.Core.{Path.{_≡_}, List.{[], _∷_}};
 ghost use Prim.Native.Nat.{_^_, _<_};
 ghost use lib.ListN.{set};
-ghost use Rattle.writer.specs.Stored.{Stored};
+ghost use Rattle.writer.specs.inner.Stored.{Stored};
 ghost use Rattle.numbers.specs.Varint.{readingOf};
 ghost use Rattle.salvage.specs.Kept.{entryGood};
 ghost use Rattle.table.specs.Rows.{after, rowBy};
-ghost use Rattle.salvage.specs.Rescue.Turns.{judgedTurn, turnBy, Listed};
+ghost use Rattle.salvage.specs.inner.Rescue.Turns.{judgedTurn, turnBy, Listed};
 use crate::entry::entry_good;
 use crate::rescue::codes::ENTRY_FAILS;
 use crate::rescue::codes::NOTHING_FOLLOWS;

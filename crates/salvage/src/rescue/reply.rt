@@ -5,7 +5,7 @@ ghost use lib.{Dec.{leb}, ListN.{length}};
 ghost use Rattle.header.specs.Header.{headBy};
 ghost use Rattle.numbers.specs.{Lists.{zeros}, Reply.{given}};
 ghost use Rattle.salvage.specs.Salvage.{salvagedOf, salvaged};
-ghost use Rattle.salvage.specs.Rescue.Told.{replied, Filled};
+ghost use Rattle.salvage.specs.inner.Rescue.Told.{replied, Filled};
 use crate::rescue::codes::NO_ROOM;
 use crate::rescue::codes::NOTHING_LEFT;
 use crate::rescue::lines::put_lines;

@@ -2,9 +2,9 @@
 ghost use mathlib.Core.Path.{_≡_};
 ghost use lib.ListN.{take};
 ghost use Rattle.header.specs.Text.{toldRead};
-ghost use Rattle.salvage.specs.Moves.Laid.{Capped};
+ghost use Rattle.salvage.specs.inner.Moves.Laid.{Capped};
 ghost use Rattle.salvage.specs.File.{headTexts};
-ghost use Rattle.salvage.specs.Rescue.Texts.{shortText, textBytes, behind, Inlined};
+ghost use Rattle.salvage.specs.inner.Rescue.Texts.{shortText, textBytes, behind, Inlined};
 use crate::moves::put::put_number;
 use crate::rescue::codes::LONG_TEXT;
 use crate::rescue::copy::put_span;

@@ -1,8 +1,8 @@
 // The new file: its header, the sizes of its three sections, and the sections.
 ghost use mathlib.Core.List.{_++_};
-ghost use Rattle.salvage.specs.Moves.Laid.{Capped};
+ghost use Rattle.salvage.specs.inner.Moves.Laid.{Capped};
 ghost use Rattle.salvage.specs.File.{metadataOf, Sized};
-ghost use Rattle.salvage.specs.Rescue.{Texts.{Inlined}, Whole.{newTable, newData, SizedIf, Sizes, wholeOf}};
+ghost use Rattle.salvage.specs.inner.Rescue.{Texts.{Inlined}, Whole.{newTable, newData, SizedIf, Sizes, wholeOf}};
 use crate::data::put_data;
 use crate::entries::put_table;
 use crate::moves::put::put_number;

@@ -3,7 +3,7 @@ use mathlib.Core.{Path.{_≡_, sym, ap, subst, _∙_}, Bool.{Bool, true, false},
 use Prim.Native.Nat.{ℕ, _/_, _≤_}
 use lib.ListN.{length, take}
 use Rattle.numbers.{specs.{Lists.{zeros, padded}, Reply.{Reply, given, refused, plain}, declared.refusal.Refusal.{Refusal}}, proofs.Replies.{carried, onward, met, unmet}}
-use Rattle.table.specs.{Hits.{width, words, slots, Real}, Search.{Found, searched, Sought}, Agreeing.{Agrees}, Merge.{merged}}
+use Rattle.table.specs.{Hits.{width, words, slots, Real}, Search.{Found, searched, Sought}, inner.Agreeing.{Agrees}, Merge.{merged}}
 use Rattle.table.specs.Find.{fixOf, isPrecision, Matched, matchedWith, finding, findingOf, Matching}
 use Rattle.table.specs.declared.{hits.Hit.{Hit}, search.Ended.{Ended}, location.Location.{Location}, find.Matches.{Matches}}
 use Rattle.header.specs.declared.header.Head.{Head}

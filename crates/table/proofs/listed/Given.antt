@@ -8,7 +8,7 @@ use Rattle.verdict.specs.Verdict.{Judgement}
 use Rattle.border.specs.declared.place.Point.{Point}
 use Rattle.numbers.{proofs.Replies.{carried, onward, met, unmet}, specs.{Point.{readI32, signedOf}, Reply.{Reply, given, plain}, declared.refusal.Refusal.{Refusal}}}
 use Rattle.table.proofs.{Agreeing.{agree-refused}, search.SoFar.{SoFar, ends, stops, refuses, full}}
-use Rattle.table.specs.{Find.{fixOf, isPrecision}, GivenRows.{recordWord, boxAt, rowAt, rowsListed, searchedListed, matchedListed}, Hits.{width}, Agreeing.{Agrees}}
+use Rattle.table.specs.{Find.{fixOf, isPrecision}, GivenRows.{recordWord, boxAt, rowAt, rowsListed, searchedListed, matchedListed}, Hits.{width}, inner.Agreeing.{Agrees}}
 use Rattle.table.specs.{Merge.{merged}, Rows.{Rows, row, tableEnd}, Search.{Found, afterTurn, rowTurn, Sought}, Table.{boundsOf}, Unstopped.{seekAll}}
 use Rattle.table.specs.declared.{hits.Hit.{Hit}, location.Location.{Location}, search.Turn.{the-variants.{Met, Stopped, Refused}, Turn}, table.Bounds.{Bounds}}
 use Rattle.header.specs.declared.header.Head.{Head}

@@ -9,7 +9,7 @@ use Rattle.verdict.specs.Verdict.{Judgement}
 use Rattle.numbers.proofs.{Answers.{found-one, goes}, Readings.{read-both}, Spelling.{one-byte}, Wholes.{whole-forward}}
 use Rattle.numbers.specs.{Answer.{found, if_then_else_}, Point.{signedOf}, Spelling.{Whole}, Varint.{Numeral, numeral, valueOf, sizeOf, forwardAt, readingOf}}
 use Rattle.table.proofs.{TableRows.{reading-grows, at-row, row-less}, rest.Remaining.{above-not, restFrom, skipped, skipped-later}, rows.Entering.{row-read}}
-use Rattle.table.specs.{Passing.{Near, Bounding, Lons, PassedRow, PassedOver, Skipped, SkippedOver}, Rows.{Rows, row, rowOf, after, rowBy, rowsFrom}, Search.{rowTurn, seek}}
+use Rattle.table.specs.{inner.Passing.{Near, Bounding, Lons, PassedRow, PassedOver, Skipped, SkippedOver}, Rows.{Rows, row, rowOf, after, rowBy, rowsFrom}, Search.{rowTurn, seek}}
 use Rattle.table.specs.Table.{boundsOf, stepsBy, entryBy, isAbove, holds}
 use Rattle.table.specs.declared.{hits.Hit.{Hit}, rows.{Cursor.{Cursor}, Row.{Row}}, table.{Bounds.{Bounds}, Entry.{Entry}}}
 

@@ -7,7 +7,7 @@ use native.Mathlib.{Nat.{sub-zero}, Omega.{arith}}
 use Rattle.verdict.specs.Verdict.{Judgement}
 use Rattle.border.specs.declared.place.Point.{Point}
 use Rattle.table.proofs.{Agreeing.{agree-given, agree-refused}, Words.{words-length, put-padded, real-append}}
-use Rattle.table.specs.{Hits.{width, words, putHit, Real}, Agreeing.{Agrees}, Passing.{PassedOver}, Rows.{Rows, row, tableEnd, unreadable, rowsFrom}}
+use Rattle.table.specs.{Hits.{width, words, putHit, Real}, inner.{Agreeing.{Agrees}, Passing.{PassedOver}}, Rows.{Rows, row, tableEnd, unreadable, rowsFrom}}
 use Rattle.table.specs.Search.{rowTurn, Found, ended, afterTurn, seek, Sought}
 use Rattle.table.specs.declared.{hits.Hit.{Hit}, rows.{Cursor.{Cursor}, Row.{Row}}, search.{Ended.{Ended}, Turn.{the-variants.{On, Met, Stopped, Refused}, Turn}}}
 use Rattle.table.specs.{Rest.{restMark}, Table.{isAbove}}

@@ -6,7 +6,7 @@ use mathlib.Core.{List.{List, [], _∷_, _++_}, Path.{_≡_, refl, ap, _∙_}}
 use native.Mathlib.{Nat.{sub-zero}, Omega.{arith}}
 use Rattle.numbers.specs.{Lists.{zeros, padded}, Reply.{Reply, given, plain}}
 use Rattle.table.proofs.{Agreeing.{agree-given, agree-refused}, Words.{words-length, put-padded, real-append}}
-use Rattle.table.specs.{Hits.{width, words, putHit, Real}, Agreeing.{Agrees}, Search.{Found, ended, afterTurn, Sought}}
+use Rattle.table.specs.{Hits.{width, words, putHit, Real}, inner.Agreeing.{Agrees}, Search.{Found, ended, afterTurn, Sought}}
 use Rattle.table.specs.declared.{hits.Hit.{Hit}, search.{Ended.{Ended}, Turn.{the-variants.{On, Met, Stopped, Refused}, Turn}}}
 use Rattle.numbers.specs.Reply as R
 

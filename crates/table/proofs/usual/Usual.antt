@@ -4,10 +4,11 @@ use borrow.Author.Tests.{le-leb, leb-true, lt-ltb, ltb-true}
 use lib.{Dec.{ltb, leb}, IntN.{ℤ, pos, negsuc, negℤ}, ListN.{length, getD}, Signed.{ltZ, leZ}}
 use mathlib.Core.{Bool.{Bool, true, false}, List.{List}, Path.{_≡_, refl, sym, ap, _∙_, subst}}
 use native.Mathlib.Omega.{arith}
-use Rattle.border.{proofs.Signs.{differ}, specs.declared.place.Point.{Point}}
+use Rattle.numbers.proofs.Tests.{differ}
+use Rattle.border.specs.declared.place.Point.{Point}
 use Rattle.numbers.{proofs.Spelling.{even-back, odd-back}, specs.Point.{signedOf}}
 use Rattle.table.proofs.{InOrder.{rises}, pass.Passing.{near-three, below-missed, bounding}}
-use Rattle.table.specs.{Passing.{Near, Bounding}, Usual.{GoesOn, Ends, FourLong, longAt, usualBounds, Under, Over}}
+use Rattle.table.specs.inner.{Passing.{Near, Bounding}, Usual.{GoesOn, Ends, FourLong, longAt, usualBounds, Under, Over}}
 
 -- ---- the order of signed numbers of one sign
 even-order : (a b : ℕ) → a ≤ b → b < 2 ^ 31 → leZ (signedOf (2 * a)) (signedOf (2 * b)) ≡ true

@@ -1,11 +1,12 @@
 -- The ways to what a string says of an instant. Assumes nothing.
 use Prim.Native.Nat.{ℕ, _-_, _^_, _≤_, _<_}
 use borrow.Author.Tests.{le-leb, lt-leb, leb-true}
-use lib.Dec.{leb, T}
-use mathlib.Core.{Bool.{Bool, true, false, _&&_}, Path.{_≡_, refl, ap, sym, subst, _∙_}}
+use lib.Dec.{leb}
+use mathlib.Core.{Bool.{Bool, true, false, _&&_}, Path.{_≡_, refl, ap, sym, _∙_}}
 use native.Mathlib.Omega.{arith}
 use Rattle.tzrule.specs.{Ask.{Ruled, corrected, inYears, since, clockAt, ask}, Summer.{isSummer, IsRule, InYears}}
 use Rattle.tzrule.specs.declared.{ask.{Asked.the-variants.{Holds, Outside}, Time.{Time}}, rule.{Clock.{Clock}, Rule.{Rule}, Tz.{Tz, the-variants.{Fixed, Changing}}}}
+use Rattle.numbers.proofs.Tests.{both}
 
 -- the two ways of the years
 module _ (u : ℕ) where
@@ -24,10 +25,6 @@ module _ (u : ℕ) where
       late : (b : Bool) → false ≡ (b && leb u 9223372290257076607)
       late true = sym (lt-leb u 9223372290257076607 h)
       late false = refl
-
-  both : (a b : Bool) → (a && b) ≡ true → (a ≡ true) × (b ≡ true)
-  both true b e = (refl, e)
-  both false b e = absurd (subst T (sym e) tt)
 
   pub years-range : inYears u ≡ true → (9223371974719179008 ≤ u) × (u ≤ 9223372290257076607)
   unfolding inYears

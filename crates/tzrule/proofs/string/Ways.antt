@@ -7,7 +7,7 @@ use native.Mathlib.Omega.{arith}
 use Rattle.calendar.specs.{Rules.{IsWhen}, declared.rule.When.{When}}
 use Rattle.tzrule.specs.{Answer.{Answer, read, fault, onward, told, Within, Around, toldDate, GoodDate}, Grammar.{laterOf, signedOf, dateOf}}
 use Rattle.tzrule.specs.Names.{nameOf, toldName, Inside}
-use Rattle.tzrule.specs.String.{dayHours, weekHours, hoursOf, timeOf, changeOf, clockOf, summerOf, changingOf, stringOf, toldClock, toldChange, toldString, IsClock, GoodClock, GoodChange}
+use Rattle.tzrule.specs.{String.{dayHours, weekHours, hoursOf, timeOf, changeOf, clockOf, summerOf, changingOf, stringOf}, inner.String.{toldClock, toldChange, toldString, IsClock, GoodClock, GoodChange}}
 use Rattle.tzrule.specs.{Summer.{IsChange}, Text.{byteAt}}
 use Rattle.tzrule.specs.declared.{date.Found.{Found}, name.{Named.{Named}, Span.{Span}}, number.Number.{Number, the-variants.{Read, Fault}}}
 use Rattle.tzrule.specs.declared.rule.{Change.{Change}, Clock.{Clock}, Tz.the-variants.{Fixed, Changing}}

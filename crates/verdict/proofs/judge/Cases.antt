@@ -5,9 +5,9 @@ use types.Run.{OneOf, miss}
 use denote.Enum.Declared.{tagOf}
 use Rattle.border.proofs.reader.Next as Next'
 use Rattle.verdict.proofs.step.Passed as Passed'
-use Rattle.verdict.specs.{Step.{told}, Verdict.{Judgement, refused, Last, thenOn, judge}, Kept.{endedAt}, declared.step.{Tally.{Tally}, Passed.{Passed}}}
+use Rattle.verdict.specs.{Step.{told}, Verdict.{Judgement, refused, Last, thenOn, judge}, inner.Kept.{endedAt}, declared.step.{Tally.{Tally}, Passed.{Passed}}}
 use Rattle.border.specs.{Trace.{Trace, traceThen}, declared.{place.Point.{Point}, reader.{Reader.{Reader}, Next.{Next}}}}
-use Rattle.border.specs.Told as R
+use Rattle.border.specs.inner.Told as R
 use Rattle.border.specs.declared.reader.Next.the-variants as N
 use Rattle.verdict.specs.declared.step.Passed.the-variants as P
 

@@ -16,6 +16,7 @@ use Rattle.table.specs.{Search.{Found, ended, farthest, afterTurn, rowTurn, see
 use Rattle.table.specs.declared.{hits.Hit.{Hit}, location.Location.{Location}, rows.{Cursor.{Cursor}, Row.{Row}}, search.Turn.{the-variants.{On, Met, Stopped, Refused}, Turn}}
 use Rattle.table.specs.Rows as T
 use Rattle.header.specs.declared.header.Head.{Head}
+use Rattle.numbers.proofs.Replies.{given-one}
 
 -- ---- rows
 many : Rows → ℕ
@@ -43,9 +44,6 @@ module _ (read : ℕ → Answer Numeral) (grows : Grows read) (end : ℕ) where
       choose false e rest = omega arith
 
 -- ---- hits
-inside : {A : Type 0} {a b : A} → given a ≡ given b → a ≡ b
-inside e = cc
-
 turn-few : (turn : Turn) (hits : List Hit) (room left : ℕ) (go : ℕ → List Hit → Reply Found) → ((least : ℕ) (hits : List Hit) (found : Found) → given found ≡ go least hits → length (found .hits) ≤ length hits + left)
     → (found : Found) → given found ≡ afterTurn turn hits room go → length (found .hits) ≤ length hits + suc left
 turn-few (On least) hits room left go rest found e = omega (arith, rest least hits found e)
@@ -54,7 +52,7 @@ turn-few (Met hit least) hits room left go rest found e = slot (ltb (length hits
     slot : (test : Bool) → given found ≡ (if test then go least (hits ++ hit ∷ []) else R.refused (plain 17)) → length (found .hits) ≤ length hits + suc left
     slot true e = omega (arith, rest least (hits ++ hit ∷ []) found e, length-append hits (hit ∷ []))
     slot false e = let z : _≡_ {A = ℕ} 0 1 = cc in absurd (omega arith)
-turn-few (Stopped mark least) hits room left go rest found e = rw (inside e) (omega arith)
+turn-few (Stopped mark least) hits room left go rest found e = rw (given-one e) (omega arith)
 turn-few (Refused n) hits room left go rest found e = let z : _≡_ {A = ℕ} 0 1 = cc in absurd (omega arith)
 
 module _ (judge : ℕ → ℕ → Judgement) (fix : Point) (end room : ℕ) where
@@ -64,10 +62,10 @@ module _ (judge : ℕ → ℕ → Judgement) (fix : Point) (end room : ℕ) wher
     where
       above : (test : Bool) → ((least : ℕ) (hits : List Hit) (found : Found) → given found ≡ seek judge fix end room rows least hits → length (found .hits) ≤ length hits + many rows)
           → given found ≡ (if test then ended hits (restMark end fix (row r rows)) least else afterTurn (rowTurn judge fix r least) hits room (seek judge fix end room rows)) → length (found .hits) ≤ length hits + suc (many rows)
-      above true rest e = rw (inside e) (omega arith)
+      above true rest e = rw (given-one e) (omega arith)
       above false rest e = turn-few (rowTurn judge fix r least) hits room (many rows) (seek judge fix end room rows) rest found e
-  seek-few tableEnd least hits found e = rw (inside e) (omega arith)
-  seek-few unreadable least hits found e = rw (inside e) (omega arith)
+  seek-few tableEnd least hits found e = rw (given-one e) (omega arith)
+  seek-few unreadable least hits found e = rw (given-one e) (omega arith)
   seek-few (T.refused n) least hits found e = let z : _≡_ {A = ℕ} 0 1 = cc in absurd (omega arith)
 
 -- ---- matches
@@ -101,4 +99,4 @@ module _ (file : List ℕ) (head : Head) (location : Location) (asked : Bool) (r
       let fix = fixOf location (head .preamble .precision) in
       let s = given-from (searched file head fix asked room) _ (demanded (isPrecision (head .preamble .precision)) (plain 16) e .1) in
       let few = seek-few (judgeIn file head fix asked) fix (head .sections .metadata) room (rowsIn file head) farthest [] (s .it) (s .is) in
-      rw (inside (s .onto)) (omega (arith, merged-few [] (s .it .hits), few, table-few))
+      rw (given-one (s .onto)) (omega (arith, merged-few [] (s .it .hits), few, table-few))

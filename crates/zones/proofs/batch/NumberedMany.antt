@@ -3,7 +3,7 @@ use mathlib.Core.{Path.{_≡_, refl, sym, ap, subst, _∙_}, Bool.{Bool, true, f
 use Prim.Native.Nat.{ℕ, _-_}
 use native.Mathlib.Omega.{arith}
 use lib.{Ieee.{Float}, ListN.{length}}
-use Rattle.border.proofs.Signs.{differ}
+use Rattle.numbers.proofs.Tests.{differ}
 use Rattle.numbers.{proofs.{Refusals.{Listed, still-listed}, Replies.{number-of}}, specs.{Reply.{Reply, plain, demand}, declared.refusal.Refusal.{Refusal}}}
 use Rattle.numbers.specs.Reply as R
 use Rattle.zones.proofs.{GivenHead.{looked-with}, NumberedLookup.{lookupNumbers, lookup-refusals}}

@@ -6,7 +6,7 @@ use borrow.Author.Tests.{eqb-true, leb-true}
 use lib.{Dec.{leb, eqb}, Ieee.{Float}, ListN.{length, getD, set, take, drop, length-append, length-replicate, drop-of-length-le}, Seq.{drop-cons}}
 use Rattle.numbers.specs.{Lists.{zeros, padded, over}, Reply.{Reply}, declared.refusal.Refusal.{Refusal}}
 use Rattle.numbers.specs.Reply as R
-use Rattle.table.{proofs.{Agreeing.{gave, refused-so}, Words.{words-length, words-append}}, specs.{Hits.{width, words}, Agreeing.{Agrees}, declared.location.Location.{Location}}}
+use Rattle.table.{proofs.{Agreeing.{gave, refused-so}, Words.{words-length, words-append}}, specs.{Hits.{width, words}, inner.Agreeing.{Agrees}, declared.location.Location.{Location}}}
 use Rattle.header.{proofs.Buffers.{tail-back}, specs.declared.header.Head.{Head}}
 use Rattle.zones.proofs.{Holding.{Held, held-length, held-front, lent, remains-length, written}, Replying.{agrees-of}}
 use Rattle.zones.specs.{Lent.{Filled, Outcome, Replied, replied, repliedOf}, Lookup.{zonesWith, lookedWith, toldLooked}, declared.lookup.{Looked.{Looked}, Zones.{Zones}}}

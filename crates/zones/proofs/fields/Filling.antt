@@ -8,7 +8,7 @@ use Rattle.numbers.specs.{Lists.{zeros, padded}, Reply.{Reply, given, refused, 
 use Rattle.numbers.proofs.Replies.{given-from, carried, onward}
 use Rattle.header.specs.{Text.{bytesOf, textAt}, Field.{Field, field, fieldAt, toldField, sentOf, textAfter}, declared.{header.Head.{Head}, field.{Sent.{Sent}, Written.{Written}}}}
 use Rattle.header.proofs.Buffers.{over-length, tail-back}
-use Rattle.table.{specs.{Hits.{noHit}, Agreeing.{Agrees}, declared.hits.Hit.{Hit}}, proofs.Agreeing.{agree-given, agree-refused, gave, refused-so}}
+use Rattle.table.{specs.{Hits.{noHit}, inner.Agreeing.{Agrees}, declared.hits.Hit.{Hit}}, proofs.Agreeing.{agree-given, agree-refused, gave, refused-so}}
 use Rattle.zones.specs.{Fields.{fieldsPlace, fieldsFrom, fieldsOf, toldFields, Wrote}, declared.fields.Fields.{Fields}}
 use Rattle.header.specs.declared.field.Written.the-variants as W
 use Rattle.zones.specs.declared.fields.Fields.the-variants as F

@@ -5,7 +5,7 @@ use lib.ListN.{length, take}
 use Rattle.header.specs.declared.header.Head.{Head}
 use Rattle.numbers.{proofs.Replies.{carried, onward}, specs.{Reply.{Reply, given, refused}, declared.refusal.Refusal.{Refusal}}}
 use Rattle.table.proofs.{Agreeing.{Gave, agree-given, agree-refused, gave, refused-so}, Matches.{count-is, matches-are}}
-use Rattle.table.specs.{Agreeing.{Agrees}, Find.{Matched, Matching}, Hits.{slots}, declared.find.Matches.{Matches}}
+use Rattle.table.specs.{inner.Agreeing.{Agrees}, Find.{Matched, Matching}, Hits.{slots}, declared.find.Matches.{Matches}}
 use Rattle.zones.specs.{Fields.{fieldsOf, Wrote}, Lent.{replied, repliedOf, Filled}, Lookup.{safezoneBits, zonesFrom, Told}, declared.lookup.Zones.{Zones}}
 
 -- ---- after the search

@@ -8,7 +8,7 @@ use lib.{Dec.{leb}, ListN.{length, getD, drop}, Seq.{drop-cons}}
 use Rattle.numbers.specs.{Lists.{zeros, padded}, Reply.{Reply, given, refused, plain, demand, _>>=_, _>>_}, declared.refusal.Refusal.{Refusal}}
 use Rattle.numbers.proofs.Replies.{carried, onward, met}
 use Rattle.header.specs.{Text.{bytesOf}, declared.{header.Head.{Head}, text.Text.{Text}}}
-use Rattle.table.{specs.{Hits.{noHit}, Agreeing.{Agrees}, declared.hits.Hit.{Hit}}, proofs.Agreeing.{agree-given, agree-refused, gave, refused-so}}
+use Rattle.table.{specs.{Hits.{noHit}, inner.Agreeing.{Agrees}, declared.hits.Hit.{Hit}}, proofs.Agreeing.{agree-given, agree-refused, gave, refused-so}}
 use Rattle.zones.specs.{Fields.{fieldsPlace, Wrote}, Simple.{begun, pickedFrom, joined, descriptionOf, bytesIn, fitting, wordedOf, Worded}}
 use Rattle.zones.specs.declared.simple.{Value.{Value}, Picked.{Picked}}
 use Rattle.zones.specs.declared.simple.Value.the-variants as X

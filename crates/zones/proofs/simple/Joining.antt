@@ -7,7 +7,7 @@ use lib.{ListN.{length, take, drop, length-append, length-map, length-drop}, Seq
 use Rattle.numbers.{specs.{Lists.{zeros, over}, Reply.{given, refused, plain}}, proofs.Replies.{met, unmet}}
 use Rattle.header.{specs.{Text.{bytesOf}, Utf8.{unmasked}, declared.text.Text.{Text}}, proofs.Strings.{part, part-is}}
 use Rattle.zones.specs.{Fields.{Wrote}, Simple.{fitting}}
-use Rattle.table.{specs.Agreeing.{Agrees}, proofs.Agreeing.{agree-given, agree-refused}}
+use Rattle.table.{specs.inner.Agreeing.{Agrees}, proofs.Agreeing.{agree-given, agree-refused}}
 use Rattle.zones.proofs.Holding.{Held, lent, remains-length, held-first, held-wrote, written}
 
 -- a string inside the file has as many bytes as it says

@@ -5,7 +5,7 @@ use native.Mathlib.Omega.{arith}
 use denote.Enum.Declared.{tagOf, declared}
 use lib.ListN.{take}
 use Rattle.numbers.{specs.{Reply.{Reply, given, refused, _>>_}, declared.refusal.Refusal.{Refusal}}, proofs.Replies.{carried, onward}}
-use Rattle.table.specs.{Hits.{width, slots}, Find.{Matched, matchedWith, Matching}, Agreeing.{Agrees}, declared.{location.Location.{Location}, find.Matches.{Matches}}}
+use Rattle.table.specs.{Hits.{width, slots}, Find.{Matched, matchedWith, Matching}, inner.Agreeing.{Agrees}, declared.{location.Location.{Location}, find.Matches.{Matches}}}
 use Rattle.table.proofs.{Agreeing.{Gave, agree-given, agree-refused, gave, refused-so}, Matches.{count-is, matches-are}}
 use Rattle.zones.specs.{Lent.{replied, repliedOf, Filled}, Simple.{checked, wordedOf, Worded, describedWith, toldChecked}}
 use Rattle.zones.specs.declared.simple.{Checked.{Checked}, Description.{Description}}

@@ -3,7 +3,8 @@ use borrow.Author.{Needs.{needs}, Tests.{not-true, not-false}}
 use lib.IntN.{_+ℤ_}
 use mathlib.Core.Path.{_∙_}
 use mir.{Facts.{toZ-ofZ}, Syntax.{w32}, Val.{SFits}}
-use Rattle.border.proofs.{Signs.{narrow, exact-sum}, place.{Ranged.{within, beyond}, Whole.{widened, widens, sum-fits}, move_by.Statement.{statement}}}
+use Rattle.border.proofs.{Signs.{narrow, exact-sum}, place.{Ranged.{within, beyond}, Whole.{sum-fits}, move_by.Statement.{statement}}}
+use Rattle.numbers.proofs.write.Gaps.{widened, widens}
 use Rattle.border.specs.Place.{movedBy}
 use Rattle.border.proofs.place.move_by.Tie as tie
 

@@ -3,7 +3,8 @@ use borrow.Author.{Needs.{needs}, Tests.{not-true, not-false}}
 use lib.IntN.{negℤ}
 use mathlib.Core.Path.{_∙_}
 use mir.{Facts.{toZ-ofZ}, Syntax.{w32}, Val.{SFits}}
-use Rattle.border.proofs.{Signs.{narrow}, place.{Ranged.{within, beyond, exact-negation}, Whole.{widened, widens, negation-fits}, negate.Statement.{statement}}}
+use Rattle.border.proofs.{Signs.{narrow}, place.{Ranged.{within, beyond, exact-negation}, Whole.{negation-fits}, negate.Statement.{statement}}}
+use Rattle.numbers.proofs.write.Gaps.{widened, widens}
 use Rattle.border.specs.Place.{negated}
 use Rattle.border.proofs.place.negate.Tie as tie
 

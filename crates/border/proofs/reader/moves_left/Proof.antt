@@ -2,7 +2,7 @@
 use borrow.Author.{Tests.{eq-eqb, ne-eqb}, Needs.{needs}}
 use mathlib.Core.Path.{_∙_}
 use Rattle.numbers.{proofs.{Answers.{found-again}, Laws.{stops}}, specs.{Varint.{told}, Answer.{found}}}
-use Rattle.border.specs.Told.{counted}
+use Rattle.border.specs.inner.Told.{counted}
 use Rattle.border.proofs.reader.moves_left.Statement.{statement}
 use Rattle.border.proofs.reader.moves_left.Tie as tie
 

@@ -21,7 +21,7 @@ use denote.Triple.{Entry.{onEntry}, Spec.{Meets, tripleOf}, Statement.{Contract,
 use denote.{Triple.Walked.{says, Stays, stay-none, stay-ref, stay-none-slice, walkOf, AllGo, goes-none, goes-ref, goes-none-slice, Walks, ends-at, walked, walk-meets}, Exit.{yes}}
 use denote.Struct.Laws as SL
 use denote.Enum.Laws as EL
-use Rattle.border.specs.{Told.{steppedBy}, Trace.{nextPoint}, declared.reader.{Reader.{Reader}, Encoding.{Encoding}, Stepped.{Stepped}, Reply.{Reply}}}
+use Rattle.border.specs.{inner.Told.{steppedBy}, Trace.{nextPoint}, declared.reader.{Reader.{Reader}, Encoding.{Encoding}, Stepped.{Stepped}, Reply.{Reply}}}
 use Rattle.border.proofs.reader.Reader as R
 use Rattle.border.proofs.reader.Reader.Laws as R′
 use Rattle.border.proofs.reader.Encoding as E

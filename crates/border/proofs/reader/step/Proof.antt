@@ -1,7 +1,7 @@
 -- `border::reader::step` meets its contract. Assumes nothing.
 use borrow.Author.Needs.{needs}
 use Rattle.border.proofs.reader.step.Statement.{statement}
-use Rattle.border.specs.Told.{steppedBy}
+use Rattle.border.specs.inner.Told.{steppedBy}
 use Rattle.border.proofs.reader.step.Tie as tie
 
 returns : tie.Need-returns

@@ -1,7 +1,7 @@
 -- `build::write::put_section` meets its contract. Assumes nothing.
 use Rattle.writer.proofs.Stores.{stored-then}
 use Rattle.build.proofs.{Puts.{behind-few}, write.put_section.Statement.{statement}}
-use Rattle.build.specs.Puts.{sectionFrom}
+use Rattle.build.specs.inner.Puts.{sectionFrom}
 use native.Mathlib.Omega.{arith}
 use borrow.Author.Needs.{needs}
 use Rattle.build.proofs.write.put_section.Tie as tie

@@ -5,7 +5,7 @@ use lib.{ListN.{length}, Seq.{length-sets}}
 use mathlib.Core.{List.{[], _∷_}, Path.{sym, ap, _∙_}}
 use native.Mathlib.Omega.{arith}
 use Rattle.table.proofs.Agreeing.{gave, refused-so, agree-given, agree-refused}
-use Rattle.index.specs.Building.{toldTable}
+use Rattle.index.specs.inner.Building.{toldTable}
 use Rattle.index.proofs.Filling.{precise, begin-is, length-two, length-four, early, used-is, made}
 use Rattle.index.proofs.{Whole.{bad-precision, bad-table, no-room, too-large, has-room}, build.fill.Statement.{statement}}
 use Rattle.index.proofs.build.fill.Tie as tie

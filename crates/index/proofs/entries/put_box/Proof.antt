@@ -3,7 +3,8 @@ use borrow.Author.Needs.{needs}
 use mathlib.Core.Path.{ap, _∙_}
 use native.Mathlib.Omega.{arith}
 use mir.{Syntax.{w32}, Val.{ofZ}, ValLaws.{toZ-ofZ}}
-use Rattle.index.proofs.{Stores.{stored-then, same-word}, entries.put_box.Statement.{statement}}
+use Rattle.writer.proofs.Stores.{stored-then}
+use Rattle.index.proofs.{Stores.{same-word}, entries.put_box.Statement.{statement}}
 use Rattle.index.proofs.entries.put_box.Tie as tie
 
 put-requires-2 : tie.Need-put-requires-2

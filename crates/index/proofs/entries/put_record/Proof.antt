@@ -1,6 +1,7 @@
 -- `index::entries::put_record` meets its contract. Assumes nothing.
 use borrow.Author.Needs.{needs}
-use Rattle.index.proofs.{Stores.{stored-then}, entries.put_record.Statement.{statement}}
+use Rattle.writer.proofs.Stores.{stored-then}
+use Rattle.index.proofs.entries.put_record.Statement.{statement}
 use Rattle.index.proofs.entries.put_record.Tie as tie
 
 returns : tie.Need-returns

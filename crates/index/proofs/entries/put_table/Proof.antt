@@ -5,7 +5,7 @@ use lib.ListN.{length}
 use mathlib.Core.Path.{_≡_, refl, sym, ap, _∙_}
 use native.Mathlib.Omega.{arith}
 use Rattle.table.{proofs.Agreeing.{agree-given, agree-refused}, specs.Rows.{toldReading}}
-use Rattle.index.proofs.Stores.{stored-length}
+use Rattle.writer.proofs.Stores.{stored-length}
 use Rattle.index.proofs.Tabling.{Tabling, tabling-starts, tabling-ends, tabling-unreadable, tabling-refused, tabling-not-next, tabling-less, tabling-next, row-place, same-table}
 use Rattle.index.proofs.entries.put_table.Statement.{statement}
 use Rattle.index.proofs.entries.put_table.Tie as tie

@@ -3,7 +3,8 @@ use Prim.Native.Nat.{_-_}
 use mathlib.Core.Path.{_∙_}
 use native.Mathlib.Omega.{arith}
 use Rattle.index.specs.Index.{tiles}
-use Rattle.index.proofs.{Listing.{Tiling, tiling-starts, tiling-step, tiling-ends, same-tile}, Stores.{stored-length}, lists.put_lists.Statement.{statement}}
+use Rattle.index.proofs.{Listing.{Tiling, tiling-starts, tiling-step, tiling-ends, same-tile}, lists.put_lists.Statement.{statement}}
+use Rattle.writer.proofs.Stores.{stored-length}
 use Rattle.index.proofs.lists.put_lists.Tie as tie
 
 abbrev Inv-loop : tie.InvT-loop

@@ -2,7 +2,7 @@
 use borrow.Author.{Needs.{needs}, Tests.{not-true, not-false}}
 use mathlib.Core.Path.{sym, ap, _∙_}
 use Rattle.table.proofs.Agreeing.{gave, refused-so}
-use Rattle.index.specs.Own.{toldCompared, toldNext}
+use Rattle.index.specs.inner.Own.{toldCompared, toldNext}
 use Rattle.index.proofs.{Filling.{precise}, Owning.{own-imprecise, own-refused, own-not, own-so}, own.own_with.Statement.{statement}}
 use Rattle.index.proofs.own.own_with.Tie as tie
 

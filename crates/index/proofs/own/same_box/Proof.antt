@@ -3,7 +3,7 @@ use Prim.Native.Nat.{_+_}
 use borrow.Author.{Needs.{needs}, Tests.{not-true, not-false}}
 use mathlib.Core.Path.{sym, ap, _∙_}
 use mir.{Syntax.{w32}, Val.{ofZ}, ValLaws.{toZ-ofZ}}
-use Rattle.index.specs.Own.{isAt}
+use Rattle.index.specs.inner.Own.{isAt}
 use Rattle.index.proofs.{Sides.{and-first}, Standing.{goes, and-end, by-word}, own.same_box.Statement.{statement}}
 use Rattle.index.proofs.own.same_box.Tie as tie
 

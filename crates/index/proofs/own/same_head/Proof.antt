@@ -1,7 +1,7 @@
 -- `index::own::same_head` meets its contract. Assumes nothing.
 use borrow.Author.{Needs.{needs}, Tests.{not-true, not-false}}
 use mathlib.Core.Path.{sym, _∙_}
-use Rattle.index.specs.Own.{isAt}
+use Rattle.index.specs.inner.Own.{isAt}
 use Rattle.index.proofs.{Sides.{and-first}, Standing.{goes, and-end}, own.same_head.Statement.{statement}}
 use Rattle.index.proofs.own.same_head.Tie as tie
 

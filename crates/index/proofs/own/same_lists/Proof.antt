@@ -3,7 +3,7 @@ use Prim.Native.Nat.{_-_}
 use borrow.Author.{Needs.{needs}, Tests.{not-true, not-false}}
 use mathlib.Core.Path.{sym, ap, _∙_}
 use native.Mathlib.Omega.{arith}
-use Rattle.index.specs.{Index.{tiles}, Own.{toldNext}}
+use Rattle.index.specs.{Index.{tiles}, inner.Own.{toldNext}}
 use Rattle.index.proofs.Comparing.{Walking, walking-starts, walking-ends, walking-last, walking-other, walking-list, walking-next, by-tile}
 use Rattle.index.proofs.own.same_lists.Statement.{statement}
 use Rattle.index.proofs.own.same_lists.Tie as tie

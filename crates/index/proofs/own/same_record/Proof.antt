@@ -2,7 +2,7 @@
 use Prim.Native.Nat.{_+_}
 use borrow.Author.{Needs.{needs}, Tests.{not-true, not-false}}
 use mathlib.Core.Path.{sym, _∙_}
-use Rattle.index.specs.Own.{isAt}
+use Rattle.index.specs.inner.Own.{isAt}
 use Rattle.index.proofs.{Sides.{and-first}, Standing.{goes, by-word}, own.same_record.Statement.{statement}}
 use Rattle.index.proofs.own.same_record.Tie as tie
 

@@ -4,7 +4,7 @@ use borrow.Author.{Needs.{needs}, Tests.{not-true, not-false}}
 use lib.ListN.{take}
 use mathlib.Core.Path.{sym, ap, _∙_}
 use native.Mathlib.Omega.{arith}
-use Rattle.index.specs.{Index.{recordsAt, wordsFor}, Own.{toldNext}}
+use Rattle.index.specs.{Index.{recordsAt, wordsFor}, inner.Own.{toldNext}}
 use Rattle.index.proofs.{Owning.{keeps-at, rest-short, rest-head, rest-kept, rest-lists, rest-large, rest-behind, rest-ends}, own.same_rest.Statement.{statement}}
 use Rattle.index.proofs.own.same_rest.Tie as tie
 

@@ -6,7 +6,7 @@ use native.Mathlib.Omega.{arith}
 use Rattle.numbers.proofs.Replies.{carried, onward, met, unmet}
 use Rattle.numbers.specs.Reply.{plain}
 use Rattle.table.{proofs.Agreeing.{agree-given, agree-refused}, specs.Rows.{toldReading}}
-use Rattle.index.specs.Own.{comparedOf}
+use Rattle.index.specs.inner.Own.{comparedOf}
 use Rattle.index.proofs.Comparing.{Matching, matching-starts, matching-next}
 use Rattle.index.proofs.Tabling.{tabling-ends, tabling-unreadable, tabling-refused, tabling-not-next, tabling-less, same-table}
 use Rattle.index.proofs.own.same_table.Statement.{statement}

@@ -10,7 +10,7 @@ use Rattle.numbers.proofs.Answers.{found-again}
 use Rattle.numbers.specs.{Answer.{Answer, found, failed, refused, _>>=_}, Point.{signedOf}, Varint.{numeral}, declared.point.RawPoint.{RawPoint}}
 use Rattle.salvage.proofs.moves.Capping.{capped-none, capped-then, capped-as}
 use Rattle.salvage.proofs.moves.pairs.Paired as Paired'
-use Rattle.salvage.specs.{Moves.{Laid.{Capped, Copied, toldPair}, Moves.{pairAt, pairsFrom}}, declared.moves.pairs.{Pair.{Pair}, Paired.{Paired}}}
+use Rattle.salvage.specs.{inner.Moves.Laid.{Capped, Copied, toldPair}, Moves.Moves.{pairAt, pairsFrom}, declared.moves.pairs.{Pair.{Pair}, Paired.{Paired}}}
 use Rattle.salvage.specs.declared.moves.pairs.Paired.the-variants as P
 
 -- the two numbers of a pair

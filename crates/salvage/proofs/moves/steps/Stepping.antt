@@ -4,18 +4,19 @@ use denote.Enum.Declared.{tagOf}
 use lib.Dec.{lit<}
 use mathlib.Core.{Bool.{true, false}, List.{List, [], _∷_, _++_, flatMap, append-assoc, append-nil}, Logic.{_⊎_, inl, inr}, Path.{_≡_, refl, sym, ap, _∙_, subst}}
 use types.Run.{OneOf, miss}
-use Rattle.border.proofs.{Signs.{differ}, Trace.{point-trace, trace-step}}
+use Rattle.numbers.proofs.Tests.{differ}
+use Rattle.border.proofs.Trace.{point-trace, trace-step}
 use Rattle.border.specs.Trace.{Given, reaches, nextPoint, Trace, point, closed, traceThen, traceOf, borderAt}
 use Rattle.border.specs.declared.reader.{Reader.{Reader}, Next.{Next}, Encoding.{Encoding}, Version.the-variants.{Packed}}
 use Rattle.writer.specs.Moves.{moveTo}
 use Rattle.border.proofs.reader.Next as Next'
-use Rattle.border.specs.Told as R
+use Rattle.border.specs.inner.Told as R
 use Rattle.border.specs.declared.reader.Next.the-variants as N
 use Rattle.numbers.proofs.{Answers.{All}, Spelling.{varint-byte}}
 use Rattle.numbers.specs.{Answer.{Answer, found, failed, refused}, Spelling.{varintOf}, declared.point.RawPoint.{RawPoint}}
 use Rattle.salvage.proofs.moves.{Capping.{capped-none, capped-then, capped-as}, Ends.{end-stops, end-goes}, Packed.{origin-ranged, open-goes, steps-next, steps-last}}
 use Rattle.salvage.proofs.moves.{Turning.{closed-trace, Ranged, Steps, Closes, DoesThere, next-does}, pairs.Pairing.{bytes-next}}
-use Rattle.salvage.specs.Moves.{Laid.{Capped, Copied}, Moves.{endOf, origin, stepsFrom, movesBy, movesAt, closedMoves, stepBytes, movesBytes}}
+use Rattle.salvage.specs.{inner.Moves.Laid.{Capped, Copied}, Moves.Moves.{endOf, origin, stepsFrom, movesBy, movesAt, closedMoves, stepBytes, movesBytes}}
 
 -- the two zeros of the end
 end-bytes : varintOf 0 ++ varintOf 0 ≡ 0 ∷ 0 ∷ []

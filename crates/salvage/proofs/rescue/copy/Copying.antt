@@ -5,7 +5,7 @@ use mathlib.Core.{List.{List, [], _∷_, _++_, append-assoc, append-nil}, Path.{
 use native.Mathlib.{Numerals.{add-one}, Omega.{arith}}
 use Rattle.writer.proofs.Stores.{stored-one}
 use Rattle.salvage.proofs.moves.Capping.{capped-none, capped-then, capped-as}
-use Rattle.salvage.specs.Moves.Laid.{cap, Capped}
+use Rattle.salvage.specs.inner.Moves.Laid.{cap, Capped}
 
 -- a byte inside the output, and one past its end
 pub capped-in : (before : List ℕ) (at byte : ℕ) → at < cap → Capped before at (byte ∷ []) (set before at byte) (at + 1)

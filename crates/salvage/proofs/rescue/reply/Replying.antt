@@ -4,14 +4,14 @@ use borrow.Author.Tests.{ltb-true, ltb-false, leb-true, lt-ltb, le-ltb, le-leb, 
 use lib.{Dec.{ltb, leb}, ListN.{length, drop}}
 use mathlib.Core.{Bool.{Bool, true, false, _&&_}, List.{List, _++_}, Path.{_≡_, refl, sym, ap, _∙_, subst}}
 use native.Mathlib.Omega.{arith}
-use Rattle.border.proofs.Signs.{both}
-use Rattle.writer.{proofs.Stores.{stored-front}, specs.Stored.{Stored}}
+use Rattle.numbers.proofs.Tests.{both}
+use Rattle.writer.{proofs.Stores.{stored-front}, specs.inner.Stored.{Stored}}
 use Rattle.header.specs.{Header.{headBy}, declared.header.Head.{Head}}
-use Rattle.salvage.specs.Moves.Laid.{cap, Capped}
+use Rattle.salvage.specs.inner.Moves.Laid.{cap, Capped}
 use Rattle.numbers.{proofs.Lists.{zeros-drop}, specs.{Lists.{zeros, padded}, Reply.{Reply, given, refused, plain, demand, _>>=_, _>>_}, declared.refusal.Refusal.{Refusal}}}
 use Rattle.salvage.specs.{File.{headTexts, newFile}, Kept.{keptOf, linesFrom}, Salvage.{Salvaged, Replied, repliedOf, salvagedOf, salvaged}}
 use Rattle.table.specs.{Rows.{rowsIn}, declared.rows.Row.{Row}}
-use Rattle.salvage.specs.{Rescue.{Texts.{Inlined}, Told.{replied, Filled}, Turns.{Listed}, Whole.{wholeOf}}, declared.rescue.{lines.Lines.{Lines}, reply.{Counts.{Counts}, Rescued.{Rescued}}}}
+use Rattle.salvage.specs.{inner.Rescue.{Texts.{Inlined}, Told.{replied, Filled}, Turns.{Listed}, Whole.{wholeOf}}, declared.rescue.{lines.Lines.{Lines}, reply.{Counts.{Counts}, Rescued.{Rescued}}}}
 use Rattle.salvage.specs.declared.rescue.reply.Rescued.the-variants as R
 use Rattle.salvage.specs.declared.rescue.texts.Put.the-variants as P
 

@@ -6,12 +6,12 @@ use mathlib.Core.{Bool.{Bool, true, false}, List.{List, [], _++_, append-assoc, 
 use native.Mathlib.Omega.{arith}
 use Rattle.header.specs.{Text.{stringAt}, declared.{header.Head.{Head}, text.Text.{Text}}}
 use Rattle.salvage.proofs.moves.Capping.{capped-none, capped-then, capped-as}
-use Rattle.salvage.specs.Moves.Laid.{Capped}
+use Rattle.salvage.specs.inner.Moves.Laid.{Capped}
 use Rattle.numbers.specs.{Answer.{Answer, found, failed}, Reply.{Reply, given, refused, plain, demand, _orElse_, _>>=_, _>>_}, Spelling.{varintOf}}
 use Rattle.numbers.specs.declared.refusal.Refusal.{Refusal}
 use Rattle.numbers.specs.Answer as A
 use Rattle.salvage.specs.File.{textsInline, headTexts}
-use Rattle.salvage.specs.{Rescue.Texts.{shortText, textBytes, behind, Inlined}, declared.rescue.texts.Put.{Put}}
+use Rattle.salvage.specs.{inner.Rescue.Texts.{shortText, textBytes, behind, Inlined}, declared.rescue.texts.Put.{Put}}
 use Rattle.salvage.specs.declared.rescue.texts.Put.the-variants as P
 
 -- ---- one text

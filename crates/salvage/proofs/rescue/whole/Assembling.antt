@@ -4,15 +4,15 @@ use borrow.Author.Tests.{ltb-true, ltb-false}
 use lib.{Dec.{ltb}, ListN.{length, take, drop, length-append}}
 use mathlib.Core.{Bool.{Bool, true, false, _&&_}, List.{List, [], _∷_, _++_, flatMap, append-assoc}, Path.{_≡_, refl, sym, ap, _∙_}}
 use native.Mathlib.Omega.{arith}
-use Rattle.border.proofs.Signs.{differ}
+use Rattle.numbers.proofs.Tests.{differ}
 use Rattle.header.specs.declared.header.Head.{Head}
 use Rattle.salvage.proofs.moves.Capping.{capped-none, capped-then, capped-as, capped-form}
-use Rattle.salvage.specs.Moves.Laid.{cap, Capped}
+use Rattle.salvage.specs.inner.Moves.Laid.{cap, Capped}
 use Rattle.numbers.specs.{Reply.{Reply, given, refused}, Spelling.{varintOf}, declared.refusal.Refusal.{Refusal}}
 use Rattle.salvage.proofs.entries.Tabling.{sized-of}
 use Rattle.salvage.specs.{File.{headTexts, metadataOf, borderBytes, assembled, newFile, Sized, allShort, Tabled}, Kept.{keptOf}}
 use Rattle.table.specs.{Rows.{rowsIn}, declared.rows.Row.{Row}}
-use Rattle.salvage.specs.Rescue.{Texts.{behind, Inlined}, Whole.{newTable, newData, sizesOf, SizedIf, Sizes, wholeOf}}
+use Rattle.salvage.specs.inner.Rescue.{Texts.{behind, Inlined}, Whole.{newTable, newData, sizesOf, SizedIf, Sizes, wholeOf}}
 use Rattle.salvage.specs.declared.rescue.texts.Put.the-variants as P
 
 -- a span that ends before it begins

@@ -3,7 +3,7 @@ use Prim.Native.Nat.{_-_}
 use borrow.Author.Needs.{needs}
 use native.Mathlib.Omega.{arith}
 use Rattle.table.proofs.pass.{Passing.{stays, passes, passes-less}, pass_over.Statement.{statement}}
-use Rattle.table.specs.Passing.{PassedOver}
+use Rattle.table.specs.inner.Passing.{PassedOver}
 use Rattle.table.proofs.pass.pass_over.Tie as tie
 
 abbrev Inv-loop : tie.InvT-loop

@@ -3,7 +3,7 @@ use Prim.Native.Nat.{_-_}
 use borrow.Author.Needs.{needs}
 use native.Mathlib.Omega.{arith}
 use Rattle.table.proofs.pass.{Passing.{rest-stays, skips, skips-less}, skip_over.Statement.{statement}}
-use Rattle.table.specs.Passing.{SkippedOver}
+use Rattle.table.specs.inner.Passing.{SkippedOver}
 use Rattle.table.proofs.pass.skip_over.Tie as tie
 
 abbrev Inv-loop : tie.InvT-loop

@@ -1,6 +1,6 @@
 -- `table::usual::is_over` meets its contract: a lowest latitude above the location is enough. Assumes nothing.
 use borrow.Author.Needs.{needs}
-use Rattle.border.proofs.Signs.{differ}
+use Rattle.numbers.proofs.Tests.{differ}
 use borrow.Author.Tests.{not-false}
 use mathlib.Core.Path.{sym, _∙_}
 use Rattle.table.proofs.usual.{Usual.{seen-over}, is_over.Statement.{statement}}

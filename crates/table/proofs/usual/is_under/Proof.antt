@@ -1,6 +1,6 @@
 -- `table::usual::is_under` meets its contract: highest latitudes below the location are enough. Assumes nothing.
 use borrow.Author.Needs.{needs}
-use Rattle.border.proofs.Signs.{differ}
+use Rattle.numbers.proofs.Tests.{differ}
 use borrow.Author.Tests.{not-false}
 use mathlib.Core.Path.{sym, _∙_}
 use Rattle.table.proofs.usual.{Usual.{seen-under}, is_under.Statement.{statement}}

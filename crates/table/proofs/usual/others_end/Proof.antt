@@ -1,7 +1,7 @@
 -- `table::usual::others_end` meets its contract: each answer is that of one number. Assumes nothing.
 use borrow.Author.Needs.{needs}
 use mathlib.Core.Path.{sym, _∙_}
-use Rattle.border.proofs.Signs.{differ}
+use Rattle.numbers.proofs.Tests.{differ}
 use Rattle.table.proofs.usual.others_end.Statement.{statement}
 use Rattle.table.proofs.usual.others_end.Tie as tie
 

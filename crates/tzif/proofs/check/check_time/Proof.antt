@@ -3,7 +3,7 @@ use borrow.Author.{Needs.{needs}, Tests.{eq-eqb, ne-eqb}}
 use mathlib.Core.Path.{refl}
 use native.Mathlib.Omega.{arith}
 use Rattle.tzif.proofs.{Widths.{row, transitions-inside}, check.check_time.Statement.{statement}}
-use Rattle.tzif.specs.{Check.{checkTime}, Told.{told}}
+use Rattle.tzif.specs.{Check.{checkTime}, inner.Told.{told}}
 use Rattle.tzif.proofs.check.check_time.Tie as tie
 
 returns : tie.Need-returns

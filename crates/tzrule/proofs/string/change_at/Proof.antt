@@ -2,7 +2,7 @@
 use borrow.Author.Needs.{needs}
 use Rattle.tzrule.proofs.Times.{byte-inside, read-is, read-within, fault-is, fault-within}
 use Rattle.tzrule.proofs.string.{Ways.{day-is, day-good, day-fault, day-place, no-comma, no-date, no-time, change-read}, change_at.Statement.{statement}}
-use Rattle.tzrule.specs.String.{GoodChange}
+use Rattle.tzrule.specs.inner.String.{GoodChange}
 use Rattle.tzrule.proofs.string.change_at.Tie as tie
 
 returns : tie.Need-returns

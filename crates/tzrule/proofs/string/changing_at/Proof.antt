@@ -3,7 +3,7 @@ use borrow.Author.Needs.{needs}
 use native.Mathlib.Omega.{arith}
 use Rattle.tzrule.proofs.string.Ways.{clock-is, clock-good, clock-fault, clock-place, change-is, change-good, change-fault, change-place, no-daylight, no-start, no-end, not-closed, changing-read}
 use Rattle.tzrule.proofs.string.changing_at.Statement.{statement}
-use Rattle.tzrule.specs.String.{IsTz, GoodString}
+use Rattle.tzrule.specs.inner.String.{IsTz, GoodString}
 use Rattle.tzrule.proofs.string.changing_at.Tie as tie
 
 returns : tie.Need-returns

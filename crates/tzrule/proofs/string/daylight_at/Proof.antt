@@ -3,7 +3,7 @@ use borrow.Author.Needs.{needs}
 use native.Mathlib.Omega.{arith}
 use Rattle.tzrule.proofs.Times.{read-is, read-within, fault-is, fault-within}
 use Rattle.tzrule.proofs.string.{Ways.{name-is, name-good, name-fault, name-place, no-name, no-offset, clock-read}, daylight_at.Statement.{statement}}
-use Rattle.tzrule.specs.String.{GoodClock}
+use Rattle.tzrule.specs.inner.String.{GoodClock}
 use Rattle.tzrule.proofs.string.daylight_at.Tie as tie
 
 summer-offset-at-requires : tie.Need-summer-offset-at-requires

@@ -3,7 +3,7 @@ use borrow.Author.Needs.{needs}
 use native.Mathlib.Omega.{arith}
 use Rattle.tzrule.proofs.{Times.{read-is, fault-is}, string.Ways.{name-is, name-good, name-fault, name-place, around-good, around-place, no-name, no-offset, clock-read}}
 use Rattle.tzrule.proofs.string.standard_at.Statement.{statement}
-use Rattle.tzrule.specs.String.{GoodClock}
+use Rattle.tzrule.specs.inner.String.{GoodClock}
 use Rattle.tzrule.proofs.string.standard_at.Tie as tie
 
 offset-at-requires : tie.Need-offset-at-requires

@@ -3,7 +3,7 @@ use borrow.Author.Needs.{needs}
 use native.Mathlib.Omega.{arith}
 use mathlib.Core.Path.{_∙_}
 use Rattle.tzrule.proofs.string.{Ways.{clock-is, clock-good, clock-fault, clock-place, no-standard, fixed-read, goes-on}, string_at.Statement.{statement}}
-use Rattle.tzrule.specs.String.{IsTz, GoodString}
+use Rattle.tzrule.specs.inner.String.{IsTz, GoodString}
 use Rattle.tzrule.proofs.string.string_at.Tie as tie
 
 returns : tie.Need-returns

@@ -1,7 +1,7 @@
 -- `uskelzar::salvaged::say_rescued` meets its contract. Assumes nothing.
 use borrow.Author.Needs.{needs}
 use mathlib.Core.Path.{ap}
-use Rattle.salvage.specs.Rescue.Told.{toldRescued}
+use Rattle.salvage.specs.inner.Rescue.Told.{toldRescued}
 use Rattle.uskelzar.proofs.{Saying.{said-given, said-refused}, salvaged.say_rescued.Statement.{statement}}
 use Rattle.uskelzar.specs.Salvaged.{countsValues}
 use Rattle.uskelzar.proofs.salvaged.say_rescued.Tie as tie

@@ -4,7 +4,8 @@ use lib.IntN.{_-ℤ_, _*ℤ_}
 use mathlib.Core.Path.{ap}
 use mir.{Syntax.{w32}, Val.{SFits}}
 use Rattle.verdict.proofs.{Checks.{checked-found, checked-over, checked-fits}, Squares.{i32-squared}, distance.to_vertex.Statement.{statement}}
-use Rattle.border.proofs.{Signs.{narrow, exact-difference}, place.Whole.{widened, widens, difference-fits}}
+use Rattle.border.proofs.{Signs.{narrow, exact-difference}, place.Whole.{difference-fits}}
+use Rattle.numbers.proofs.write.Gaps.{widened, widens}
 use Rattle.verdict.specs.{Distance.{squared, toVertex}, Step.{found}}
 use Rattle.verdict.proofs.distance.to_vertex.Tie as tie
 

@@ -1,7 +1,7 @@
 -- `verdict::edge::seen_from` meets its contract: what its calls ensure. Assumes nothing.
 use borrow.Author.Needs.{needs}
 use Rattle.verdict.proofs.edge.seen_from.Statement.{statement}
-use Rattle.verdict.specs.Kept.{seenFrom}
+use Rattle.verdict.specs.inner.Kept.{seenFrom}
 use Rattle.verdict.proofs.edge.seen_from.Tie as tie
 
 returns : tie.Need-returns

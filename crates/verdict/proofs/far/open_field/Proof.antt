@@ -2,7 +2,7 @@
 use borrow.Author.Needs.{needs}
 use mathlib.Core.{Bool.{Bool}, Path.{sym, subst}}
 use Rattle.verdict.proofs.{FarFields.{opens-far, opens-near}, far.open_field.Statement.{statement}}
-use Rattle.verdict.specs.Gliding.{Opens}
+use Rattle.verdict.specs.inner.Gliding.{Opens}
 use Rattle.verdict.proofs.far.open_field.Tie as tie
 
 returns : tie.Need-returns

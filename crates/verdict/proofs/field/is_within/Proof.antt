@@ -2,8 +2,8 @@
 use borrow.Author.Needs.{needs}
 use mir.{Syntax.{w32}, Val.{SFits}}
 use Rattle.verdict.proofs.field.is_within.Statement.{statement}
-use Rattle.border.proofs.place.Whole.{widened, widens}
-use Rattle.verdict.specs.Gliding.{within}
+use Rattle.numbers.proofs.write.Gaps.{widened, widens}
+use Rattle.verdict.specs.inner.Gliding.{within}
 use Rattle.verdict.proofs.field.is_within.Tie as tie
 
 cast-lies-in : tie.Need-cast-lies-in

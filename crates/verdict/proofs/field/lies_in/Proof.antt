@@ -2,7 +2,7 @@
 use borrow.Author.Needs.{needs}
 use mir.{Facts.{toZ-ofZ}, Syntax.{w32, w64}, Val.{SFits}}
 use Rattle.verdict.proofs.{Gliding.{in-span, not-in-span}, field.lies_in.Statement.{statement}}
-use Rattle.border.proofs.place.Whole.{widened, widens}
+use Rattle.numbers.proofs.write.Gaps.{widened, widens}
 use Rattle.verdict.proofs.field.lies_in.Tie as tie
 
 cast-if1 : tie.Need-cast-if1

@@ -2,7 +2,7 @@
 use borrow.Author.Needs.{needs}
 use denote.Ref.{now}
 use Rattle.verdict.proofs.{Gliding.{back-stays, back-on, less-below}, glide.glide_back.Statement.{statement}}
-use Rattle.verdict.specs.Gliding.{GlidesBack}
+use Rattle.verdict.specs.inner.Gliding.{GlidesBack}
 use Rattle.verdict.proofs.glide.glide_back.Tie as tie
 
 abbrev Inv-loop : tie.InvT-loop

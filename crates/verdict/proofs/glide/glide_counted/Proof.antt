@@ -3,7 +3,7 @@ use borrow.Author.Needs.{needs}
 use denote.Ref.{now}
 use Rattle.verdict.proofs.{Gliding.{from-standing}, glide.glide_counted.Statement.{statement}}
 use Rattle.border.specs.{Encoding.{encodedBy}, declared.reader.Version.the-variants.{Plain}}
-use Rattle.verdict.specs.Gliding.{stays}
+use Rattle.verdict.specs.inner.Gliding.{stays}
 use Rattle.verdict.proofs.glide.glide_counted.Tie as tie
 
 returns-2 : tie.Need-returns-2

@@ -4,7 +4,7 @@ use borrow.Author.Needs.{needs}
 use denote.Ref.{now}
 use lib.ListN.{length}
 use Rattle.verdict.proofs.{Gliding.{forth-stays, forth-on, less-left}, glide.glide_forth.Statement.{statement}}
-use Rattle.verdict.specs.Gliding.{GlidesForth}
+use Rattle.verdict.specs.inner.Gliding.{GlidesForth}
 use Rattle.verdict.proofs.glide.glide_forth.Tie as tie
 
 abbrev Inv-loop : tie.InvT-loop

@@ -1,7 +1,7 @@
 -- `verdict::glide::glide_on` meets its contract: between the first point and the closing one the border glides, elsewhere it stays. Assumes nothing.
 use borrow.Author.Tests.{not-false}
 use Rattle.verdict.proofs.glide.glide_on.Statement.{statement}
-use Rattle.verdict.specs.Gliding.{stays}
+use Rattle.verdict.specs.inner.Gliding.{stays}
 use Rattle.verdict.proofs.glide.glide_on.Tie as tie
 
 pub glide-on-spec : {M : Type 1} → statement M

@@ -5,7 +5,7 @@ use mathlib.Core.Path.{sym, _∙_}
 use mir.{Syntax.{w32}, ValLaws.{toZ-ofZ}}
 use native.Mathlib.Omega.{arith}
 use Rattle.verdict.proofs.{Gliding.{plain-stays, plain-on}, glide.glide_plain.Statement.{statement}}
-use Rattle.verdict.specs.Gliding.{GlidesPlain}
+use Rattle.verdict.specs.inner.Gliding.{GlidesPlain}
 use Rattle.verdict.proofs.glide.glide_plain.Tie as tie
 
 abbrev Inv-loop : tie.InvT-loop

@@ -4,7 +4,8 @@ use lib.IntN.{_+ℤ_}
 use mathlib.Core.Path.{sym, _∙_}
 use mir.{Facts.{toZ-ofZ}, Syntax.{w32}, Val.{SFits}}
 use Rattle.verdict.proofs.{Gliding.{within-of, fits, moved-to}, glide.lead.Statement.{statement}}
-use Rattle.border.proofs.{Signs.{exact-sum}, place.Whole.{widened, widens, sum-fits}}
+use Rattle.border.proofs.{Signs.{exact-sum}, place.Whole.{sum-fits}}
+use Rattle.numbers.proofs.write.Gaps.{widened, widens}
 use Rattle.verdict.proofs.glide.lead.Tie as tie
 
 cast-lat : tie.Need-cast-lat

@@ -8,9 +8,9 @@ use native.Mathlib.Nat.{lt-of-le-of-lt}
 use Rattle.verdict.proofs.{Kept.{point-kept, seen-again}, Gliding.{point-shorter, glides-shorter, carried}}
 use Rattle.verdict.proofs.judge.{Cases.{judge-end, decides}, point_in_polygon.Statement.{statement}}
 use Rattle.border.{proofs.Trace.{trace-step, point-trace}, specs.{Trace.{Given, point, traceThen, traceOf, borderAt}, declared.place.Point.{Point}}}
-use Rattle.verdict.specs.{Gliding.{points}, Kept.{seenFrom, lastOf}, Step.{Step, told}, Verdict.{none, after, thenOn, judge, judgedAt}, declared.step.Tally.{Tally}}
+use Rattle.verdict.specs.{inner.{Gliding.{points}, Kept.{seenFrom, lastOf}}, Step.{Step, told}, Verdict.{none, after, thenOn, judge, judgedAt}, declared.step.Tally.{Tally}}
 use Rattle.numbers.specs.Answer.{Answer}
-use Rattle.border.specs.Told as R
+use Rattle.border.specs.inner.Told as R
 use Rattle.verdict.proofs.judge.point_in_polygon.Tie as tie
 
 abbrev Inv-loop : tie.InvT-loop

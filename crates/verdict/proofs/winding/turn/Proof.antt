@@ -3,7 +3,8 @@ use borrow.Author.Needs.{needs}
 use lib.IntN.{_+ℤ_}
 use mir.{Facts.{toZ-ofZ}, Syntax.{w32}, Val.{SFits}}
 use Rattle.verdict.proofs.{Checks.{checked-found, checked-over}, winding.turn.Statement.{statement}}
-use Rattle.border.proofs.{Signs.{narrow, exact-sum}, place.Whole.{widened, widens, sum-fits}}
+use Rattle.border.proofs.{Signs.{narrow, exact-sum}, place.Whole.{sum-fits}}
+use Rattle.numbers.proofs.write.Gaps.{widened, widens}
 use Rattle.verdict.specs.Winding.{turned}
 use Rattle.verdict.proofs.winding.turn.Tie as tie
 

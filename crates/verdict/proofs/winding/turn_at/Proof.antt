@@ -4,7 +4,8 @@ use lib.IntN.{pos, _+ℤ_, _-ℤ_}
 use mathlib.Core.Path.{_≡_}
 use mir.{Syntax.{w32}, Val.{SFits, toZ, ofZ}}
 use Rattle.verdict.proofs.{Checks.{checked-found, checked-over}, winding.turn_at.Statement.{statement}}
-use Rattle.border.proofs.{Signs.{exact-sum, exact-difference}, place.Whole.{widened, widens, sum-fits, difference-fits}}
+use Rattle.border.proofs.{Signs.{exact-sum, exact-difference}, place.Whole.{sum-fits, difference-fits}}
+use Rattle.numbers.proofs.write.Gaps.{widened, widens}
 use Rattle.verdict.specs.Winding.{turnAt}
 use Rattle.verdict.proofs.winding.turn_at.Tie as tie
 

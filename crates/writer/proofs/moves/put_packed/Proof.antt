@@ -4,7 +4,7 @@ use Prim.Native.Nat.{ℕ, _-_}
 use mathlib.Core.{Path.{subst}, List.{flatMap}}
 use lib.Seq.{slice}
 use Rattle.numbers.specs.Spelling.{varintOf}
-use Rattle.writer.specs.{Moves.{packedMoveBytes, movesOf}, Stored.{Stored, moveAt}}
+use Rattle.writer.specs.{Moves.{packedMoveBytes, movesOf}, inner.Stored.{Stored, moveAt}}
 use Rattle.writer.proofs.{Indexed.{each-next, each-done}, Stores.{Left, left-all, left-step, left-none}, moves.put_packed.Statement.{statement}}
 use Rattle.writer.proofs.moves.put_packed.Tie as tie
 

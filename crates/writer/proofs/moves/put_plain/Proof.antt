@@ -4,7 +4,7 @@ use Prim.Native.Nat.{ℕ, _-_}
 use mathlib.Core.{Path.{subst}, List.{_++_, flatMap}}
 use lib.Seq.{slice}
 use Rattle.numbers.specs.Spelling.{varintOf, signedForm}
-use Rattle.writer.specs.{Moves.{plainMoveBytes, movesOf}, Stored.{Stored, moveAt}}
+use Rattle.writer.specs.{Moves.{plainMoveBytes, movesOf}, inner.Stored.{Stored, moveAt}}
 use Rattle.writer.proofs.{Indexed.{each-next, each-done}, Stores.{Left, left-all, left-step, left-none}, moves.put_plain.Statement.{statement}}
 use Rattle.writer.proofs.moves.put_plain.Tie as tie
 

@@ -3,7 +3,7 @@ use mathlib.Core.{Path.{sym, ap, _∙_}, List.{_∷_}}
 use lib.{IntN.{ℤ, pos, _-ℤ_}, ListN.{getD}}
 use native.Mathlib.Omega.{arith}
 use Rattle.numbers.specs.Spelling.{signedForm}
-use Rattle.writer.specs.Stored.{gapAt}
+use Rattle.writer.specs.inner.Stored.{gapAt}
 use Rattle.writer.proofs.{Signs.{formed, turned}, moves.turned_form.Statement.{statement}}
 use borrow.Author.{Needs.{sfits-of}, Tests.{eq-eqb, ne-eqb}}
 use Rattle.writer.proofs.moves.turned_form.Tie as tie

@@ -22,7 +22,7 @@ use denote.{Index.{place-is, elem-out, elem-back, looks-slice, shuts-slice}, Sig
 use denote.Triple.{Entry.{onEntry}, Spec.{Meets, tripleOf}, Statement.{Contract, Triple}, Call.{calls-at}, Clauses.{ensured, lasts}, Table.{entered, cited}}
 use denote.{Triple.Walked.{says, Stays, stay-none-slice, stay-none, walkOf, AllGo, goes-none-slice, goes-none, Walks, ends-at, walked, walk-meets}, Exit.{yes}}
 use denote.Struct.Laws as SL
-use Rattle.writer.specs.{Moves.{movesOf}, Stored.{Checked}, declared.{write.Piece.{Piece}, pieces.Check.{Check}}}
+use Rattle.writer.specs.{Moves.{movesOf}, inner.Stored.{Checked}, declared.{write.Piece.{Piece}, pieces.Check.{Check}}}
 use Rattle.writer.proofs.{Packing.{none}, Records.{piece-vals, check-vals, scaled}}
 use Rattle.writer.proofs.write.Piece as P
 use Rattle.writer.proofs.write.Piece.Laws as P′

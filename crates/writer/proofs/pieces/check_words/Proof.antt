@@ -2,7 +2,7 @@
 use Prim.Native.Nat.{ℕ, _+_, _-_, _≤_}
 use native.Mathlib.Omega.{arith}
 use mathlib.Core.{Path.{_≡_, sym, ap, _∙_, subst}, List.{List, [], _∷_, _++_}}
-use Rattle.writer.specs.{Moves.{movesOf}, Pieces.{firstPieces, piecesOf}, Stored.{Checked}, declared.write.Piece.{Piece}}
+use Rattle.writer.specs.{Moves.{movesOf}, Pieces.{firstPieces, piecesOf}, inner.Stored.{Checked}, declared.write.Piece.{Piece}}
 use Rattle.writer.proofs.{Gathering.{words-more}, pieces.check_words.Statement.{statement}}
 use Rattle.writer.proofs.pieces.check_words.Tie as tie
 

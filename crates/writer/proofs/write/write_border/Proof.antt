@@ -22,7 +22,7 @@ use denote.Triple.Walked.{says, Stays, stay-none, stay-none-slice, gave-slice, w
 use denote.Exit.{yes}
 use denote.Struct.Laws as SL
 use denote.Enum.Laws as EL
-use Rattle.writer.specs.{Moves.{movesOf}, Stored.{Checked}, Writer.{borderOf, replied, fitted}, declared.{write.{Piece.{Piece}, Written.{Written}}, pieces.Check.{Check}}}
+use Rattle.writer.specs.{Moves.{movesOf}, inner.Stored.{Checked}, Writer.{borderOf, replied, fitted}, declared.{write.{Piece.{Piece}, Written.{Written}}, pieces.Check.{Check}}}
 use Rattle.writer.proofs.write.Piece as P
 use Rattle.writer.proofs.pieces.Check as K
 use Rattle.writer.proofs.pieces.Check.Laws as K′

@@ -1,5 +1,5 @@
 -- `add::offered::put::take_back` meets its contract. Assumes nothing.
-use Rattle.add.specs.Offered.Puts.{lengthsEnd}
+use Rattle.add.specs.inner.Offered.Puts.{lengthsEnd}
 use lib.IntN.{pos}
 use Prim.Native.Nat.{_*_}
 use Rattle.add.proofs.offered.Placing.{cleared-back}

@@ -3,7 +3,7 @@ use borrow.Author.Needs.{needs}
 use mir.{Facts.{toZ-ofZ}, Syntax.{w32}, Val.{SFits, toZ, ofZ}}
 use Rattle.add.proofs.surely.Steps.{grows-into, grows-not}
 use Rattle.add.proofs.surely.sure.grow_surely.Statement.{statement}
-use Rattle.add.specs.Surely.Sure.{Growths}
+use Rattle.add.specs.inner.Surely.Sure.{Growths}
 use Rattle.add.proofs.surely.sure.grow_surely.Tie as tie
 
 returns : tie.Need-returns

@@ -1,6 +1,6 @@
 -- `build::entries::south::from_south` meets its contract. Assumes nothing.
 use native.Mathlib.Omega.{arith}
-use Rattle.border.proofs.place.Whole.{widens}
+use Rattle.numbers.proofs.write.Gaps.{widens}
 use Rattle.build.proofs.entries.{Southern.{south-fits, south-sign, south-range, south-is}, south.from_south.Statement.{statement}}
 use Rattle.build.proofs.entries.south.from_south.Tie as tie
 

@@ -5,7 +5,7 @@ use native.Mathlib.Omega.{arith}
 use Rattle.edit.proofs.changing.Dropping.{broken-sums, drop-broken, drop-done, drop-refused, front-order, left-inside, left-summing, lengths-in, lent-here, names-few, product-few, short-is}
 use Rattle.edit.proofs.changing.Dropping.{texts-in, yards-few}
 use Rattle.edit.proofs.changing.drop.drop_yard.Statement.{statement}
-use Rattle.edit.specs.Changing.Dropped.{endsOf}
+use Rattle.edit.specs.inner.Changing.Dropped.{endsOf}
 use Rattle.draft.specs.Held.State.{listsAs}
 use Rattle.edit.proofs.changing.drop.drop_yard.Tie as tie
 

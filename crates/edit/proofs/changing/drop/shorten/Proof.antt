@@ -6,7 +6,7 @@ use native.Mathlib.Omega.{arith}
 use Rattle.edit.proofs.changing.Shortening.{border-inside, few-left, front-order, last-inside, last-less, last-order, last-over, names-small, no-yard, not-standing, place-over, product-small}
 use Rattle.edit.proofs.changing.Shortening.{room-bad, shortened}
 use Rattle.edit.proofs.changing.{Sums.{sum-over-told, sum-within-told}, drop.shorten.Statement.{statement}}
-use Rattle.edit.specs.Changing.Dropped.{shortOf, withSums}
+use Rattle.edit.specs.inner.Changing.Dropped.{shortOf, withSums}
 use Rattle.edit.proofs.changing.drop.shorten.Tie as tie
 
 returns : tie.Need-returns

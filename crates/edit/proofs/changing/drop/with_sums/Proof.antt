@@ -3,7 +3,7 @@ use borrow.Author.Needs.{needs}
 use mathlib.Core.Path.{ap}
 use mir.{Facts.{toZ-ofZ}, Syntax.{w32}, Val.{SFits}}
 use Rattle.edit.proofs.changing.drop.with_sums.Statement.{statement}
-use Rattle.edit.specs.Changing.Dropped.{withSums}
+use Rattle.edit.specs.inner.Changing.Dropped.{withSums}
 use Rattle.edit.proofs.changing.drop.with_sums.Tie as tie
 
 returns : tie.Need-returns

@@ -2,7 +2,7 @@
 use Rattle.edit.proofs.replacing.Found.{text-few}
 use Rattle.edit.proofs.replacing.Spots.{index-inside, index-few, spot-ordered, within-parts, fallen, no-yard, no-field, no-text, outside, no-aside, no-space, spotted}
 use Rattle.edit.proofs.replacing.check.check.Statement.{statement}
-use Rattle.edit.specs.Replacing.Spot.{within, told}
+use Rattle.edit.specs.inner.Replacing.Spot.{within, told}
 use Rattle.edit.specs.declared.replacing.check.{Spot.{Spot}, Checked.{Checked}}
 use Rattle.draft.proofs.held.Stood.{stood}
 use Rattle.draft.specs.Held.Space.{longEnough, standing}

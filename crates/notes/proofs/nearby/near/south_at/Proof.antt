@@ -4,7 +4,7 @@ use borrow.Author.Needs.{needs}
 use lib.{IntN.{pos}, ListN.{getD}}
 use mir.{Syntax.{w32}, Val.{SFits}}
 use native.Mathlib.Omega.{arith}
-use Rattle.border.proofs.place.Whole.{widens}
+use Rattle.numbers.proofs.write.Gaps.{widens}
 use Rattle.build.proofs.entries.Southern.{south-fits, south-sign, south-range, south-is, word-fits}
 use Rattle.notes.proofs.nearby.near.south_at.Statement.{statement}
 use Rattle.notes.proofs.nearby.near.south_at.Tie as tie

@@ -6,7 +6,7 @@ use mathlib.Core.Path.{_≡_, _∙_, refl}
 use native.Mathlib.Omega.{arith}
 use Rattle.notes.proofs.noted.Noting.{yard-next, values-few, enters-none, enters-next, enters-end}
 use Rattle.notes.proofs.noted.note.enter_values.Statement.{statement}
-use Rattle.notes.specs.Noted.Noting.{EntersAll}
+use Rattle.notes.specs.inner.Noted.Noting.{EntersAll}
 use Rattle.notes.proofs.noted.note.enter_values.Tie as tie
 
 abbrev Inv-loop : tie.InvT-loop

@@ -6,7 +6,7 @@ use mathlib.Core.Path.{_≡_, _∙_, refl}
 use native.Mathlib.Omega.{arith}
 use Rattle.notes.proofs.noted.Noting.{yards-many, notes-none, notes-next, notes-end}
 use Rattle.notes.proofs.noted.note.note_yards.Statement.{statement}
-use Rattle.notes.specs.Noted.Noting.{NotesAll}
+use Rattle.notes.specs.inner.Noted.Noting.{NotesAll}
 use Rattle.notes.proofs.noted.note.note_yards.Tie as tie
 
 abbrev Inv-loop : tie.InvT-loop

@@ -2,7 +2,7 @@
 use borrow.Author.Needs.{needs}
 use mathlib.Core.Path.{ap, _∙_}
 use Rattle.salvage.proofs.rescue.lines.turn_at.Statement.{statement}
-use Rattle.salvage.specs.Rescue.Turns.{turnBy}
+use Rattle.salvage.specs.inner.Rescue.Turns.{turnBy}
 use Rattle.salvage.proofs.rescue.lines.turn_at.Tie as tie
 
 returns : tie.Need-returns

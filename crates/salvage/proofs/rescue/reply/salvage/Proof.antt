@@ -6,7 +6,7 @@ use Rattle.header.proofs.Buffers.{of-length, all-zero}
 use Rattle.numbers.specs.Lists.{zeros}
 use Rattle.salvage.specs.Salvage.{salvagedOf}
 use Rattle.salvage.proofs.rescue.reply.{Replying.{filled-at, no-head, told-refused, told-counts}, salvage.Statement.{statement}}
-use Rattle.salvage.specs.{Rescue.Told.{Filled}, declared.rescue.reply.Rescued.{Rescued}}
+use Rattle.salvage.specs.{inner.Rescue.Told.{Filled}, declared.rescue.reply.Rescued.{Rescued}}
 use Rattle.salvage.proofs.rescue.reply.salvage.Tie as tie
 
 returns : tie.Need-returns

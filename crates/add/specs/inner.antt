@@ -1,0 +1,6 @@
+-- What inner functions say to each other: no promise and no theorem of the page speaks of it.
+pub mod Afresh
+pub mod Offered
+pub mod Surely
+pub mod Growing
+pub mod Joining

@@ -1,4 +1,0 @@
-pub mod Turns
-pub mod Texts
-pub mod Whole
-pub mod Told
