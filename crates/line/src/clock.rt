@@ -2,11 +2,11 @@
 ghost use mathlib.Core.{List.{map}, Path.{_≡_}};
 ghost use lib.Bits.{bitXor};
 ghost use Rattle.line.specs.{Clock.{weekdayText, dateText, timeText, hoursText, secondsText, spanText, shown}, Put.{Put}};
-use calendar::civil::Reading;
 use crate::put::put;
 use crate::put::put_all;
 use crate::put::put_decimal;
 use crate::put::put_two;
+use calendar::civil::Reading;
 
 pub fn put_weekday(out: &mut [u8], at: usize, weekday: u64) -> usize
     ensures { λ r. ⌜ Put (now (out .entry)) at (weekdayText weekday) (now (out .exit)) r ⌝ }
