@@ -1,24 +1,34 @@
 -- Bytes, names and entries of a bundle, as the code meets them. Assumes nothing.
-use mathlib.Core.{Path.{_≡_, refl, ap, sym, subst, _∙_}, Bool.{Bool, true, false, _&&_}, List.{List, _++_}}
+use mathlib.Core.{Path.{_≡_, refl, ap, sym, subst, _∙_}, Bool.{Bool, true, false, _&&_}, List.{List, [], _∷_, _++_, map}}
 use Prim.Native.Nat.{ℕ, zero, suc, _+_, _-_, _*_, _/_, _%_, _≤_, _<_}
 use borrow.Author.Tests.{le-leb, lt-leb, leb-true, eq-eqb, ne-eqb, eqb-true}
-use lib.{Dec.{leb, eqb}, ListN.{length, getD, drop, length-append, List·getD-append, List·getD-eq-default}, Seq.{getD-drop, drop-drop, getD-append-add}}
+use lib.{Bits.{bitXor}, Dec.{leb, eqb}, ListN.{length, getD, drop, length-append, length-map, List·getD-append, List·getD-eq-default}, Seq.{getD-drop, drop-drop, getD-append-add}}
 use native.Mathlib.Omega.{arith}
-use Rattle.numbers.proofs.Replies.{demanded}
-use Rattle.numbers.specs.{Answer.{found, failed, if_then_else_}, Reply.{given, refused, refusal, plain}, declared.refusal.Refusal.{Refusal}}
-use Rattle.bundle.specs.{Bundle.{wordAt, agrees, magic, isBundle, isIndex, isData, isEnd, headOf, isEntry, seekOf, findOf}, declared.{head.Head.{Head}, find.File.{File}}}
+use Rattle.numbers.proofs.Replies.{given-from, demanded}
+use Rattle.numbers.specs.{Answer.{Answer, found, failed, if_then_else_}, Reply.{Reply, given, refused, refusal, plain, demand, _orElse_, _>>=_, _>>_}, declared.refusal.Refusal.{Refusal}}
+use Rattle.bundle.specs.{Bundle.{xored, wordAt, agrees, magic, isBundle, isIndex, isData, isEnd, headOf, isEntry, seekOf, findOf}, declared.{head.Head.{Head}, find.File.{File}}}
 use Rattle.numbers.proofs.Tests.{both}
 
--- ---- a name in two parts
-module _ (p q : List ℕ) (at : ℕ) where
-  pub byte-first : at < length p → getD p at 0 ≡ getD (p ++ q) at 0
-  byte-first h = sym (List·getD-append p q 0 at h)
+-- ---- a name in two parts, under a mask
+masked-at : (mask : ℕ) (l : List ℕ) (at : ℕ) → at < length l → bitXor (getD l at 0) mask ≡ getD (map (xored mask) l) at 0
+masked-at mask [] at h = absurd (omega arith)
+masked-at mask (x ∷ l) zero h = refl
+masked-at mask (x ∷ l) (suc at) h = masked-at mask l at (omega arith)
 
-  pub byte-second : length p ≤ at → getD q (at - length p) 0 ≡ getD (p ++ q) at 0
-  byte-second h = sym (ap (λ (k : ℕ). getD (p ++ q) k 0) (let e : at ≡ length p + (at - length p) = omega arith in e) ∙ getD-append-add p q (at - length p) 0)
+module _ (p q : List ℕ) (at mask : ℕ) where
+  masked : {byte : ℕ} → at < length (p ++ q) → byte ≡ getD (p ++ q) at 0 → bitXor byte mask ≡ getD (map (xored mask) (p ++ q)) at 0
+  masked h e = ap (xored mask) e ∙ masked-at mask (p ++ q) at h
 
-  pub byte-none : length p ≤ at → length q ≤ at - length p → 0 ≡ getD (p ++ q) at 0
-  byte-none h l = sym (List·getD-eq-default (p ++ q) 0 (omega (arith, length-append p q)))
+  pub byte-first : at < length p → bitXor (getD p at 0) mask ≡ getD (map (xored mask) (p ++ q)) at 0
+  byte-first h = masked (omega (arith, length-append p q)) (sym (List·getD-append p q 0 at h))
+
+  pub byte-second : length p ≤ at → at - length p < length q → bitXor (getD q (at - length p) 0) mask ≡ getD (map (xored mask) (p ++ q)) at 0
+  byte-second h l =
+      masked (omega (arith, length-append p q))
+      (sym (ap (λ (k : ℕ). getD (p ++ q) k 0) (let e : at ≡ length p + (at - length p) = omega arith in e) ∙ getD-append-add p q (at - length p) 0))
+
+  pub byte-none : length p ≤ at → length q ≤ at - length p → 0 ≡ getD (map (xored mask) (p ++ q)) at 0
+  byte-none h l = sym (List·getD-eq-default (map (xored mask) (p ++ q)) 0 (omega (arith, length-map (p ++ q) (xored mask), length-append p q)))
 
 -- ---- bytes that agree
 first-of : (text : List ℕ) (at : ℕ) → getD (drop at text) 0 0 ≡ getD text at 0
@@ -133,18 +143,24 @@ head-good bundle {head = head} h =
     subst (λ (x : Head). Lies (length bundle) (x .index) (x .start) (x .end)) (sym same) (lies (length bundle) _ _ _ (c .0) (d .0) (e .0))
 
 -- ---- entries
-module _ (bundle p q : List ℕ) (place : ℕ) where
-  pub long-prefix : 40 < length p → false ≡ isEntry bundle (p ++ q) place
-  unfolding isEntry
-  long-prefix h = sym (simp (lt-leb (length (p ++ q)) 40 (omega (arith, length-append p q))))
+module _ (bundle p q : List ℕ) (place mask : ℕ) where
+  abbrev name : List ℕ
+  name = map (xored mask) (p ++ q)
 
-  pub long-name : length p ≤ 40 → 40 - length p < length q → false ≡ isEntry bundle (p ++ q) place
-  unfolding isEntry
-  long-name l h = sym (simp (lt-leb (length (p ++ q)) 40 (omega (arith, length-append p q))))
+  name-length : length name ≡ length p + length q
+  name-length = length-map (p ++ q) (xored mask) ∙ length-append p q
 
-  pub entry-is : length p ≤ 40 → length q ≤ 40 - length p → agrees 40 (drop place bundle) (p ++ q) ≡ isEntry bundle (p ++ q) place
+  pub long-prefix : 40 < length p → false ≡ isEntry bundle name place
   unfolding isEntry
-  entry-is l h = sym (simp (le-leb (length (p ++ q)) 40 (omega (arith, length-append p q))))
+  long-prefix h = sym (simp (lt-leb (length name) 40 (omega (arith, name-length))))
+
+  pub long-name : length p ≤ 40 → 40 - length p < length q → false ≡ isEntry bundle name place
+  unfolding isEntry
+  long-name l h = sym (simp (lt-leb (length name) 40 (omega (arith, name-length))))
+
+  pub entry-is : length p ≤ 40 → length q ≤ 40 - length p → agrees 40 (drop place bundle) name ≡ isEntry bundle name place
+  unfolding isEntry
+  entry-is l h = sym (simp (le-leb (length name) 40 (omega (arith, name-length))))
 
 entry-first : (n : ℕ) (bundle name : List ℕ) (at : ℕ) → isEntry bundle name at ≡ true → seekOf (suc n) bundle name at ≡ found at
 unfolding seekOf

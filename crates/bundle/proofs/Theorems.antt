@@ -1,8 +1,8 @@
 -- What the bundle promises, by name. Assumes nothing.
-use mathlib.Core.{Path.{_≡_, refl, ap, sym, subst, _∙_}, Bool.{Bool, true, false}, List.{List, [], _∷_, _++_}}
+use mathlib.Core.{Path.{_≡_, refl, ap, sym, subst, _∙_}, Bool.{Bool, true, false}, List.{List, [], _∷_, _++_, map}}
 use Prim.Native.Nat.{ℕ, zero, suc, _+_, _-_, _*_, _/_, _≤_, _<_}
 use borrow.Author.Tests.{leb-true, eqb-true}
-use lib.{Dec.{leb, eqb}, ListN.{length, getD, drop}, Seq.{getD-drop}}
+use lib.{Bits.{xor-zero-r}, Dec.{leb, eqb}, ListN.{length, getD, drop}, Seq.{getD-drop}}
 use native.Mathlib.Omega.{arith}
 use Rattle.numbers.proofs.{Refusals.{Listed, Numbered, as-found, as-failed}, Replies.{NumberedReply, answers, refuses, then-reply, and-then, demands, or-else, number-of, given-from, demanded}}
 use Rattle.numbers.specs.{Answer.{Answer, found, failed, if_then_else_}, Reply.{Reply, given, refused, refusal, plain, _orElse_}, declared.refusal.Refusal.{Refusal}}
@@ -10,8 +10,13 @@ use Rattle.numbers.specs.Answer as A
 use Rattle.numbers.proofs.Tests.{both}
 use Rattle.bundle.proofs.Entries.{head-good}
 use Rattle.bundle.specs.First.{First, FoundAt}
-use Rattle.bundle.specs.{Bundle.{wordAt, agrees, isBundle, isIndex, isData, isEnd, headOf, isEntry, seekOf, findOf}, Told.{told}, declared.{head.Head.{Head}, find.{File.{File}, Found.{Found}}}}
+use Rattle.bundle.specs.{Bundle.{xored, wordAt, agrees, isBundle, isIndex, isData, isEnd, headOf, isEntry, seekOf, findOf}, Told.{told}, declared.{head.Head.{Head}, find.{File.{File}, Found.{Found}}}}
 use Rattle.bundle.specs.declared.find.Found.the-variants as F
+
+-- a mask of 0 leaves every byte as it is
+pub xored-zero : (xs : List ℕ) → map (xored 0) xs ≡ xs
+xored-zero [] = refl
+xored-zero (x ∷ xs) = λ i. xor-zero-r x i ∷ xored-zero xs i
 
 -- ---- same-found
 untold : Reply File → Found
@@ -127,3 +132,7 @@ found-first bundle name {file = file} e =
       in-data = omega (arith, s, l, u);
       inside = omega (arith, s, l, u, g .inside);
     }
+
+-- what is found lies inside the bundle
+pub found-inside : (bundle name : List ℕ) {file : File} → findOf bundle name ≡ given file → file .start + file .length ≤ length bundle
+found-inside bundle name e = found-first bundle name (sym e) .inside

@@ -1,9 +1,13 @@
 -- S-2, a bundle: the TZif files of all zones, in the form of Android's `tzdata`.
 use mathlib.Core.{Bool.{Bool, true, _&&_}, List.{List, [], _∷_, _++_}}
 use Prim.Native.Nat.{ℕ, zero, suc, _+_, _-_, _*_, _/_, _%_, _^_}
-use lib.{Dec.{leb, eqb}, ListN.{length, getD, drop}}
+use lib.{Bits.{bitXor}, Dec.{leb, eqb}, ListN.{length, getD, drop}}
 use Rattle.numbers.specs.{Answer.{Answer, found, failed, if_then_else_}, Reply.{Reply, given, refusal, plain, demand, _orElse_, _>>=_, _>>_}}
 use Rattle.bundle.specs.declared.{head.Head.{Head}, find.File.{File}}
+
+-- a byte, as it stands under a mask
+abbrev pub xored : ℕ → ℕ → ℕ
+xored mask byte = bitXor byte mask
 
 -- four bytes, high byte first
 unfoldable pub wordAt : List ℕ → ℕ → ℕ

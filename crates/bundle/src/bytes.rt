@@ -1,8 +1,8 @@
 // Bytes of a bundle.
-ghost use mathlib.Core.{Path.{_≡_}, List.{_++_}};
+ghost use mathlib.Core.{Path.{_≡_}, List.{_++_, map}};
 ghost use Prim.Native.Nat.{_+_, _≤_, _<_};
 ghost use lib.ListN.{length, getD, drop};
-ghost use Rattle.bundle.specs.Bundle.{wordAt, agrees};
+ghost use Rattle.bundle.specs.Bundle.{wordAt, agrees, xored};
 
 fn wide(byte: u8) -> u64
     ensures { λ r. ⌜ (r ≡ byte) × (r < 256) ⌝ }
@@ -22,30 +22,37 @@ pub(crate) fn word_at(bundle: &[u8], place: usize) -> u64
     first * 0x100_0000 + second * 0x1_0000 + third * 0x100 + fourth
 }
 
-// A byte of a name in two parts; 0 behind it.
-fn byte_of(prefix: &[u8], id: &[u8], at: usize) -> u8
-    ensures { λ r. ⌜ r ≡ getD (now (prefix .entry) ++ now (id .entry)) at 0 ⌝ }
+// A byte of a name that stands in two parts under a mask; 0 behind it.
+fn byte_of(prefix: &[u8], id: &[u8], at: usize, mask: u8) -> u8
+    ensures { λ r. ⌜ r ≡ getD (map (xored mask) (now (prefix .entry) ++ now (id .entry))) at 0 ⌝ }
 {
     let size = prefix.len();
     if at < size {
-        return prefix[at];
+        return prefix[at] ^ mask;
     }
     let rest = at - size;
     if rest < id.len() {
-        return id[rest];
+        return id[rest] ^ mask;
     }
     0
 }
 
-// So many bytes from a place on are those of a name in two parts, and zeros behind it.
-pub(crate) fn agrees(bundle: &[u8], place: usize, prefix: &[u8], id: &[u8], size: usize) -> bool
+// So many bytes from a place on are those of a name that stands in two parts under a mask, and zeros behind it.
+pub(crate) fn agrees(
+    bundle: &[u8],
+    place: usize,
+    prefix: &[u8],
+    id: &[u8],
+    size: usize,
+    mask: u8,
+) -> bool
     requires { ⌜ place + size ≤ length (now bundle) ⌝ }
-    ensures { λ r. ⌜ r ≡ agrees size (drop place (now (bundle .entry))) (now (prefix .entry) ++ now (id .entry)) ⌝ }
+    ensures { λ r. ⌜ r ≡ agrees size (drop place (now (bundle .entry))) (map (xored mask) (now (prefix .entry) ++ now (id .entry))) ⌝ }
 {
     let mut at: usize = 0;
     let mut left = size;
     while 0 < left {
-        let byte = byte_of(prefix, id, at);
+        let byte = byte_of(prefix, id, at, mask);
         if bundle[place + at] != byte {
             return false;
         }

@@ -1,8 +1,8 @@
-// A zone's file in a bundle. Its name comes in two parts, so that nobody needs room to join them.
-ghost use mathlib.Core.{Path.{_≡_}, List.{_++_}};
+// A zone's file in a bundle. Its name comes in two parts under a mask, so that nobody needs room to join them as they stand in a map.
+ghost use mathlib.Core.{Path.{_≡_}, List.{_++_, map}};
 ghost use Prim.Native.Nat.{_+_, _*_, _≤_};
 ghost use lib.ListN.{length};
-ghost use Rattle.bundle.specs.{Bundle.{isEntry, seekOf, findOf}, Told.{toldSought, told}};
+ghost use Rattle.bundle.specs.{Bundle.{isEntry, seekOf, findOf, xored}, Told.{toldSought, told}};
 use crate::bytes::agrees;
 use crate::bytes::word_at;
 use crate::head::Headed;
@@ -28,9 +28,9 @@ pub enum Sought {
     Nothing,
 }
 
-fn is_entry(bundle: &[u8], place: usize, prefix: &[u8], id: &[u8]) -> bool
+fn is_entry(bundle: &[u8], place: usize, prefix: &[u8], id: &[u8], mask: u8) -> bool
     requires { ⌜ place + 40 ≤ length (now bundle) ⌝ }
-    ensures { λ r. ⌜ r ≡ isEntry (now (bundle .entry)) (now (prefix .entry) ++ now (id .entry)) place ⌝ }
+    ensures { λ r. ⌜ r ≡ isEntry (now (bundle .entry)) (map (xored mask) (now (prefix .entry) ++ now (id .entry))) place ⌝ }
 {
     if 40 < prefix.len() {
         return false;
@@ -38,18 +38,18 @@ fn is_entry(bundle: &[u8], place: usize, prefix: &[u8], id: &[u8]) -> bool
     if 40 - prefix.len() < id.len() {
         return false;
     }
-    agrees(bundle, place, prefix, id, 40)
+    agrees(bundle, place, prefix, id, 40, mask)
 }
 
 // The first entry of the name, of so many from a place on.
-fn seek(bundle: &[u8], place: usize, count: usize, prefix: &[u8], id: &[u8]) -> Sought
+fn seek(bundle: &[u8], place: usize, count: usize, prefix: &[u8], id: &[u8], mask: u8) -> Sought
     requires { ⌜ place + 52 * count ≤ length (now bundle) ⌝ }
-    ensures { λ r. ⌜ toldSought r ≡ seekOf count (now (bundle .entry)) (now (prefix .entry) ++ now (id .entry)) place ⌝ }
+    ensures { λ r. ⌜ toldSought r ≡ seekOf count (now (bundle .entry)) (map (xored mask) (now (prefix .entry) ++ now (id .entry))) place ⌝ }
 {
     let mut at = place;
     let mut left = count;
     while 0 < left {
-        if is_entry(bundle, at, prefix, id) {
+        if is_entry(bundle, at, prefix, id, mask) {
             return Sought::Entry(at);
         }
         at += 52;
@@ -58,9 +58,9 @@ fn seek(bundle: &[u8], place: usize, count: usize, prefix: &[u8], id: &[u8]) -> 
     Sought::Nothing
 }
 
-// The file of a zone whose name is the prefix and the id, joined.
-pub fn find(bundle: &[u8], prefix: &[u8], id: &[u8]) -> Found
-    ensures { λ r. ⌜ told r ≡ findOf (now (bundle .entry)) (now (prefix .entry) ++ now (id .entry)) ⌝ }
+// The file of a zone whose name is the prefix and the id, joined, each byte XOR the mask.
+pub fn find(bundle: &[u8], prefix: &[u8], id: &[u8], mask: u8) -> Found
+    ensures { λ r. ⌜ told r ≡ findOf (now (bundle .entry)) (map (xored mask) (now (prefix .entry) ++ now (id .entry))) ⌝ }
 {
     let head = match read_head(bundle) {
         Headed::Head(head) => head,
@@ -68,7 +68,7 @@ pub fn find(bundle: &[u8], prefix: &[u8], id: &[u8]) -> Found
     };
     let index = head.index as usize;
     let count = ((head.start - head.index) / 52) as usize;
-    let place = match seek(bundle, index, count, prefix, id) {
+    let place = match seek(bundle, index, count, prefix, id, mask) {
         Sought::Entry(place) => place,
         Sought::Nothing => return Found::Refused(plain(88)),
     };

@@ -24,7 +24,7 @@ fn is_bundle(bundle: &[u8]) -> bool
     if bundle.len() < 24 {
         return false;
     }
-    agrees(bundle, 0, b"tzd", b"ata", 6)
+    agrees(bundle, 0, b"tzd", b"ata", 6, 0)
 }
 
 fn is_index(i: u64) -> bool

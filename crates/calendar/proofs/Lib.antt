@@ -4,6 +4,7 @@ pub mod Below
 pub mod Months
 pub mod Rising
 pub mod Dates
+pub mod Days
 pub mod Weeks
 pub mod Epoch
 pub mod Within
@@ -11,5 +12,6 @@ pub mod Sums
 pub mod Meant
 pub mod Unique
 pub mod SameCivil
+pub mod CivilAt
 pub mod Theorems
 pub mod Worked

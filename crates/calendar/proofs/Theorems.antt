@@ -1,10 +1,10 @@
 -- What the calendar promises, by name. Assumes nothing.
 use Prim.Native.Nat.{ℕ, suc, _+_, _-_, _%_, _≤_, _<_}
 use mathlib.Core.{Bool.{Bool}, Path.{_≡_, refl, ap, sym, subst, _∙_}}
-use native.Mathlib.{Numerals.{sub-one}, Omega.{arith}}
-use Rattle.calendar.proofs.{Dates.{place-short, placed-date, unique, years-up}, Laws.{weekday-closed, epoch}, Meant.{month-meant, julian-meant}}
-use Rattle.calendar.proofs.{Months.{months-up, placed}, Rising.{Between, passes, rises}, Unique.{one-weekday, one-julian}}
-use Rattle.calendar.specs.{Calendar.{isLeap, daysOfYears, daysOfMonths, dayNumber, monthLength, weekdayOf, InYear}, Dates.{PlaceOf, DateOf}}
+use native.Mathlib.Omega.{arith}
+use Rattle.calendar.proofs.{Dates.{unique}, Days.{short-year, day-date}, Laws.{weekday-closed, epoch}, Meant.{month-meant, julian-meant}}
+use Rattle.calendar.proofs.{Rising.{Between, passes}, Unique.{one-weekday, one-julian}}
+use Rattle.calendar.specs.{Calendar.{isLeap, daysOfYears, daysOfMonths, dayNumber, monthLength, weekdayOf}, Dates.{DateOf}}
 use Rattle.calendar.specs.{Rules.{firstOf, dayOf, IsMonth, WeekdayOf, Meant, Only}, declared.rule.When.the-variants.{Julian, Zero, Month}}
 
 -- a date, and no other
@@ -21,28 +21,12 @@ module _ (number : ℕ) (short : number < daysOfYears 9999) where
   unfolding daysOfYears
   years = passes daysOfYears number 9999 (omega arith) short
 
-  in-year : InYear (suc (years .step)) number
-  in-year =
-      let past : 9999 ≤ years .step → ⊥ = λ h. omega (arith, rises daysOfYears years-up 9999 (years .step) h, years .from) in
-      record { range = record { from = omega arith; to = omega arith }; begun = rw sub-one (years .from); lasts = years .to }
-
-  abbrev leap : Bool
-  leap = isLeap (suc (years .step))
-
-  short-year : number - daysOfYears (years .step) < daysOfMonths leap 12
-  short-year = place-short in-year (rw sub-one) refl
-
-  months : Between (daysOfMonths leap) (number - daysOfYears (years .step))
+  months : Between (daysOfMonths (isLeap (suc (years .step)))) (number - daysOfYears (years .step))
   unfolding daysOfMonths
-  months = passes (daysOfMonths leap) (number - daysOfYears (years .step)) 12 (omega arith) short-year
+  months = passes (daysOfMonths (isLeap (suc (years .step)))) (number - daysOfYears (years .step)) 12 (omega arith) (short-year number short years)
 
-  in-months : PlaceOf leap (number - daysOfYears (years .step)) (suc (months .step)) (number - daysOfYears (years .step) - daysOfMonths leap (months .step) + 1)
-  in-months =
-      let past : 12 ≤ months .step → ⊥ = λ h. omega (arith, rises (daysOfMonths leap) (months-up leap) 12 (months .step) h, months .from, short-year) in
-      rw sub-one at (placed leap (number - daysOfYears (years .step)) (suc (months .step)) (omega arith) (omega arith) (rw sub-one (months .from)) (months .to))
-
-  found : DateOf number (suc (years .step)) (suc (months .step)) (number - daysOfYears (years .step) - daysOfMonths leap (months .step) + 1)
-  found = placed-date in-year (rw sub-one) refl in-months
+  found : DateOf number (suc (years .step)) (suc (months .step)) (number - daysOfYears (years .step) - daysOfMonths (isLeap (suc (years .step))) (months .step) + 1)
+  found = day-date number short years months
 
   pub date-of-day : OneDate number
   date-of-day = record { year = _; month = _; day = _; dated = found; alone = λ y m d p. unique (p .is) (found .is) (p .numbered ∙ sym (found .numbered)) }

@@ -1,8 +1,9 @@
 -- The date and the time of day that a clock shows, so many seconds east of UT.
-use Prim.Native.Nat.{_+_, _*_, _≤_}
-use lib.IntN.{ℤ, _+ℤ_}
-use mathlib.Core.Path.{_≡_}
-use Rattle.calendar.specs.{Calendar.{dayNumber, weekdayOf, IsDate}, Moments.{instantOf, MomentOf}, declared.civil.{Civil.{Civil}, Reading.{Reading}}}
+use Prim.Native.Nat.{ℕ, zero, suc, _+_, _-_, _*_, _/_, _%_, _≤_}
+use lib.{Dec.{leb, ltb}, IntN.{ℤ, pos, negsuc, _+ℤ_}}
+use mathlib.Core.{Bool.{Bool}, Path.{_≡_}}
+use Rattle.numbers.specs.Answer.{if_then_else_}
+use Rattle.calendar.specs.{Calendar.{isLeap, daysOfYears, daysOfMonths, dayNumber, weekdayOf, IsDate}, Moments.{secondsTo, instantOf, MomentOf}, declared.civil.{Civil.{Civil}, Reading.{Reading}}}
 use Rattle.calendar.specs.declared.civil.Civil.the-variants as civil
 use Rattle.calendar.specs.declared.moment.Moment.the-variants as moments
 
@@ -20,3 +21,41 @@ pub record Shows (local : ℤ) (reading : Reading) : Type 0 where
 unfoldable pub CivilOf : ℤ → ℤ → Civil → Type 0
 CivilOf instant offset (civil.Shown reading) = Shows (instant +ℤ offset) reading
 CivilOf instant offset civil.Outside = MomentOf (instant +ℤ offset) moments.Outside
+
+-- ---- the same as a function
+-- the last step, of at most so many, whose count is not above a number
+unfoldable pub lastUpTo : (ℕ → ℕ) → ℕ → ℕ → ℕ
+lastUpTo count x zero = 0
+lastUpTo count x (suc k) = if leb (count (suc k)) x then suc k else lastUpTo count x k
+
+-- the years that have ended by a day, and the months of its year
+unfoldable pub yearsBy : ℕ → ℕ
+yearsBy day = lastUpTo daysOfYears day 9998
+
+unfoldable pub monthsBy : Bool → ℕ → ℕ
+monthsBy leap place = lastUpTo (daysOfMonths leap) place 11
+
+-- what the clock shows at a second of a day: the year and the month behind those that have ended
+unfoldable pub readingOf : ℕ → ℕ → Reading
+readingOf day second =
+    let years = yearsBy day in
+    let place = day - daysOfYears years in
+    let months = monthsBy (isLeap (suc years)) place in
+    record {
+      year = suc years;
+      month = suc months;
+      day = place - daysOfMonths (isLeap (suc years)) months + 1;
+      hour = second / 3600;
+      minute = second / 60 % 60;
+      second = second % 60;
+      weekday = weekdayOf day;
+    }
+
+-- so many seconds from the start of the year 1; none before it
+unfoldable pub readingAt : ℤ → Civil
+readingAt (pos seconds) = if ltb (seconds / 86400) (daysOfYears 9999) then civil.Shown (readingOf (seconds / 86400) (seconds % 86400)) else civil.Outside
+readingAt (negsuc seconds) = civil.Outside
+
+-- what the clock shows at an instant, so many seconds east of UT: `CivilOf`'s one answer (`is-civil-at`)
+unfoldable pub civilAt : ℤ → ℤ → Civil
+civilAt instant offset = readingAt (instant +ℤ offset +ℤ pos (secondsTo (daysOfYears 1969) 0))

@@ -8,7 +8,8 @@ use Rattle.calendar.{proofs.SameCivil.{same-civil}, specs.{Civil.{CivilOf}, dec
 use Rattle.calendar.specs.declared.civil.Civil.the-variants as C
 use Rattle.localtime.specs.{Local.{localTime, scaleAt}, declared.scale.Scale.{Scale}}
 use Rattle.hour.specs.Hour.{instantOf, onScale, shownBy, answerOf, civilLine, LineFor, Answered, Printed}
-use Rattle.hour.specs.Line.{dateText, timeText, clockText, signedText, shown, hourLine, unknownLine, refusedLine}
+use Rattle.hour.specs.Line.{clockText, signedText, hourLine, unknownLine, refusedLine}
+use Rattle.line.specs.Clock.{dateText, timeText, shown}
 use Rattle.line.{proofs.{Decimals.{decimal-short}, Puts.{put-length, put-front}}, specs.Put.{Put, decimal}}
 use Rattle.tzif.specs.{Local.{Replied, replied}, Reply.{refusal}, declared.{local.{Local.{Local}, LocalTime.{LocalTime}}, refusal.Refusal.{Refusal}}}
 use Rattle.numbers.specs.Lists.{zeros}

@@ -1,7 +1,8 @@
 -- A line, computed. Assumes nothing.
 use lib.IntN.{pos, negsuc}
 use mathlib.Core.{List.{[], _∷_}, Path.{_≡_, refl}}
-use Rattle.hour.specs.Line.{dateText, timeText, clockText, signedText, shown, hourLine, refusedLine}
+use Rattle.hour.specs.Line.{clockText, signedText, hourLine, refusedLine}
+use Rattle.line.specs.Clock.{dateText, timeText, shown}
 use Rattle.line.specs.Put.{decimal, decimalOf}
 use Rattle.tzif.specs.Reply.{refusal}
 

@@ -1,28 +1,15 @@
 -- The lines that are printed: "hour 2026-07-01 13:59:59 3 7200 1 CEST", "unknown", "refused 60 685".
-use Prim.Native.Nat.{ℕ, suc, _/_}
-use lib.{Dec.{ltb}, IntN.{ℤ, pos, negsuc}}
-use mathlib.Core.{Bool.{_&&_}, List.{List, [], _∷_, _++_, map}}
+use Prim.Native.Nat.{ℕ, suc}
+use lib.IntN.{ℤ, pos, negsuc}
+use mathlib.Core.{List.{List, [], _∷_, _++_, map}}
 use Rattle.calendar.specs.declared.civil.Reading.{Reading}
-use Rattle.line.specs.Put.{decimal, twoDigits}
-use Rattle.numbers.specs.Answer.{if_then_else_}
+use Rattle.line.specs.{Clock.{dateText, timeText, shown}, Put.{decimal}}
 use Rattle.tzif.specs.declared.{local.Local.{Local}, refusal.Refusal.{Refusal}}
-
--- a year's four digits, "-", the month's two, "-", the day's
-unfoldable pub dateText : Reading → List ℕ
-dateText reading = twoDigits (reading .year / 100) ++ (twoDigits (reading .year) ++ (45 ∷ (twoDigits (reading .month) ++ (45 ∷ twoDigits (reading .day)))))
-
--- two digits of the hour, ":", the minute, ":", the second
-unfoldable pub timeText : Reading → List ℕ
-timeText reading = twoDigits (reading .hour) ++ (58 ∷ (twoDigits (reading .minute) ++ (58 ∷ twoDigits (reading .second))))
 
 -- "-" before a negative number
 unfoldable pub signedText : ℤ → List ℕ
 signedText (pos n) = decimal n
 signedText (negsuc n) = 45 ∷ decimal (suc n)
-
--- a byte that would not stand on a line as a letter is "?", so that a line stays one line of seven words
-unfoldable pub shown : ℕ → ℕ
-shown byte = if (ltb 32 byte && ltb byte 127) then byte else 63
 
 -- "hour", date, time, weekday
 unfoldable pub clockText : Reading → List ℕ

@@ -1,44 +1,25 @@
 // The lines that are printed, into a lent buffer.
 ghost use mathlib.Core.{List.{_∷_, map}, Path.{_≡_}};
-ghost use lib.ListN.{length, take};
-ghost use Prim.Native.Nat.{_≤_, min};
-ghost use Rattle.hour.specs.{Hour.{Answered}, Line.{dateText, timeText, clockText, signedText, shown, hourLine, refusedLine}};
-ghost use Rattle.line.specs.Put.{Put};
+ghost use lib.ListN.{take};
+ghost use Prim.Native.Nat.{min};
+ghost use Rattle.hour.specs.{Hour.{Answered}, Line.{clockText, signedText, hourLine, refusedLine}};
+ghost use Rattle.line.specs.{Clock.{shown}, Put.{Put}};
 ghost use Rattle.tzif.specs.Local.{replied};
 ghost use Rattle.tzif.specs.declared.local.LocalTime.the-variants as L;
 use calendar::civil::Civil;
 use calendar::civil::Reading;
 use calendar::civil::civil_time;
+use line::clock::put_date;
+use line::clock::put_shown;
+use line::clock::put_time;
 use line::put::put;
 use line::put::put_all;
 use line::put::put_decimal;
 use line::put::put_number;
-use line::put::put_two;
 use tzif::local::Local;
 use tzif::local::LocalTime;
 use tzif::local::offset_bits;
 use tzif::refusal::Refusal;
-
-fn put_date(out: &mut [u8], at: usize, reading: Reading) -> usize
-    ensures { λ r. ⌜ Put (now (out .entry)) at (dateText reading) (now (out .exit)) r ⌝ }
-{
-    let century = put_two(out, at, reading.year / 100);
-    let year = put_two(out, century, reading.year);
-    let first = put(out, year, b'-');
-    let month = put_two(out, first, reading.month);
-    let second = put(out, month, b'-');
-    put_two(out, second, reading.day)
-}
-
-fn put_time(out: &mut [u8], at: usize, reading: Reading) -> usize
-    ensures { λ r. ⌜ Put (now (out .entry)) at (timeText reading) (now (out .exit)) r ⌝ }
-{
-    let hour = put_two(out, at, reading.hour);
-    let first = put(out, hour, b':');
-    let minute = put_two(out, first, reading.minute);
-    let second = put(out, minute, b':');
-    put_two(out, second, reading.second)
-}
 
 // A space and the seconds east of UT.
 fn put_offset(out: &mut [u8], at: usize, local: Local) -> usize
@@ -54,34 +35,10 @@ fn put_offset(out: &mut [u8], at: usize, local: Local) -> usize
     put_decimal(out, start, bits)
 }
 
-fn shown(byte: u8) -> u8
-    ensures { λ r. ⌜ r ≡ shown byte ⌝ }
-{
-    if 32 < byte {
-        if byte < 127 {
-            return byte;
-        }
-    }
-    b'?'
-}
-
 fn least(a: usize, b: usize) -> usize
     ensures { λ r. ⌜ r ≡ min a b ⌝ }
 {
     if a < b { a } else { b }
-}
-
-fn put_shown(out: &mut [u8], at: usize, text: &[u8], size: usize) -> usize
-    requires { ⌜ size ≤ length (now text) ⌝ }
-    ensures { λ r. ⌜ Put (now (out .entry)) at (map shown (take size (now (text .entry)))) (now (out .exit)) r ⌝ }
-{
-    let mut next = at;
-    let mut i = 0;
-    while i < size {
-        next = put(out, next, shown(text[i]));
-        i += 1;
-    }
-    next
 }
 
 // A space and so many bytes of a text, or all.
@@ -90,7 +47,7 @@ fn put_name(out: &mut [u8], at: usize, text: &[u8], most: usize) -> usize
 {
     let size = least(most, text.len());
     let start = put(out, at, b' ');
-    put_shown(out, start, text, size)
+    put_shown(out, start, &text[..size], 0)
 }
 
 // What a clock shows, from the line's start on.

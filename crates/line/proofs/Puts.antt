@@ -1,10 +1,10 @@
 -- Bytes that go into a lent buffer one after another. Assumes nothing.
-use Prim.Native.Nat.{ℕ, suc, _+_, _≤_, _<_}
+use Prim.Native.Nat.{ℕ, suc, _+_, _≤_, _<_, min, max}
 use native.Mathlib.{Nat.{add-zero}, Numerals.{add-one}, Omega.{arith}}
 use mathlib.Core.{Path.{_≡_, refl, sym, ap, _∙_, subst}, Bool.{Bool, true, false}, List.{List, [], _∷_, _++_}}
 use lib.{Dec.{leb}, ListN.{length, set, getD, take, drop, length-append}, Seq.{sets, length-sets, set-out, sets-eq, take-suc, take-at}}
 use borrow.Author.Tests.{leb-true, leb-false}
-use Rattle.line.specs.Put.{Put}
+use Rattle.line.specs.Put.{far, Put}
 
 sets-append : (xs ys before : List ℕ) (at : ℕ) → sets before at (xs ++ ys) ≡ sets (sets before at xs) (at + length xs) ys
 sets-append [] ys before at = ap (λ (n : ℕ). sets before n ys) (sym (add-zero at))
@@ -30,8 +30,12 @@ module _ {before bytes after : List ℕ} {at next : ℕ} (p : Put before at byte
 pub put-none : (before : List ℕ) (at : ℕ) → Put before at [] before at
 put-none before at = record { place-after = omega arith; stored = refl }
 
-pub put-past : (before : List ℕ) (at byte : ℕ) → length before ≤ at → Put before at (byte ∷ []) before at
-put-past before at byte h = record { place-after = omega arith; stored = sym (set-out before at byte h) }
+-- past the end a byte is only counted, and at the last place not even that
+pub put-past : (before : List ℕ) (at byte : ℕ) → length before ≤ at → at < far → Put before at (byte ∷ []) before (at + 1)
+put-past before at byte h k = record { place-after = omega arith; stored = sym (set-out before at byte h) }
+
+pub put-far : (before : List ℕ) (at byte : ℕ) → length before ≤ at → far ≤ at → Put before at (byte ∷ []) before at
+put-far before at byte h k = record { place-after = omega arith; stored = sym (set-out before at byte h) }
 
 -- the same bytes, said otherwise
 pub put-as : {before xs ys after : List ℕ} {at next : ℕ} → xs ≡ ys → Put before at xs after next → Put before at ys after next
@@ -40,11 +44,17 @@ put-as {before} {xs} {ys} {after} {at} {next} e p = subst (λ (bs : List ℕ). P
 pub put-byte : {before after : List ℕ} {at byte b next : ℕ} → byte ≡ b → Put before at (byte ∷ []) after next → Put before at (b ∷ []) after next
 put-byte e p = put-as (ap (λ (b : ℕ). b ∷ []) e) p
 
+-- places, counted on
+on : (at a b cap next end : ℕ) → next ≡ max at (min (at + a) cap) → end ≡ max next (min (next + b) cap) → end ≡ max at (min (at + (a + b)) cap)
+on at a b cap next end e f = omega arith
+
 -- one after another
 pub put-then : {before middle after : List ℕ} {at next end : ℕ} (xs ys : List ℕ) → Put before at xs middle next → Put middle next ys after end → Put before at (xs ++ ys) after end
 put-then {before} {middle} {after} {at} {next} {end} xs ys p q =
     record {
-      place-after = omega (arith, q .place-after, p .place-after, put-length p, length-append xs ys);
+      place-after =
+          on at (length xs) (length ys) (max far (length before)) next end (p .place-after) (q .place-after ∙ ap (λ (n : ℕ). max next (min (next + length ys) (max far n))) (put-length p))
+          ∙ ap (λ (n : ℕ). max at (min (at + n) (max far (length before)))) (sym (length-append xs ys));
       stored =
           q .stored
           ∙ ap (λ (zs : List ℕ). sets zs next ys) (p .stored)
@@ -55,6 +65,15 @@ put-then {before} {middle} {after} {at} {next} {end} xs ys p q =
 -- one more of a list
 pub put-next : {before now after : List ℕ} {at next end : ℕ} (bytes : List ℕ) (i : ℕ) → i < length bytes → Put before at (take i bytes) now next → Put now next (getD bytes i 0 ∷ []) after end → Put before at (take (i + 1) bytes) after end
 put-next {before} {now} {after} {at} {next} {end} bytes i h p q = subst (λ (bs : List ℕ). Put before at bs after end) (sym (ap (λ (k : ℕ). take k bytes) (add-one i) ∙ take-suc bytes i 0 h)) (put-then (take i bytes) (getD bytes i 0 ∷ []) p q)
+
+-- the whole length, as far as places go; what ends inside the buffer stands there whole
+pub put-size : {before bytes after : List ℕ} {next : ℕ} → Put before 0 bytes after next → length before ≤ far → next ≡ min (length bytes) far
+put-size p h = omega (arith, p .place-after)
+
+pub put-whole : {before bytes after : List ℕ} {next : ℕ} → Put before 0 bytes after next → length before < far → next ≤ length before → (next ≡ length bytes) × (after ≡ bytes ++ drop (length bytes) before)
+put-whole {before} {bytes} {after} {next} p short fits =
+    let n : next ≡ length bytes = omega (arith, p .place-after) in
+    (n, p .stored ∙ sets-eq bytes before 0 (omega arith) ∙ ap (λ (k : ℕ). bytes ++ drop k before) (let e : 0 + length bytes ≡ length bytes = omega arith in e))
 
 -- what stands at the front, whole
 pub put-front : {before bytes after : List ℕ} {next : ℕ} → Put before 0 bytes after next → length bytes ≤ length before → (next ≡ length bytes) × (take next after ≡ bytes)

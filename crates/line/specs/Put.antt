@@ -1,11 +1,15 @@
 -- Bytes that stand in a lent buffer, and numbers as they are printed.
-use Prim.Native.Nat.{ℕ, zero, suc, _+_, _/_, _%_, min, max}
+use Prim.Native.Nat.{ℕ, zero, suc, _+_, _-_, _/_, _%_, _^_, min, max}
 use lib.{Dec.{ltb}, ListN.{length}, Seq.{sets}}
 use mathlib.Core.{Bool.{cond}, List.{List, [], _∷_, _++_}, Path.{_≡_}}
 
--- the bytes stand from a place on, as many as fit; the next place is the one behind them, or the buffer's end
+-- the largest place; no buffer is longer
+abbrev pub far : ℕ
+far = 2 ^ 64 - 1
+
+-- the bytes stand from a place on, as many as fit; the next place is the one behind all of them, as far as places go
 pub record Put (before : List ℕ) (at : ℕ) (bytes after : List ℕ) (next : ℕ) : Type 0 where
-  pub place-after : next ≡ max at (min (at + length bytes) (length before))
+  pub place-after : next ≡ max at (min (at + length bytes) (max far (length before)))
   pub stored : after ≡ sets before at bytes
 
 -- the ASCII code of the last digit

@@ -1,4 +1,4 @@
-// Bytes into a lent buffer, one after another. Each function puts something at a place, as much of it as fits, and answers the place after it.
+// Bytes into a lent buffer, one after another. Each function puts something at a place, as much of it as fits, and answers the place behind all of it.
 ghost use mathlib.Core.{List.{[], _∷_}, Path.{_≡_}};
 ghost use Prim.Native.Nat.{_<_, _+_, _%_};
 ghost use Rattle.line.specs.Put.{Put, decimal, twoDigits};
@@ -8,6 +8,9 @@ pub fn put(out: &mut [u8], at: usize, byte: u8) -> usize
 {
     if at < out.len() {
         out[at] = byte;
+        return at + 1;
+    }
+    if at < 0xffff_ffff_ffff_ffff {
         return at + 1;
     }
     at

@@ -87,9 +87,9 @@ fn answer_by(file: &[u8], block: Block, rules: Rules, instant: usize) -> Said
 }
 
 // What a file says of an instant, and the scale on which it was read.
-struct Answered {
-    said: Said,
-    scale: Scale,
+pub struct Answered {
+    pub said: Said,
+    pub scale: Scale,
 }
 
 fn not_answered(why: Refusal) -> Answered
@@ -105,7 +105,7 @@ fn not_answered(why: Refusal) -> Answered
 }
 
 // What a file says of an instant.
-fn answer_at(file: &[u8], instant: i64) -> Answered
+pub fn answer_at(file: &[u8], instant: i64) -> Answered
     ensures { λ r. ⌜ (toldSaid (r .said) ≡ answerAt rfc9636 (now (file .entry)) instant) × HeldSaid (length (now (file .entry))) (r .said) × (r .scale ≡ scaleAt (now (file .entry)) instant) ⌝ }
 {
     let zone = match read_zone(file) {

@@ -1,5 +1,6 @@
 mod Names
 mod Joining
 mod Picking
+mod Naming
 mod Describing
 mod Replies

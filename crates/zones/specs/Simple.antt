@@ -1,15 +1,16 @@
 -- Simple lookup, as document 01 has it: the fields of every match are checked, and the first match is described.
 use mathlib.Core.{Path.{_≡_}, Bool.{Bool, true, false, _&&_}, List.{List, [], _∷_, _++_}, Option.{Option, none, some}}
-use Prim.Native.Nat.{ℕ, zero, suc, _+_, _/_}
+use Prim.Native.Nat.{ℕ, zero, suc, _+_, _/_, _≤_}
 use lib.{Dec.{leb, eqb}, ListN.{length}}
 use Rattle.numbers.specs.{Answer.{if_then_else_}, Lists.{padded}, Reply.{Reply, given, refused, plain, demand, _>>=_, _>>_}}
 use Rattle.header.specs.{Text.{textAt, bytesOf}, Header.{blameOf, headOf}, declared.{header.Head.{Head}, text.Text.{Text}}}
 use Rattle.table.specs.{Hits.{width}, Find.{Matched, matchedWith}, declared.{hits.Hit.{Hit}, location.Location.{Location}}}
 use Rattle.zones.specs.{Fields.{fieldsPlace}, Lent.{Outcome, Replied, repliedOf}}
 use Rattle.zones.specs.declared.simple.{Value.{Value}, Picked.{Picked}, Picks.{Picks}, Checked.{Checked}, Description.{Description}, Wording.{Wording}}
-use Rattle.zones.specs.declared.simple.{Described.{Described}, Simple.{Simple}}
+use Rattle.zones.specs.declared.simple.{Described.{Described}, Simple.{Simple}, Parts.{Parts}, Named.{Named}}
 use Rattle.zones.specs.declared.simple.Value.the-variants as X
 use Rattle.zones.specs.declared.simple.Picks.the-variants as P
+use Rattle.zones.specs.declared.simple.Named.the-variants as N
 use Rattle.zones.specs.declared.simple.Checked.the-variants as C
 use Rattle.zones.specs.declared.simple.Description.the-variants as D
 use Rattle.zones.specs.declared.simple.Wording.the-variants as W
@@ -65,21 +66,29 @@ module _ (file : List ℕ) (head : Head) where
     value ← textAt (head .strict) file (head .sections .metadata) values (record { number = 15; detail = 0 })
     pickedFrom more (index + 1) (called .next) (value .next) (newer (partOf (head .preamble .kind) (bytesOf file called)) value last)
 
-  -- the wanted fields of a match
+  -- the wanted fields of a metadata id
+  abbrev pub pickedAt : ℕ → Reply Picked
+  pickedAt metadata = pickedFrom (head .preamble .count) 0 7 (fieldsPlace head metadata) (begun (head .preamble .kind))
+
+  -- and of a match
   abbrev pub pickedOf : Hit → Reply Picked
-  pickedOf match = pickedFrom (head .preamble .count) 0 7 (fieldsPlace head (match .metadata)) (begun (head .preamble .kind))
+  pickedOf match = pickedAt (match .metadata)
 
   -- the fields of every match can be read
   unfoldable pub checked : List Hit → Reply (Unit {0})
   checked [] = given tt
   checked (match ∷ matches) = pickedOf match >>= λ picked. checked matches
 
+  -- what a metadata id describes: none where a wanted name is missing
+  abbrev pub descriptionAt : ℕ → Reply (Option (List ℕ))
+  descriptionAt metadata = do
+    picked ← pickedAt metadata
+    given (joined file (picked .one) (picked .two))
+
   -- of the first match
   unfoldable pub descriptionOf : List Hit → Reply (Option (List ℕ))
   descriptionOf [] = given none
-  descriptionOf (match ∷ matches) = do
-    picked ← pickedOf match
-    given (joined file (picked .one) (picked .two))
+  descriptionOf (match ∷ matches) = descriptionAt (match .metadata)
 
 -- ---- the reply
 abbrev pub bytesIn : Option (List ℕ) → List ℕ
@@ -135,6 +144,21 @@ simplyLooked file location n room = repliedOf n room (describedIn file location 
 abbrev pub toldPicks : Picks → Reply Picked
 toldPicks (P.Picked picked) = given picked
 toldPicks (P.Refused why) = refused why
+
+abbrev pub toldNamed : List ℕ → Named → Reply (Option (List ℕ))
+toldNamed file (N.Name parts) = given (some (bytesOf file (parts .one) ++ bytesOf file (parts .two)))
+toldNamed file N.Missing = given none
+toldNamed file (N.Refused why) = refused why
+
+-- both parts of a name lie in so many bytes
+pub record LiesParts (size : ℕ) (parts : Parts) : Type 0 where
+  pub one : parts .one .start + parts .one .size ≤ size
+  pub two : parts .two .start + parts .two .size ≤ size
+
+unfoldable pub LiesNamed : ℕ → Named → Type 0
+LiesNamed size (N.Name parts) = LiesParts size parts
+LiesNamed size N.Missing = Unit {0}
+LiesNamed size (N.Refused why) = Unit {0}
 
 abbrev pub toldChecked : Checked → Reply (Unit {0})
 toldChecked C.Good = given tt

@@ -95,7 +95,7 @@ fn look(
 }
 
 // In a file whose header was read; any header is taken.
-pub(crate) fn lookup_in(
+pub fn lookup_in(
     file: &[u8],
     head: Head,
     location: Location,

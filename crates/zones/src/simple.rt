@@ -6,7 +6,8 @@ ghost use Rattle.numbers.specs.Lists.{zeros};
 ghost use Rattle.header.specs.{Utf8.{unmasked}, Text.{bytesOf}};
 ghost use Rattle.table.specs.{Hits.{width, slots}, inner.Agreeing.{Agrees}};
 ghost use Rattle.zones.specs.{Fields.{toldFields, Wrote}, Lent.{Filled, replied}};
-ghost use Rattle.zones.specs.Simple.{same, partOf, begun, newer, pickedFrom, checked, fitting, wordedOf, toldPicks, toldChecked, toldWorded, Worded, describedWith, simplyLookedWith, simplyLooked, toldSimple};
+ghost use Rattle.zones.specs.Simple.{same, partOf, begun, newer, pickedFrom, descriptionAt, toldNamed, LiesNamed, checked, fitting, wordedOf, toldPicks, toldChecked, toldWorded, Worded};
+ghost use Rattle.zones.specs.Simple.{describedWith, simplyLookedWith, simplyLooked, toldSimple};
 use crate::fields::Fields;
 use crate::fields::fields_place;
 use header::codes::BAD_FIELD;
@@ -61,6 +62,18 @@ pub struct Picked {
 
 enum Picks {
     Picked(Picked),
+    Refused(Refusal),
+}
+
+// A name stands in the file in one part after the other; a country's second part is empty.
+pub struct Parts {
+    pub one: Text,
+    pub two: Text,
+}
+
+pub enum Named {
+    Name(Parts),
+    Missing,
     Refused(Refusal),
 }
 
@@ -186,6 +199,25 @@ fn pick(file: &[u8], head: Head, start: usize) -> Picks
     Picks::Picked(last)
 }
 
+// What a match with this metadata id is called: where the parts of its name stand, in a file whose header was read; any header is taken.
+pub fn name_of(file: &[u8], head: Head, metadata: u32) -> Named
+    ensures { λ r. ⌜ (toldNamed (now (file .entry)) r ≡ descriptionAt (now (file .entry)) head metadata) × LiesNamed (length (now (file .entry))) r ⌝ }
+{
+    let picked = match pick(file, head, fields_place(head, metadata)) {
+        Picks::Picked(picked) => picked,
+        Picks::Refused(why) => return Named::Refused(why),
+    };
+    let first = picked.one;
+    let Value::At(one) = first else {
+        return Named::Missing;
+    };
+    let second = picked.two;
+    let Value::At(two) = second else {
+        return Named::Missing;
+    };
+    Named::Name(Parts { one, two })
+}
+
 // The fields of every match can be read.
 fn check(file: &[u8], head: Head, hits: &[u32], count: usize) -> Checked
     requires { ⌜ count ≤ length (now hits) / width ⌝ }
@@ -235,19 +267,12 @@ fn describe(text: &mut [u8], file: &[u8], head: Head, hits: &[u32], count: usize
         return Wording::Description(Description::Missing);
     }
     let hit = hit_at(hits, 0);
-    let picked = match pick(file, head, fields_place(head, hit.metadata)) {
-        Picks::Picked(picked) => picked,
-        Picks::Refused(why) => return Wording::Refused(why),
+    let parts = match name_of(file, head, hit.metadata) {
+        Named::Name(parts) => parts,
+        Named::Missing => return Wording::Description(Description::Missing),
+        Named::Refused(why) => return Wording::Refused(why),
     };
-    let one = picked.one;
-    let Value::At(first) = one else {
-        return Wording::Description(Description::Missing);
-    };
-    let two = picked.two;
-    let Value::At(second) = two else {
-        return Wording::Description(Description::Missing);
-    };
-    match join(text, file, first, second) {
+    match join(text, file, parts.one, parts.two) {
         Fields::Used(size) => Wording::Description(Description::Length(size)),
         Fields::Refused(why) => Wording::Refused(why),
     }

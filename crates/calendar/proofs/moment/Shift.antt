@@ -34,7 +34,7 @@ shifted-short (pos n) h = omega (arith, ltb-false 253402300799 n h)
 shifted-short (negsuc n) h = omega arith
 
 -- the shifted instant tells day and second
-day-second : (z : ℤ) (n : ℕ) → n < 315537897600 → pos n -ℤ pos 62135596800 ≡ z → MomentOf z (At (n / 86400) (n % 86400))
+pub day-second : (z : ℤ) (n : ℕ) → n < 315537897600 → pos n -ℤ pos 62135596800 ≡ z → MomentOf z (At (n / 86400) (n % 86400))
 unfolding MomentOf
 day-second z n h e = (record { day-to = omega (arith, days-in-all); second-to = omega arith }, instant-plain (n / 86400) (n % 86400) ∙ ap (λ (s : ℕ). pos s -ℤ pos 62135596800) (let whole : 86400 * (n / 86400) + n % 86400 ≡ n = omega arith in whole) ∙ e)
 

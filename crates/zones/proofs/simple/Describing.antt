@@ -1,5 +1,5 @@
 -- The first match's description, by how far the code came. Assumes nothing.
-use mathlib.Core.{Path.{_≡_, refl, sym, ap, _∙_}, Bool.{Bool, true, false}, List.{List, [], _∷_, _++_}, Option.{Option, none, some}}
+use mathlib.Core.{Path.{_≡_, refl, sym, ap, subst, _∙_}, Bool.{Bool, true, false}, List.{List, [], _∷_, _++_}, Option.{Option, none, some}}
 use Prim.Native.Nat.{ℕ, _<_}
 use native.Mathlib.{Nat.{sub-zero}, Omega.{arith}}
 use borrow.Author.Tests.{le-leb}
@@ -7,20 +7,26 @@ use denote.Enum.Declared.{tagOf, declared}
 use lib.{Dec.{leb}, ListN.{length, getD, drop}, Seq.{drop-cons}}
 use Rattle.numbers.specs.{Lists.{zeros, padded}, Reply.{Reply, given, refused, plain, demand, _>>=_, _>>_}, declared.refusal.Refusal.{Refusal}}
 use Rattle.numbers.proofs.Replies.{carried, onward, met}
-use Rattle.header.specs.{Text.{bytesOf}, declared.{header.Head.{Head}, text.Text.{Text}}}
+use Rattle.header.specs.{Text.{bytesOf}, declared.header.Head.{Head}}
 use Rattle.table.{specs.{Hits.{noHit}, inner.Agreeing.{Agrees}, declared.hits.Hit.{Hit}}, proofs.Agreeing.{agree-given, agree-refused, gave, refused-so}}
-use Rattle.zones.specs.{Fields.{fieldsPlace, Wrote}, Simple.{begun, pickedFrom, joined, descriptionOf, bytesIn, fitting, wordedOf, Worded}}
-use Rattle.zones.specs.declared.simple.{Value.{Value}, Picked.{Picked}}
-use Rattle.zones.specs.declared.simple.Value.the-variants as X
+use Rattle.zones.specs.{Fields.{Wrote}, Simple.{descriptionAt, descriptionOf, bytesIn, fitting, wordedOf, Worded, toldNamed, LiesNamed, LiesParts}}
+use Rattle.zones.specs.declared.simple.{Parts.{Parts}, Named.{Named}}
+use Rattle.zones.specs.declared.simple.Named.the-variants as N
 use Rattle.zones.specs.declared.simple.Description.the-variants as D
-use Rattle.zones.proofs.simple.Value as K
+use Rattle.zones.proofs.simple.Named as K
 
-pub is-missing : (value : Value) → tagOf (declared K.enum) value ≡ 1 → value ≡ X.Missing
-is-missing (X.At text) t = absurd (omega (arith, t))
-is-missing X.Missing t = refl
+pub is-missing : (named : Named) → tagOf (declared K.enum) named ≡ 1 → named ≡ N.Missing
+is-missing (N.Name parts) t = absurd (omega (arith, t))
+is-missing N.Missing t = refl
+is-missing (N.Refused why) t = absurd (omega (arith, t))
 
-abbrev both : List ℕ → Text → Text → List ℕ
-both file first second = bytesOf file first ++ bytesOf file second
+-- a name's parts lie where it is said
+pub parts-lie : (size : ℕ) {named : Named} {parts : Parts} → named ≡ N.Name parts → LiesNamed size named → LiesParts size parts
+unfolding LiesNamed
+parts-lie size is h = subst (LiesNamed size) is h
+
+abbrev both : List ℕ → Parts → List ℕ
+both file parts = bytesOf file (parts .one) ++ bytesOf file (parts .two)
 
 -- what fits is what was to fit
 fitted : (room : ℕ) (all : List ℕ) {bytes : List ℕ} → given bytes ≡ fitting room all → bytes ≡ all
@@ -30,14 +36,13 @@ fitted room all {bytes} e = go (leb (length all) room) e
     go true e = cc
     go false e = let z : _≡_ {A = ℕ} 0 1 = cc in absurd (omega arith)
 
--- what is picked from the first match describes it
-pub described : (file : List ℕ) (head : Head) (all : List Hit) {got : Hit} {place : ℕ} {picks : Reply Picked} → 0 < length all → got ≡ getD all 0 noHit → place ≡ fieldsPlace head (got .metadata)
-    → picks ≡ pickedFrom file head (head .preamble .count) 0 7 place (begun (head .preamble .kind))
-    → (picks >>= λ picked. given (joined file (picked .one) (picked .two))) ≡ descriptionOf file head all
+-- what the first match is called describes it
+pub described : (file : List ℕ) (head : Head) (all : List Hit) (named : Named) {got : Hit} → 0 < length all → got ≡ getD all 0 noHit → toldNamed file named ≡ descriptionAt file head (got .metadata)
+    → toldNamed file named ≡ descriptionOf file head all
 unfolding descriptionOf
-described file head all {got} some-match is p e =
+described file head all named {got} some-match is e =
     let cons : all ≡ got ∷ drop 1 all = drop-cons all 0 noHit some-match ∙ ap (λ (h : Hit). h ∷ drop 1 all) (sym is) in
-    rw (e, p) (sym (ap (descriptionOf file head) cons))
+    e ∙ sym (ap (descriptionOf file head) cons)
 
 module _ (file : List ℕ) (head : Head) (room : ℕ) (all : List Hit) where
   -- from a description to what goes out
@@ -54,32 +59,27 @@ module _ (file : List ℕ) (head : Head) (room : ℕ) (all : List Hit) where
   unfolding descriptionOf
   no-matches z e = nothing z (ap (descriptionOf file head) (sym e))
 
-  pub not-picked : {picks : Reply Picked} {why : Refusal} (text : List ℕ) → picks ≡ refused why → (picks >>= λ picked. given (joined file (picked .one) (picked .two))) ≡ descriptionOf file head all
-      → Agrees (Worded room text) (wordedOf file head room all) (refused why)
-  unfolding wordedOf
-  not-picked text e d = agree-refused (Worded room text) (carried (carried (sym e) _ ∙ d) _)
+  module _ (named : Named) (so : toldNamed file named ≡ descriptionOf file head all) where
+    pub not-named : {why : Refusal} (text : List ℕ) → named ≡ N.Refused why → Agrees (Worded room text) (wordedOf file head room all) (refused why)
+    unfolding wordedOf
+    not-named text is = agree-refused (Worded room text) (carried (sym (ap (toldNamed file) is) ∙ so) _)
 
-  module _ (a b : Value) (so : given (joined file a b) ≡ descriptionOf file head all) where
-    pub no-one : {text : List ℕ} → text ≡ zeros room → a ≡ X.Missing → Agrees (Worded room text) (wordedOf file head room all) (given D.Missing)
-    no-one z m = nothing z (ap (λ (v : Value). given (joined file v b)) (sym m) ∙ so)
+    pub no-name : {text : List ℕ} → text ≡ zeros room → named ≡ N.Missing → Agrees (Worded room text) (wordedOf file head room all) (given D.Missing)
+    no-name z is = nothing z (sym (ap (toldNamed file) is) ∙ so)
 
-    module _ {first : Text} (one : a ≡ X.At first) where
-      pub no-two : {text : List ℕ} → text ≡ zeros room → b ≡ X.Missing → Agrees (Worded room text) (wordedOf file head room all) (given D.Missing)
-      no-two z m = nothing z (sym (λ i. given (joined file (one i) (m i))) ∙ so)
+    module _ {parts : Parts} (is : named ≡ N.Name parts) where
+      goes-out : (fitting room (both file parts) >>= λ bytes. given (some (both file parts))) ≡ wordedOf file head room all
+      goes-out = worded (some (both file parts)) (sym (ap (toldNamed file) is) ∙ so)
 
-      module _ {second : Text} (two : b ≡ X.At second) where
-        goes-out : (fitting room (both file first second) >>= λ bytes. given (some (both file first second))) ≡ wordedOf file head room all
-        goes-out = worded (some (both file first second)) (sym (λ i. given (joined file (one i) (two i))) ∙ so)
+      module _ (last : List ℕ) {reply : Reply ℕ} (agrees : Agrees (Wrote room last) (fitting room (both file parts)) reply) where
+        pub no-room : {why : Refusal} (text : List ℕ) → reply ≡ refused why → Agrees (Worded room text) (wordedOf file head room all) (refused why)
+        no-room text r =
+            agree-refused (Worded room text)
+            (carried (refused-so (Wrote room last) (fitting room (both file parts)) agrees r) (λ bytes. given (some (both file parts))) ∙ goes-out)
 
-        module _ (last : List ℕ) {reply : Reply ℕ} (agrees : Agrees (Wrote room last) (fitting room (both file first second)) reply) where
-          pub no-room : {why : Refusal} (text : List ℕ) → reply ≡ refused why → Agrees (Worded room text) (wordedOf file head room all) (refused why)
-          no-room text r =
-              agree-refused (Worded room text)
-              (carried (refused-so (Wrote room last) (fitting room (both file first second)) agrees r) (λ bytes. given (some (both file first second))) ∙ goes-out)
-
-          pub written : {size : ℕ} → reply ≡ given size → Agrees (Worded room last) (wordedOf file head room all) (given (D.Length size))
-          written r =
-              let o = gave (Wrote room last) (fitting room (both file first second)) agrees r in
-              let same = fitted room (both file first second) (o .is) in
-              agree-given (Worded room last) (onward (o .is) (λ bytes. given (some (both file first second))) ∙ goes-out)
-              (record { said = ap D.Length (o .fits .said ∙ ap length same); kept = o .fits .kept ∙ ap (padded room) same })
+        pub written : {size : ℕ} → reply ≡ given size → Agrees (Worded room last) (wordedOf file head room all) (given (D.Length size))
+        written r =
+            let o = gave (Wrote room last) (fitting room (both file parts)) agrees r in
+            let same = fitted room (both file parts) (o .is) in
+            agree-given (Worded room last) (onward (o .is) (λ bytes. given (some (both file parts))) ∙ goes-out)
+            (record { said = ap D.Length (o .fits .said ∙ ap length same); kept = o .fits .kept ∙ ap (padded room) same })

@@ -2,21 +2,21 @@
 use Prim.Native.Nat.{_+_, _-_}
 use borrow.Author.Needs.{needs}
 use lib.ListN.{drop}
-use mathlib.Core.List.{_++_}
+use mathlib.Core.List.{_++_, map}
 use mathlib.Core.Path.{_≡_, sym, _∙_}
 use native.Mathlib.Omega.{arith}
 use Rattle.bundle.proofs.Entries.{agree-stop, agree-on, agree-end, from-start, next-place}
 use Rattle.bundle.proofs.bytes.agrees.Statement.{statement}
-use Rattle.bundle.specs.Bundle.{agrees}
+use Rattle.bundle.specs.Bundle.{agrees, xored}
 use Rattle.bundle.proofs.bytes.agrees.Tie as tie
 
 -- `bundle::bytes::agrees` meets its contract. Assumes nothing.
 
 abbrev Inv-loop : tie.InvT-loop
-Inv-loop bundle place prefix id size at₀ left₀ at left = (agrees left (drop (place + at) bundle) (drop at (prefix ++ id)) ≡ agrees size (drop place bundle) (prefix ++ id)) × (at + left ≡ size)
+Inv-loop bundle place prefix id size mask at₀ left₀ at left = (agrees left (drop (place + at) bundle) (drop at (map (xored mask) (prefix ++ id))) ≡ agrees size (drop place bundle) (map (xored mask) (prefix ++ id))) × (at + left ≡ size)
 
 abbrev μ-loop : tie.MeasureT-loop
-μ-loop bundle place prefix id size at₀ left₀ at left = left
+μ-loop bundle place prefix id size mask at₀ left₀ at left = left
 
 loop-holds : tie.Need-loop-holds Inv-loop μ-loop
 loop-holds c = (from-start (c .before .before .before .args .size) (c .before .before .before .args .bundle .now) _ (c .before .before .before .args .place), omega arith)
@@ -39,7 +39,7 @@ returns c =
     let args = c .before .before .before .before .before .before .before .before .args in
     let loop-test = c .before .before .before .loop-test in
     let byte-of = c .before .before .byte-of in
-    agree-stop (loop .left) (args .bundle .now) (args .prefix .now ++ args .id .now) (args .place + loop .at) (loop .at) (loop-test .taken) (λ e. c .if1 .taken (e ∙ sym (byte-of .ensures)))
+    agree-stop (loop .left) (args .bundle .now) (map (xored (args .mask)) (args .prefix .now ++ args .id .now)) (args .place + loop .at) (loop .at) (loop-test .taken) (λ e. c .if1 .taken (e ∙ sym (byte-of .ensures)))
     ∙ loop .inv .0
 
 add-at : tie.Need-add-at Inv-loop μ-loop
@@ -55,7 +55,7 @@ loop-again c =
     let loop-test = c .before .before .before .loop-test in
     let byte-of = c .before .before .byte-of in (
       next-place (loop .left - 1) (args .bundle .now) _ (args .place) (loop .at)
-          ∙ agree-on (loop .left) (args .bundle .now) (args .prefix .now ++ args .id .now) (args .place + loop .at) (loop .at) (loop-test .taken) (c .if1 .left ∙ byte-of .ensures)
+          ∙ agree-on (loop .left) (args .bundle .now) (map (xored (args .mask)) (args .prefix .now ++ args .id .now)) (args .place + loop .at) (loop .at) (loop-test .taken) (c .if1 .left ∙ byte-of .ensures)
           ∙ loop .inv .0,
       omega (arith, loop .inv .1),
     )

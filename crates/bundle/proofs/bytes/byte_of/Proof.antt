@@ -10,19 +10,19 @@ returns : tie.Need-returns
 returns c =
     let args = c .before .before .args in
     let if1 = c .before .if1 in
-    byte-first (args .prefix .now) (args .id .now) (args .at) (if1 .taken)
+    byte-first (args .prefix .now) (args .id .now) (args .at) (args .mask) (if1 .taken)
 
 returns-2 : tie.Need-returns-2
 returns-2 c =
     let args = c .before .before .before .args in
     let if1 = c .before .before .if1 in
-    byte-second (args .prefix .now) (args .id .now) (args .at) (if1 .left)
+    byte-second (args .prefix .now) (args .id .now) (args .at) (args .mask) (if1 .left) (c .before .if2 .taken)
 
 returns-3 : tie.Need-returns-3
 returns-3 c =
     let args = c .before .before .args in
     let if1 = c .before .if1 in
-    byte-none (args .prefix .now) (args .id .now) (args .at) (if1 .left) (c .if2 .left)
+    byte-none (args .prefix .now) (args .id .now) (args .at) (args .mask) (if1 .left) (c .if2 .left)
 
 pub byte-of-spec : {M : Type 1} → statement M
 byte-of-spec =

@@ -1,12 +1,12 @@
 -- `bundle::find::find` meets its contract. Assumes nothing.
 use Prim.Native.Nat.{ℕ, _+_, _-_, _/_}
 use borrow.Author.Needs.{needs}
-use mathlib.Core.List.{_++_}
+use mathlib.Core.List.{_++_, map}
 use mathlib.Core.Path.{ap, sym, _∙_}
 use native.Mathlib.Omega.{arith}
 use Rattle.bundle.proofs.Entries.{head-good, seek-inside, find-head, find-none, find-out, find-in, same-file}
 use Rattle.bundle.proofs.find.find.Statement.{statement}
-use Rattle.bundle.specs.Told.{toldHead, toldSought}
+use Rattle.bundle.specs.{Bundle.{xored}, Told.{toldHead, toldSought}}
 use Rattle.numbers.specs.Reply.{given, refused}
 use Rattle.bundle.proofs.find.find.Tie as tie
 
@@ -15,7 +15,7 @@ returns c =
     let args = c .before .before .before .before .before .before .before .args in
     let why = c .before .why in
     let read-head = c .before .before .before .read-head in
-    find-head (args .bundle .now) (args .prefix .now ++ args .id .now) (sym (ap toldHead (why .given .1)) ∙ read-head .ensures)
+    find-head (args .bundle .now) (map (xored (args .mask)) (args .prefix .now ++ args .id .now)) (sym (ap toldHead (why .given .1)) ∙ read-head .ensures)
 
 sub-count : tie.Need-sub-count
 sub-count c =
@@ -41,7 +41,7 @@ returns-2 c =
     let read-head = c .before .before .before .before .before .before .before .before .read-head in
     let enum-told = c .before .enum-told in
     let seek = c .before .before .before .seek in
-    ap refused (c .plain .ensures) ∙ find-none (args .bundle .now) (args .prefix .now ++ args .id .now) (sym (ap toldHead (head .given .1))
+    ap refused (c .plain .ensures) ∙ find-none (args .bundle .now) (map (xored (args .mask)) (args .prefix .now ++ args .id .now)) (sym (ap toldHead (head .given .1))
     ∙ read-head .ensures) (sym (ap toldSought (enum-told .given .1)) ∙ seek .ensures)
 
 add-word-at : tie.Need-add-word-at
@@ -55,7 +55,7 @@ add-word-at c =
     omega (
       arith,
       good,
-      seek-inside ((head .given .0 .0 .start - head .given .0 .0 .index) / 52) (args .bundle .now) (args .prefix .now ++ args .id .now) (head .given .0 .0 .index) (sym
+      seek-inside ((head .given .0 .0 .start - head .given .0 .0 .index) / 52) (args .bundle .now) (map (xored (args .mask)) (args .prefix .now ++ args .id .now)) (head .given .0 .0 .index) (sym
           (ap toldSought (place .given .1)) ∙ seek .ensures),
     )
 
@@ -70,7 +70,7 @@ word-at-requires c κs =
     omega (
       arith,
       good,
-      seek-inside ((head .given .0 .0 .start - head .given .0 .0 .index) / 52) (args .bundle .now) (args .prefix .now ++ args .id .now) (head .given .0 .0 .index) (sym
+      seek-inside ((head .given .0 .0 .start - head .given .0 .0 .index) / 52) (args .bundle .now) (map (xored (args .mask)) (args .prefix .now ++ args .id .now)) (head .given .0 .0 .index) (sym
           (ap toldSought (place .given .1)) ∙ seek .ensures),
     )
 
@@ -93,7 +93,7 @@ add-word-at-2 c =
     omega (
       arith,
       good,
-      seek-inside ((head .given .0 .0 .start - head .given .0 .0 .index) / 52) (args .bundle .now) (args .prefix .now ++ args .id .now) (head .given .0 .0 .index) (sym
+      seek-inside ((head .given .0 .0 .start - head .given .0 .0 .index) / 52) (args .bundle .now) (map (xored (args .mask)) (args .prefix .now ++ args .id .now)) (head .given .0 .0 .index) (sym
           (ap toldSought (place .given .1)) ∙ seek .ensures),
     )
 
@@ -108,7 +108,7 @@ word-at-requires-2 c κs =
     omega (
       arith,
       good,
-      seek-inside ((head .given .0 .0 .start - head .given .0 .0 .index) / 52) (args .bundle .now) (args .prefix .now ++ args .id .now) (head .given .0 .0 .index) (sym
+      seek-inside ((head .given .0 .0 .start - head .given .0 .0 .index) / 52) (args .bundle .now) (map (xored (args .mask)) (args .prefix .now ++ args .id .now)) (head .given .0 .0 .index) (sym
           (ap toldSought (place .given .1)) ∙ seek .ensures),
     )
 
@@ -130,7 +130,7 @@ returns-3 c =
     let if1 = c .before .if1 in
     let word-at = c .before .before .before .before .before .word-at in
     let word-at2 = c .before .before .before .word-at2 in
-    ap refused (c .refuse .ensures) ∙ find-out (args .bundle .now) (args .prefix .now ++ args .id .now) (sym (ap toldHead (head .given .1))
+    ap refused (c .refuse .ensures) ∙ find-out (args .bundle .now) (map (xored (args .mask)) (args .prefix .now ++ args .id .now)) (sym (ap toldHead (head .given .1))
     ∙ read-head .ensures) (sym (ap toldSought (place .given .1)) ∙ seek .ensures) (omega (arith, if1 .taken, word-at .ensures .0, word-at2 .ensures .0))
 
 returns-4 : tie.Need-returns-4
@@ -143,7 +143,7 @@ returns-4 c =
     let place = c .before .before .before .before .before .before .place in
     let seek = c .before .before .before .before .before .before .before .before .seek in
     ap given (same-file (ap (λ (n : ℕ). head .given .0 .0 .start + n) (word-at .ensures .0)) (word-at2 .ensures .0))
-    ∙ find-in (args .bundle .now) (args .prefix .now ++ args .id .now) (sym (ap toldHead (head .given .1)) ∙ read-head .ensures) (sym (ap toldSought (place .given .1))
+    ∙ find-in (args .bundle .now) (map (xored (args .mask)) (args .prefix .now ++ args .id .now)) (sym (ap toldHead (head .given .1)) ∙ read-head .ensures) (sym (ap toldSought (place .given .1))
     ∙ seek .ensures) (omega (arith, c .if1 .left, word-at .ensures .0, word-at2 .ensures .0))
 
 pub find-spec : {M : Type 1} → statement M

@@ -1,6 +1,6 @@
--- `hour::lines::shown` meets its contract. Assumes nothing.
-use Rattle.hour.proofs.{Names.{letter, too-low, too-high}, lines.shown.Statement.{statement}}
-use Rattle.hour.proofs.lines.shown.Tie as tie
+-- `line::clock::shown` meets its contract. Assumes nothing.
+use Rattle.line.proofs.{Shown.{letter, too-low, too-high}, clock.shown.Statement.{statement}}
+use Rattle.line.proofs.clock.shown.Tie as tie
 
 pub shown-spec : {M : Type 1} → statement M
 shown-spec =

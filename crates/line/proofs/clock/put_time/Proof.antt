@@ -1,9 +1,9 @@
--- `hour::lines::put_time` meets its contract. Assumes nothing.
+-- `line::clock::put_time` meets its contract. Assumes nothing.
 use borrow.Author.Needs.{needs}
-use Rattle.hour.proofs.lines.put_time.Statement.{statement}
-use Rattle.hour.specs.Line.{timeText}
+use Rattle.line.proofs.clock.put_time.Statement.{statement}
+use Rattle.line.specs.Clock.{timeText}
 use Rattle.line.proofs.Puts.{put-then}
-use Rattle.hour.proofs.lines.put_time.Tie as tie
+use Rattle.line.proofs.clock.put_time.Tie as tie
 
 returns : tie.Need-returns
 unfolding timeText

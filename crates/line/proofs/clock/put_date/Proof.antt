@@ -1,9 +1,9 @@
--- `hour::lines::put_date` meets its contract. Assumes nothing.
+-- `line::clock::put_date` meets its contract. Assumes nothing.
 use borrow.Author.Needs.{needs}
-use Rattle.hour.proofs.lines.put_date.Statement.{statement}
-use Rattle.hour.specs.Line.{dateText}
+use Rattle.line.proofs.clock.put_date.Statement.{statement}
+use Rattle.line.specs.Clock.{dateText}
 use Rattle.line.proofs.Puts.{put-then}
-use Rattle.hour.proofs.lines.put_date.Tie as tie
+use Rattle.line.proofs.clock.put_date.Tie as tie
 
 returns : tie.Need-returns
 unfolding dateText

@@ -1,0 +1,7 @@
+-- The theorems of the slip, and the laws that its functions' proofs cite.
+pub mod Names
+pub mod Parts
+pub mod Locals
+pub mod Asking
+pub mod Zones
+pub mod Stamps

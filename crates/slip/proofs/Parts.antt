@@ -1,0 +1,60 @@
+-- Parts of a map and of a bundle as they are lent: a name, a file, an abbreviation; and an offset by its bits. Assumes nothing.
+use Prim.Native.Nat.{ℕ, zero, suc, _+_, _-_, _^_, _≤_}
+use borrow.Author.Tests.{ltb-true}
+use lib.{Bits.{bitXor}, IntN.{ℤ, pos, negsuc}, ListN.{length, take, drop}, Seq.{length-take-le}, Signed.{ltZ}}
+use mathlib.Core.{Bool.{true, false}, List.{List, [], _∷_, _++_, map, map-append, map-map}, Path.{_≡_, refl, sym, ap, _∙_}}
+use mir.{Syntax.{w32}, Val.{SFits, toZ, ofZ}, ValLaws.{toZ-ofZ, ofZ-fits}}
+use native.Mathlib.Omega.{arith}
+use Rattle.bundle.specs.Bundle.{xored}
+use Rattle.header.proofs.Strings.{part, part-is}
+use Rattle.header.specs.{Text.{bytesOf}, Utf8.{unmasked}, declared.text.Text.{Text}}
+use Rattle.line.specs.Clock.{spanText, offsetText, shown}
+use Rattle.slip.specs.{Line.{between, shownText}, Told.{nameIn}}
+use Rattle.tzif.specs.Text.{slice}
+use Rattle.zones.specs.declared.simple.Parts.{Parts}
+
+-- from a start to an end is so many from the start on
+pub part-slice : (xs : List ℕ) (start size : ℕ) → take (start + size - start) (drop start xs) ≡ slice xs start size
+part-slice xs start size = ap (λ (k : ℕ). take k (drop start xs)) (let e : start + size - start ≡ size = omega arith in e)
+
+module _ (file : List ℕ) (name : Parts) where
+  -- both parts, unmasked, are the name
+  pub parts-name : map (xored 0x80) (part file (name .one) ++ part file (name .two)) ≡ nameIn file name
+  parts-name = map-append unmasked (part file (name .one)) (part file (name .two)) ∙ (λ i. part-is file (name .one) i ++ part-is file (name .two) i)
+
+  part-shown : (text : Text) → map (λ byte. shown (bitXor byte 0x80)) (part file text) ≡ shownText (bytesOf file text)
+  part-shown text = sym (map-map shown unmasked (part file text)) ∙ ap (map shown) (part-is file text)
+
+  -- and as they are printed
+  pub parts-shown : map (λ byte. shown (bitXor byte 0x80)) (part file (name .one)) ++ map (λ byte. shown (bitXor byte 0x80)) (part file (name .two)) ≡ shownText (nameIn file name)
+  parts-shown = (λ i. part-shown (name .one) i ++ part-shown (name .two) i) ∙ sym (map-append shown (bytesOf file (name .one)) (bytesOf file (name .two)))
+
+-- a comma before one that is not the first
+pub between-more : (i : ℕ) → (i ≡ 0 → ⊥) → 44 ∷ 32 ∷ [] ≡ between i
+unfolding between
+between-more zero h = absurd (h refl)
+between-more (suc i) h = refl
+
+-- ---- the text of an offset, by its bits
+negative : (z : ℤ) → SFits w32 z → ltZ z (pos 0) ≡ true → 45 ∷ spanText (2 ^ 32 - ofZ w32 z) ≡ offsetText z
+unfolding offsetText
+negative (pos n) fits e = absurd (omega (arith, ltb-true n 0 e))
+negative (negsuc k) fits e = ap (λ (n : ℕ). 45 ∷ spanText n) (let s : 2 ^ 32 - (2 ^ 32 - suc k) ≡ suc k = omega (arith, fits .sfits) in s)
+
+other : (z : ℤ) → ltZ z (pos 0) ≡ false → 43 ∷ spanText (ofZ w32 z) ≡ offsetText z
+unfolding offsetText
+other (pos n) e = refl
+other (negsuc k) e = let z : _≡_ {A = ℕ} 0 1 = cc in absurd (omega arith)
+
+module _ (z : ℤ) (fits : SFits w32 z) {bits : ℕ} (e : bits ≡ ofZ w32 z) where
+  pub few-bits : bits ≤ 2 ^ 32
+  few-bits = omega (arith, e, ofZ-fits w32 z fits .fits)
+
+  same : toZ w32 (ofZ w32 z) ≡ z
+  same = toZ-ofZ w32 z fits
+
+  pub below-zero : ltZ (toZ w32 (ofZ w32 z)) (pos 0) ≡ true → 45 ∷ spanText (2 ^ 32 - bits) ≡ offsetText z
+  below-zero t = ap (λ (b : ℕ). 45 ∷ spanText (2 ^ 32 - b)) e ∙ negative z fits (rw same at t)
+
+  pub from-zero : ltZ (toZ w32 (ofZ w32 z)) (pos 0) ≡ false → 43 ∷ spanText bits ≡ offsetText z
+  from-zero t = ap (λ (b : ℕ). 43 ∷ spanText b) e ∙ other z (rw same at t)

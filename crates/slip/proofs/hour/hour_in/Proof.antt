@@ -1,0 +1,100 @@
+-- `slip::hour::hour_in` meets its contract. Assumes nothing.
+use borrow.Author.Needs.{needs}
+use Prim.Native.Nat.{_+_, _-_, _≤_}
+use lib.{ListN.{length, take, drop, length-drop}, Seq.{length-take-le}}
+use mathlib.Core.{List.{List}, Path.{_≡_, sym, ap, subst, _∙_}}
+use mir.{Syntax.{w32}, ValLaws.{toZ-ofZ}}
+use native.Mathlib.Omega.{arith}
+use Rattle.bundle.specs.{Bundle.{findOf}, Told.{told}}
+use Rattle.numbers.specs.Reply.{given}
+use Rattle.slip.proofs.Locals.{not-found, file-inside, no-local, no-clock, the-hour}
+use Rattle.slip.proofs.Parts.{part-slice, parts-name}
+use Rattle.slip.specs.Hour.{localIn, shown}
+use Rattle.slip.specs.Told.{nameIn, toldLocal, toldClock, HeldTold}
+use Rattle.slip.specs.declared.hour.Told.{Told}
+use Rattle.tzif.specs.Text.{slice}
+use Rattle.slip.proofs.hour.hour_in.Statement.{statement}
+use Rattle.slip.proofs.hour.hour_in.Tie as tie
+
+-- what the bundle has under the name
+found-in : (c : tie.After-file) → let args = c .before .before .before .before .before .before .before .before .before .before .before .args in
+    given (c .file .given .0 .0) ≡ findOf (args .zones .now) (nameIn (args .map .now) (args .name))
+found-in c =
+    let args = c .before .before .before .before .before .before .before .before .before .before .before .args in
+    sym (ap told (c .file .given .1)) ∙ c .before .before .find .ensures ∙ ap (findOf (args .zones .now)) (parts-name (args .map .now) (args .name))
+
+inside : (c : tie.After-file) → let args = c .before .before .before .before .before .before .before .before .before .before .before .args in c .file .given .0 .0 .start + c .file .given .0 .0 .length ≤ length (args .zones .now)
+inside c =
+    let start = c .before .before .before .before .before .before .before .before .before .before .before in
+    file-inside (start .args .map .now) (start .args .zones .now) (start .args .fix .instant) (start .args .name) (start .pre) (found-in c)
+
+-- what its file says
+says : (c : tie.After-local-in) → let args = c .before .before .before .before .before .before .before .before .before .before .before .before .before .before .args in let file = c .before .before .before .file .given .0 .0 in
+    toldLocal (c .local-in .result) ≡ localIn (slice (args .zones .now) (file .start) (file .length)) (args .fix .instant)
+says c =
+    let args = c .before .before .before .before .before .before .before .before .before .before .before .before .before .before .args in
+    let file = c .before .before .before .file .given .0 .0 in
+    c .local-in .ensures .0 ∙ ap (λ (own : List _). localIn own (args .fix .instant)) (part-slice (args .zones .now) (file .start) (file .length))
+
+-- the abbreviation lies in it
+held : (c : tie.After-found) → let file = c .before .before .before .before .before .file .given .0 .0 in c .found .given .0 .0 .place + c .found .given .0 .0 .length ≤ file .length
+unfolding HeldTold
+held c =
+    let args = c .before .before .before .before .before .before .before .before .before .before .before .before .before .before .before .before .args in
+    let file = c .before .before .before .before .before .file .given .0 .0 in
+    let whole = subst (λ (t : Told). HeldTold (length (take (file .start + file .length - file .start) (drop (file .start) (args .zones .now)))) t) (c .found .given .1) (c .before .before .local-in .ensures .1) in
+    let size = ap length (part-slice (args .zones .now) (file .start) (file .length))
+    ∙ length-take-le (file .length) (drop (file .start) (args .zones .now)) (rw length-drop (omega (arith, inside (c .before .before .before .before .before)))) in
+    omega (arith, whole .held, size)
+
+returns : tie.Need-returns
+returns c = not-found _ _ _ _ (c .before .before .before .before .before .before .before .before .before .before .before .before .pre) (sym (ap told (c .before .why .given .1)) ∙ c .before .before .before .find .ensures ∙ ap (findOf (c .before .before .before .before .before .before .before .before .before .before .before .before .args .zones .now)) (parts-name (c .before .before .before .before .before .before .before .before .before .before .before .before .args .map .now) (c .before .before .before .before .before .before .before .before .before .before .before .before .args .name)))
+
+add-end : tie.Need-add-end
+add-end c = omega (arith, inside (c .before), c .before .before .before .before .before .before .before .before .before .before .before .before .good .1 .0 .0)
+
+part-local-in-end : tie.Need-part-local-in-end
+part-local-in-end c = let h = inside (c .before) in search needs
+
+returns-2 : tie.Need-returns-2
+returns-2 c = no-local _ _ _ _ (c .before .before .before .before .before .before .before .before .before .before .before .before .before .before .before .before .before .pre) (found-in (c .before .before .before .before .before .before)) (sym (ap toldLocal (c .before .why2 .given .1)) ∙ says (c .before .before .before))
+
+returns-3 : tie.Need-returns-3
+returns-3 c = no-clock _ _ _ _ (c .before .before .before .before .before .before .before .before .before .before .before .before .before .before .before .before .before .before .before .before .before .pre) (found-in (c .before .before .before .before .before .before .before .before .before .before)) (sym (ap toldLocal (c .before .before .before .before .before .found .given .1)) ∙ says (c .before .before .before .before .before .before .before)) (sym (ap toldClock (c .before .why3 .given .1)) ∙ c .before .before .before .clock-of .ensures)
+
+add-t21 : tie.Need-add-t21
+add-t21 c = omega (arith, inside (c .before .before .before .before .before .before .before .before .before .before .before), held (c .before .before .before .before .before .before), c .before .before .before .before .before .before .before .before .before .before .before .before .before .before .before .before .before .before .before .before .before .before .good .1 .0 .0)
+
+returns-4 : tie.Need-returns-4
+returns-4 c = the-hour _ _ _ _ (c .before .before .before .before .before .before .before .before .before .before .before .before .before .before .before .before .before .before .before .before .before .before .before .pre) (found-in (c .before .before .before .before .before .before .before .before .before .before .before .before)) (sym (ap toldLocal (c .before .before .before .before .before .before .before .found .given .1)) ∙ says (c .before .before .before .before .before .before .before .before .before)) (sym (ap toldClock (c .before .before .before .reading .given .1)) ∙ c .before .before .before .before .before .clock-of .ensures) (held (c .before .before .before .before .before .before .before)) (toZ-ofZ w32 _ (let told = c .struct-told .given in search needs))
+
+pub hour-in-spec : {M : Type 1} → statement M
+hour-in-spec =
+    tie.close
+    (tie.spec
+    (λ c. search needs)
+    (λ c. search needs)
+    (λ c. search needs)
+    (λ c. search needs)
+    (λ c. search needs)
+    (λ c. search needs)
+    (λ c. search needs)
+    (λ c. search needs)
+    (λ c κs. search needs)
+    (λ c. search needs)
+    (λ c. search needs)
+    returns
+    add-end
+    (λ c. search needs)
+    (λ c. search needs)
+    part-local-in-end
+    (λ c κs. search needs)
+    (λ c. search needs)
+    (λ c. search needs)
+    returns-2
+    (λ c κs. search needs)
+    (λ c. search needs)
+    (λ c. search needs)
+    returns-3
+    add-t21
+    returns-4)

@@ -1,0 +1,20 @@
+-- `slip::hours::still` meets its contract. Assumes nothing.
+use borrow.Author.Needs.{needs}
+use mathlib.Core.Path.{refl}
+use Rattle.verdict.proofs.Compared.{same-bits}
+use Rattle.slip.proofs.hours.still.Statement.{statement}
+use Rattle.slip.proofs.hours.still.Tie as tie
+
+returns : tie.Need-returns
+returns c =
+    let told = c .before .before .struct-told .given in
+    let told2 = c .struct-told2 .given in
+    rw (c .before .before .before .before .if1 .taken) (same-bits {a = c .before .before .before .before .before .args .spot .offset} {b = c .before .before .before .before .before .args .first .offset} (search needs) (search needs))
+
+returns-2 : tie.Need-returns-2
+returns-2 c = rw (c .if1 .left) refl
+
+pub still-spec : {M : Type 1} → statement M
+still-spec =
+    tie.close
+    (tie.spec returns returns-2)

@@ -1,0 +1,24 @@
+-- `slip::lines::is_called` meets its contract. Assumes nothing.
+use borrow.Author.Needs.{needs}
+use lib.ListN.{length}
+use mathlib.Core.Path.{subst}
+use Rattle.slip.proofs.Zones.{is-called, not-called}
+use Rattle.slip.specs.Told.{LiesZone}
+use Rattle.slip.specs.declared.name.Zone.{Zone}
+use Rattle.slip.proofs.lines.is_called.Statement.{statement}
+use Rattle.slip.proofs.lines.is_called.Tie as tie
+
+is-same-requires : tie.Need-is-same-requires
+unfolding LiesZone
+is-same-requires c κs = (subst (λ (zone : Zone). LiesZone (length (c .before .before .before .before .before .args .map .now)) zone) (c .before .zone .given .1) (c .before .before .before .zone-of .ensures .1), c .before .before .before .before .before .pre)
+
+returns : tie.Need-returns
+returns c = is-called _ _ _ _ _ (c .before .before .before .before .zone-of .ensures .0) (c .before .before .zone .given .1) (c .is-same .ensures)
+
+returns-2 : tie.Need-returns-2
+returns-2 c = not-called _ _ _ _ _ (c .before .before .zone-of .ensures .0) (c .enum-told .given .1)
+
+pub is-called-spec : {M : Type 1} → statement M
+is-called-spec =
+    tie.close
+    (tie.spec (λ c κs. search needs) (λ c. search needs) is-same-requires (λ c. search needs) returns returns-2)

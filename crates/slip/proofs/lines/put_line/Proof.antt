@@ -1,0 +1,13 @@
+-- `slip::lines::put_line` meets its contract. Assumes nothing.
+use borrow.Author.Needs.{needs}
+use Rattle.slip.proofs.Zones.{inked}
+use Rattle.slip.proofs.lines.put_line.Statement.{statement}
+use Rattle.slip.proofs.lines.put_line.Tie as tie
+
+returns : tie.Need-returns
+returns c = inked _ (c .before .before .before .before .before .before .put-clock .ensures) (c .before .before .put-zones .ensures)
+
+pub put-line-spec : {M : Type 1} → statement M
+put-line-spec =
+    tie.close
+    (tie.spec (λ c κs. search needs) (λ c κs. search needs) (λ c. search needs) returns)

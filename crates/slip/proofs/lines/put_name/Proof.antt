@@ -1,0 +1,26 @@
+-- `slip::lines::put_name` meets its contract. Assumes nothing.
+use borrow.Author.Needs.{needs}
+use Rattle.line.proofs.Puts.{put-as, put-then}
+use Rattle.slip.proofs.Parts.{parts-shown}
+use Rattle.slip.proofs.lines.put_name.Statement.{statement}
+use Rattle.slip.proofs.lines.put_name.Tie as tie
+
+returns : tie.Need-returns
+returns c = put-as (parts-shown (c .before .before .before .before .before .before .before .before .before .before .before .before .before .before .before .before .args .map .now) (c .before .before .before .before .before .before .before .before .before .before .before .before .before .before .before .before .args .name)) (put-then _ _ (c .before .before .before .before .before .before .before .before .put-shown .ensures) (c .before .before .put-shown2 .ensures))
+
+pub put-name-spec : {M : Type 1} → statement M
+put-name-spec =
+    tie.close
+    (tie.spec
+    (λ c. search needs)
+    (λ c. search needs)
+    (λ c. search needs)
+    (λ c. search needs)
+    (λ c κs. search needs)
+    (λ c. search needs)
+    (λ c. search needs)
+    (λ c. search needs)
+    (λ c. search needs)
+    (λ c κs. search needs)
+    (λ c. search needs)
+    returns)

@@ -1,0 +1,31 @@
+-- `slip::lines::put_zone` meets its contract. Assumes nothing.
+use borrow.Author.Needs.{needs}
+use Prim.Native.Nat.{ℕ, _+_, _-_}
+use lib.ListN.{take, drop}
+use mathlib.Core.Path.{ap, _∙_}
+use Rattle.line.proofs.Puts.{put-as, put-then}
+use Rattle.line.proofs.Shown.{unmasked-so}
+use Rattle.slip.proofs.Parts.{part-slice}
+use Rattle.slip.specs.Line.{shownText, zoneText}
+use Rattle.slip.proofs.lines.put_zone.Statement.{statement}
+use Rattle.slip.proofs.lines.put_zone.Tie as tie
+
+returns : tie.Need-returns
+unfolding zoneText
+returns c =
+    let spot = c .before .before .before .before .before .before .before .before .before .before .before .before .before .before .before .before .before .args .spot in
+    put-then _ _ (put-as (unmasked-so (take (spot .place + spot .size - spot .place) (drop (spot .place) (c .before .before .before .before .before .before .before .before .before .before .before .before .before .before .before .before .before .args .zones .now))) ∙ ap shownText (part-slice (c .before .before .before .before .before .before .before .before .before .before .before .before .before .before .before .before .before .args .zones .now) (spot .place) (spot .size))) (c .before .before .before .before .before .before .before .before .before .before .put-shown .ensures)) (put-then _ _ (c .before .before .before .before .before .before .put .ensures) (c .before .before .put-name .ensures))
+
+pub put-zone-spec : {M : Type 1} → statement M
+put-zone-spec =
+    tie.close
+    (tie.spec
+    (λ c. search needs)
+    (λ c. search needs)
+    (λ c. search needs)
+    (λ c. search needs)
+    (λ c κs. search needs)
+    (λ c κs. search needs)
+    (λ c κs. search needs)
+    (λ c. search needs)
+    returns)

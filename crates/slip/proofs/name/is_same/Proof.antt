@@ -1,0 +1,74 @@
+-- `slip::name::is_same` meets its contract. Assumes nothing.
+use Prim.Native.Nat.{_-_, _≤_}
+use lib.ListN.{length, drop}
+use mathlib.Core.Path.{_≡_, refl, sym, _∙_}
+use native.Mathlib.Omega.{arith}
+use Rattle.slip.proofs.Names.{lengths-differ, all-same, differs, goes-on}
+use Rattle.slip.specs.Told.{nameIn}
+use Rattle.zones.specs.Simple.{same}
+use Rattle.slip.proofs.name.is_same.Statement.{statement}
+use Rattle.slip.proofs.name.is_same.Tie as tie
+
+abbrev Inv-loop : tie.InvT-loop
+Inv-loop map name other size i₀ i = same (drop i (nameIn map name)) (drop i (nameIn map other)) ≡ same (nameIn map name) (nameIn map other)
+
+abbrev μ-loop : tie.MeasureT-loop
+μ-loop map name other size i₀ i = size - i
+
+-- two names of one length
+lengths : (c : tie.Else1 Inv-loop μ-loop) → let args = c .before .before .before .before .args in length (nameIn (args .map .now) (args .name)) ≡ length (nameIn (args .map .now) (args .other))
+lengths c = sym (c .before .before .size-of .ensures) ∙ c .if1 .left ∙ c .before .size-of2 .ensures
+
+size-of-requires : tie.Need-size-of-requires Inv-loop μ-loop
+size-of-requires c κs = c .before .pre .0
+
+size-of-requires-2 : tie.Need-size-of-requires-2 Inv-loop μ-loop
+size-of-requires-2 c κs = c .before .before .pre .1
+
+returns : tie.Need-returns Inv-loop μ-loop
+returns c = sym (lengths-differ _ _ (λ e. c .if1 .taken (c .before .before .size-of .ensures ∙ e ∙ sym (c .before .size-of2 .ensures))))
+
+byte-of-requires : tie.Need-byte-of-requires Inv-loop μ-loop
+byte-of-requires c κs = c .before .before .before .before .before .before .pre .0
+
+byte-of-requires-2 : tie.Need-byte-of-requires-2 Inv-loop μ-loop
+byte-of-requires-2 c κs = c .before .before .before .before .before .before .before .pre .1
+
+returns-2 : tie.Need-returns-2 Inv-loop μ-loop
+returns-2 c =
+    let args = c .before .before .before .before .before .before .before .before .before .args in
+    differs (nameIn (args .map .now) (args .name)) (nameIn (args .map .now) (args .other)) (lengths (c .before .before .before .before .before)) (c .before .before .before .before .loop .i) (c .before .before .before .before .loop .inv) (omega (arith, c .before .before .before .loop-test .taken, c .before .before .before .before .before .before .before .size-of .ensures)) (λ e. c .if2 .taken (c .before .before .byte-of .ensures ∙ e ∙ sym (c .before .byte-of2 .ensures)))
+
+add-i : tie.Need-add-i Inv-loop μ-loop
+add-i c = omega (arith, c .before .before .before .loop-test .taken)
+
+loop-less : tie.Need-loop-less Inv-loop μ-loop
+loop-less c = omega (arith, c .before .before .before .loop-test .taken)
+
+loop-again : tie.Need-loop-again Inv-loop μ-loop
+loop-again c =
+    let args = c .before .before .before .before .before .before .before .before .before .args in
+    goes-on (nameIn (args .map .now) (args .name)) (nameIn (args .map .now) (args .other)) (lengths (c .before .before .before .before .before)) (c .before .before .before .before .loop .i) (c .before .before .before .before .loop .inv) (omega (arith, c .before .before .before .loop-test .taken, c .before .before .before .before .before .before .before .size-of .ensures)) (sym (c .before .before .byte-of .ensures) ∙ c .if2 .left ∙ c .before .byte-of2 .ensures)
+
+returns-3 : tie.Need-returns-3 Inv-loop μ-loop
+returns-3 c =
+    let args = c .before .before .before .before .before .before .args in
+    all-same (nameIn (args .map .now) (args .name)) (nameIn (args .map .now) (args .other)) (lengths (c .before .before)) (c .before .loop .i) (c .before .loop .inv) (omega (arith, c .loop-test .left, c .before .before .before .before .size-of .ensures))
+
+pub is-same-spec : {M : Type 1} → statement M
+is-same-spec =
+    tie.close
+    (tie.spec
+    Inv-loop
+    μ-loop
+    size-of-requires
+    size-of-requires-2
+    returns
+    (λ c. refl)
+    byte-of-requires
+    byte-of-requires-2
+    returns-2
+    add-i
+    loop-less
+    loop-again
+    returns-3)

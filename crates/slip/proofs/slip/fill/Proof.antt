@@ -1,0 +1,33 @@
+-- `slip::slip::fill` meets its contract. Assumes nothing.
+use borrow.Author.Needs.{needs}
+use mathlib.Core.Path.{_≡_, refl, sym, ap, _∙_}
+use Rattle.header.specs.Header.{toldHead}
+use Rattle.slip.proofs.Stamps.{true-of, false-of, not-placed, not-opened, opened}
+use Rattle.slip.proofs.slip.fill.Statement.{statement}
+use Rattle.slip.proofs.slip.fill.Tie as tie
+
+returns : tie.Need-returns
+returns c = not-placed (c .before .before .before .before .before .before .before .before .args .fix) _ _ _ _ _ _ _ _ (sym (c .before .before .is-on-globe .ensures) ∙ false-of _ (c .before .if1 .taken)) (c .plain .ensures)
+
+returns-2 : tie.Need-returns-2
+returns-2 c = not-opened (c .before .before .before .before .before .before .before .before .before .before .before .args .fix) _ _ _ _ _ (sym (c .before .before .before .before .before .is-on-globe .ensures) ∙ true-of _ (c .before .before .before .before .if1 .left)) _ _ _ (sym (ap toldHead (c .before .why .given .1)) ∙ c .before .before .before .head-of .ensures)
+
+returns-3 : tie.Need-returns-3
+returns-3 c = opened (c .before .before .before .before .before .before .before .before .before .before .before .before .before .before .before .before .before .before .before .before .before .args .fix) _ _ _ _ _ (sym (c .before .before .before .before .before .before .before .before .before .before .before .before .before .before .before .is-on-globe .ensures) ∙ true-of _ (c .before .before .before .before .before .before .before .before .before .before .before .before .before .before .if1 .left)) _ _ _ _ (sym (ap toldHead (c .before .before .before .before .before .before .before .before .before .before .before .head .given .1)) ∙ c .before .before .before .before .before .before .before .before .before .before .before .before .before .head-of .ensures) (c .before .before .before .before .before .before .slip-in .ensures)
+
+pub fill-spec : {M : Type 1} → statement M
+fill-spec =
+    tie.close
+    (tie.spec
+    (λ c κs. search needs)
+    (λ c κs. search needs)
+    returns
+    (λ c κs. search needs)
+    (λ c. search needs)
+    (λ c. search needs)
+    returns-2
+    (λ c κs. search needs)
+    (λ c. search needs)
+    (λ c. search needs)
+    (λ c. search needs)
+    returns-3)

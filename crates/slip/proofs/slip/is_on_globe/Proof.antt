@@ -1,0 +1,21 @@
+-- `slip::slip::is_on_globe` meets its contract. Assumes nothing.
+use borrow.Author.Needs.{needs}
+use lib.Ieee.{ofBits}
+use mathlib.Core.{Bool.{Bool, _&&_}, Path.{_≡_, sym, ap, _∙_}}
+use Rattle.slip.specs.Slip.{within, onGlobe}
+use Rattle.table.specs.Find.{halfTurn}
+use Rattle.slip.proofs.slip.is_on_globe.Statement.{statement}
+use Rattle.slip.proofs.slip.is_on_globe.Tie as tie
+
+returns : tie.Need-returns
+unfolding onGlobe ofBits
+returns c = c .is-within2 .ensures ∙ ap (λ (t : Bool). t && within halfTurn (c .before .before .before .args .fix .lon)) (sym (sym (c .before .before .is-within .ensures) ∙ c .before .if1 .taken))
+
+returns-2 : tie.Need-returns-2
+unfolding onGlobe ofBits
+returns-2 c = ap (λ (t : Bool). t && within halfTurn (c .before .before .args .fix .lon)) (sym (sym (c .before .is-within .ensures) ∙ c .if1 .left))
+
+pub is-on-globe-spec : {M : Type 1} → statement M
+is-on-globe-spec =
+    tie.close
+    (tie.spec (λ c κs. search needs) (λ c κs. search needs) returns returns-2)

@@ -1,0 +1,60 @@
+-- `slip::slip::stamp` meets its contract. Assumes nothing.
+use borrow.Author.Needs.{needs}
+use Prim.Native.Nat.{ℕ}
+use lib.ListN.{length, take}
+use mathlib.Core.Path.{_≡_, refl, sym, ap, _∙_}
+use mir.{Syntax.{w32}, ValLaws.{toZ-ofZ}}
+use native.Mathlib.Omega.{arith}
+use Rattle.numbers.specs.Reply.{given}
+use Rattle.slip.proofs.Stamps.{true-of, false-of, no-match, no-hours, not-agreed, no-room, stamped-so}
+use Rattle.slip.specs.Hour.{hoursFrom}
+use Rattle.slip.specs.Told.{Seen, toldHours}
+use Rattle.table.proofs.{Agreeing.{Gave, gave, refused-so}, Words.{count-slots}}
+use Rattle.table.specs.Hits.{slots}
+use Rattle.slip.proofs.slip.stamp.Statement.{statement}
+use Rattle.slip.proofs.slip.stamp.Tie as tie
+
+-- what all matches say
+seen : (c : tie.After-all) → let args = c .before .before .before .before .before .before .before .before .args in
+    Gave (Seen (args .map .now) (args .zones .now)) (hoursFrom (args .map .now) (args .head) (args .zones .now) (args .fix .instant) 1 (take (args .count) (slots (args .hits .now)))) (c .all .given .0 .0)
+seen c = gave _ _ (c .before .before .hours-of .ensures) (ap toldHours (c .all .given .1))
+
+returns : tie.Need-returns
+returns c = no-match (c .before .before .before .before .before .before .args .fix) _ _ _ _ _ _ (ap (λ (k : ℕ). take k (slots (c .before .before .before .before .before .before .args .hits .now))) (c .before .if1 .taken)) (c .plain .ensures)
+
+returns-2 : tie.Need-returns-2
+returns-2 c = no-hours (c .before .before .before .before .before .before .before .before .before .args .fix) _ _ _ _ _ _ (refused-so _ _ (c .before .before .before .hours-of .ensures) (ap toldHours (c .before .why .given .1)))
+
+returns-3 : tie.Need-returns-3
+returns-3 c =
+    let said = seen (c .before .before .before .before) in
+    not-agreed (c .before .before .before .before .before .before .before .before .before .before .before .before .args .fix) _ _ _ _ _ (said .is) (said .fits) _ (false-of _ (c .before .if2 .taken)) (c .plain2 .ensures)
+
+returns-4 : tie.Need-returns-4
+returns-4 c =
+    let said = seen (c .before .before .before .before .before .before .before .before .before .before) in
+    no-room (c .before .before .before .before .before .before .before .before .before .before .before .before .before .before .before .before .before .before .args .fix) _ _ _ _ _ (said .is) (said .fits) (true-of _ (c .before .before .before .before .before .before .before .if2 .left)) (c .before .before .before .before .put-line .ensures) refl (omega (arith, c .before .before .before .before .before .before .before .before .before .before .before .before .before .before .before .before .before .before .good .1 .1 .1 .1 .1 .1 .0 .1)) _ (omega (arith, c .before .if3 .taken, c .before .before .before .before .put-line .ensures .kept)) (c .refuse .ensures)
+
+returns-5 : tie.Need-returns-5
+returns-5 c =
+    let said = seen (c .before .before .before .before .before .before .before .before .before .before) in
+    stamped-so (c .before .before .before .before .before .before .before .before .before .before .before .before .before .before .before .before .before .before .args .fix) _ _ _ _ _ (said .is) (said .fits) (true-of _ (c .before .before .before .before .before .before .before .if2 .left)) (c .before .before .before .before .put-line .ensures) refl (omega (arith, c .before .before .before .before .before .before .before .before .before .before .before .before .before .before .before .before .before .before .good .1 .1 .1 .1 .1 .1 .0 .1)) (c .before .before .before .before .before .before .before .before .before .before .before .before .before .before .before .before .before .before .pre .1) (omega (arith, c .before .if3 .left, c .before .before .before .before .put-line .ensures .kept)) (sym (count-slots (c .before .before .before .before .before .before .before .before .before .before .before .before .before .before .before .before .before .before .args .hits .now) (c .before .before .before .before .before .before .before .before .before .before .before .before .before .before .before .before .before .before .args .count) (c .before .before .before .before .before .before .before .before .before .before .before .before .before .before .before .before .before .before .pre .0))) (toZ-ofZ w32 _ (let told = c .struct-told .given in search needs))
+
+pub stamp-spec : {M : Type 1} → statement M
+stamp-spec =
+    tie.close
+    (tie.spec
+    (λ c κs. search needs)
+    returns
+    (λ c κs. search needs)
+    (λ c. search needs)
+    (λ c. search needs)
+    returns-2
+    (λ c κs. search needs)
+    returns-3
+    (λ c κs. search needs)
+    (λ c κs. search needs)
+    (λ c. search needs)
+    returns-4
+    (λ c. search needs)
+    returns-5)

@@ -1,0 +1,4 @@
+pub mod Hour
+pub mod Line
+pub mod Slip
+pub mod Told
