@@ -15,12 +15,15 @@ use Rattle.header.specs.{Header.{headBy, headOf}, declared.header.Head.{Head}}
 use Rattle.index.specs.{Index.{indexed, indexedOf}, Own.{isIndexOf}, Through.{lookedIndexed}}
 use Rattle.localtime.specs.{Found.{foundOf}, Local.{rulesIn, localTime}}
 use Rattle.localtime.specs.declared.rule.Rules.the-variants as R
-use Rattle.numbers.specs.{Lists.{zeros}, Reply.{given}}
+use Rattle.numbers.specs.{Lists.{zeros}, Reply.{given, refused}, declared.refusal.Refusal.{Refusal}}
 use Rattle.promises.specs.Built.Finds.{FindsInto}
 use Rattle.request.specs.{Clock.{Date, Time, utc}, Nearest.{Nearest}, Only.{OnlyAt}, Request.{Spelt, requestOf, speltOf}, Text.{lineOf}, declared.read.Fix.{Fix}}
 use Rattle.request.specs.Told as Q
 use Rattle.request.specs.declared.read.Asked.the-variants as A
 use Rattle.salvage.specs.{Kept.{keptOf}, Promises.{ListOf, KeptFile}, Salvage.{Counts, salvaged}}
+use Rattle.slip.specs.{Says.{Whole, Agreed}, Slip.{slipped}, declared.slip.{Stamped.{Stamped}, Slipped.{Slipped}}}
+use Rattle.slip.specs.Slip as Z
+use Rattle.slip.specs.Told as K
 use Rattle.table.specs.{Rows.{rowsIn}, declared.location.Location.{Location}}
 use Rattle.tzif.specs.{Check.{correctionAt}, Local.{typeBehind, named}, Number.{lift}, Times.{transitionsOf, lastNotAfter}, Zone.{readZone}, declared.{block.Block.{Block}, zone.Zone.{Zone}}}
 use Rattle.tzif.specs.Last.{Octets, transitionTime, LastNotAfter}
@@ -39,6 +42,7 @@ use Rattle.localtime.proofs.Theorems as localtime
 use Rattle.promises.proofs.Built.BuiltLookup as built
 use Rattle.promises.proofs.Salvaged.Answered as salvage
 use Rattle.request.proofs.Theorems as request
+use Rattle.slip.proofs.Theorems as slip
 use Rattle.tzif.proofs.Theorems as tzif
 use Rattle.tzrule.proofs.SummerAt as tzrule
 use Rattle.uskelzar.proofs.Made as calls
@@ -157,3 +161,25 @@ request-instant text e s w = request.request-instant text e s w
 -- and the file that is found in a bundle lies in its data, where the first entry of the name says.
 pub found-first : (bundle name : List ℕ) {file : File} → B.told (F.At file) ≡ findOf bundle name → FoundAt bundle name file
 found-first = bundle.found-first
+
+-- ---- Is the line right for this sentence, this map and these zones?
+-- Two replies of the slip that are permitted for a request, a map and zones are one, with all lent output.
+pub one-slip : (request map zones : List ℕ) (n room size : ℕ) (r r′ : Slipped) (hs hs′ ts ts′ os os′ : List ℕ)
+    → Z.replied (K.told r) hs ts os ≡ slipped request map zones n room size → Z.replied (K.told r′) hs′ ts′ os′ ≡ slipped request map zones n room size
+    → (r ≡ r′) × (hs ≡ hs′) × (ts ≡ ts′) × (os ≡ os′)
+one-slip = slip.one-slip
+
+-- Where it is stamped, hits and text are those of a lookup with mark 1 at what the request means, and so of a search that never stops early;
+pub slip-whole : (request map zones : List ℕ) (n room size : ℕ) (stamped : Stamped) (hs ts os : List ℕ)
+    → Z.replied (given stamped) hs ts os ≡ slipped request map zones n room size → Whole request map n room hs ts
+slip-whole = slip.slip-whole
+
+-- each match's zone has a TZif file under its joined name, whose local time at the instant has the printed offset, and the line begins with the one civil reading of instant and offset.
+pub slip-agrees : (request map zones : List ℕ) (n room size : ℕ) (stamped : Stamped) (hs ts os : List ℕ)
+    → Z.replied (given stamped) hs ts os ≡ slipped request map zones n room size → Agreed request map zones n size stamped hs os
+slip-agrees = slip.slip-agrees
+
+-- Where it is not stamped, all that was lent is zero.
+pub slip-refusal-zeroes : (request map zones : List ℕ) (n room size : ℕ) (why : Refusal) (hs ts os : List ℕ)
+    → Z.replied (refused why) hs ts os ≡ slipped request map zones n room size → (hs ≡ zeros n) × (ts ≡ zeros room) × (os ≡ zeros size)
+slip-refusal-zeroes = slip.slip-refusal-zeroes

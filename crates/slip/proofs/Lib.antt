@@ -5,3 +5,4 @@ pub mod Locals
 pub mod Asking
 pub mod Zones
 pub mod Stamps
+pub mod Theorems

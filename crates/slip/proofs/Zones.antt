@@ -102,7 +102,7 @@ module _ (file : List ℕ) (head : Head) where
   named-among (m ∷ matches) (h ∷ hours) name n = λ i. isNamed (n .0 i) name || named-among matches hours name (n .1) i
 
 -- a match that says an hour has its name
-same-match : {A : Type 0} (number : ℕ) {a : A} (reply : Reply A) → given a ≡ ofMatch number reply → given a ≡ reply
+pub same-match : {A : Type 0} (number : ℕ) {a : A} (reply : Reply A) → given a ≡ ofMatch number reply → given a ≡ reply
 unfolding ofMatch
 same-match number (given b) e = e
 same-match number (refused why) e = let z : _≡_ {A = ℕ} 0 1 = cc in absurd (omega arith)

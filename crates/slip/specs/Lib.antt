@@ -2,3 +2,4 @@ pub mod Hour
 pub mod Line
 pub mod Slip
 pub mod Told
+pub mod Says
