@@ -8,7 +8,10 @@ use Rattle.slip.proofs.hour.blame.Tie as tie
 
 returns : tie.Need-returns
 unfolding blamed
-returns c = c .refuse .ensures ∙ (λ i. refusal (c .before .before .args .why .number) (c .before .cause-of .ensures i) (c .before .before .args .why .detail))
+returns c =
+    let args = c .before .before .args in
+    let cause-of = c .before .cause-of in
+    c .refuse .ensures ∙ (λ i. refusal (args .why .number) (cause-of .ensures i) (args .why .detail))
 
 pub blame-spec : {M : Type 1} → statement M
 blame-spec =

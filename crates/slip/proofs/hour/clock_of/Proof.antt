@@ -7,15 +7,23 @@ use Rattle.slip.proofs.hour.clock_of.Tie as tie
 
 returns : tie.Need-returns
 returns c =
-    let told = c .before .before .before .before .before .struct-told .given in
-    let told2 = c .before .before .before .before .struct-told2 .given in
-    is-shown _ _ (toZ-ofZ w64 _ (search needs)) (toZ-ofZ w32 _ (search needs)) _ (c .before .before .before .civil-time .ensures) (c .before .civil .given .1)
+    let struct-told = c .before .before .before .before .before .struct-told in
+    let struct-told2 = c .before .before .before .before .struct-told2 in
+    let civil-time = c .before .before .before .civil-time in
+    let civil = c .before .civil in
+    let told = struct-told .given in
+    let told2 = struct-told2 .given in
+    is-shown _ _ (toZ-ofZ w64 _ (search needs)) (toZ-ofZ w32 _ (search needs)) _ (civil-time .ensures) (civil .given .1)
 
 returns-2 : tie.Need-returns-2
 returns-2 c =
-    let told = c .before .before .before .before .before .struct-told .given in
-    let told2 = c .before .before .before .before .struct-told2 .given in
-    not-shown _ _ (toZ-ofZ w64 _ (search needs)) (toZ-ofZ w32 _ (search needs)) _ (c .before .before .before .civil-time .ensures) (c .before .enum-told .given .1) (c .plain .ensures)
+    let struct-told = c .before .before .before .before .before .struct-told in
+    let struct-told2 = c .before .before .before .before .struct-told2 in
+    let civil-time = c .before .before .before .civil-time in
+    let enum-told = c .before .enum-told in
+    let told = struct-told .given in
+    let told2 = struct-told2 .given in
+    not-shown _ _ (toZ-ofZ w64 _ (search needs)) (toZ-ofZ w32 _ (search needs)) _ (civil-time .ensures) (enum-told .given .1) (c .plain .ensures)
 
 pub clock-of-spec : {M : Type 1} → statement M
 clock-of-spec =

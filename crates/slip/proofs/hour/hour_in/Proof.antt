@@ -21,19 +21,25 @@ found-in : (c : tie.After-file) → let args = c .before .before .before .before
     given (c .file .given .0 .0) ≡ findOf (args .zones .now) (nameIn (args .map .now) (args .name))
 found-in c =
     let args = c .before .before .before .before .before .before .before .before .before .before .before .args in
-    sym (ap told (c .file .given .1)) ∙ c .before .before .find .ensures ∙ ap (findOf (args .zones .now)) (parts-name (args .map .now) (args .name))
+    let find = c .before .before .find in
+    let args = args in
+    sym (ap told (c .file .given .1)) ∙ find .ensures ∙ ap (findOf (args .zones .now)) (parts-name (args .map .now) (args .name))
 
-inside : (c : tie.After-file) → let args = c .before .before .before .before .before .before .before .before .before .before .before .args in c .file .given .0 .0 .start + c .file .given .0 .0 .length ≤ length (args .zones .now)
+inside : (c : tie.After-file) → let args = c .before .before .before .before .before .before .before .before .before .before .before .args in c .file .given .0 .0 .start + c .file .given .0
+    .0 .length ≤ length (args .zones .now)
 inside c =
     let start = c .before .before .before .before .before .before .before .before .before .before .before in
     file-inside (start .args .map .now) (start .args .zones .now) (start .args .fix .instant) (start .args .name) (start .pre) (found-in c)
 
 -- what its file says
-says : (c : tie.After-local-in) → let args = c .before .before .before .before .before .before .before .before .before .before .before .before .before .before .args in let file = c .before .before .before .file .given .0 .0 in
+says : (c : tie.After-local-in) → let args = c .before .before .before .before .before .before .before .before .before .before .before .before .before .before .args in let file = c .before
+    .before .before .file .given .0 .0 in
     toldLocal (c .local-in .result) ≡ localIn (slice (args .zones .now) (file .start) (file .length)) (args .fix .instant)
 says c =
     let args = c .before .before .before .before .before .before .before .before .before .before .before .before .before .before .args in
-    let file = c .before .before .before .file .given .0 .0 in
+    let file = c .before .before .before .file in
+    let args = args in
+    let file = file .given .0 .0 in
     c .local-in .ensures .0 ∙ ap (λ (own : List _). localIn own (args .fix .instant)) (part-slice (args .zones .now) (file .start) (file .length))
 
 -- the abbreviation lies in it
@@ -41,32 +47,64 @@ held : (c : tie.After-found) → let file = c .before .before .before .before .b
 unfolding HeldTold
 held c =
     let args = c .before .before .before .before .before .before .before .before .before .before .before .before .before .before .before .before .args in
-    let file = c .before .before .before .before .before .file .given .0 .0 in
-    let whole = subst (λ (t : Told). HeldTold (length (take (file .start + file .length - file .start) (drop (file .start) (args .zones .now)))) t) (c .found .given .1) (c .before .before .local-in .ensures .1) in
+    let file = c .before .before .before .before .before .file in
+    let local-in = c .before .before .local-in in
+    let args = args in
+    let file = file .given .0 .0 in
+    let whole = subst (λ (t : Told). HeldTold (length (take (file .start + file .length - file .start) (drop (file .start) (args .zones .now)))) t) (c .found .given .1)
+    (local-in .ensures .1) in
     let size = ap length (part-slice (args .zones .now) (file .start) (file .length))
     ∙ length-take-le (file .length) (drop (file .start) (args .zones .now)) (rw length-drop (omega (arith, inside (c .before .before .before .before .before)))) in
     omega (arith, whole .held, size)
 
 returns : tie.Need-returns
-returns c = not-found _ _ _ _ (c .before .before .before .before .before .before .before .before .before .before .before .before .pre) (sym (ap told (c .before .why .given .1)) ∙ c .before .before .before .find .ensures ∙ ap (findOf (c .before .before .before .before .before .before .before .before .before .before .before .before .args .zones .now)) (parts-name (c .before .before .before .before .before .before .before .before .before .before .before .before .args .map .now) (c .before .before .before .before .before .before .before .before .before .before .before .before .args .name)))
+returns c =
+    let pre = c .before .before .before .before .before .before .before .before .before .before .before .before .pre in
+    let why = c .before .why in
+    let find = c .before .before .before .find in
+    let args = c .before .before .before .before .before .before .before .before .before .before .before .before .args in
+    not-found _ _ _ _ (pre) (sym (ap told (why .given .1)) ∙ find .ensures ∙ ap (findOf (args .zones .now)) (parts-name (args .map .now) (args .name)))
 
 add-end : tie.Need-add-end
-add-end c = omega (arith, inside (c .before), c .before .before .before .before .before .before .before .before .before .before .before .before .good .1 .0 .0)
+add-end c =
+    let good = c .before .before .before .before .before .before .before .before .before .before .before .before .good in
+    omega (arith, inside (c .before), good .1 .0 .0)
 
 part-local-in-end : tie.Need-part-local-in-end
 part-local-in-end c = let h = inside (c .before) in search needs
 
 returns-2 : tie.Need-returns-2
-returns-2 c = no-local _ _ _ _ (c .before .before .before .before .before .before .before .before .before .before .before .before .before .before .before .before .before .pre) (found-in (c .before .before .before .before .before .before)) (sym (ap toldLocal (c .before .why2 .given .1)) ∙ says (c .before .before .before))
+returns-2 c =
+    let pre = c .before .before .before .before .before .before .before .before .before .before .before .before .before .before .before .before .before .pre in
+    let why2 = c .before .why2 in
+    no-local _ _ _ _ (pre) (found-in (c .before .before .before .before .before .before)) (sym (ap toldLocal (why2 .given .1)) ∙ says (c .before .before .before))
 
 returns-3 : tie.Need-returns-3
-returns-3 c = no-clock _ _ _ _ (c .before .before .before .before .before .before .before .before .before .before .before .before .before .before .before .before .before .before .before .before .before .pre) (found-in (c .before .before .before .before .before .before .before .before .before .before)) (sym (ap toldLocal (c .before .before .before .before .before .found .given .1)) ∙ says (c .before .before .before .before .before .before .before)) (sym (ap toldClock (c .before .why3 .given .1)) ∙ c .before .before .before .clock-of .ensures)
+returns-3 c =
+    let pre = c .before .before .before .before .before .before .before .before .before .before .before .before .before .before .before .before .before .before .before .before .before .pre
+    in
+    let found = c .before .before .before .before .before .found in
+    let why3 = c .before .why3 in
+    let clock-of = c .before .before .before .clock-of in
+    no-clock _ _ _ _ (pre) (found-in (c .before .before .before .before .before .before .before .before .before .before)) (sym (ap toldLocal (found .given .1)) ∙ says
+    (c .before .before .before .before .before .before .before)) (sym (ap toldClock (why3 .given .1)) ∙ clock-of .ensures)
 
 add-t21 : tie.Need-add-t21
-add-t21 c = omega (arith, inside (c .before .before .before .before .before .before .before .before .before .before .before), held (c .before .before .before .before .before .before), c .before .before .before .before .before .before .before .before .before .before .before .before .before .before .before .before .before .before .before .before .before .before .good .1 .0 .0)
+add-t21 c =
+    let good = c .before .before .before .before .before .before .before .before .before .before .before .before .before .before .before .before .before .before .before .before .before
+    .before .good in
+    omega (arith, inside (c .before .before .before .before .before .before .before .before .before .before .before), held (c .before .before .before .before .before .before), good .1 .0 .0)
 
 returns-4 : tie.Need-returns-4
-returns-4 c = the-hour _ _ _ _ (c .before .before .before .before .before .before .before .before .before .before .before .before .before .before .before .before .before .before .before .before .before .before .before .pre) (found-in (c .before .before .before .before .before .before .before .before .before .before .before .before)) (sym (ap toldLocal (c .before .before .before .before .before .before .before .found .given .1)) ∙ says (c .before .before .before .before .before .before .before .before .before)) (sym (ap toldClock (c .before .before .before .reading .given .1)) ∙ c .before .before .before .before .before .clock-of .ensures) (held (c .before .before .before .before .before .before .before)) (toZ-ofZ w32 _ (let told = c .struct-told .given in search needs))
+returns-4 c =
+    let pre = c .before .before .before .before .before .before .before .before .before .before .before .before .before .before .before .before .before .before .before .before .before
+    .before .before .pre in
+    let found = c .before .before .before .before .before .before .before .found in
+    let reading = c .before .before .before .reading in
+    let clock-of = c .before .before .before .before .before .clock-of in
+    the-hour _ _ _ _ (pre) (found-in (c .before .before .before .before .before .before .before .before .before .before .before .before)) (sym (ap toldLocal (found .given .1)) ∙ says
+    (c .before .before .before .before .before .before .before .before .before)) (sym (ap toldClock (reading .given .1)) ∙ clock-of .ensures) (held
+    (c .before .before .before .before .before .before .before)) (toZ-ofZ w32 _ (let told = c .struct-told .given in search needs))
 
 pub hour-in-spec : {M : Type 1} → statement M
 hour-in-spec =

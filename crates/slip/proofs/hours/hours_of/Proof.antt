@@ -21,28 +21,87 @@ hit-at-requires : tie.Need-hit-at-requires Inv-loop μ-loop
 hit-at-requires c κs = omega (arith, c .before .before .before .pre .0, c .before .before .before .pre .1)
 
 returns : tie.Need-returns Inv-loop μ-loop
-returns c = agree-refused (Seen _ _) (asked-stop _ _ _ _ (take (c .before .before .before .before .before .before .before .before .args .count) (slots (c .before .before .before .before .before .before .before .before .args .hits .now))) 0 _ (asked-none _ _ _ _ _) (omega (arith, c .before .before .before .before .before .before .before .before .pre .0, count-slots (c .before .before .before .before .before .before .before .before .args .hits .now) (c .before .before .before .before .before .before .before .before .args .count) (c .before .before .before .before .before .before .before .before .pre .1))) (slot-is (c .before .before .before .before .before .before .before .before .args .hits .now) (c .before .before .before .before .before .before .before .before .args .count) (c .before .before .before .before .before .before .before .before .pre .1) _ _ (c .before .before .before .before .before .before .before .before .pre .0) (c .before .before .before .before .hit-at .ensures)) (sym (c .before .before .before .hour-of .ensures .0) ∙ ap (toldHour (c .before .before .before .before .before .before .before .before .args .map .now) (c .before .before .before .before .before .before .before .before .args .zones .now)) (c .before .why .given .1)))
+returns c =
+    let args = c .before .before .before .before .before .before .before .before .args in
+    let pre = c .before .before .before .before .before .before .before .before .pre in
+    let hit-at = c .before .before .before .before .hit-at in
+    let hour-of = c .before .before .before .hour-of in
+    let why = c .before .why in
+    agree-refused (Seen _ _) (asked-stop _ _ _ _ (take (args .count) (slots (args .hits .now))) 0 _ (asked-none _ _ _ _ _) (omega (
+      arith,
+      pre .0,
+      count-slots (args .hits .now)
+          (args .count) (pre .1),
+    )) (slot-is (args .hits .now) (args .count) (pre .1) _ _ (pre .0) (hit-at .ensures)) (sym (hour-of .ensures .0) ∙ ap (toldHour (args .map .now)
+    (args .zones .now)) (why .given .1)))
 
 loop-holds : tie.Need-loop-holds Inv-loop μ-loop
-loop-holds c = (agreeing-one _ _ _ _ (take (c .before .before .before .before .before .before .before .before .args .count) (slots (c .before .before .before .before .before .before .before .before .args .hits .now))) _ (omega (arith, c .before .before .before .before .before .before .before .before .pre .0, count-slots (c .before .before .before .before .before .before .before .before .args .hits .now) (c .before .before .before .before .before .before .before .before .args .count) (c .before .before .before .before .before .before .before .before .pre .1))) (slot-is (c .before .before .before .before .before .before .before .before .args .hits .now) (c .before .before .before .before .before .before .before .before .args .count) (c .before .before .before .before .before .before .before .before .pre .1) _ _ (c .before .before .before .before .before .before .before .before .pre .0) (c .before .before .before .before .hit-at .ensures)) (sym (c .before .before .before .hour-of .ensures .0) ∙ ap (toldHour (c .before .before .before .before .before .before .before .before .args .map .now) (c .before .before .before .before .before .before .before .before .args .zones .now)) (c .before .spot .given .1)), omega (arith, c .before .before .before .before .before .before .before .before .pre .0))
+loop-holds c =
+    let args = c .before .before .before .before .before .before .before .before .args in
+    let pre = c .before .before .before .before .before .before .before .before .pre in
+    let hit-at = c .before .before .before .before .hit-at in
+    let hour-of = c .before .before .before .hour-of in
+    let spot = c .before .spot in (
+      agreeing-one _ _ _ _ (take (args .count) (slots (args .hits .now))) _ (omega (arith, pre .0, count-slots (args .hits .now) (args .count) (pre .1))) (slot-is (args .hits .now)
+          (args .count) (pre .1) _ _ (pre .0) (hit-at .ensures)) (sym (hour-of .ensures .0) ∙ ap (toldHour (args .map .now) (args .zones .now)) (spot .given .1)),
+      omega (arith, pre .0),
+    )
 
 hit-at-requires-2 : tie.Need-hit-at-requires-2 Inv-loop μ-loop
-hit-at-requires-2 c κs = omega (arith, c .before .before .before .before .before .before .before .before .before .before .pre .1, c .loop-test .taken)
+hit-at-requires-2 c κs =
+    let pre = c .before .before .before .before .before .before .before .before .before .before .pre in
+    omega (arith, pre .1, c .loop-test .taken)
 
 add-i : tie.Need-add-i Inv-loop μ-loop
 add-i c = omega (arith, c .before .loop-test .taken)
 
 returns-2 : tie.Need-returns-2 Inv-loop μ-loop
-returns-2 c = agree-refused (Seen _ _) (agreeing-stop _ _ _ _ (take (c .before .before .before .before .before .before .before .before .before .before .before .before .before .before .before .args .count) (slots (c .before .before .before .before .before .before .before .before .before .before .before .before .before .before .before .args .hits .now))) _ (c .before .before .before .before .before .before .loop .i) (c .before .before .before .before .before .before .loop .inv .0) (omega (arith, c .before .before .before .before .before .loop-test .taken, count-slots (c .before .before .before .before .before .before .before .before .before .before .before .before .before .before .before .args .hits .now) (c .before .before .before .before .before .before .before .before .before .before .before .before .before .before .before .args .count) (c .before .before .before .before .before .before .before .before .before .before .before .before .before .before .before .pre .1))) (slot-is (c .before .before .before .before .before .before .before .before .before .before .before .before .before .before .before .args .hits .now) (c .before .before .before .before .before .before .before .before .before .before .before .before .before .before .before .args .count) (c .before .before .before .before .before .before .before .before .before .before .before .before .before .before .before .pre .1) _ _ (c .before .before .before .before .before .loop-test .taken) (c .before .before .before .before .hit-at2 .ensures)) (sym (c .before .before .before .hour-of2 .ensures .0) ∙ ap (toldHour (c .before .before .before .before .before .before .before .before .before .before .before .before .before .before .before .args .map .now) (c .before .before .before .before .before .before .before .before .before .before .before .before .before .before .before .args .zones .now)) (c .before .why2 .given .1)))
+returns-2 c =
+    let args = c .before .before .before .before .before .before .before .before .before .before .before .before .before .before .before .args in
+    let loop = c .before .before .before .before .before .before .loop in
+    let loop-test = c .before .before .before .before .before .loop-test in
+    let pre = c .before .before .before .before .before .before .before .before .before .before .before .before .before .before .before .pre in
+    let hit-at2 = c .before .before .before .before .hit-at2 in
+    let hour-of2 = c .before .before .before .hour-of2 in
+    let why2 = c .before .why2 in
+    agree-refused (Seen _ _) (agreeing-stop _ _ _ _ (take (args .count) (slots (args .hits .now))) _ (loop .i) (loop .inv .0) (omega (
+      arith,
+      loop-test .taken,
+      count-slots (args .hits .now)
+          (args .count) (pre .1),
+    )) (slot-is (args .hits .now) (args .count) (pre .1) _ _ (loop-test .taken) (hit-at2 .ensures)) (sym (hour-of2 .ensures .0) ∙ ap (toldHour
+    (args .map .now) (args .zones .now)) (why2 .given .1)))
 
 loop-less : tie.Need-loop-less Inv-loop μ-loop
-loop-less c = omega (arith, c .before .before .before .before .before .before .loop-test .taken)
+loop-less c =
+    let loop-test = c .before .before .before .before .before .before .loop-test in
+    omega (arith, loop-test .taken)
 
 loop-again : tie.Need-loop-again Inv-loop μ-loop
-loop-again c = (agreeing-more _ _ _ _ (take (c .before .before .before .before .before .before .before .before .before .before .before .before .before .before .before .before .args .count) (slots (c .before .before .before .before .before .before .before .before .before .before .before .before .before .before .before .before .args .hits .now))) _ (c .before .before .spot2 .given .0 .0) (c .before .before .before .before .before .before .before .loop .i) (c .before .before .before .before .before .before .before .loop .inv .0) (omega (arith, c .before .before .before .before .before .before .loop-test .taken, count-slots (c .before .before .before .before .before .before .before .before .before .before .before .before .before .before .before .before .args .hits .now) (c .before .before .before .before .before .before .before .before .before .before .before .before .before .before .before .before .args .count) (c .before .before .before .before .before .before .before .before .before .before .before .before .before .before .before .before .pre .1))) (slot-is (c .before .before .before .before .before .before .before .before .before .before .before .before .before .before .before .before .args .hits .now) (c .before .before .before .before .before .before .before .before .before .before .before .before .before .before .before .before .args .count) (c .before .before .before .before .before .before .before .before .before .before .before .before .before .before .before .before .pre .1) _ _ (c .before .before .before .before .before .before .loop-test .taken) (c .before .before .before .before .before .hit-at2 .ensures)) (sym (c .before .before .before .before .hour-of2 .ensures .0) ∙ ap (toldHour (c .before .before .before .before .before .before .before .before .before .before .before .before .before .before .before .before .args .map .now) (c .before .before .before .before .before .before .before .before .before .before .before .before .before .before .before .before .args .zones .now)) (c .before .before .spot2 .given .1)) (c .still .ensures), omega (arith, c .before .before .before .before .before .before .loop-test .taken))
+loop-again c =
+    let args = c .before .before .before .before .before .before .before .before .before .before .before .before .before .before .before .before .args in
+    let spot2 = c .before .before .spot2 in
+    let loop = c .before .before .before .before .before .before .before .loop in
+    let loop-test = c .before .before .before .before .before .before .loop-test in
+    let pre = c .before .before .before .before .before .before .before .before .before .before .before .before .before .before .before .before .pre in
+    let hit-at2 = c .before .before .before .before .before .hit-at2 in
+    let hour-of2 = c .before .before .before .before .hour-of2 in (
+      agreeing-more _ _ _ _ (take (args .count) (slots (args .hits .now))) _ (spot2 .given .0 .0) (loop .i) (loop .inv .0) (omega (
+        arith,
+        loop-test .taken,
+        count-slots (args .hits .now)
+            (args .count) (pre .1),
+      )) (slot-is (args .hits .now) (args .count) (pre .1) _ _ (loop-test .taken) (hit-at2 .ensures)) (sym (hour-of2 .ensures .0) ∙ ap (toldHour
+          (args .map .now) (args .zones .now)) (spot2 .given .1)) (c .still .ensures),
+      omega (arith, loop-test .taken),
+    )
 
 returns-3 : tie.Need-returns-3 Inv-loop μ-loop
-returns-3 c = agreeing-all _ _ _ _ (take (c .before .before .before .before .before .before .before .before .before .before .args .count) (slots (c .before .before .before .before .before .before .before .before .before .before .args .hits .now))) _ _ (c .before .loop .i) (c .before .loop .inv .0) (omega (arith, c .loop-test .left, count-slots (c .before .before .before .before .before .before .before .before .before .before .args .hits .now) (c .before .before .before .before .before .before .before .before .before .before .args .count) (c .before .before .before .before .before .before .before .before .before .before .pre .1)))
+returns-3 c =
+    let args = c .before .before .before .before .before .before .before .before .before .before .args in
+    let loop = c .before .loop in
+    let pre = c .before .before .before .before .before .before .before .before .before .before .pre in
+    agreeing-all _ _ _ _ (take (args .count) (slots (args .hits .now))) _ _ (loop .i) (loop .inv .0) (omega (arith, c .loop-test .left, count-slots (args .hits .now) (args .count) (pre .1)))
 
 pub hours-of-spec : {M : Type 1} → statement M
 hours-of-spec =

@@ -7,9 +7,12 @@ use Rattle.slip.proofs.hours.still.Tie as tie
 
 returns : tie.Need-returns
 returns c =
-    let told = c .before .before .struct-told .given in
+    let struct-told = c .before .before .struct-told in
+    let if1 = c .before .before .before .before .if1 in
+    let args = c .before .before .before .before .before .args in
+    let told = struct-told .given in
     let told2 = c .struct-told2 .given in
-    rw (c .before .before .before .before .if1 .taken) (same-bits {a = c .before .before .before .before .before .args .spot .offset} {b = c .before .before .before .before .before .args .first .offset} (search needs) (search needs))
+    rw (if1 .taken) (same-bits {a = args .spot .offset} {b = args .first .offset} (search needs) (search needs))
 
 returns-2 : tie.Need-returns-2
 returns-2 c = rw (c .if1 .left) refl

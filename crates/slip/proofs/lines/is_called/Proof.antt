@@ -10,10 +10,18 @@ use Rattle.slip.proofs.lines.is_called.Tie as tie
 
 is-same-requires : tie.Need-is-same-requires
 unfolding LiesZone
-is-same-requires c κs = (subst (λ (zone : Zone). LiesZone (length (c .before .before .before .before .before .args .map .now)) zone) (c .before .zone .given .1) (c .before .before .before .zone-of .ensures .1), c .before .before .before .before .before .pre)
+is-same-requires c κs =
+    let args = c .before .before .before .before .before .args in
+    let zone = c .before .zone in
+    let zone-of = c .before .before .before .zone-of in
+    let pre = c .before .before .before .before .before .pre in
+    (subst (λ (zone : Zone). LiesZone (length (args .map .now)) zone) (zone .given .1) (zone-of .ensures .1), pre)
 
 returns : tie.Need-returns
-returns c = is-called _ _ _ _ _ (c .before .before .before .before .zone-of .ensures .0) (c .before .before .zone .given .1) (c .is-same .ensures)
+returns c =
+    let zone-of = c .before .before .before .before .zone-of in
+    let zone = c .before .before .zone in
+    is-called _ _ _ _ _ (zone-of .ensures .0) (zone .given .1) (c .is-same .ensures)
 
 returns-2 : tie.Need-returns-2
 returns-2 c = not-called _ _ _ _ _ (c .before .before .zone-of .ensures .0) (c .enum-told .given .1)

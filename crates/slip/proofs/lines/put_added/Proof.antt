@@ -10,7 +10,12 @@ returns : tie.Need-returns
 returns c = put-as (added-none _ _ (sym (c .before .is-before .ensures) ∙ c .if1 .taken)) (put-none _ _)
 
 returns-2 : tie.Need-returns-2
-returns-2 c = put-as (added-some _ _ (sym (c .before .before .before .before .before .before .before .before .before .is-before .ensures) ∙ c .before .before .before .before .before .before .before .before .if1 .left)) (put-then _ _ (c .before .before .before .before .before .before .put-between .ensures) (c .before .before .put-zone .ensures))
+returns-2 c =
+    let is-before = c .before .before .before .before .before .before .before .before .before .is-before in
+    let if1 = c .before .before .before .before .before .before .before .before .if1 in
+    let put-between = c .before .before .before .before .before .before .put-between in
+    let put-zone = c .before .before .put-zone in
+    put-as (added-some _ _ (sym (is-before .ensures) ∙ if1 .left)) (put-then _ _ (put-between .ensures) (put-zone .ensures))
 
 pub put-added-spec : {M : Type 1} → statement M
 put-added-spec =

@@ -9,10 +9,16 @@ use Rattle.slip.proofs.lines.put_between.Tie as tie
 
 returns : tie.Need-returns
 unfolding between
-returns c = put-as (ap between (sym (c .before .before .before .before .if1 .taken))) (c .before .before .put .ensures)
+returns c =
+    let if1 = c .before .before .before .before .if1 in
+    let put = c .before .before .put in
+    put-as (ap between (sym (if1 .taken))) (put .ensures)
 
 returns-2 : tie.Need-returns-2
-returns-2 c = put-as (between-more _ (c .before .before .before .before .before .if1 .left)) (c .before .before .put-all .ensures)
+returns-2 c =
+    let if1 = c .before .before .before .before .before .if1 in
+    let put-all = c .before .before .put-all in
+    put-as (between-more _ (if1 .left)) (put-all .ensures)
 
 pub put-between-spec : {M : Type 1} → statement M
 put-between-spec =

@@ -7,7 +7,18 @@ use Rattle.slip.proofs.lines.put_clock.Tie as tie
 
 returns : tie.Need-returns
 unfolding clockText
-returns c = put-then _ _ (c .before .before .before .before .before .before .before .before .before .before .before .before .before .before .before .before .before .before .before .before .before .before .before .before .before .before .put-weekday .ensures) (put-then _ _ (c .before .before .before .before .before .before .before .before .before .before .before .before .before .before .before .before .before .before .before .before .before .before .put .ensures) (put-then _ _ (c .before .before .before .before .before .before .before .before .before .before .before .before .before .before .before .before .before .before .put-date .ensures) (put-then _ _ (c .before .before .before .before .before .before .before .before .before .before .before .before .before .before .put2 .ensures) (put-then _ _ (c .before .before .before .before .before .before .before .before .before .before .put-time .ensures) (put-then _ _ (c .before .before .before .before .before .before .put3 .ensures) (c .before .before .put-offset .ensures))))))
+returns c =
+    let put-weekday = c .before .before .before .before .before .before .before .before .before .before .before .before .before .before .before .before .before .before .before .before
+    .before .before .before .before .before .before .put-weekday in
+    let put = c .before .before .before .before .before .before .before .before .before .before .before .before .before .before .before .before .before .before .before .before .before
+    .before .put in
+    let put-date = c .before .before .before .before .before .before .before .before .before .before .before .before .before .before .before .before .before .before .put-date in
+    let put2 = c .before .before .before .before .before .before .before .before .before .before .before .before .before .before .put2 in
+    let put-time = c .before .before .before .before .before .before .before .before .before .before .put-time in
+    let put3 = c .before .before .before .before .before .before .put3 in
+    let put-offset = c .before .before .put-offset in
+    put-then _ _ (put-weekday .ensures) (put-then _ _ (put .ensures) (put-then _ _ (put-date .ensures) (put-then _ _ (put2 .ensures) (put-then _ _ (put-time .ensures) (put-then _ _
+    (put3 .ensures) (put-offset .ensures))))))
 
 pub put-clock-spec : {M : Type 1} → statement M
 put-clock-spec =

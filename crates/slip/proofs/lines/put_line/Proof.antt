@@ -5,7 +5,10 @@ use Rattle.slip.proofs.lines.put_line.Statement.{statement}
 use Rattle.slip.proofs.lines.put_line.Tie as tie
 
 returns : tie.Need-returns
-returns c = inked _ (c .before .before .before .before .before .before .put-clock .ensures) (c .before .before .put-zones .ensures)
+returns c =
+    let put-clock = c .before .before .before .before .before .before .put-clock in
+    let put-zones = c .before .before .put-zones in
+    inked _ (put-clock .ensures) (put-zones .ensures)
 
 pub put-line-spec : {M : Type 1} → statement M
 put-line-spec =

@@ -6,7 +6,11 @@ use Rattle.slip.proofs.lines.put_name.Statement.{statement}
 use Rattle.slip.proofs.lines.put_name.Tie as tie
 
 returns : tie.Need-returns
-returns c = put-as (parts-shown (c .before .before .before .before .before .before .before .before .before .before .before .before .before .before .before .before .args .map .now) (c .before .before .before .before .before .before .before .before .before .before .before .before .before .before .before .before .args .name)) (put-then _ _ (c .before .before .before .before .before .before .before .before .put-shown .ensures) (c .before .before .put-shown2 .ensures))
+returns c =
+    let args = c .before .before .before .before .before .before .before .before .before .before .before .before .before .before .before .before .args in
+    let put-shown = c .before .before .before .before .before .before .before .before .put-shown in
+    let put-shown2 = c .before .before .put-shown2 in
+    put-as (parts-shown (args .map .now) (args .name)) (put-then _ _ (put-shown .ensures) (put-shown2 .ensures))
 
 pub put-name-spec : {M : Type 1} → statement M
 put-name-spec =

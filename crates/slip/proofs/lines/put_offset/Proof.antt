@@ -19,13 +19,19 @@ sub-put-span c = let told = c .before .before .before .before .before .before in
 
 returns : tie.Need-returns
 returns c =
+    let if1 = c .before .before .before .before .before .before .before .before .if1 in
+    let put = c .before .before .before .before .before .before .put in
+    let put-span = c .before .before .put-span in
     let told = c .before .before .before .before .before .before .before .before .before in
-    put-as (below-zero _ (range told) (bits told) (c .before .before .before .before .before .before .before .before .if1 .taken)) (put-then _ _ (c .before .before .before .before .before .before .put .ensures) (c .before .before .put-span .ensures))
+    put-as (below-zero _ (range told) (bits told) (if1 .taken)) (put-then _ _ (put .ensures) (put-span .ensures))
 
 returns-2 : tie.Need-returns-2
 returns-2 c =
+    let if1 = c .before .before .before .before .before .before .before .before .if1 in
+    let put2 = c .before .before .before .before .before .before .put2 in
+    let put-span2 = c .before .before .put-span2 in
     let told = c .before .before .before .before .before .before .before .before .before in
-    put-as (from-zero _ (range told) (bits told) (c .before .before .before .before .before .before .before .before .if1 .left)) (put-then _ _ (c .before .before .before .before .before .before .put2 .ensures) (c .before .before .put-span2 .ensures))
+    put-as (from-zero _ (range told) (bits told) (if1 .left)) (put-then _ _ (put2 .ensures) (put-span2 .ensures))
 
 pub put-offset-spec : {M : Type 1} → statement M
 put-offset-spec =

@@ -13,8 +13,13 @@ use Rattle.slip.proofs.lines.put_zone.Tie as tie
 returns : tie.Need-returns
 unfolding zoneText
 returns c =
-    let spot = c .before .before .before .before .before .before .before .before .before .before .before .before .before .before .before .before .before .args .spot in
-    put-then _ _ (put-as (unmasked-so (take (spot .place + spot .size - spot .place) (drop (spot .place) (c .before .before .before .before .before .before .before .before .before .before .before .before .before .before .before .before .before .args .zones .now))) ∙ ap shownText (part-slice (c .before .before .before .before .before .before .before .before .before .before .before .before .before .before .before .before .before .args .zones .now) (spot .place) (spot .size))) (c .before .before .before .before .before .before .before .before .before .before .put-shown .ensures)) (put-then _ _ (c .before .before .before .before .before .before .put .ensures) (c .before .before .put-name .ensures))
+    let args = c .before .before .before .before .before .before .before .before .before .before .before .before .before .before .before .before .before .args in
+    let put-shown = c .before .before .before .before .before .before .before .before .before .before .put-shown in
+    let put = c .before .before .before .before .before .before .put in
+    let put-name = c .before .before .put-name in
+    let spot = args .spot in
+    put-then _ _ (put-as (unmasked-so (take (spot .place + spot .size - spot .place) (drop (spot .place) (args .zones .now))) ∙ ap shownText (part-slice (args .zones .now) (spot .place)
+    (spot .size))) (put-shown .ensures)) (put-then _ _ (put .ensures) (put-name .ensures))
 
 pub put-zone-spec : {M : Type 1} → statement M
 put-zone-spec =

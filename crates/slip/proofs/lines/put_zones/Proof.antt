@@ -26,39 +26,74 @@ add-hour-of : tie.Need-add-hour-of Inv-loop μ-loop
 add-hour-of c = omega (arith, c .loop-test .taken)
 
 hit-at-requires : tie.Need-hit-at-requires Inv-loop μ-loop
-hit-at-requires c κs = omega (arith, c .before .before .before .before .before .before .pre, c .loop-test .taken)
+hit-at-requires c κs =
+    let pre = c .before .before .before .before .before .before .pre in
+    omega (arith, pre, c .loop-test .taken)
 
 same-length : tie.Need-same-length Inv-loop μ-loop
-same-length c = lining-kept _ _ _ _ _ _ _ _ _ _ (c .before .before .before .before .before .loop .inv .0)
+same-length c =
+    let loop = c .before .before .before .before .before .loop in
+    lining-kept _ _ _ _ _ _ _ _ _ _ (loop .inv .0)
 
 returns : tie.Need-returns Inv-loop μ-loop
-returns c = lining-stop _ _ _ _ (take (c .before .before .before .before .before .before .before .before .before .before .args .count) (slots (c .before .before .before .before .before .before .before .before .before .before .args .hits .now))) _ _ _ _ (c .before .before .before .before .before .loop .i) (c .before .before .before .before .before .loop .inv .0) (omega (arith, c .before .before .before .before .loop-test .taken, count-slots (c .before .before .before .before .before .before .before .before .before .before .args .hits .now) (c .before .before .before .before .before .before .before .before .before .before .args .count) (c .before .before .before .before .before .before .before .before .before .before .pre))) (slot-is (c .before .before .before .before .before .before .before .before .before .before .args .hits .now) (c .before .before .before .before .before .before .before .before .before .before .args .count) (c .before .before .before .before .before .before .before .before .before .before .pre) _ _ (c .before .before .before .before .loop-test .taken) (c .before .before .before .hit-at .ensures)) (sym (c .before .before .hour-of .ensures .0) ∙ ap (toldHour (c .before .before .before .before .before .before .before .before .before .before .args .map .now) (c .before .before .before .before .before .before .before .before .before .before .args .zones .now)) (c .enum-told .given .1))
+returns c =
+    let args = c .before .before .before .before .before .before .before .before .before .before .args in
+    let loop = c .before .before .before .before .before .loop in
+    let loop-test = c .before .before .before .before .loop-test in
+    let pre = c .before .before .before .before .before .before .before .before .before .before .pre in
+    let hit-at = c .before .before .before .hit-at in
+    let hour-of = c .before .before .hour-of in
+    lining-stop _ _ _ _ (take (args .count) (slots (args .hits .now))) _ _ _ _ (loop .i) (loop .inv .0) (omega (arith, loop-test .taken, count-slots (args .hits .now) (args .count) (pre)))
+    (slot-is (args .hits .now) (args .count) (pre) _ _ (loop-test .taken) (hit-at .ensures)) (sym (hour-of .ensures .0) ∙ ap (toldHour (args .map .now) (args .zones .now))
+    (c .enum-told .given .1))
 
 put-added-requires : tie.Need-put-added-requires Inv-loop μ-loop
 unfolding StandsHour
-put-added-requires c κs = (subst (λ (h : Hourly). StandsHour (length (c .before .before .before .before .before .before .before .before .before .before .before .before .args .map .now)) (length (c .before .before .before .before .before .before .before .before .before .before .before .before .args .zones .now)) h) (c .before .before .spot .given .1) (c .before .before .before .before .hour-of .ensures .1), omega (arith, c .before .before .before .before .before .before .before .before .before .before .before .before .pre, c .before .before .before .before .before .before .loop-test .taken))
+put-added-requires c κs =
+    let args = c .before .before .before .before .before .before .before .before .before .before .before .before .args in
+    let spot = c .before .before .spot in
+    let hour-of = c .before .before .before .before .hour-of in
+    let pre = c .before .before .before .before .before .before .before .before .before .before .before .before .pre in
+    let loop-test = c .before .before .before .before .before .before .loop-test in
+    (subst (λ (h : Hourly). StandsHour (length (args .map .now)) (length (args .zones .now)) h) (spot .given .1) (hour-of .ensures .1), omega (arith, pre, loop-test .taken))
 
 add-i : tie.Need-add-i Inv-loop μ-loop
 add-i c = add-hour-of (c .before .before .before .before .before .before .before .before .before)
 
 loop-less : tie.Need-loop-less Inv-loop μ-loop
-loop-less c = omega (arith, c .before .before .before .before .before .before .before .before .before .loop-test .taken)
+loop-less c =
+    let loop-test = c .before .before .before .before .before .before .before .before .before .loop-test in
+    omega (arith, loop-test .taken)
 
 loop-again : tie.Need-loop-again Inv-loop μ-loop
 loop-again c =
     let args = c .before .before .before .before .before .before .before .before .before .before .before .before .before .before .before .args in
-    let spot = c .before .before .before .before .before .spot .given .0 .0 in
-    let same = first-of (c .before .before .before .before .before .before .before .before .before .before .loop .i) (args .count) (slots (args .hits .now)) (omega (arith, c .before .before .before .before .before .before .before .before .before .loop-test .taken)) in (
-      lining-one _ _ _ _ (take (args .count) (slots (args .hits .now))) _ _ _ _ (c .before .before .before .before .before .before .before .before .before .before .loop .i) (c .before .before .before .before .before .before .before .before .before .before .loop .inv .0) (omega (arith, c .before .before .before .before .before .before .before .before .before .loop-test .taken, count-slots (args .hits .now) (args .count) (c .before .before .before .before .before .before .before .before .before .before .before .before .before .before .before .pre))) (slot-is (args .hits .now) (args .count) (c .before .before .before .before .before .before .before .before .before .before .before .before .before .before .before .pre) _ _ (c .before .before .before .before .before .before .before .before .before .loop-test .taken) (c .before .before .before .before .before .before .before .before .hit-at .ensures)) (sym (c .before .before .before .before .before .before .before .hour-of .ensures .0) ∙ ap (toldHour (args .map .now) (args .zones .now)) (c .before .before .before .before .before .spot .given .1))
-          (put-as (ap (λ (ms : List Hit). addedBy (isNamedIn (args .map .now) (args .head) (nameIn (args .map .now) (spot .name)) ms) (c .before .before .before .before .before .before .before .before .before .before .loop .i) (hourAt (args .map .now) (args .zones .now) spot)) same) (c .before .before .put-added .ensures)),
-      omega (arith, c .before .before .before .before .before .before .before .before .before .loop-test .taken),
+    let spot = c .before .before .before .before .before .spot in
+    let loop = c .before .before .before .before .before .before .before .before .before .before .loop in
+    let loop-test = c .before .before .before .before .before .before .before .before .before .loop-test in
+    let pre = c .before .before .before .before .before .before .before .before .before .before .before .before .before .before .before .pre in
+    let hit-at = c .before .before .before .before .before .before .before .before .hit-at in
+    let hour-of = c .before .before .before .before .before .before .before .hour-of in
+    let put-added = c .before .before .put-added in
+    let said = spot .given .0 .0 in
+    let same = first-of (loop .i) (args .count) (slots (args .hits .now)) (omega (arith, loop-test .taken)) in (
+      lining-one _ _ _ _ (take (args .count) (slots (args .hits .now))) _ _ _ _ (loop .i) (loop .inv .0) (omega (arith, loop-test .taken, count-slots (args .hits .now) (args .count) (pre)))
+          (slot-is (args .hits .now) (args .count) (pre) _ _ (loop-test .taken) (hit-at .ensures)) (sym (hour-of .ensures .0) ∙ ap (toldHour (args .map .now) (args .zones .now))
+          (spot .given .1))
+          (put-as (ap (λ (ms : List Hit). addedBy (isNamedIn (args .map .now) (args .head) (nameIn (args .map .now) (said .name)) ms) (loop .i) (hourAt (args .map .now)
+          (args .zones .now) said)) same) (put-added .ensures)),
+      omega (arith, loop-test .taken),
     )
 
 same-length-2 : tie.Need-same-length-2 Inv-loop μ-loop
 same-length-2 c = lining-kept _ _ _ _ _ _ _ _ _ _ (c .before .loop .inv .0)
 
 returns-2 : tie.Need-returns-2 Inv-loop μ-loop
-returns-2 c = lining-all _ _ _ _ (take (c .before .before .before .before .before .before .args .count) (slots (c .before .before .before .before .before .before .args .hits .now))) _ _ _ _ (c .before .loop .i) (c .before .loop .inv .0) (omega (arith, c .loop-test .left, count-slots (c .before .before .before .before .before .before .args .hits .now) (c .before .before .before .before .before .before .args .count) (c .before .before .before .before .before .before .pre)))
+returns-2 c =
+    let args = c .before .before .before .before .before .before .args in
+    let loop = c .before .loop in
+    let pre = c .before .before .before .before .before .before .pre in
+    lining-all _ _ _ _ (take (args .count) (slots (args .hits .now))) _ _ _ _ (loop .i) (loop .inv .0) (omega (arith, c .loop-test .left, count-slots (args .hits .now) (args .count) (pre)))
 
 pub put-zones-spec : {M : Type 1} → statement M
 put-zones-spec =

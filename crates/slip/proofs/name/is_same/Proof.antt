@@ -16,8 +16,12 @@ abbrev μ-loop : tie.MeasureT-loop
 μ-loop map name other size i₀ i = size - i
 
 -- two names of one length
-lengths : (c : tie.Else1 Inv-loop μ-loop) → let args = c .before .before .before .before .args in length (nameIn (args .map .now) (args .name)) ≡ length (nameIn (args .map .now) (args .other))
-lengths c = sym (c .before .before .size-of .ensures) ∙ c .if1 .left ∙ c .before .size-of2 .ensures
+lengths : (c : tie.Else1 Inv-loop μ-loop) → let args = c .before .before .before .before .args in length (nameIn (args .map .now) (args .name)) ≡ length (nameIn (args .map .now)
+    (args .other))
+lengths c =
+    let size-of = c .before .before .size-of in
+    let size-of2 = c .before .size-of2 in
+    sym (size-of .ensures) ∙ c .if1 .left ∙ size-of2 .ensures
 
 size-of-requires : tie.Need-size-of-requires Inv-loop μ-loop
 size-of-requires c κs = c .before .pre .0
@@ -26,18 +30,32 @@ size-of-requires-2 : tie.Need-size-of-requires-2 Inv-loop μ-loop
 size-of-requires-2 c κs = c .before .before .pre .1
 
 returns : tie.Need-returns Inv-loop μ-loop
-returns c = sym (lengths-differ _ _ (λ e. c .if1 .taken (c .before .before .size-of .ensures ∙ e ∙ sym (c .before .size-of2 .ensures))))
+returns c =
+    let size-of = c .before .before .size-of in
+    let size-of2 = c .before .size-of2 in
+    sym (lengths-differ _ _ (λ e. c .if1 .taken (size-of .ensures ∙ e ∙ sym (size-of2 .ensures))))
 
 byte-of-requires : tie.Need-byte-of-requires Inv-loop μ-loop
-byte-of-requires c κs = c .before .before .before .before .before .before .pre .0
+byte-of-requires c κs =
+    let pre = c .before .before .before .before .before .before .pre in
+    pre .0
 
 byte-of-requires-2 : tie.Need-byte-of-requires-2 Inv-loop μ-loop
-byte-of-requires-2 c κs = c .before .before .before .before .before .before .before .pre .1
+byte-of-requires-2 c κs =
+    let pre = c .before .before .before .before .before .before .before .pre in
+    pre .1
 
 returns-2 : tie.Need-returns-2 Inv-loop μ-loop
 returns-2 c =
     let args = c .before .before .before .before .before .before .before .before .before .args in
-    differs (nameIn (args .map .now) (args .name)) (nameIn (args .map .now) (args .other)) (lengths (c .before .before .before .before .before)) (c .before .before .before .before .loop .i) (c .before .before .before .before .loop .inv) (omega (arith, c .before .before .before .loop-test .taken, c .before .before .before .before .before .before .before .size-of .ensures)) (λ e. c .if2 .taken (c .before .before .byte-of .ensures ∙ e ∙ sym (c .before .byte-of2 .ensures)))
+    let loop = c .before .before .before .before .loop in
+    let loop-test = c .before .before .before .loop-test in
+    let size-of = c .before .before .before .before .before .before .before .size-of in
+    let byte-of = c .before .before .byte-of in
+    let byte-of2 = c .before .byte-of2 in
+    let args = args in
+    differs (nameIn (args .map .now) (args .name)) (nameIn (args .map .now) (args .other)) (lengths (c .before .before .before .before .before)) (loop .i) (loop .inv) (omega
+    (arith, loop-test .taken, size-of .ensures)) (λ e. c .if2 .taken (byte-of .ensures ∙ e ∙ sym (byte-of2 .ensures)))
 
 add-i : tie.Need-add-i Inv-loop μ-loop
 add-i c = omega (arith, c .before .before .before .loop-test .taken)
@@ -48,12 +66,23 @@ loop-less c = omega (arith, c .before .before .before .loop-test .taken)
 loop-again : tie.Need-loop-again Inv-loop μ-loop
 loop-again c =
     let args = c .before .before .before .before .before .before .before .before .before .args in
-    goes-on (nameIn (args .map .now) (args .name)) (nameIn (args .map .now) (args .other)) (lengths (c .before .before .before .before .before)) (c .before .before .before .before .loop .i) (c .before .before .before .before .loop .inv) (omega (arith, c .before .before .before .loop-test .taken, c .before .before .before .before .before .before .before .size-of .ensures)) (sym (c .before .before .byte-of .ensures) ∙ c .if2 .left ∙ c .before .byte-of2 .ensures)
+    let loop = c .before .before .before .before .loop in
+    let loop-test = c .before .before .before .loop-test in
+    let size-of = c .before .before .before .before .before .before .before .size-of in
+    let byte-of = c .before .before .byte-of in
+    let byte-of2 = c .before .byte-of2 in
+    let args = args in
+    goes-on (nameIn (args .map .now) (args .name)) (nameIn (args .map .now) (args .other)) (lengths (c .before .before .before .before .before)) (loop .i) (loop .inv) (omega
+    (arith, loop-test .taken, size-of .ensures)) (sym (byte-of .ensures) ∙ c .if2 .left ∙ byte-of2 .ensures)
 
 returns-3 : tie.Need-returns-3 Inv-loop μ-loop
 returns-3 c =
     let args = c .before .before .before .before .before .before .args in
-    all-same (nameIn (args .map .now) (args .name)) (nameIn (args .map .now) (args .other)) (lengths (c .before .before)) (c .before .loop .i) (c .before .loop .inv) (omega (arith, c .loop-test .left, c .before .before .before .before .size-of .ensures))
+    let loop = c .before .loop in
+    let size-of = c .before .before .before .before .size-of in
+    let args = args in
+    all-same (nameIn (args .map .now) (args .name)) (nameIn (args .map .now) (args .other)) (lengths (c .before .before)) (loop .i) (loop .inv) (omega
+    (arith, c .loop-test .left, size-of .ensures))
 
 pub is-same-spec : {M : Type 1} → statement M
 is-same-spec =

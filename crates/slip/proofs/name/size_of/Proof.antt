@@ -5,7 +5,10 @@ use Rattle.slip.proofs.name.size_of.Statement.{statement}
 use Rattle.slip.proofs.name.size_of.Tie as tie
 
 returns : tie.Need-returns
-returns c = name-length (c .before .before .before .before .args .map .now) (c .before .before .before .before .args .name) (c .before .before .before .before .pre)
+returns c =
+    let args = c .before .before .before .before .args in
+    let pre = c .before .before .before .before .pre in
+    name-length (args .map .now) (args .name) (pre)
 
 pub size-of-spec : {M : Type 1} → statement M
 size-of-spec =

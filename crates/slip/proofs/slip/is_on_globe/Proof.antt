@@ -9,11 +9,18 @@ use Rattle.slip.proofs.slip.is_on_globe.Tie as tie
 
 returns : tie.Need-returns
 unfolding onGlobe ofBits
-returns c = c .is-within2 .ensures ∙ ap (λ (t : Bool). t && within halfTurn (c .before .before .before .args .fix .lon)) (sym (sym (c .before .before .is-within .ensures) ∙ c .before .if1 .taken))
+returns c =
+    let args = c .before .before .before .args in
+    let is-within = c .before .before .is-within in
+    let if1 = c .before .if1 in
+    c .is-within2 .ensures ∙ ap (λ (t : Bool). t && within halfTurn (args .fix .lon)) (sym (sym (is-within .ensures) ∙ if1 .taken))
 
 returns-2 : tie.Need-returns-2
 unfolding onGlobe ofBits
-returns-2 c = ap (λ (t : Bool). t && within halfTurn (c .before .before .args .fix .lon)) (sym (sym (c .before .is-within .ensures) ∙ c .if1 .left))
+returns-2 c =
+    let args = c .before .before .args in
+    let is-within = c .before .is-within in
+    ap (λ (t : Bool). t && within halfTurn (args .fix .lon)) (sym (sym (is-within .ensures) ∙ c .if1 .left))
 
 pub is-on-globe-spec : {M : Type 1} → statement M
 is-on-globe-spec =

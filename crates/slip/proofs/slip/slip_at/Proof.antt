@@ -11,7 +11,10 @@ use Rattle.slip.proofs.slip.slip_at.Statement.{statement}
 use Rattle.slip.proofs.slip.slip_at.Tie as tie
 
 fill-requires : tie.Need-fill-requires
-fill-requires c κs = all-zero _ (length (c .before .before .before .before .before .before .before .before .before .before .before .before .args .out .now)) (c .before .before .before .before .before .zero .ensures)
+fill-requires c κs =
+    let args = c .before .before .before .before .before .before .before .before .before .before .before .before .args in
+    let zero = c .before .before .before .before .before .zero in
+    all-zero _ (length (args .out .now)) (zero .ensures)
 
 same-length : tie.Need-same-length
 same-length c = search needs
@@ -25,14 +28,31 @@ same-length-3 c = search needs
 returns : tie.Need-returns
 unfolding slippedAt
 returns c =
-    let args = c .before .before .before .before .before .before .before .before .before .before .before .before .before .before .before .before .before .before .before .before .before .before .before .before .before .before .before .before .before .before .before .before .before .args in
+    let args = c .before .before .before .before .before .before .before .before .before .before .before .before .before .before .before .before .before .before .before .before .before
+    .before .before .before .before .before .before .before .before .before .before .before .before .args in
     let fill = c .before .before .before .before .before .before .before .before .before .before .before .before .before .before .before .before .before .before .before .before .fill in
-    refused-reply (slipAt (args .fix) (args .map .now) (args .zones .now)) (told (fill .result)) _ _ _ refl refl (of-length _ (length (args .out .now)) (c .before .before .before .before .before .before .before .before .before .before .before .before .before .before .before .before .before .before .before .before .before .before .before .before .before .before .zero .ensures)) (fill .ensures) (ap told (c .before .before .before .before .before .before .before .before .before .before .before .before .why .given .1))
-    (all-zero _ (length (fill .last .1 .1 .1 .0)) (c .before .before .before .before .before .before .before .before .zero-both .ensures .0) ∙ ap zeros (same-length c)) (all-zero _ (length (fill .last .1 .1 .1 .1 .0)) (c .before .before .before .before .before .before .before .before .zero-both .ensures .1) ∙ ap zeros (same-length-2 c)) (all-zero _ (length (fill .last .1 .1 .1 .1 .1 .0)) (c .before .before .zero2 .ensures) ∙ ap zeros (same-length-3 c))
+    let zero = c .before .before .before .before .before .before .before .before .before .before .before .before .before .before .before .before .before .before .before .before .before
+    .before .before .before .before .before .zero in
+    let why = c .before .before .before .before .before .before .before .before .before .before .before .before .why in
+    let zero-both = c .before .before .before .before .before .before .before .before .zero-both in
+    let zero2 = c .before .before .zero2 in
+    let args = args in
+    let fill = fill in
+    refused-reply (slipAt (args .fix) (args .map .now) (args .zones .now)) (told (fill .result)) _ _ _ refl refl (of-length _ (length (args .out .now)) (zero .ensures)) (fill .ensures)
+    (ap told (why .given .1))
+    (all-zero _ (length (fill .last .1 .1 .1 .0)) (zero-both .ensures .0) ∙ ap zeros (same-length c)) (all-zero _ (length (fill .last .1 .1 .1 .1 .0)) (zero-both .ensures .1) ∙ ap zeros
+    (same-length-2 c)) (all-zero _ (length (fill .last .1 .1 .1 .1 .1 .0)) (zero2 .ensures) ∙ ap zeros (same-length-3 c))
 
 returns-2 : tie.Need-returns-2
 unfolding slippedAt
-returns-2 c = given-reply (slipAt (c .before .before .before .before .before .before .before .before .before .before .before .before .before .before .before .before .before .before .before .before .before .before .args .fix) (c .before .before .before .before .before .before .before .before .before .before .before .before .before .before .before .before .before .before .before .before .before .before .args .map .now) (c .before .before .before .before .before .before .before .before .before .before .before .before .before .before .before .before .before .before .before .before .before .before .args .zones .now)) (told (c .before .before .before .before .before .before .before .before .before .fill .result)) _ _ _ refl refl (of-length _ (length (c .before .before .before .before .before .before .before .before .before .before .before .before .before .before .before .before .before .before .before .before .before .before .args .out .now)) (c .before .before .before .before .before .before .before .before .before .before .before .before .before .before .before .zero .ensures)) (c .before .before .before .before .before .before .before .before .before .fill .ensures) (ap told (c .before .stamped .given .1))
+returns-2 c =
+    let args = c .before .before .before .before .before .before .before .before .before .before .before .before .before .before .before .before .before .before .before .before .before
+    .before .args in
+    let fill = c .before .before .before .before .before .before .before .before .before .fill in
+    let zero = c .before .before .before .before .before .before .before .before .before .before .before .before .before .before .before .zero in
+    let stamped = c .before .stamped in
+    given-reply (slipAt (args .fix) (args .map .now) (args .zones .now)) (told (fill .result)) _ _ _ refl refl (of-length _ (length (args .out .now)) (zero .ensures)) (fill .ensures)
+    (ap told (stamped .given .1))
 
 pub slip-at-spec : {M : Type 1} → statement M
 slip-at-spec =

@@ -16,29 +16,52 @@ use Rattle.slip.proofs.slip.stamp.Tie as tie
 
 -- what all matches say
 seen : (c : tie.After-all) → let args = c .before .before .before .before .before .before .before .before .args in
-    Gave (Seen (args .map .now) (args .zones .now)) (hoursFrom (args .map .now) (args .head) (args .zones .now) (args .fix .instant) 1 (take (args .count) (slots (args .hits .now)))) (c .all .given .0 .0)
+    Gave (Seen (args .map .now) (args .zones .now)) (hoursFrom (args .map .now) (args .head) (args .zones .now) (args .fix .instant) 1 (take (args .count) (slots (args .hits .now))))
+    (c .all .given .0 .0)
 seen c = gave _ _ (c .before .before .hours-of .ensures) (ap toldHours (c .all .given .1))
 
 returns : tie.Need-returns
-returns c = no-match (c .before .before .before .before .before .before .args .fix) _ _ _ _ _ _ (ap (λ (k : ℕ). take k (slots (c .before .before .before .before .before .before .args .hits .now))) (c .before .if1 .taken)) (c .plain .ensures)
+returns c =
+    let args = c .before .before .before .before .before .before .args in
+    let if1 = c .before .if1 in
+    no-match (args .fix) _ _ _ _ _ _ (ap (λ (k : ℕ). take k (slots (args .hits .now))) (if1 .taken)) (c .plain .ensures)
 
 returns-2 : tie.Need-returns-2
-returns-2 c = no-hours (c .before .before .before .before .before .before .before .before .before .args .fix) _ _ _ _ _ _ (refused-so _ _ (c .before .before .before .hours-of .ensures) (ap toldHours (c .before .why .given .1)))
+returns-2 c =
+    let args = c .before .before .before .before .before .before .before .before .before .args in
+    let hours-of = c .before .before .before .hours-of in
+    let why = c .before .why in
+    no-hours (args .fix) _ _ _ _ _ _ (refused-so _ _ (hours-of .ensures) (ap toldHours (why .given .1)))
 
 returns-3 : tie.Need-returns-3
 returns-3 c =
+    let args = c .before .before .before .before .before .before .before .before .before .before .before .before .args in
+    let if2 = c .before .if2 in
     let said = seen (c .before .before .before .before) in
-    not-agreed (c .before .before .before .before .before .before .before .before .before .before .before .before .args .fix) _ _ _ _ _ (said .is) (said .fits) _ (false-of _ (c .before .if2 .taken)) (c .plain2 .ensures)
+    not-agreed (args .fix) _ _ _ _ _ (said .is) (said .fits) _ (false-of _ (if2 .taken)) (c .plain2 .ensures)
 
 returns-4 : tie.Need-returns-4
 returns-4 c =
+    let args = c .before .before .before .before .before .before .before .before .before .before .before .before .before .before .before .before .before .before .args in
+    let if2 = c .before .before .before .before .before .before .before .if2 in
+    let put-line = c .before .before .before .before .put-line in
+    let good = c .before .before .before .before .before .before .before .before .before .before .before .before .before .before .before .before .before .before .good in
+    let if3 = c .before .if3 in
     let said = seen (c .before .before .before .before .before .before .before .before .before .before) in
-    no-room (c .before .before .before .before .before .before .before .before .before .before .before .before .before .before .before .before .before .before .args .fix) _ _ _ _ _ (said .is) (said .fits) (true-of _ (c .before .before .before .before .before .before .before .if2 .left)) (c .before .before .before .before .put-line .ensures) refl (omega (arith, c .before .before .before .before .before .before .before .before .before .before .before .before .before .before .before .before .before .before .good .1 .1 .1 .1 .1 .1 .0 .1)) _ (omega (arith, c .before .if3 .taken, c .before .before .before .before .put-line .ensures .kept)) (c .refuse .ensures)
+    no-room (args .fix) _ _ _ _ _ (said .is) (said .fits) (true-of _ (if2 .left)) (put-line .ensures) refl (omega (arith, good .1 .1 .1 .1 .1 .1 .0 .1)) _ (omega
+    (arith, if3 .taken, put-line .ensures .kept)) (c .refuse .ensures)
 
 returns-5 : tie.Need-returns-5
 returns-5 c =
+    let args = c .before .before .before .before .before .before .before .before .before .before .before .before .before .before .before .before .before .before .args in
+    let if2 = c .before .before .before .before .before .before .before .if2 in
+    let put-line = c .before .before .before .before .put-line in
+    let good = c .before .before .before .before .before .before .before .before .before .before .before .before .before .before .before .before .before .before .good in
+    let pre = c .before .before .before .before .before .before .before .before .before .before .before .before .before .before .before .before .before .before .pre in
+    let if3 = c .before .if3 in
     let said = seen (c .before .before .before .before .before .before .before .before .before .before) in
-    stamped-so (c .before .before .before .before .before .before .before .before .before .before .before .before .before .before .before .before .before .before .args .fix) _ _ _ _ _ (said .is) (said .fits) (true-of _ (c .before .before .before .before .before .before .before .if2 .left)) (c .before .before .before .before .put-line .ensures) refl (omega (arith, c .before .before .before .before .before .before .before .before .before .before .before .before .before .before .before .before .before .before .good .1 .1 .1 .1 .1 .1 .0 .1)) (c .before .before .before .before .before .before .before .before .before .before .before .before .before .before .before .before .before .before .pre .1) (omega (arith, c .before .if3 .left, c .before .before .before .before .put-line .ensures .kept)) (sym (count-slots (c .before .before .before .before .before .before .before .before .before .before .before .before .before .before .before .before .before .before .args .hits .now) (c .before .before .before .before .before .before .before .before .before .before .before .before .before .before .before .before .before .before .args .count) (c .before .before .before .before .before .before .before .before .before .before .before .before .before .before .before .before .before .before .pre .0))) (toZ-ofZ w32 _ (let told = c .struct-told .given in search needs))
+    stamped-so (args .fix) _ _ _ _ _ (said .is) (said .fits) (true-of _ (if2 .left)) (put-line .ensures) refl (omega (arith, good .1 .1 .1 .1 .1 .1 .0 .1)) (pre .1) (omega
+    (arith, if3 .left, put-line .ensures .kept)) (sym (count-slots (args .hits .now) (args .count) (pre .0))) (toZ-ofZ w32 _ (let told = c .struct-told .given in search needs))
 
 pub stamp-spec : {M : Type 1} → statement M
 stamp-spec =
