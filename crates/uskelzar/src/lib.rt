@@ -4,6 +4,7 @@ pub mod calls;
 pub mod civil;
 pub mod many;
 pub mod salvaged;
+pub mod slips;
 pub mod tiles;
 pub mod yards;
 
