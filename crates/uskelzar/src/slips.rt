@@ -131,7 +131,7 @@ pub extern "C" fn uskelzar_slip_at(
 ) -> u8
     ensures { λ r. ⌜ spoken r (now (reply .exit)) (now (hits .exit) ∷ now (text .exit) ∷ now (out .exit) ∷ [])
         ≡ slipSpoken (slippedAt (record { lat = lat; lon = lon; instant = instant }) (now (map .entry)) (now (zones .entry)) (length (now (hits .entry))) (length (now (text .entry)))
-            (length (now (out .entry)))) ⌝ }
+        (length (now (out .entry)))) ⌝ }
 {
     let fix = Fix { lat, lon, instant };
     speak(
