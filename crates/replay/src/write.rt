@@ -3,7 +3,7 @@
 ghost use mathlib.Core.Path.{_≡_};
 ghost use Prim.Native.Nat.{_+_, _*_, _≤_};
 ghost use lib.ListN.{length};
-use office::border::uskelzar_write_border;
+use office::borders::uskelzar_write_border;
 use recorded::lists::coordinates;
 use recorded::lists::piece_words;
 use recorded::reply::Reply;
