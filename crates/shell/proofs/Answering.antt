@@ -1,10 +1,11 @@
 -- What is written for a request: the slip's line with its end, or the reason. Assumes nothing.
-use Prim.Native.Nat.{ℕ, suc, _+_, _-_, _≤_, _<_}
+use Prim.Native.Nat.{ℕ, _+_, _-_, _≤_, _<_}
 use borrow.Author.Tests.{eq-eqb, ne-eqb}
-use lib.{ListN.{length, take, drop, set, replicate, length-append, length-drop, length-set, length-replicate}, Seq.{length-take-le, take-suc-set, take-at}}
+use lib.{ListN.{length, take, drop, set, length-append, length-drop, length-set}, Seq.{take-suc-set, take-at}}
 use mathlib.Core.{List.{List, [], _∷_, _++_, append-assoc}, Path.{_≡_, refl, sym, ap, _∙_, subst}}
 use native.Mathlib.{Numerals.{add-one}, Omega.{arith}}
 use Rattle.line.{proofs.{Decimals.{decimal-short}, Puts.{put-front, put-length}}, specs.Put.{Put, decimal}}
+use Rattle.numbers.proofs.Replies.{given-one}
 use Rattle.numbers.specs.{Lists.{zeros, padded}, Reply.{Reply, given, refused, _>>=_}, declared.refusal.Refusal.{Refusal}}
 use Rattle.shell.proofs.Saying.{words-short}
 use Rattle.shell.specs.Answer.{hitWords, textRoom, lineRoom, slipFor, reasonLine, lineFor, faultFor, Rooms, Answers}
@@ -80,21 +81,6 @@ back : (lent out : List ℕ) → length out ≡ lineRoom + 1 → length lent ≡
 back lent out h e = omega (arith, h, e, length-append lent (drop lineRoom out), length-drop lineRoom out)
 
 -- ---- the slip's reply
-abbrev lengthOf : Reply Stamped → ℕ
-lengthOf (given stamped) = stamped .length
-lengthOf (refused why) = 0
-
-abbrev IsGiven : {A : Type 0} → Reply A → Type 0
-IsGiven (given a) = Unit {0}
-IsGiven (refused why) = ⊥
-
-given-refused : {A : Type 0} {a : A} {why : Refusal} → given a ≡ refused why → ⊥
-given-refused e = subst IsGiven e tt
-
-abbrev reasonOf : {A : Type 0} → Refusal → Reply A → Refusal
-reasonOf none (given a) = none
-reasonOf none (refused why) = why
-
 -- the line that a reply has
 abbrev pub lined : Reply Slip → Reply (List ℕ)
 lined s = s >>= λ slip. given (slip .line)
@@ -107,8 +93,8 @@ module _ (request map zones : List ℕ) {n room size : ℕ} (en : n ≡ hitWords
 by-refused : (n room size : ℕ) {reply : Reply Stamped} {hits text out : List ℕ} (why : Refusal) (s : Reply Slip) → replied reply hits text out ≡ repliedOf n room size s → reply ≡ refused why
     → refused why ≡ lined s
 unfolding repliedOf
-by-refused n room size why (given slip) e r = absurd (given-refused (sym (ap (λ (x : Replied). x .reply) e) ∙ r))
-by-refused n room size why (refused other) e r = ap refused (ap (reasonOf why) (sym r ∙ ap (λ (x : Replied). x .reply) e))
+by-refused n room size why (given slip) e r = let said = sym r ∙ ap (λ (x : Replied). x .reply) e in let z : _≡_ {A = ℕ} 0 1 = cc in absurd (omega arith)
+by-refused n room size why (refused other) e r = let said = sym r ∙ ap (λ (x : Replied). x .reply) e in let same : why ≡ other = cc in ap refused same
 
 pub slip-refused : (request map zones : List ℕ) {n room size : ℕ} {answer : Slipped} {hits text out : List ℕ} {why : Refusal}
     → n ≡ hitWords → room ≡ textRoom → size ≡ lineRoom → answer ≡ S.Refused why → replied (told answer) hits text out ≡ slipped request map zones n room size
@@ -135,9 +121,9 @@ by-given n room size stamped (given slip) e r law =
       line = slip .line;
       is = refl;
       padded-out = ap (λ (x : Replied). x .out) e;
-      long = ap lengthOf (sym r ∙ ap (λ (x : Replied). x .reply) e) ∙ law slip refl;
+      long = ap (λ (s : Stamped). s .length) (given-one (sym r ∙ ap (λ (x : Replied). x .reply) e)) ∙ law slip refl;
     }
-by-given n room size stamped (refused why) e r law = absurd (given-refused (sym r ∙ ap (λ (x : Replied). x .reply) e))
+by-given n room size stamped (refused why) e r law = let said = sym r ∙ ap (λ (x : Replied). x .reply) e in let z : _≡_ {A = ℕ} 0 1 = cc in absurd (omega arith)
 
 pub stood : (request map zones : List ℕ) (n room size : ℕ) {answer : Slipped} {hits text out : List ℕ} {stamped : Stamped}
     → answer ≡ S.Stamped stamped → replied (told answer) hits text out ≡ slipped request map zones n room size

@@ -1,10 +1,11 @@
 -- The requests of an input do not depend on the pieces that it comes in. Assumes nothing.
-use Prim.Native.Nat.{ℕ, zero, suc, _+_, _≤_, _<_}
+use Prim.Native.Nat.{ℕ, _+_, _≤_, _<_}
 use borrow.Author.Tests.{eq-eqb, ne-eqb}
-use lib.{Dec.{eqb}, ListN.{length, take, drop, set, getD, length-append}, Seq.{drop-cons, length-take-le, take-all, take-append-le, take-suc-set}}
+use lib.{Dec.{eqb}, ListN.{length, take, drop, set, getD, length-append}, Seq.{length-take-le, take-all, take-append-le, take-suc-set}}
 use mathlib.Core.{Bool.{Bool, true, false}, List.{List, [], _∷_, _++_, append-assoc}, Path.{_≡_, refl, sym, ap, _∙_}}
 use native.Mathlib.{Numerals.{add-one}, Omega.{arith}}
 use Rattle.numbers.specs.Answer.{if_then_else_}
+use Rattle.request.proofs.Texts.{here}
 use Rattle.shell.specs.{Kept.{most, push, ended, left}, Turn.{Took, doneOf, restOf}}
 
 -- ---- a line's end, and another byte
@@ -52,9 +53,6 @@ left-pieces [] b line = refl
 left-pieces (byte ∷ a) b line = left-pieces-if line b a byte (eqb byte 10) (left-pieces a b []) (left-pieces a b (push line byte))
 
 -- ---- one byte of a piece
-next-byte : (chunk : List ℕ) (at : ℕ) → at < length chunk → drop at chunk ≡ getD chunk at 0 ∷ drop (at + 1) chunk
-next-byte chunk at h = drop-cons chunk at 0 h ∙ ap (λ (n : ℕ). getD chunk at 0 ∷ drop n chunk) (sym (add-one at))
-
 pub took-none : (chunk : List ℕ) (from : ℕ) (line : List ℕ) → Took chunk from line [] from line
 took-none chunk from line = record { requests = refl; rest = refl }
 
@@ -63,16 +61,16 @@ pub took-end : {chunk line l : List ℕ} {from at : ℕ} → Took chunk from lin
 unfolding doneOf restOf
 took-end {chunk} {line} {l} {from} {at} t h e =
     record {
-      requests = t .requests ∙ ap (ended l) (next-byte chunk at h) ∙ ended-at l (drop (at + 1) chunk) (getD chunk at 0) e;
-      rest = t .rest ∙ ap (left l) (next-byte chunk at h) ∙ left-at l (drop (at + 1) chunk) (getD chunk at 0) e;
+      requests = t .requests ∙ ap (ended l) (here chunk at h) ∙ ended-at l (drop (at + 1) chunk) (getD chunk at 0) e;
+      rest = t .rest ∙ ap (left l) (here chunk at h) ∙ left-at l (drop (at + 1) chunk) (getD chunk at 0) e;
     }
 
 pub took-more : {chunk line l : List ℕ} {from at : ℕ} (l′ : List ℕ) → Took chunk from line [] at l → at < length chunk
     → (getD chunk at 0 ≡ 10 → ⊥) → l′ ≡ push l (getD chunk at 0) → Took chunk from line [] (at + 1) l′
 took-more {chunk} {line} {l} {from} {at} l′ t h n e =
     record {
-      requests = t .requests ∙ ap (ended l) (next-byte chunk at h) ∙ ended-by l (drop (at + 1) chunk) (getD chunk at 0) n ∙ ap (λ (x : List ℕ). ended x (drop (at + 1) chunk)) (sym e);
-      rest = t .rest ∙ ap (left l) (next-byte chunk at h) ∙ left-by l (drop (at + 1) chunk) (getD chunk at 0) n ∙ ap (λ (x : List ℕ). left x (drop (at + 1) chunk)) (sym e);
+      requests = t .requests ∙ ap (ended l) (here chunk at h) ∙ ended-by l (drop (at + 1) chunk) (getD chunk at 0) n ∙ ap (λ (x : List ℕ). ended x (drop (at + 1) chunk)) (sym e);
+      rest = t .rest ∙ ap (left l) (here chunk at h) ∙ left-by l (drop (at + 1) chunk) (getD chunk at 0) n ∙ ap (λ (x : List ℕ). left x (drop (at + 1) chunk)) (sym e);
     }
 
 pub took-then : {chunk line l m : List ℕ} {from at next : ℕ} (xs ys : List (List ℕ)) → Took chunk from line xs at l → Took chunk at l ys next m → Took chunk from line (xs ++ ys) next m

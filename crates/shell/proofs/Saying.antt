@@ -1,12 +1,13 @@
 -- The words of a refusal: the code's text has those of the table, and they are short. Assumes nothing.
 use Prim.Native.{Nat.{ℕ, zero, suc, _+_, _≤_, _<_}, String.{String}}
 use borrow.Author.Tests.{eq-eqb, ne-eqb}
-use lib.{Dec.{T, eqb, leb, eqb→eq, leb→le}, ListN.{length, getD, drop, drop-of-length-le}, Seq.{drop-cons}}
+use lib.{Dec.{T, eqb, leb, eqb→eq, leb→le}, ListN.{length, getD, drop, drop-of-length-le}}
 use mathlib.Core.{Bool.{Bool, true, false}, List.{List, [], _∷_, _++_, append-assoc, append-nil}, Path.{_≡_, refl, sym, ap, _∙_}}
-use native.Mathlib.{Numerals.{add-one}, Omega.{arith}}
+use native.Mathlib.Omega.{arith}
 use Rattle.calendar.proofs.Below.{all, below}
 use Rattle.line.{proofs.Puts.{put-length, put-then, put-none, put-as}, specs.Put.{Put}}
 use Rattle.numbers.specs.Answer.{if_then_else_}
+use Rattle.request.proofs.Texts as T
 use Rattle.shell.specs.{Text.{bytes}, Words.{table, wordsIn, wordsOf, lineAt, Says}}
 
 -- ---- a line of a text
@@ -40,9 +41,6 @@ pub record Still (before : List ℕ) (at : ℕ) (whole text out : List ℕ) (nex
   pub put : Put before at done out next
   pub rest : done ++ lineAt left (drop i text) ≡ whole
 
-next-byte : (text : List ℕ) (i : ℕ) → i < length text → drop i text ≡ getD text i 0 ∷ drop (i + 1) text
-next-byte text i h = drop-cons text i 0 h ∙ ap (λ (n : ℕ). getD text i 0 ∷ drop n text) (sym (add-one i))
-
 pub still-begin : (before : List ℕ) (at number : ℕ) (text : List ℕ) → Still before at (lineAt number text) text before at number 0
 still-begin before at number text = record { within = omega arith; done = []; put = put-none before at; rest = refl }
 
@@ -55,7 +53,7 @@ module _ {before whole text out : List ℕ} {at next left i : ℕ} (s : Still be
   ended-as e = put-as (sym (append-nil (s .done)) ∙ ap (λ (l : List ℕ). s .done ++ l) (sym e) ∙ s .rest) (s .put)
 
   here : {l : List ℕ} → i < length text → lineAt left (getD text i 0 ∷ drop (i + 1) text) ≡ l → lineAt left (drop i text) ≡ l
-  here h e = ap (lineAt left) (next-byte text i h) ∙ e
+  here h e = ap (lineAt left) (T.here text i h) ∙ e
 
   -- the line's end, and the text's
   pub still-end : i < length text → getD text i 0 ≡ 10 → left ≡ 0 → Put before at whole out next

@@ -1,11 +1,11 @@
 -- What stands between the turns of a piece, and at the input's end. Assumes nothing.
-use Prim.Native.Nat.{ℕ, _≤_, _<_, max}
+use Prim.Native.Nat.{ℕ, _≤_, max}
 use lib.ListN.{length, take, drop, drop-of-length-le}
 use mathlib.Core.{List.{List, [], _∷_, _++_, append-nil}, Path.{_≡_, refl, sym, ap, _∙_}}
 use native.Mathlib.Omega.{arith}
 use Rattle.shell.proofs.Pieces.{took-none, took-then}
-use Rattle.shell.specs.{Answer.{slipFor, faultFor, Rooms, Answers}, Kept.{most, ended, left}, Requests.{last}, Stream.{Served, Ready, Finished}, Turn.{Took, Turned}, Written.{worst}}
-use Rattle.shell.specs.declared.{answer.Answered.{Answered}, stream.State.{State}, turn.Turn.{Turn}}
+use Rattle.shell.specs.{Answer.{slipFor, Rooms, Answers}, Kept.{most, ended, left}, Requests.{last}, Stream.{Served, Ready, Finished}, Turn.{Took, Turned}, Written.{worst}}
+use Rattle.shell.specs.declared.{answer.Answered.{Answered}, turn.Turn.{Turn}}
 
 pub record Sofar (chunk line : List ℕ) (status : ℕ) (map zones : List ℕ) (at used : ℕ) (space hits text out : List ℕ) (status′ : ℕ) : Type 0 where
   pub done : List (List ℕ)
@@ -14,7 +14,7 @@ pub record Sofar (chunk line : List ℕ) (status : ℕ) (map zones : List ℕ) (
   pub took : Took chunk 0 line done at (take used space)
   pub faults : status′ ≡ max status (worst map zones done)
 
-worst-both : (map zones : List ℕ) (xs ys : List (List ℕ)) → worst map zones (xs ++ ys) ≡ max (worst map zones xs) (worst map zones ys)
+pub worst-both : (map zones : List ℕ) (xs ys : List (List ℕ)) → worst map zones (xs ++ ys) ≡ max (worst map zones xs) (worst map zones ys)
 unfolding worst
 worst-both map zones [] ys = omega arith
 worst-both map zones (x ∷ xs) ys = omega (arith, worst-both map zones xs ys)
@@ -39,11 +39,11 @@ sofar-turn {map = map} {zones = zones} turn w′ s t e =
       faults = omega (arith, e, s .faults, t .faults, worst-both map zones (s .done) (t .done));
     }
 
-ended-none : (line : List ℕ) → ended line [] ≡ []
+pub ended-none : (line : List ℕ) → ended line [] ≡ []
 unfolding ended
 ended-none line = refl
 
-left-none : (line : List ℕ) → left line [] ≡ line
+pub left-none : (line : List ℕ) → left line [] ≡ line
 unfolding left
 left-none line = refl
 

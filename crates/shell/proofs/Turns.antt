@@ -1,10 +1,10 @@
 -- What a turn takes and writes. Assumes nothing.
-use Prim.Native.Nat.{ℕ, zero, suc, _+_, _≤_, _<_}
-use lib.ListN.{length, take}
-use mathlib.Core.{List.{List, [], _∷_, _++_, append-nil}, Path.{_≡_, refl, sym, ap, _∙_}}
+use Prim.Native.Nat.{ℕ, zero, suc}
+use lib.ListN.{take}
+use mathlib.Core.{List.{List, [], _∷_, append-nil}, Path.{_≡_, refl, sym, _∙_}}
 use native.Mathlib.Omega.{arith}
 use Rattle.shell.specs.{Answer.{slipFor, lineFor, faultFor, Rooms, Answers}, Turn.{Took, Gathered, Turned, doneOf, restOf}, Written.{linesOf, worst}}
-use Rattle.shell.specs.declared.{answer.Answered.{Answered}, gather.Step.{Step}, turn.Turn.{Turn}}
+use Rattle.shell.specs.declared.{answer.Answered.{Answered}, gather.Step.{Step}}
 
 as-plain : {chunk line l : List ℕ} {from next : ℕ} (ended : ℕ) → ended ≡ 0 → Took chunk from line (doneOf ended l) next (restOf ended l) → Took chunk from line [] next l
 unfolding doneOf restOf

@@ -2,11 +2,11 @@
 use Prim.Native.Nat.{ℕ, zero, suc, _+_, _-_, _≤_, _<_, max}
 use borrow.Author.Tests.{lt-leb, leb-true, leb-false}
 use lib.{Dec.{eqb, leb}, ListN.{length, take, drop, getD, drop-of-length-le}, Seq.{length-take-le, take-all}}
-use mathlib.Core.{Bool.{Bool, true, false}, List.{List, [], _∷_, _++_, append-assoc, append-nil, flatten}, Path.{_≡_, refl, sym, ap, _∙_}}
+use mathlib.Core.{Bool.{Bool, true, false}, List.{List, [], _∷_, _++_, append-assoc, flatten}, Path.{_≡_, refl, sym, ap, _∙_}}
 use native.Mathlib.Omega.{arith}
-use Rattle.numbers.specs.{Answer.{if_then_else_}, Reply.{Reply, given, refused, refusal, _>>=_}}
-use Rattle.request.specs.{Request.{requestOf, speltOf}, Text.{unended, lineOf}, declared.read.Fix.{Fix}}
-use Rattle.shell.proofs.{Pieces.{ended-pieces, left-pieces}, Turns.{lines-one}}
+use Rattle.numbers.specs.{Answer.{if_then_else_}, Reply.{refused, refusal}}
+use Rattle.request.specs.{Request.{requestOf, speltOf}, Text.{unended, lineOf}}
+use Rattle.shell.proofs.{Pieces.{ended-pieces, left-pieces}, Streams.{worst-both, ended-none, left-none}, Turns.{lines-one}}
 use Rattle.shell.specs.Answer.{slipFor, lineFor, faultFor}
 use Rattle.shell.specs.{Kept.{most, push, ended, left}, Requests.{last, requestsFrom, requests}, Written.{linesOf, worst, written, statusOf}}
 use Rattle.slip.specs.Slip.{slipOf}
@@ -57,7 +57,7 @@ last-front [] = refl
 last-front (byte ∷ line) = refl
 
 -- what ends in the bytes, and what then is left
-kept : List ℕ → List ℕ → List (List ℕ)
+pub kept : List ℕ → List ℕ → List (List ℕ)
 kept line bytes = ended line bytes ++ last (left line bytes)
 
 kept-if : (line bytes : List ℕ) (byte : ℕ) (t : Bool) → kept [] bytes ≡ fronts (requestsFrom [] bytes) → kept (push (take most line) byte) bytes ≡ fronts (requestsFrom (line ++ (byte ∷ [])) bytes)
@@ -84,11 +84,11 @@ module _ (map zones : List ℕ) where
   worst-fronts [] = refl
   worst-fronts (r ∷ rs) = λ i. max (faultFor (slip-front r map zones i)) (worst-fronts rs i)
 
-  kept-lines : (input : List ℕ) → linesOf map zones (kept [] input) ≡ written map zones input
+  pub kept-lines : (input : List ℕ) → linesOf map zones (kept [] input) ≡ written map zones input
   unfolding written requests
   kept-lines input = ap (linesOf map zones) (kept-requests [] input) ∙ lines-fronts (requestsFrom [] input)
 
-  kept-worst : (input : List ℕ) → worst map zones (kept [] input) ≡ statusOf map zones input
+  pub kept-worst : (input : List ℕ) → worst map zones (kept [] input) ≡ statusOf map zones input
   unfolding statusOf requests
   kept-worst input = ap (worst map zones) (kept-requests [] input) ∙ worst-fronts (requestsFrom [] input)
 
@@ -100,24 +100,11 @@ module _ (map zones : List ℕ) where
       ap (λ (r : List ℕ). lineFor (slipFor x map zones) ++ r) (lines-both xs ys)
       ∙ sym (append-assoc (lineFor (slipFor x map zones)) (linesOf map zones xs) (linesOf map zones ys))
 
-  worst-both : (xs ys : List (List ℕ)) → worst map zones (xs ++ ys) ≡ max (worst map zones xs) (worst map zones ys)
-  unfolding worst
-  worst-both [] ys = omega arith
-  worst-both (x ∷ xs) ys = omega (arith, worst-both xs ys)
-
   kept-pieces : (line a b : List ℕ) → kept line (a ++ b) ≡ ended line a ++ kept (left line a) b
   unfolding kept
   kept-pieces line a b =
       (λ i. ended-pieces a b line i ++ last (left-pieces a b line i))
       ∙ append-assoc (ended line a) (ended (left line a) b) (last (left (left line a) b))
-
-  ended-none : (line : List ℕ) → ended line [] ≡ []
-  unfolding ended
-  ended-none line = refl
-
-  left-none : (line : List ℕ) → left line [] ≡ line
-  unfolding left
-  left-none line = refl
 
   -- ---- the turns of a piece
   pub record Wrote (line rest-of : List ℕ) (bytes rest : List ℕ) : Type 0 where
@@ -157,38 +144,22 @@ module _ (map zones : List ℕ) where
       ∙ sym (lines-both (ended line chunk) (kept rest pieces))
       ∙ ap (linesOf map zones) (ap (λ (l : List ℕ). ended line chunk ++ kept l pieces) (w .leaves) ∙ sym (kept-pieces line chunk pieces))
 
-  run-lines : {pieces : List (List ℕ)} {line bytes : List ℕ} → Run map zones pieces line bytes → bytes ≡ linesOf map zones (kept line (flatten pieces))
+  pub run-lines : {pieces : List (List ℕ)} {line bytes : List ℕ} → Run map zones pieces line bytes → bytes ≡ linesOf map zones (kept line (flatten pieces))
   unfolding flatten
   run-lines ends = run-end
   run-lines (ends-line {byte} {line} answered a) = a .line ∙ run-line byte line
   run-lines (piece {chunk} {line} {pieces = pieces} turns run) = run-piece line chunk (flatten pieces) (wrote-turns turns) (run-lines run)
 
-  -- what is written is the lines of the input's requests, one after another
-  pub stamp-lines : {pieces : List (List ℕ)} {bytes : List ℕ} → Run map zones pieces [] bytes → bytes ≡ written map zones (flatten pieces)
-  stamp-lines {pieces} run = run-lines run ∙ kept-lines (flatten pieces)
-
-  -- however the same input is cut into pieces, the same is written
-  pub same-lines : {pieces pieces′ : List (List ℕ)} {bytes bytes′ : List ℕ} → Run map zones pieces [] bytes → Run map zones pieces′ [] bytes′ → flatten pieces ≡ flatten pieces′ → bytes ≡ bytes′
-  same-lines run run′ e = stamp-lines run ∙ ap (written map zones) e ∙ sym (stamp-lines run′)
-
   -- ---- the status
   exit-piece : (line chunk pieces : List ℕ) (status now answer : ℕ) {rest : List ℕ} → now ≡ max status (worst map zones (ended line chunk)) → rest ≡ left line chunk
       → answer ≡ max now (worst map zones (kept rest pieces)) → answer ≡ max status (worst map zones (kept line (chunk ++ pieces)))
   exit-piece line chunk pieces status now answer {rest} f r e =
-      let all = ap (worst map zones) (kept-pieces line chunk pieces) ∙ worst-both (ended line chunk) (kept (left line chunk) pieces) in
+      let all = ap (worst map zones) (kept-pieces line chunk pieces) ∙ worst-both map zones (ended line chunk) (kept (left line chunk) pieces) in
       let left-as = ap (λ (l : List ℕ). worst map zones (kept l pieces)) r in
       omega (arith, f, e, all, left-as)
 
-  exit-status : {pieces : List (List ℕ)} {line : List ℕ} {status answer : ℕ} → Exit map zones pieces line status answer → answer ≡ max status (worst map zones (kept line (flatten pieces)))
+  pub exit-status : {pieces : List (List ℕ)} {line : List ℕ} {status answer : ℕ} → Exit map zones pieces line status answer → answer ≡ max status (worst map zones (kept line (flatten pieces)))
   unfolding flatten
   exit-status (finished {line} {status} f n) = f .faults n ∙ ap (λ (rs : List (List ℕ)). max status (worst map zones rs)) (sym (kept-end line))
   exit-status (served {chunk} {line} {pieces = pieces} {status} {answer} state s n more) =
       exit-piece line chunk (flatten pieces) status (state .status) answer (s .faults n) (s .rest n) (exit-status more)
-
-  -- where nothing failed, it is 0 if all requests of the input were stamped, else 1
-  pub stamp-status : {pieces : List (List ℕ)} {answer : ℕ} → Exit map zones pieces [] 0 answer → answer ≡ statusOf map zones (flatten pieces)
-  stamp-status {pieces} exit = let e = exit-status exit in let k = kept-worst (flatten pieces) in omega (arith, e, k)
-
-  pub same-status : {pieces pieces′ : List (List ℕ)} {answer answer′ : ℕ} → Exit map zones pieces [] 0 answer → Exit map zones pieces′ [] 0 answer′ → flatten pieces ≡ flatten pieces′
-      → answer ≡ answer′
-  same-status exit exit′ e = stamp-status exit ∙ ap (statusOf map zones) e ∙ sym (stamp-status exit′)

@@ -43,7 +43,7 @@ fn refuse(hits: &[u32], text: &[u8], out: &mut [u8], why: Refusal) -> Answered
 }
 
 // The request's line, with its end.
-pub fn answer(
+pub(crate) fn answer(
     request: &[u8],
     map: &[u8],
     zones: &[u8],

@@ -12,7 +12,7 @@ pub struct Step {
 }
 
 // Takes a piece's bytes from a place on, up to a line end or the piece's end. Of a line of more than 258 bytes its front is kept.
-pub fn gather(chunk: &[u8], from: usize, line: &mut [u8], used: usize) -> Step
+pub(crate) fn gather(chunk: &[u8], from: usize, line: &mut [u8], used: usize) -> Step
     requires { ⌜ (from ≤ length (now chunk)) × ((used ≤ most) × (length (now line) ≡ most)) ⌝ }
     ensures { λ r. ⌜ Gathered (now (chunk .entry)) from (take used (now (line .entry))) (now (line .exit)) r ⌝ }
 {

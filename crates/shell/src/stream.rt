@@ -29,7 +29,7 @@ fn worse(a: u64, b: u64) -> u64
 }
 
 // Answers each request that ends in a piece. The status is 2 where a line could not be written.
-pub fn piece(
+fn piece(
     chunk: &[u8],
     line: &mut [u8],
     used: usize,
@@ -112,7 +112,7 @@ fn read_piece(
 }
 
 // At the input's end a line that has begun is a request.
-pub fn finish(
+fn finish(
     request: &[u8],
     status: u64,
     map: &[u8],

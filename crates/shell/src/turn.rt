@@ -14,7 +14,7 @@ pub struct Turn {
     pub fault: u64,
 }
 
-pub fn take_turn(
+pub(crate) fn take_turn(
     chunk: &[u8],
     from: usize,
     line: &mut [u8],
