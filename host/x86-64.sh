@@ -35,6 +35,14 @@ build_archive() {
     [ -f "$archive" ] || stop "no archive $archive"
 }
 
+# build_stamp FILE: the proved program `stamp`, with the C main that has its exit status.
+build_stamp() {
+    prove_archive shell
+    rattle=$(rt doc)
+    "$cc" -std=c99 -Wall -Wextra -Wconversion -Werror -pedantic -O2 -o "$1" "$root/host/stamp.c" "$root/target/staticlib/libshell.a" "${rattle%/docs/*}/lib/libos_c.a" ||
+        stop "host/stamp.c was not built"
+}
+
 # What counting takes besides.
 need_count() {
     need qemu-x86_64 "Debian's qemu-user"

@@ -5,4 +5,5 @@ pub mod Locals
 pub mod Asking
 pub mod Zones
 pub mod Stamps
+pub mod Length
 pub mod Theorems
