@@ -18,6 +18,6 @@ same-lines map zones run run′ e = stamp-lines map zones run ∙ ap (written ma
 pub stamp-status : (map zones : List ℕ) {pieces : List (List ℕ)} {answer : ℕ} → Exit map zones pieces [] 0 answer → answer ≡ statusOf map zones (flatten pieces)
 stamp-status map zones {pieces} exit = let e = exit-status map zones exit in let k = kept-worst map zones (flatten pieces) in omega (arith, e, k)
 
-pub same-status : (map zones : List ℕ) {pieces pieces′ : List (List ℕ)} {answer answer′ : ℕ} → Exit map zones pieces [] 0 answer → Exit map zones pieces′ [] 0 answer′ → flatten pieces ≡ flatten pieces′
-    → answer ≡ answer′
+pub same-status : (map zones : List ℕ) {pieces pieces′ : List (List ℕ)} {answer answer′ : ℕ} → Exit map zones pieces [] 0 answer → Exit map zones pieces′ [] 0 answer′
+    → flatten pieces ≡ flatten pieces′ → answer ≡ answer′
 same-status map zones exit exit′ e = stamp-status map zones exit ∙ ap (statusOf map zones) e ∙ sym (stamp-status map zones exit′)
