@@ -6,4 +6,9 @@ pub mod Asking
 pub mod Zones
 pub mod Stamps
 pub mod Length
+pub mod Clocks
+pub mod Numbered
+pub mod Making
+pub mod Shortness
 pub mod Theorems
+pub mod Worked
