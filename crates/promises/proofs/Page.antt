@@ -30,7 +30,7 @@ use Rattle.tzif.specs.Last.{Octets, transitionTime, LastNotAfter}
 use Rattle.tzif.specs.Reply as T
 use Rattle.tzrule.specs.{Ask.{corrected, inYears, clockAt}, Summer.{isSummer, IsSummer, IsRule}, declared.rule.{Rule.{Rule}, Tz.{Tz}}}
 use Rattle.office.specs.Calls.{Shelf, Called, Made, TotalsIn}
-use Rattle.uskelzar.specs.Spoken.{zonesValues, spoken, foundSpoken}
+use Rattle.uskelzar.specs.{Slips.{Printed, slipSpoken}, Spoken.{zonesValues, spoken, foundSpoken}}
 use Rattle.verdict.specs.Verdict.{judgedAt}
 use Rattle.writer.specs.WrittenAt.{WrittenAt}
 use Rattle.zones.specs.{Batch.{Many.{isTaken, fixesOf, lookedUpMany}, OneByOne.{oneByOne}}, Lookup.{lookedUp}, Unstopped.{lookedThroughAll}, declared.lookup.Zones.{Zones}}
@@ -47,6 +47,7 @@ use Rattle.slip.proofs.Theorems as slip
 use Rattle.tzif.proofs.Theorems as tzif
 use Rattle.tzrule.proofs.SummerAt as tzrule
 use Rattle.office.proofs.Made as calls
+use Rattle.uskelzar.proofs.ReturnedSlip as printed
 use Rattle.uskelzar.proofs.ReturnedWhole as returned
 use Rattle.writer.proofs.OneVerdict as writer
 use Rattle.zones.proofs.WholeMeansWhole as zones
@@ -211,6 +212,16 @@ slip-short = slip.slip-short
 pub slip-at-short : (fix : Fix) (map zones : List ℕ) (n room size : ℕ) (stamped : Stamped) (hs ts os : List ℕ)
     → Z.replied (given stamped) hs ts os ≡ slippedAt fix map zones n room size → Short fix map zones n stamped hs
 slip-at-short = slip.slip-at-short
+
+-- In C: what a call of `uskelzar_slip` left which returned 0 is such a slip, and its length, matches and offset are the reply's words;
+pub returned-slip : (request map zones : List ℕ) (n room size : ℕ) {number : ℕ} {words hits text out : List ℕ}
+    → spoken number words (hits ∷ text ∷ out ∷ []) ≡ slipSpoken (slipped request map zones n room size) → number ≡ 0 → Printed (slipped request map zones n room size) words hits text out
+returned-slip = printed.returned-slip
+
+-- and so of `uskelzar_slip_at`.
+pub returned-slip-at : (fix : Fix) (map zones : List ℕ) (n room size : ℕ) {number : ℕ} {words hits text out : List ℕ}
+    → spoken number words (hits ∷ text ∷ out ∷ []) ≡ slipSpoken (slippedAt fix map zones n room size) → number ≡ 0 → Printed (slippedAt fix map zones n room size) words hits text out
+returned-slip-at = printed.returned-slip-at
 
 -- Where it is not stamped, the number is one of 1 to 18, 40 to 61, 80 to 92, at a fix none of 80 to 83;
 pub slip-refusals : (request map zones : List ℕ) (n room size : ℕ) (why : Refusal) (hs ts os : List ℕ)

@@ -1,12 +1,12 @@
 -- How a request, a zone's file in a bundle and a slip go over to C (document 03).
 use lib.Ieee.{binary32, toBits}
-use mathlib.Core.List.{List, [], _∷_}
+use mathlib.Core.{List.{List, [], _∷_}, Path.{_≡_}}
 use mir.{Syntax.{w32, w64}, Val.{ofZ}}
 use Prim.Native.Nat.{ℕ}
 use Rattle.bundle.specs.declared.find.File.{File}
-use Rattle.numbers.specs.Reply.{Reply}
+use Rattle.numbers.specs.{Lists.{padded}, Reply.{Reply, given}}
 use Rattle.request.specs.declared.read.Fix.{Fix}
-use Rattle.slip.specs.{Slip.{Replied}, declared.slip.Stamped.{Stamped}}
+use Rattle.slip.specs.{Slip.{Replied, replied}, declared.slip.Stamped.{Stamped}}
 use Rattle.uskelzar.specs.Spoken.{Spoken, saidOf}
 
 -- the 32 bits of latitude and longitude, the 64 of the instant
@@ -27,3 +27,9 @@ replySpoken values reply = record { said = saidOf values reply; lent = [] }
 
 abbrev pub slipSpoken : Replied → Spoken
 slipSpoken left = record { said = saidOf stampedValues (left .reply); lent = left .hits ∷ left .text ∷ left .out ∷ [] }
+
+-- what a call left is a stamped slip, and the reply's words are its values
+pub record Printed (left : Replied) (words hits text out : List ℕ) : Type 0 where
+  pub stamped : Stamped
+  pub left-so : replied (given stamped) hits text out ≡ left
+  pub words-are : words ≡ padded 5 (stampedValues stamped)
