@@ -27,7 +27,7 @@ enum outcome {
 };
 
 static const char *const outcome_words[] = {
-    "stamped", "refusal 84: no place on the globe", "the map is refused", "the search was not whole", "no zone", "several zones hold the fix", "not a zone's name",
+    "stamped", "refusal 84: out of range", "the map is refused", "the search was not whole", "no zone", "several zones hold the fix", "not a zone's name",
     "no TZif file of that name", "the TZif file is refused", "refusal 91: the TZif file counts leap seconds", "unknown",
     "the instant, or the clock at it, is outside the years 1 to 9999"};
 

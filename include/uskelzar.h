@@ -98,8 +98,19 @@ enum uskelzar_refusal {
     USKELZAR_TZIF_STRING = 60,        /* no TZ string: its fault; or it contradicts the last transition: the newline before it */
     USKELZAR_TZIF_YEAR = 61,          /* the rule's instant (local time) or the clock (civil time) is outside the years 1 to 9999; detail: 0 */
     /* what no function here says, and whoever stamps a slip must: see below */
-    USKELZAR_NO_PLACE = 84,           /* latitude not from -90 to 90 or longitude not from -180 to 180; NaN is neither */
-    USKELZAR_LEAP_SECONDS = 91        /* the zone's file counts leap seconds: its scale is not the instant's */
+    USKELZAR_NOT_REQUEST = 80,        /* neither a sentence nor a plain line; detail: the place of the field or word */
+    USKELZAR_NO_FIX = 81,             /* the receiver has no fix, or one that is not measured */
+    USKELZAR_CHECKSUM = 82,           /* a sentence whose checksum is wrong; detail: where its `*` is looked for */
+    USKELZAR_OTHER_SENTENCE = 83,     /* a sentence, but not RMC */
+    USKELZAR_NO_PLACE = 84,           /* a number, date or time out of its range; latitude not from -90 to 90, longitude not from -180 to 180, NaN; detail: the place */
+    USKELZAR_NOT_WHOLE = 85,          /* the search of the map was not whole; detail: its mark */
+    USKELZAR_NO_ZONE = 86,            /* no zone holds the fix */
+    USKELZAR_NO_NAMES = 87,           /* the map is not one of time zones, or has not both names */
+    USKELZAR_NO_FILE = 88,            /* no file in the bundle under the zone's name */
+    USKELZAR_BUNDLE = 89,             /* the bundle of zones is damaged; detail: the place */
+    USKELZAR_UNKNOWN = 90,            /* the zone's file says nothing of the instant */
+    USKELZAR_LEAP_SECONDS = 91,       /* the zone's file counts leap seconds: its scale is not the instant's */
+    USKELZAR_HOURS_DIFFER = 92        /* zones hold the fix whose hours differ */
 };
 
 /* reply[0] of a refusal: which of the two causes, for 6, 7 and 15; otherwise none */

@@ -2,7 +2,7 @@
 
 use core::fmt;
 
-/// What the library refuses: docs/FORMAT.md has the table, docs/TZIF.md that of a TZif file; and two numbers that a printer refuses with.
+/// What the library refuses: docs/FORMAT.md has the table, docs/TZIF.md that of a TZif file.
 #[derive(Clone, Copy, Debug, Eq, PartialEq)]
 #[repr(u8)]
 #[allow(missing_docs)] // `words` says each
@@ -65,14 +65,25 @@ pub enum Number {
     TzifRest = 59,
     TzifString = 60,
     TzifYear = 61,
+    NotRequest = 80,
+    NoFix = 81,
+    Checksum = 82,
+    OtherSentence = 83,
     NoPlace = 84,
+    NotWhole = 85,
+    NoZone = 86,
+    NoNames = 87,
+    NoFile = 88,
+    Bundle = 89,
+    Unknown = 90,
     LeapSeconds = 91,
+    HoursDiffer = 92,
 }
 
 use Number::*;
 
 /// Each number with its words, in order.
-const TABLE: [(Number, &str); 60] = [
+const TABLE: [(Number, &str); 71] = [
     (
         TooLarge,
         "file, or the writer's earlier data, over 1,073,741,824 bytes",
@@ -158,8 +169,19 @@ const TABLE: [(Number, &str); 60] = [
     (TzifRest, "bytes behind the end"),
     (TzifString, "no TZ string, or one that contradicts the last transition"),
     (TzifYear, "the rule's instant, or the clock, is outside the years 1 to 9999"),
-    (NoPlace, "no place on the globe"),
-    (LeapSeconds, "the zone's file counts leap seconds: its scale is not the instant's"),
+    (NotRequest, "not a request"),
+    (NoFix, "the receiver has no fix"),
+    (Checksum, "the checksum is wrong"),
+    (OtherSentence, "another sentence"),
+    (NoPlace, "out of range"),
+    (NotWhole, "the search was not whole"),
+    (NoZone, "no zone holds the fix"),
+    (NoNames, "not a map of time zones"),
+    (NoFile, "the zone is not in the bundle"),
+    (Bundle, "the bundle is damaged"),
+    (Unknown, "the local time is unknown"),
+    (LeapSeconds, "the zone's file counts leap seconds"),
+    (HoursDiffer, "the hours differ"),
 ];
 
 impl Number {
@@ -175,7 +197,7 @@ impl Number {
 
     fn of(number: u8) -> Number {
         Number::known(number)
-            .expect("the library's refusals are 1 to 36 and 40 to 61")
+            .expect("the library's refusals are 1 to 36, 40 to 61 and 80 to 92")
     }
 
     /// What it says, in words.
@@ -192,7 +214,8 @@ impl Number {
             TableType | Version => Some("byte"),
             FieldName | Piece => Some("index"),
             LengthMismatch => Some("computed length"),
-            TzifYear | NoPlace | LeapSeconds => None,
+            NotWhole => Some("mark"),
+            TzifYear | NoFix | OtherSentence | NoZone | NoNames | NoFile | Unknown | LeapSeconds | HoursDiffer => None,
             _ if self as u8 >= 40 => Some("place"),
             _ => None,
         }
@@ -278,7 +301,7 @@ mod tests {
 
     #[test]
     fn the_table_is_in_order() {
-        let numbers: Vec<u8> = (1..=36).chain(40..=61).chain([84, 91]).collect();
+        let numbers: Vec<u8> = (1..=36).chain(40..=61).chain(80..=92).collect();
         assert_eq!(TABLE.map(|(number, _)| number as u8).to_vec(), numbers);
         for (number, words) in TABLE {
             assert_eq!(Number::of(number as u8), number);

@@ -169,7 +169,7 @@ fn no_place() {
     ] {
         let why = printer.stamp(lat, lon, 0).unwrap_err();
         assert!(matches!(why, NotStamped::NoPlace), "{lat} {lon}: {why}");
-        assert_eq!(why.to_string(), "refusal 84: no place on the globe");
+        assert_eq!(why.to_string(), "refusal 84: out of range");
         // one among many stops no other
         let many = printer.stamp_many(&[(ALONE.0, ALONE.1, 0), (lat, lon, 0), (lat, lon, 0), (ALONE.0, ALONE.1, 0)]);
         assert_eq!(many.len(), 4);
