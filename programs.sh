@@ -186,8 +186,10 @@ prove() {
     [ -x "$emulator" ] || emulator=''
 }
 
-# prove_archive: target/staticlib/libuskelzar.a, for C and Rust to link.
-prove_archive() { ensure staticlib uskelzar:target/staticlib/libuskelzar.a || exit 2; }
+# prove_archive: target/staticlib/libuskelzar.a, the printer's functions, and liboffice.a, the others, for C and Rust to link.
+prove_archive() {
+    for each in uskelzar office; do ensure staticlib "$each:target/staticlib/lib$each.a" || exit 2; done
+}
 
 # prove_libraries CRATE..: proved, with their folders in target/rlib. rt itself looks whether anything has changed.
 prove_libraries() { (lock; prove_by check "$@") || exit 2; }
