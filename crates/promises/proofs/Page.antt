@@ -29,7 +29,8 @@ use Rattle.tzif.specs.{Check.{correctionAt}, Local.{typeBehind, named}, Number.
 use Rattle.tzif.specs.Last.{Octets, transitionTime, LastNotAfter}
 use Rattle.tzif.specs.Reply as T
 use Rattle.tzrule.specs.{Ask.{corrected, inYears, clockAt}, Summer.{isSummer, IsSummer, IsRule}, declared.rule.{Rule.{Rule}, Tz.{Tz}}}
-use Rattle.uskelzar.specs.{Calls.{Shelf, Called, Made, TotalsIn}, Spoken.{zonesValues, spoken, foundSpoken}}
+use Rattle.office.specs.Calls.{Shelf, Called, Made, TotalsIn}
+use Rattle.uskelzar.specs.Spoken.{zonesValues, spoken, foundSpoken}
 use Rattle.verdict.specs.Verdict.{judgedAt}
 use Rattle.writer.specs.WrittenAt.{WrittenAt}
 use Rattle.zones.specs.{Batch.{Many.{isTaken, fixesOf, lookedUpMany}, OneByOne.{oneByOne}}, Lookup.{lookedUp}, Unstopped.{lookedThroughAll}, declared.lookup.Zones.{Zones}}
@@ -45,7 +46,7 @@ use Rattle.request.proofs.Theorems as request
 use Rattle.slip.proofs.Theorems as slip
 use Rattle.tzif.proofs.Theorems as tzif
 use Rattle.tzrule.proofs.SummerAt as tzrule
-use Rattle.uskelzar.proofs.Made as calls
+use Rattle.office.proofs.Made as calls
 use Rattle.uskelzar.proofs.ReturnedWhole as returned
 use Rattle.writer.proofs.OneVerdict as writer
 use Rattle.zones.proofs.WholeMeansWhole as zones
