@@ -92,7 +92,7 @@ fn a_receivers_log() {
     assert!(ran.status == 0 && ran.err.contains("-: 1 line, 1 stamped\nnote: 1 other sentence passed over") && ran.out.contains("CEST Europe/Berlin"), "{ran:?}");
     let ran = depot(&["stamp", &folder.with("empty.nmea", ""), "-o", &out, WORLD, ZONEINFO]);
     assert!(ran.status == 2 && ran.err.contains("is empty"), "{ran:?}");
-    // its slips can be shown
+    // its slips can be shown, those that have a place
     let ran = depot(&["page", WORLD, "-o", &folder.path("page.html"), "--day", &out, "--columns", "40"]);
-    assert!(ran.status <= 1 && ran.out.contains("5 slips"), "{ran:?}");
+    assert!(ran.status <= 1 && ran.out.contains(" 2 slips;"), "{ran:?}");
 }
