@@ -157,8 +157,10 @@ prove() {
     [ -x "$emulator" ] || emulator=''
 }
 
-# prove_archive [CRATE]: target/staticlib/libCRATE.a, for C and Rust to link; the library's, or another crate's.
-prove_archive() { ensure staticlib "${1-uskelzar}:target/staticlib/lib${1-uskelzar}.a" || exit 2; }
+# prove_archive [CRATE]: for C and Rust to link, target/staticlib/libuskelzar.a, the printer's functions, and liboffice.a, the others; or another crate's archive.
+prove_archive() {
+    for each in ${1-uskelzar office}; do ensure staticlib "$each:target/staticlib/lib$each.a" || exit 2; done
+}
 
 # prove_libraries CRATE..: proved, with their folders in target/rlib. rt itself looks whether anything has changed.
 prove_libraries() { (lock; prove_by check "$@") || exit 2; }

@@ -1,4 +1,4 @@
-//! The library's twenty-two functions, each declared once, in one line of the list below. It takes nothing of this crate, so that bench/ takes this file too.
+//! The library's twenty-six functions, each declared once, in one line of the list below. It takes nothing of this crate, so that bench/ takes this file too.
 
 /// What a type of a list or of a number is in C.
 macro_rules! in_c {
@@ -111,4 +111,8 @@ functions! {
     fn uskelzar_salvage(file: &[u8], dropped: &mut [u32], out: &mut [u8], reply: &mut [u64; 5]);
     fn uskelzar_local_time(file: &[u8], instant: i64, text: &mut [u8], reply: &mut [u64; 5]);
     fn uskelzar_civil_time(instant: i64, offset: i32, reply: &mut [u64; 7]);
+    fn uskelzar_request(request: &[u8], reply: &mut [u64; 5]);
+    fn uskelzar_bundle_find(bundle: &[u8], name: &[u8], reply: &mut [u64; 5]);
+    fn uskelzar_slip(request: &[u8], map: &[u8], zones: &[u8], hits: &mut [u32], text: &mut [u8], out: &mut [u8], reply: &mut [u64; 5]);
+    fn uskelzar_slip_at(lat: f32, lon: f32, instant: i64, map: &[u8], zones: &[u8], hits: &mut [u32], text: &mut [u8], out: &mut [u8], reply: &mut [u64; 5]);
 }

@@ -295,6 +295,46 @@ impl fmt::Display for Stop {
 #[cfg(feature = "std")]
 impl std::error::Error for Stop {}
 
+/// Why a slip is not stamped: the refusal, and the match that met it. Its words are those of the program `stamp`: number, cause, detail, and what it says.
+#[derive(Clone, Copy, Debug, Eq, PartialEq)]
+pub struct NotStamped {
+    /// What was refused.
+    pub why: Refusal,
+    /// Whose zone met it, from 1, and 255 from the 255th match on; none where the request, the map or all matches together did.
+    pub at: Option<u8>,
+}
+
+impl NotStamped {
+    /// From what a call returned, and its reply. The map's names and fields have causes of their own; no other refusal of a request or a map has one.
+    pub(crate) fn of(number: u8, reply: [u64; 5]) -> NotStamped {
+        let why = Refusal::of(number, reply);
+        if matches!(why.number, FieldName | Notice | FieldValue) {
+            return NotStamped { why, at: None };
+        }
+        let at = u8::try_from(reply[0]).ok().filter(|at| *at > 0);
+        NotStamped { why: Refusal { cause: None, ..why }, at }
+    }
+
+    /// The cause as the library says it.
+    fn cause(&self) -> u8 {
+        match self.why.cause {
+            Some(Cause::Encoding) => 1,
+            Some(Cause::Utf8) => 2,
+            None => self.at.unwrap_or(0),
+        }
+    }
+}
+
+impl fmt::Display for NotStamped {
+    fn fmt(&self, f: &mut fmt::Formatter) -> fmt::Result {
+        let Refusal { number, detail, .. } = self.why;
+        write!(f, "{} {} {detail} {}", number as u8, self.cause(), number.words())
+    }
+}
+
+#[cfg(feature = "std")]
+impl std::error::Error for NotStamped {}
+
 #[cfg(test)]
 mod tests {
     use super::*;
@@ -321,5 +361,17 @@ mod tests {
         assert_eq!(count.to_string(), "refusal 45: typecnt is 0 (place 36)");
         let third = Stop { index: 2, why: room };
         assert_eq!(third.to_string(), "fix 2: refusal 18: text doesn't fit");
+    }
+
+    #[test]
+    fn a_slips_cause_is_a_match() {
+        let said = |number, cause, detail| NotStamped::of(number, [cause, detail, 0, 0, 0]);
+        assert_eq!(said(88, 1, 0).to_string(), "88 1 0 the zone is not in the bundle");
+        assert_eq!((said(88, 1, 0).at, said(88, 1, 0).why.cause), (Some(1), None));
+        assert_eq!(said(6, 2, 3).to_string(), "6 2 3 field name");
+        assert_eq!((said(6, 2, 3).at, said(6, 2, 3).why.cause), (None, Some(Cause::Utf8)));
+        assert_eq!(said(15, 1, 0).to_string(), "15 1 0 field value");
+        assert_eq!(said(45, 255, 36).to_string(), "45 255 36 typecnt is 0");
+        assert_eq!((said(92, 0, 0).at, said(85, 0, 4).to_string()), (None, "85 0 4 the search was not whole".into()));
     }
 }

@@ -157,6 +157,6 @@ fn one_width_of_a_hit() {
 fn one_width_of_a_state() {
     let header = text("include/uskelzar.h");
     assert_eq!(behind(&header, "enum { USKELZAR_STATE_WORDS ="), raw::STATE_WORDS.to_string());
-    let code = text("crates/uskelzar/src/calls.rt");
+    let code = text("crates/office/src/calls.rt");
     assert_eq!(behind(&code, "fn state_of(words: [u64;").trim_end_matches("])"), raw::STATE_WORDS.to_string());
 }

@@ -13,6 +13,7 @@ const BYTES: usize = 1024;
 mod library;
 
 #[link(name = "uskelzar", kind = "static")]
+#[link(name = "office", kind = "static")]
 extern "C" {}
 
 /// Builds an index and answers the words used.

@@ -5,6 +5,7 @@ pub mod desk;
 pub mod encode;
 pub mod fence;
 pub mod files;
+pub mod model;
 pub mod tzif;
 
 use fence::{Edge, Fence};
