@@ -21,7 +21,7 @@ use Rattle.request.specs.{Clock.{Date, Time, utc}, Nearest.{Nearest}, Only.{Onl
 use Rattle.request.specs.Told as Q
 use Rattle.request.specs.declared.read.Asked.the-variants as A
 use Rattle.salvage.specs.{Kept.{keptOf}, Promises.{ListOf, KeptFile}, Salvage.{Counts, salvaged}}
-use Rattle.slip.specs.{Says.{Whole, Agreed}, Slip.{slipped}, declared.slip.{Stamped.{Stamped}, Slipped.{Slipped}}}
+use Rattle.slip.specs.{Says.{Meant, Whole, Agreed, Clocked, Short, isAtNumber, isSlipNumber}, Slip.{slippedAt, slipped}, declared.slip.{Stamped.{Stamped}, Slipped.{Slipped}}}
 use Rattle.slip.specs.Slip as Z
 use Rattle.slip.specs.Told as K
 use Rattle.table.specs.{Rows.{rowsIn}, declared.location.Location.{Location}}
@@ -163,23 +163,68 @@ pub found-first : (bundle name : List ℕ) {file : File} → B.told (F.At file) 
 found-first = bundle.found-first
 
 -- ---- Is the line right for this sentence, this map and these zones?
--- Two replies of the slip that are permitted for a request, a map and zones are one, with all lent output.
+-- Two replies of the slip that are permitted for a request, a map and zones are one, with all lent output;
 pub one-slip : (request map zones : List ℕ) (n room size : ℕ) (r r′ : Slipped) (hs hs′ ts ts′ os os′ : List ℕ)
     → Z.replied (K.told r) hs ts os ≡ slipped request map zones n room size → Z.replied (K.told r′) hs′ ts′ os′ ≡ slipped request map zones n room size
     → (r ≡ r′) × (hs ≡ hs′) × (ts ≡ ts′) × (os ≡ os′)
 one-slip = slip.one-slip
 
+-- and so of the slip at a fix.
+pub one-slip-at : (fix : Fix) (map zones : List ℕ) (n room size : ℕ) (r r′ : Slipped) (hs hs′ ts ts′ os os′ : List ℕ)
+    → Z.replied (K.told r) hs ts os ≡ slippedAt fix map zones n room size → Z.replied (K.told r′) hs′ ts′ os′ ≡ slippedAt fix map zones n room size
+    → (r ≡ r′) × (hs ≡ hs′) × (ts ≡ ts′) × (os ≡ os′)
+one-slip-at = slip.one-slip-at
+
 -- Where it is stamped, hits and text are those of a lookup with mark 1 at what the request means, and so of a search that never stops early;
 pub slip-whole : (request map zones : List ℕ) (n room size : ℕ) (stamped : Stamped) (hs ts os : List ℕ)
-    → Z.replied (given stamped) hs ts os ≡ slipped request map zones n room size → Whole request map n room hs ts
+    → Z.replied (given stamped) hs ts os ≡ slipped request map zones n room size → Meant request (λ fix. Whole fix map n room hs ts)
 slip-whole = slip.slip-whole
 
--- each match's zone has a TZif file under its joined name, whose local time at the instant has the printed offset, and the line begins with the one civil reading of instant and offset.
+pub slip-at-whole : (fix : Fix) (map zones : List ℕ) (n room size : ℕ) (stamped : Stamped) (hs ts os : List ℕ)
+    → Z.replied (given stamped) hs ts os ≡ slippedAt fix map zones n room size → Whole fix map n room hs ts
+slip-at-whole = slip.slip-at-whole
+
+-- each match's zone has a TZif file under its joined name, whose local time at the instant has the printed offset, and the line begins with the one civil reading of instant and offset;
 pub slip-agrees : (request map zones : List ℕ) (n room size : ℕ) (stamped : Stamped) (hs ts os : List ℕ)
-    → Z.replied (given stamped) hs ts os ≡ slipped request map zones n room size → Agreed request map zones n size stamped hs os
+    → Z.replied (given stamped) hs ts os ≡ slipped request map zones n room size → Meant request (λ fix. Agreed fix map zones n size stamped hs os)
 slip-agrees = slip.slip-agrees
 
--- Where it is not stamped, all that was lent is zero.
+pub slip-at-agrees : (fix : Fix) (map zones : List ℕ) (n room size : ℕ) (stamped : Stamped) (hs ts os : List ℕ)
+    → Z.replied (given stamped) hs ts os ≡ slippedAt fix map zones n room size → Agreed fix map zones n size stamped hs os
+slip-at-agrees = slip.slip-at-agrees
+
+-- the printed bytes, read back as weekday, date, time and offset, are that reading and the offset of the reply;
+pub slip-clock : (request map zones : List ℕ) (n room size : ℕ) (stamped : Stamped) (hs ts os : List ℕ)
+    → Z.replied (given stamped) hs ts os ≡ slipped request map zones n room size → Meant request (λ fix. Clocked fix stamped os)
+slip-clock = slip.slip-clock
+
+pub slip-at-clock : (fix : Fix) (map zones : List ℕ) (n room size : ℕ) (stamped : Stamped) (hs ts os : List ℕ)
+    → Z.replied (given stamped) hs ts os ≡ slippedAt fix map zones n room size → Clocked fix stamped os
+slip-at-clock = slip.slip-at-clock
+
+-- and the line has at most 36 bytes, and for each different zone 43 and its abbreviation.
+pub slip-short : (request map zones : List ℕ) (n room size : ℕ) (stamped : Stamped) (hs ts os : List ℕ)
+    → Z.replied (given stamped) hs ts os ≡ slipped request map zones n room size → Meant request (λ fix. Short fix map zones n stamped hs)
+slip-short = slip.slip-short
+
+pub slip-at-short : (fix : Fix) (map zones : List ℕ) (n room size : ℕ) (stamped : Stamped) (hs ts os : List ℕ)
+    → Z.replied (given stamped) hs ts os ≡ slippedAt fix map zones n room size → Short fix map zones n stamped hs
+slip-at-short = slip.slip-at-short
+
+-- Where it is not stamped, the number is one of 1 to 18, 40 to 61, 80 to 92, at a fix none of 80 to 83;
+pub slip-refusals : (request map zones : List ℕ) (n room size : ℕ) (why : Refusal) (hs ts os : List ℕ)
+    → Z.replied (refused why) hs ts os ≡ slipped request map zones n room size → isSlipNumber (why .number) ≡ true
+slip-refusals = slip.slip-refusals
+
+pub slip-at-refusals : (fix : Fix) (map zones : List ℕ) (n room size : ℕ) (why : Refusal) (hs ts os : List ℕ)
+    → Z.replied (refused why) hs ts os ≡ slippedAt fix map zones n room size → isAtNumber (why .number) ≡ true
+slip-at-refusals = slip.slip-at-refusals
+
+-- and all that was lent is zero.
 pub slip-refusal-zeroes : (request map zones : List ℕ) (n room size : ℕ) (why : Refusal) (hs ts os : List ℕ)
     → Z.replied (refused why) hs ts os ≡ slipped request map zones n room size → (hs ≡ zeros n) × (ts ≡ zeros room) × (os ≡ zeros size)
 slip-refusal-zeroes = slip.slip-refusal-zeroes
+
+pub slip-at-refusal-zeroes : (fix : Fix) (map zones : List ℕ) (n room size : ℕ) (why : Refusal) (hs ts os : List ℕ)
+    → Z.replied (refused why) hs ts os ≡ slippedAt fix map zones n room size → (hs ≡ zeros n) × (ts ≡ zeros room) × (os ≡ zeros size)
+slip-at-refusal-zeroes = slip.slip-at-refusal-zeroes
