@@ -281,9 +281,22 @@ module _ (a b c : ℕ) (reading : Reading) (behind : List ℕ) where
   begins-formed : formed clockForm (take 21 (drop 3 begins)) ≡ true
   unfolding dateText timeText formed
   begins-formed =
-      rw (digit-is (reading .year / 100 / 10), digit-is (reading .year / 100), digit-is (reading .year / 10), digit-is (reading .year), digit-is (reading .month / 10),
-          digit-is (reading .month), digit-is (reading .day / 10), digit-is (reading .day), digit-is (reading .hour / 10), digit-is (reading .hour),
-          digit-is (reading .minute / 10), digit-is (reading .minute), digit-is (reading .second / 10), digit-is (reading .second))
+      rw (
+        digit-is (reading .year / 100 / 10),
+        digit-is (reading .year / 100),
+        digit-is (reading .year / 10),
+        digit-is (reading .year),
+        digit-is (reading .month / 10),
+        digit-is (reading .month),
+        digit-is (reading .day / 10),
+        digit-is (reading .day),
+        digit-is (reading .hour / 10),
+        digit-is (reading .hour),
+        digit-is (reading .minute / 10),
+        digit-is (reading .minute),
+        digit-is (reading .second / 10),
+        digit-is (reading .second),
+      )
       refl
 
   begins-behind : drop 24 begins ≡ behind
@@ -313,7 +326,7 @@ read-back reading offset rest f h =
     ap readBack (shape (l .are))
     ∙ ap (λ (x : Answer ℕ). x >>= λ w. offsetIn (word (drop 24 line)) >>= λ o. if formed clockForm (take 21 (drop 3 line)) then found (says w o) else failed) (l .back)
     ∙ ap (λ (x : Answer ℤ). x >>= λ o. if formed clockForm (take 21 (drop 3 line)) then found (says (reading .weekday) o) else failed)
-        (ap (λ (t : List ℕ). offsetIn (word t)) (begins-behind (l .a) (l .b) (l .c) reading (offsetText offset ++ (32 ∷ rest))) ∙ ap offsetIn (offset-word offset rest h) ∙ offset-back offset h)
+    (ap (λ (t : List ℕ). offsetIn (word t)) (begins-behind (l .a) (l .b) (l .c) reading (offsetText offset ++ (32 ∷ rest))) ∙ ap offsetIn (offset-word offset rest h) ∙ offset-back offset h)
     ∙ ap (λ (t : Bool). if t then found (says (reading .weekday) offset) else failed) (begins-formed (l .a) (l .b) (l .c) reading (offsetText offset ++ (32 ∷ rest)))
     ∙ ap (λ (r : Reading). found (record { reading = r; offset = offset })) (begins-reading (l .a) (l .b) (l .c) reading (offsetText offset ++ (32 ∷ rest)) f)
   where

@@ -1,6 +1,6 @@
 -- Document 03's example sentence on a map of one square, and slips that are not stamped, worked by computation. Assumes nothing.
-use Prim.Native.Nat.{ℕ, _+_}
-use lib.{Ieee.{fin, nan, round, ofInt, add, sub, mul, div, toSigned, le, neg}, IntN.{ℤ, pos, negsuc}, ListN.{length}}
+use Prim.Native.Nat.{ℕ, _+_, _*_, _≤_}
+use lib.{Ieee.{fin, nan, round, ofInt, add, sub, mul, div, toSigned, le, neg}, IntN.{ℤ, pos, negsuc, _+ℤ_}, ListN.{length}}
 use mathlib.Core.{Bool.{false, true}, List.{List, [], _∷_}, Path.{_≡_, refl, ap, sym, _∙_}}
 use native.Mathlib.Omega.{arith}
 use Rattle.border.specs.{Place.{movedBy}, Reader.{advanced, marker, packedTurn, turnOf}, Trace.{roundAgain, nextWithin, nextPoint, traceThen, traceWithin, traceOf}}
@@ -133,28 +133,40 @@ day-is : dayNumber 2026 7 1 ≡ 739797
 unfolding dayNumber daysOfMonths monthLength isLeap
 day-is = rw days-closed
 
-shown-so : CivilOf (pos 1782907199) (pos 7200) (C.Shown reading)
-unfolding CivilOf monthLength isLeap instantOf secondsTo daysOfYears yearLength
-shown-so =
+-- a time of that day
+shown-at : (offset : ℤ) (hour minute second : ℕ) → hour ≤ 23 → minute ≤ 59 → second ≤ 59 → instantOf 739797 (3600 * hour + 60 * minute + second) ≡ pos 1782907199 +ℤ offset
+    → CivilOf (pos 1782907199) offset (C.Shown (record { year = 2026; month = 7; day = 1; hour = hour; minute = minute; second = second; weekday = 3 }))
+unfolding CivilOf monthLength isLeap
+shown-at offset hour minute second h m s e =
     record {
       date = record { range = record { from = omega arith; to = omega arith }; months = record { month-from = omega arith; month-to = omega arith; day-from = omega arith; day-to = omega arith } };
-      hour = omega arith;
-      minute = omega arith;
-      second = omega arith;
+      hour = h;
+      minute = m;
+      second = s;
       weekday = sym (ap weekdayOf day-is ∙ weekday-closed 739797);
-      back = ap (λ (day : ℕ). instantOf day 50399) day-is;
+      back = ap (λ (day : ℕ). instantOf day (3600 * hour + 60 * minute + second)) day-is ∙ e;
     }
+
+shown-so : CivilOf (pos 1782907199) (pos 7200) (C.Shown reading)
+unfolding instantOf secondsTo daysOfYears yearLength isLeap
+shown-so = shown-at (pos 7200) 13 59 59 (omega arith) (omega arith) (omega arith) refl
+
+-- what a match says, by its file, the local time in it and the clock
+hour-by : (zones name : List ℕ) (at : File) (local : Found) (reading : Reading) → given at ≡ findOf zones name → given local ≡ localIn (slice zones (at .start) (at .length)) (pos 1782907199)
+    → CivilOf (pos 1782907199) (local .offset) (C.Shown reading)
+    → given (record { name = name; abbreviation = slice zones (at .start + local .place) (local .length); offset = local .offset; reading = reading }) ≡ hourIn zones (pos 1782907199) name
+unfolding hourIn shown
+hour-by zones name at local reading f l c =
+    ap (λ (civil : Civil). shown civil >>= λ reading. given (record { name = name; abbreviation = slice zones (at .start + local .place) (local .length); offset = local .offset; reading = reading }))
+    (is-civil-at (pos 1782907199) (local .offset) (C.Shown reading) c)
+    ∙ onward l _
+    ∙ onward f _
 
 abbrev hour : Hour
 hour = record { name = name; abbreviation = 67 ∷ 69 ∷ 83 ∷ 84 ∷ []; offset = pos 7200; reading = reading }
 
 hour-is : given hour ≡ hourIn berlin (pos 1782907199) name
-unfolding hourIn shown
-hour-is =
-    ap (λ (civil : Civil). shown civil >>= λ reading. given (record { name = name; abbreviation = slice berlin (file .start + local .place) 4; offset = pos 7200; reading = reading }))
-        (is-civil-at (pos 1782907199) (pos 7200) (C.Shown reading) shown-so)
-    ∙ onward local-is _
-    ∙ onward held _
+hour-is = hour-by berlin name file local reading held local-is shown-so
 
 -- ---- the line: Wed 2026-07-01 13:59:59 +02:00 CEST Europe/Berlin
 abbrev line : List ℕ
@@ -250,10 +262,98 @@ pub too-late : slippedAt (fixAt (pos 9223372036854775807)) square berlin 4 19 49
 unfolding blamed hourIn shown civilAt readingAt secondsTo daysOfYears yearLength isLeap B.wordAt B.agrees B.isBundle B.isIndex B.isData B.isEnd B.headOf B.isEntry B.seekOf B.findOf readZoneBy readShort readBlock begins isVersion isFourth versionFits checkHeader blockAt noneOrAll checkCounts checkBlock checkPart countOf checkOf checkTime checkIndex checkType checkLeap checkLeaps checkStandard isStandard checkUt nulEnd oneApart occursLater correctionBefore correctionOf correctionAt isExpiry typeIn typeBehind isAfterLast byTable octets be32 raised timeAt lift T.demand T.each T._>>=_ T._>>_ firstWith isStop runTo timeIn lastWith lastNotAfter scaleBy scaleOr scaleIn rulesIn answerAt answerBy localIn plainly known
 too-late = by-zones berlin (pos 9223372036854775807) refl
 
--- two hours whose offsets differ: 92
-pub differing : rest 49 (given (hour ∷ record { name = name; abbreviation = []; offset = pos 3600; reading = reading } ∷ [])) ≡ refused (plain 92)
-unfolding agreed haveOffset
-differing = refl
+-- ---- not stamped: two zones
+-- two squares, the second with Asia/Kolkata's name
+abbrev pair : List ℕ
+pair =
+    80 ∷ 76 ∷ 66 ∷ 84 ∷ 1 ∷ 7 ∷ 3 ∷ 16 ∷ 212 ∷ 233 ∷ 237 ∷ 229 ∷ 250 ∷ 239 ∷ 238 ∷ 229 ∷ 201 ∷ 228 ∷ 208 ∷ 242 ∷ 229 ∷ 230 ∷ 233 ∷ 248 ∷ 10 ∷ 212 ∷ 233 ∷ 237 ∷ 229 ∷ 250 ∷ 239 ∷ 238 ∷
+    229 ∷ 201 ∷ 228 ∷ 4 ∷ 206 ∷ 239 ∷ 244 ∷ 229 ∷ 0 ∷ 12 ∷ 33 ∷ 27 ∷ 81 ∷ 81 ∷ 80 ∷ 80 ∷ 0 ∷ 1 ∷ 81 ∷ 81 ∷ 80 ∷ 82 ∷ 34 ∷ 13 ∷ 7 ∷ 197 ∷ 245 ∷ 242 ∷ 239 ∷ 240 ∷ 229 ∷ 175 ∷
+    6 ∷ 194 ∷ 229 ∷ 242 ∷ 236 ∷ 233 ∷ 238 ∷ 1 ∷ 176 ∷ 5 ∷ 193 ∷ 243 ∷ 233 ∷ 225 ∷ 175 ∷ 7 ∷ 203 ∷ 239 ∷ 236 ∷ 235 ∷ 225 ∷ 244 ∷ 225 ∷ 1 ∷ 177 ∷ 0 ∷ 131 ∷ 102 ∷ 128 ∷ 136 ∷ 1 ∷ 128 ∷
+    144 ∷ 2 ∷ 129 ∷ 136 ∷ 1 ∷ 0 ∷ 0 ∷ 131 ∷ 102 ∷ 128 ∷ 136 ∷ 1 ∷ 136 ∷ 144 ∷ 2 ∷ 129 ∷ 136 ∷ 1 ∷ 0 ∷ 0 ∷ []
+
+abbrev pairHead : Head
+pairHead = record { preamble = record { kind = 84; version = 1; precision = 7; count = 3 }; sections = record { table = 44; metadata = 56; «data» = 89 }; strict = false }
+
+pair-opened : given pairHead ≡ headOf pair
+unfolding readingOf forwardAt valueOf sizeOf tooLong signedOf evenBits pointOf fixedPoint oneShifted checked movedBy advanced marker packedTurn turnOf roundAgain nextWithin nextPoint traceThen traceWithin traceOf along passing closedAt thenOn judge judgedAt fieldAt fieldsFrom fieldsOf fixOf matchedWith preambleOf textsFrom sectionsFrom sectionsAt contentsBy headBy safezoneBits zonesWith summary seen mergedAfter merged rowsThen rowBy rowsWithin rowsFrom rowsIn judgedTurn rowTurn seek searched stepsBy entryBy H.within remoteAt stringAt bytesOf textAt characters startedBy begunBy followed goesOn isUtf8 samePoint E.between inBox quadrantOf slopeOf edgeOf straight closestOn turned quarterBy halfTurn turnAt crossingOf acrossBy clearOf woundBy measured S.checked restMark ofInt add sub mul div toSigned
+pair-opened = refl
+
+abbrev matches : List Hit
+matches = hitOf 0 0 1 44 ∷ hitOf 1 17 1 50 ∷ []
+
+abbrev pairTexts : List ℕ
+pairTexts =
+    0 ∷ 0 ∷ 7 ∷ 69 ∷ 117 ∷ 114 ∷ 111 ∷ 112 ∷ 101 ∷ 47 ∷ 1 ∷ 0 ∷ 6 ∷ 66 ∷ 101 ∷ 114 ∷ 108 ∷ 105 ∷ 110 ∷ 2 ∷ 0 ∷ 1 ∷ 48 ∷ 0 ∷ 0 ∷ 5 ∷ 65 ∷ 115 ∷ 105 ∷ 97 ∷ 47 ∷ 1 ∷
+    0 ∷ 7 ∷ 75 ∷ 111 ∷ 108 ∷ 107 ∷ 97 ∷ 116 ∷ 97 ∷ 2 ∷ 0 ∷ 1 ∷ 49 ∷ []
+
+abbrev pairOutcome : Outcome Zones
+pairOutcome = record { answer = record { matches = 2; mark = 1; safezone = 0; used = 45 }; matches = matches; text = pairTexts }
+
+pair-looked : given pairOutcome ≡ zonesWith pair pairHead (placeOf fix) false 8 45
+unfolding readingOf forwardAt valueOf sizeOf tooLong signedOf evenBits pointOf fixedPoint oneShifted checked movedBy advanced marker packedTurn turnOf roundAgain nextWithin nextPoint traceThen traceWithin traceOf along passing closedAt thenOn judge judgedAt fieldAt fieldsFrom fieldsOf fixOf matchedWith preambleOf textsFrom sectionsFrom sectionsAt contentsBy headBy safezoneBits zonesWith summary seen mergedAfter merged rowsThen rowBy rowsWithin rowsFrom rowsIn judgedTurn rowTurn seek searched stepsBy entryBy H.within remoteAt stringAt bytesOf textAt characters startedBy begunBy followed goesOn isUtf8 samePoint E.between inBox quadrantOf slopeOf edgeOf straight closestOn turned quarterBy halfTurn turnAt crossingOf acrossBy clearOf woundBy measured S.checked restMark ofInt add sub mul div toSigned
+pair-looked = refl
+
+-- Asia/Kolkata
+abbrev kolkata : List ℕ
+kolkata = 65 ∷ 115 ∷ 105 ∷ 97 ∷ 47 ∷ 75 ∷ 111 ∷ 108 ∷ 107 ∷ 97 ∷ 116 ∷ 97 ∷ []
+
+first-name : given name ≡ nameOf pair pairHead 0
+unfolding readingOf forwardAt valueOf sizeOf tooLong pickedFrom H.within remoteAt stringAt bytesOf textAt characters startedBy begunBy followed goesOn isUtf8 same nameOf named
+first-name = refl
+
+second-name : given kolkata ≡ nameOf pair pairHead 17
+unfolding readingOf forwardAt valueOf sizeOf tooLong pickedFrom H.within remoteAt stringAt bytesOf textAt characters startedBy begunBy followed goesOn isUtf8 same nameOf named
+second-name = refl
+
+-- Berlin's file, and one whose type is `IST`, five hours and a half east
+abbrev two : List ℕ
+two =
+    116 ∷ 122 ∷ 100 ∷ 97 ∷ 116 ∷ 97 ∷ 50 ∷ 48 ∷ 50 ∷ 54 ∷ 97 ∷ 0 ∷ 0 ∷ 0 ∷ 0 ∷ 24 ∷ 0 ∷ 0 ∷ 0 ∷ 128 ∷ 0 ∷ 0 ∷ 0 ∷ 237 ∷ 69 ∷ 117 ∷ 114 ∷ 111 ∷ 112 ∷ 101 ∷ 47 ∷ 66 ∷
+    101 ∷ 114 ∷ 108 ∷ 105 ∷ 110 ∷ 0 ∷ 0 ∷ 0 ∷ 0 ∷ 0 ∷ 0 ∷ 0 ∷ 0 ∷ 0 ∷ 0 ∷ 0 ∷ 0 ∷ 0 ∷ 0 ∷ 0 ∷ 0 ∷ 0 ∷ 0 ∷ 0 ∷ 0 ∷ 0 ∷ 0 ∷ 0 ∷ 0 ∷ 0 ∷ 0 ∷ 0 ∷
+    0 ∷ 0 ∷ 0 ∷ 0 ∷ 0 ∷ 0 ∷ 0 ∷ 55 ∷ 0 ∷ 0 ∷ 0 ∷ 0 ∷ 65 ∷ 115 ∷ 105 ∷ 97 ∷ 47 ∷ 75 ∷ 111 ∷ 108 ∷ 107 ∷ 97 ∷ 116 ∷ 97 ∷ 0 ∷ 0 ∷ 0 ∷ 0 ∷ 0 ∷ 0 ∷ 0 ∷ 0 ∷
+    0 ∷ 0 ∷ 0 ∷ 0 ∷ 0 ∷ 0 ∷ 0 ∷ 0 ∷ 0 ∷ 0 ∷ 0 ∷ 0 ∷ 0 ∷ 0 ∷ 0 ∷ 0 ∷ 0 ∷ 0 ∷ 0 ∷ 0 ∷ 0 ∷ 0 ∷ 0 ∷ 55 ∷ 0 ∷ 0 ∷ 0 ∷ 54 ∷ 0 ∷ 0 ∷ 0 ∷ 0 ∷
+    84 ∷ 90 ∷ 105 ∷ 102 ∷ 0 ∷ 0 ∷ 0 ∷ 0 ∷ 0 ∷ 0 ∷ 0 ∷ 0 ∷ 0 ∷ 0 ∷ 0 ∷ 0 ∷ 0 ∷ 0 ∷ 0 ∷ 0 ∷ 0 ∷ 0 ∷ 0 ∷ 0 ∷ 0 ∷ 0 ∷ 0 ∷ 0 ∷ 0 ∷ 0 ∷ 0 ∷ 0 ∷
+    0 ∷ 0 ∷ 0 ∷ 0 ∷ 0 ∷ 0 ∷ 0 ∷ 1 ∷ 0 ∷ 0 ∷ 0 ∷ 5 ∷ 0 ∷ 0 ∷ 28 ∷ 32 ∷ 1 ∷ 0 ∷ 67 ∷ 69 ∷ 83 ∷ 84 ∷ 0 ∷ 84 ∷ 90 ∷ 105 ∷ 102 ∷ 0 ∷ 0 ∷ 0 ∷ 0 ∷ 0 ∷
+    0 ∷ 0 ∷ 0 ∷ 0 ∷ 0 ∷ 0 ∷ 0 ∷ 0 ∷ 0 ∷ 0 ∷ 0 ∷ 0 ∷ 0 ∷ 0 ∷ 0 ∷ 0 ∷ 0 ∷ 0 ∷ 0 ∷ 0 ∷ 0 ∷ 0 ∷ 0 ∷ 0 ∷ 0 ∷ 0 ∷ 0 ∷ 0 ∷ 0 ∷ 0 ∷ 1 ∷ 0 ∷
+    0 ∷ 0 ∷ 4 ∷ 0 ∷ 0 ∷ 77 ∷ 88 ∷ 0 ∷ 0 ∷ 73 ∷ 83 ∷ 84 ∷ 0 ∷ []
+
+abbrev second-hour : Hour
+second-hour = record { name = kolkata; abbreviation = 73 ∷ 83 ∷ 84 ∷ []; offset = pos 19800; reading = record { year = 2026; month = 7; day = 1; hour = 17; minute = 29; second = 59; weekday = 3 } }
+
+second-shown : CivilOf (pos 1782907199) (pos 19800) (C.Shown (second-hour .reading))
+unfolding instantOf secondsTo daysOfYears yearLength isLeap
+second-shown = shown-at (pos 19800) 17 29 59 (omega arith) (omega arith) (omega arith) refl
+
+first-in : given hour ≡ hourIn two (pos 1782907199) name
+unfolding B.wordAt B.agrees B.isBundle B.isIndex B.isData B.isEnd B.headOf B.isEntry B.seekOf B.findOf readZoneBy readShort readBlock begins isVersion isFourth versionFits checkHeader blockAt noneOrAll checkCounts checkBlock checkPart countOf checkOf checkTime checkIndex checkType checkLeap checkLeaps checkStandard isStandard checkUt nulEnd oneApart occursLater correctionBefore correctionOf correctionAt isExpiry typeIn typeBehind isAfterLast byTable octets be32 raised timeAt lift T.demand T.each T._>>=_ T._>>_ firstWith isStop runTo timeIn lastWith lastNotAfter scaleBy scaleOr scaleIn rulesIn answerAt answerBy localIn plainly known
+first-in = hour-by two name (record { start = 128; length = 55 }) local reading refl refl shown-so
+
+second-in : given second-hour ≡ hourIn two (pos 1782907199) kolkata
+unfolding B.wordAt B.agrees B.isBundle B.isIndex B.isData B.isEnd B.headOf B.isEntry B.seekOf B.findOf readZoneBy readShort readBlock begins isVersion isFourth versionFits checkHeader blockAt noneOrAll checkCounts checkBlock checkPart countOf checkOf checkTime checkIndex checkType checkLeap checkLeaps checkStandard isStandard checkUt nulEnd oneApart occursLater correctionBefore correctionOf correctionAt isExpiry typeIn typeBehind isAfterLast byTable octets be32 raised timeAt lift T.demand T.each T._>>=_ T._>>_ firstWith isStop runTo timeIn lastWith lastNotAfter scaleBy scaleOr scaleIn rulesIn answerAt answerBy localIn plainly known
+second-in =
+    hour-by two kolkata (record { start = 183; length = 54 }) (record { offset = pos 19800; daylight = 0; place = 50; length = 3 }) (second-hour .reading) refl refl second-shown
+
+both-hours : given (hour ∷ second-hour ∷ []) ≡ hoursFrom pair pairHead two (pos 1782907199) 1 matches
+unfolding hoursFrom hourOf ofMatch
+both-hours =
+    ap (λ (h : Reply Hour). h >>= λ hour. given second-hour >>= λ second. given (hour ∷ second ∷ [])) (ap (ofMatch 1) first-in ∙ onward first-name _)
+    ∙ ap (λ (s : Reply Hour). hourOf pair pairHead two (pos 1782907199) 1 (hitOf 0 0 1 44) >>= λ hour. s >>= λ second. given (hour ∷ second ∷ [])) (ap (ofMatch 2) second-in ∙ onward second-name _)
+    ∙ joined (hourOf pair pairHead two (pos 1782907199) 1 (hitOf 0 0 1 44)) (hourOf pair pairHead two (pos 1782907199) 2 (hitOf 1 17 1 50))
+  where
+    joined : (a b : Reply Hour) → (a >>= λ hour. b >>= λ second. given (hour ∷ second ∷ [])) ≡ (a >>= λ hour. (b >>= λ second. given (second ∷ [])) >>= λ hours. given (hour ∷ hours))
+    joined (given hour) (given second) = refl
+    joined (given hour) (refused why) = refl
+    joined (refused why) b = refl
+
+-- their offsets differ: 92
+pub differing : slippedAt fix pair two 8 45 0 ≡ replied (refused (plain 92)) (zeros 8) (zeros 45) []
+unfolding slippedAt repliedOf slipAt agreed haveOffset
+differing = ap (repliedOf 8 45 0) (sym (ap (restOf 0) both-hours ∙ onward pair-looked _ ∙ onward pair-opened _ ∙ met (placed (pos 1782907199)) (plain 84) _))
+  where
+    restOf : ℕ → Reply (List Hour) → Reply Slip
+    restOf size said =
+        said >>= λ hours. agreed hours >>= λ hour. fitted size (lineOf hour hours) >>= λ line.
+        given (record { stamped = record { length = length line; matches = length hours; offset = hour .offset }; line = line; matches = matches; text = pairTexts })
 
 -- ---- not stamped: the map
 -- a search that stopped early: 85, with its mark; it is zones' table out of order
