@@ -2,10 +2,10 @@
  * local time, by a TZif file; dates; and the slip: from a receiver's sentence, a map and the zones' files to the line that is printed.
  *
  * For libuskelzar.a, which has what a printer calls (opening, lookups without an index, local and civil time, the slip and what it reads by), and liboffice.a, which has the rest: link the
- * first, or both. What its functions answer, write and touch, and that they end, is proved for every input; of the calls of
+ * first, or both. What their functions answer, write and touch, and that they end, is proved for every input; of the calls of
  * a builder what they answer and write is proved for a state, lists and notes as its calls have left them, and for numbers
- * that do not fit the lists, and for all others what they touch, and that they end. What the library calls is seen to by a
- * test of the archive. What holds for all twenty-six:
+ * that do not fit the lists, and for all others what they touch, and that they end. What the archives call is seen to by a
+ * test of them. What holds for all twenty-six:
  *
  * You bring    pointers that are not null, aligned for their type and good for their length: to read from, or where the
  *              buffer is lent (no const), to write to. Lent buffers and `reply` do not overlap each other or an input, and

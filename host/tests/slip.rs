@@ -377,9 +377,9 @@ fn the_systems_zones_are_found() {
 fn slips_at_random() {
     let square = |low: i32, high: i32| [(low, low), (high, low), (high, high), (low, high)];
     let (a, b, c, d) = (square(1, 40), square(10, 60), square(20, 80), square(30, 90));
-    let zone = |fields, border| Zone { fields, borders: border };
-    let (first, second, third, fourth): ([&[(i32, i32)]; 1], [&[(i32, i32)]; 1], [&[(i32, i32)]; 1], [&[(i32, i32)]; 1]) = ([&a], [&b], [&c], [&d]);
-    let zones = [zone(&["Up/", "One"], &first), zone(&["", "Up/Two"], &second), zone(&["Up/O", "ne"], &third), zone(&["Up/", "None"], &fourth)];
+    let zone = |fields, borders| Zone { fields, borders };
+    let borders = [[&a[..]], [&b[..]], [&c[..]], [&d[..]]];
+    let zones = [zone(&["Up/", "One"], &borders[0]), zone(&["", "Up/Two"], &borders[1]), zone(&["Up/O", "ne"], &borders[2]), zone(&["Up/", "None"], &borders[3])];
     let map = file(b'T', 1, &["TimezoneIdPrefix", "TimezoneId"], "", &zones);
     let mut dice = Dice(7);
     let mut desk = Desk::new(Edge::Back);
