@@ -1,0 +1,8 @@
+-- Laws on plain values that the functions' proofs cite.
+pub mod Bits
+pub mod Counting
+pub mod Spanning
+pub mod Standing
+pub mod Writing
+pub mod Courses
+pub mod HeldIsPlain
