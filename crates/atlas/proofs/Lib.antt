@@ -6,3 +6,8 @@ pub mod Standing
 pub mod Writing
 pub mod Courses
 pub mod HeldIsPlain
+pub mod Beside
+pub mod AtlasIsPlain
+pub mod Parting
+pub mod Behind
+pub mod Owned

@@ -1,23 +1,11 @@
 -- Words that stand one after the other. Assumes nothing.
 use Prim.Native.Nat.{ℕ, zero, suc, _+_, _-_, _<_}
-use native.Mathlib.{Nat.{add-zero}, Omega.{arith}}
+use native.Mathlib.Omega.{arith}
 use mathlib.Core.{Path.{_≡_, refl, sym, ap, _∙_}, Bool.{Bool, true, false, _&&_}, List.{List, [], _∷_, _++_}}
 use lib.ListN.{length}
 use Rattle.border.specs.{Box.{Box}, declared.reader.{Reader.{Reader}, Encoding.{Encoding}}}
 use Rattle.marks.specs.Marks.{Span, spanFrom, markOf, marksFrom, stretchEdges, counted}
-use Rattle.atlas.specs.Marking.{isWord, isAt}
-
-and-assoc : (a b c : Bool) → ((a && b) && c) ≡ (a && (b && c))
-and-assoc true b c = refl
-and-assoc false b c = refl
-
-pub at-append : (words : List ℕ) (at : ℕ) (xs ys : List ℕ) → isAt words at (xs ++ ys) ≡ (isAt words at xs && isAt words (at + length xs) ys)
-unfolding isAt
-at-append words at [] ys = ap (λ (k : ℕ). isAt words k ys) (sym (add-zero at))
-at-append words at (x ∷ xs) ys =
-    let e : at + 1 + length xs ≡ at + suc (length xs) = omega arith in
-    ap (λ (b : Bool). isWord words at x && b) (at-append words (at + 1) xs ys ∙ ap (λ (k : ℕ). isAt words (at + 1) xs && isAt words k ys) e)
-    ∙ sym (and-assoc (isWord words at x) (isAt words (at + 1) xs) (isAt words (at + suc (length xs)) ys))
+use Rattle.index.{proofs.Standing.{at-append, and-end}, specs.inner.Own.{isWord, isAt}}
 
 -- by the answers on the parts
 pub first-not : (words : List ℕ) (at : ℕ) (xs ys : List ℕ) → isAt words at xs ≡ false → false ≡ isAt words at (xs ++ ys)
@@ -28,11 +16,7 @@ first-so words at xs ys {b} e g = g ∙ sym (at-append words at xs ys ∙ rw e)
 
 pub word-at : (words : List ℕ) (at x : ℕ) → isWord words at x ≡ isAt words at (x ∷ [])
 unfolding isAt
-word-at words at x = go (isWord words at x)
-  where
-    go : (b : Bool) → b ≡ (b && true)
-    go true = refl
-    go false = refl
+word-at words at x = and-end (isWord words at x)
 
 -- a word that was asked for by another name
 pub word-said : (words : List ℕ) (at : ℕ) {b : Bool} {x y : ℕ} → b ≡ isWord words at x → x ≡ y → b ≡ isAt words at (y ∷ [])

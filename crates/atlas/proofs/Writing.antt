@@ -15,7 +15,7 @@ module _ (file : List ℕ) (encoding : Encoding) (before : List ℕ) (place : �
   -- the marks of so many stretches are left to store of all
   pub record Writing (now : List ℕ) (left at : ℕ) (reader : Reader) : Type 0 where
     pub rest : Left before place all now at (marksFrom stretchEdges left file encoding reader)
-    pub room : at + 11 * left < 2 ^ 48
+    pub room : at + 11 * left < 2 ^ 57
 
   module _ {now : List ℕ} {left at : ℕ} {reader : Reader} (w : Writing now left at reader) where
     pub writing-on : {span : Span} → span ≡ spanFrom stretchEdges file encoding reader → 0 < left → {after : List ℕ} {next : ℕ} → Stored now at (markOf reader (span .box)) after next

@@ -1,39 +1,44 @@
--- The atlas of a file, as document 04's A-1 has it without groups and boxes over lists: the words of the index, for each entry where its border's marks stand, and the marks.
-use Prim.Native.Nat.{ℕ, zero, suc, _+_, _%_, _^_}
+-- The atlas of a file, as document 04's A-1 has it without groups of stretches and boxes over lists: the words of the index, the length of all words, for each entry where its
+-- border's marks stand, and the marks.
+use Prim.Native.Nat.{ℕ, _+_, _%_, _^_}
 use lib.ListN.{length}
-use mathlib.Core.List.{List, [], _∷_, _++_}
-use Rattle.numbers.specs.{Lists.{padded, zeros}, Reply.{Reply, given, refused, plain, demand, _>>=_, _>>_}}
-use Rattle.border.specs.{Encoding.{versionOf, encodedBy}, declared.reader.Encoding.{Encoding}}
+use mathlib.Core.{Bool.{Bool, false}, List.{List, [], _∷_, _++_}}
 use Rattle.header.specs.{Header.{headOf}, declared.header.Head.{Head}}
-use Rattle.table.specs.{Find.{isPrecision}, declared.rows.Row.{Row}}
-use Rattle.index.specs.{Index.{joined, hasRoom, indexOf, Indexed, indexedBy}, Own.{heldAgainst}, Table.{tableOf}}
-use Rattle.marks.specs.Marks.{marksAt}
+use Rattle.index.specs.{Index.{joined, hasRoom, indexOf, Indexed, indexedBy}, Own.{isSame}, Table.{tableOf}}
+use Rattle.marks.specs.Marks.{low, marksAt}
+use Rattle.numbers.specs.Reply.{Reply, given, refused, plain, demand, _>>=_, _>>_}
+use Rattle.table.specs.{Find.{isPrecision}, MarkedRows.{encodingIn}, declared.rows.Row.{Row}}
 
--- how a file with this header has its borders written, and where the border of a row stands
-abbrev pub encodingIn : Head → Encoding
-encodingIn head = encodedBy (head .strict) (versionOf (head .preamble .version)) (head .sections .«data»)
+-- the marks of the border at a place of the data
+abbrev pub marksFor : List ℕ → Head → ℕ → List ℕ
+marksFor file head polygon = marksAt file (encodingIn head) ((head .sections .«data» + polygon) % 2 ^ 32)
 
-abbrev pub borderOf : Head → Row → ℕ
-borderOf head r = (head .sections .«data» + r .polygon) % 2 ^ 32
-
--- the marks of each row's border, in the table's order
+-- of each row's border, in the table's order
 unfoldable pub marksIn : List ℕ → Head → List Row → List (List ℕ)
 marksIn file head [] = []
-marksIn file head (r ∷ rows) = marksAt file (encodingIn head) (borderOf head r) ∷ marksIn file head rows
+marksIn file head (r ∷ rows) = marksFor file head (r .polygon) ∷ marksIn file head rows
 
--- where each stands, the first at a place; 0 for a border that has none
+-- an entry's word: where its border's marks stand, 0 if it has none
+unfoldable pub entryOf : ℕ → List ℕ → ℕ
+entryOf at [] = 0
+entryOf at (x ∷ xs) = low at
+
+-- those of all, with the first marks at a place
 unfoldable pub entriesFrom : ℕ → List (List ℕ) → List ℕ
 entriesFrom at [] = []
-entriesFrom at ([] ∷ lists) = 0 ∷ entriesFrom at lists
-entriesFrom at ((x ∷ xs) ∷ lists) = at ∷ entriesFrom (at + length (x ∷ xs)) lists
+entriesFrom at (list ∷ lists) = entryOf at list ∷ entriesFrom (at + length list) lists
 
--- the entries and the marks, which count their places from the first entry on
-abbrev pub marksBeside : List ℕ → Head → List Row → List ℕ
-marksBeside file head rows = entriesFrom (length rows) (marksIn file head rows) ++ joined (marksIn file head rows)
+-- entries and marks; a place is counted from the first entry on
+abbrev pub besideOf : List (List ℕ) → List ℕ
+besideOf lists = entriesFrom (length lists) lists ++ joined lists
+
+-- behind the index, with the length of all words before them
+abbrev pub wholeOf : List ℕ → List ℕ → List ℕ
+wholeOf index beside = index ++ (low (length index + 1 + length beside) ∷ beside)
 
 -- all words
 unfoldable pub atlasOf : List ℕ → Head → List Row → List ℕ
-atlasOf file head rows = indexOf file head rows ++ marksBeside file head rows
+atlasOf file head rows = wholeOf (indexOf file head rows) (besideOf (marksIn file head rows))
 
 -- opening's refusals, 16, 34, and 35 last
 unfoldable pub atlasWith : List ℕ → Head → ℕ → Reply (List ℕ)
@@ -52,6 +57,11 @@ atlasIn file room = do
 unfoldable pub atlasMade : List ℕ → ℕ → Indexed
 atlasMade file n = indexedBy n (atlasIn file n)
 
--- the words are those that building, lent as many, leaves for this file
+-- building gave, and left these words
+unfoldable pub isMade : List ℕ → Reply ℕ → List ℕ → Bool
+isMade words (given used) made = isSame words made
+isMade words (refused why) made = false
+
+-- the words are those that building, lent as many, leaves for this file; else 36
 unfoldable pub isAtlasOf : List ℕ → List ℕ → Reply (Unit {0})
-isAtlasOf file words = heldAgainst words (atlasMade file (length words) .reply) (atlasMade file (length words) .words)
+isAtlasOf file words = demand (isMade words (atlasMade file (length words) .reply) (atlasMade file (length words) .words)) (plain 36)

@@ -1,2 +1,3 @@
-pub mod Marking
 pub mod Atlas
+pub mod Looked
+pub mod inner

@@ -1,10 +1,10 @@
 // Which borders have marks, and how many stretches: a border is read to its end once.
 ghost use mathlib.Core.Path.{_≡_};
-ghost use Prim.Native.Nat.{_^_};
+ghost use Prim.Native.Nat.{_^_, _≤_};
 ghost use lib.{Dec.{ltb}, Signed.{mag}};
 ghost use Rattle.border.specs.inner.Told as told;
 ghost use Rattle.marks.specs.Marks.{isShortRun, isNarrow, isMarkable, edgesThen, edgesFrom, mostPoints, stretchesFrom, marksAt};
-ghost use Rattle.atlas.specs.Marking.{toldEdges, marksOf};
+ghost use Rattle.atlas.specs.inner.Marking.{toldEdges, marksOf};
 ghost use Rattle.numbers.specs.Answer.{failed};
 use border::place::Point;
 use border::reader::Encoding;
@@ -132,7 +132,7 @@ fn stretches_of(edges: Edges) -> usize
 
 // The border at a place of the file.
 pub(crate) fn course_at(file: &[u8], encoding: Encoding, place: usize) -> Course
-    ensures { λ r. ⌜ marksOf (now (file .entry)) encoding r ≡ marksAt (now (file .entry)) encoding place ⌝ }
+    ensures { λ r. ⌜ (marksOf (now (file .entry)) encoding r ≡ marksAt (now (file .entry)) encoding place) × (r .count ≤ 2 ^ 18) ⌝ }
 {
     let start = open_border(place);
     let next = next_point(file, encoding, start);

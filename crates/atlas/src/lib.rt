@@ -1,5 +1,10 @@
-// The marks along a border: worked out from its points, written into words, or held against words.
+// An atlas beside a PLB file: its index, and marks along the long borders, so that a lookup reads little of them. `build_atlas`, `is_atlas` and `lookup_atlas` ask nothing.
+pub mod build;
 pub mod course;
+mod entry;
+pub mod lookup;
+pub mod own;
+pub mod parts;
 pub mod put;
 pub mod same;
 pub mod span;

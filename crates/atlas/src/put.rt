@@ -3,7 +3,7 @@ ghost use mathlib.Core.{Path.{_≡_}, List.{[], _∷_}};
 ghost use Prim.Native.Nat.{_^_, _<_};
 ghost use Rattle.writer.specs.inner.Stored.{Stored};
 ghost use Rattle.marks.specs.Marks.{wordOf, low, kindOf, nextOf, endOf, markOf};
-ghost use Rattle.atlas.specs.Marking.{boxed, marksOf};
+ghost use Rattle.atlas.specs.inner.Marking.{boxed, marksOf};
 use crate::course::Course;
 use crate::span::Frame;
 use crate::span::span_from;
@@ -20,7 +20,7 @@ use border::reader::Reader;
 use border::reader::Run;
 
 fn put_point(words: &mut [u32], at: usize, point: Point) -> usize
-    requires { ⌜ at < 2 ^ 50 ⌝ }
+    requires { ⌜ at < 2 ^ 59 ⌝ }
     ensures { λ r. ⌜ Stored (now (words .entry)) at (wordOf (point .lat .0) ∷ wordOf (point .lon .0) ∷ []) (now (words .exit)) r ⌝ }
 {
     let second = put(words, at, word_of(point.lat.0));
@@ -28,7 +28,7 @@ fn put_point(words: &mut [u32], at: usize, point: Point) -> usize
 }
 
 fn put_run(words: &mut [u32], at: usize, run: Run) -> usize
-    requires { ⌜ at < 2 ^ 50 ⌝ }
+    requires { ⌜ at < 2 ^ 59 ⌝ }
     ensures { λ r. ⌜ Stored (now (words .entry)) at (kindOf run ∷ low (nextOf run) ∷ low (endOf run) ∷ []) (now (words .exit)) r ⌝ }
 {
     let second = put(words, at, kind_of(run));
@@ -37,7 +37,7 @@ fn put_run(words: &mut [u32], at: usize, run: Run) -> usize
 }
 
 pub(crate) fn put_mark(words: &mut [u32], at: usize, reader: Reader, frame: Frame) -> usize
-    requires { ⌜ at < 2 ^ 49 ⌝ }
+    requires { ⌜ at < 2 ^ 58 ⌝ }
     ensures { λ r. ⌜ Stored (now (words .entry)) at (markOf reader (boxed frame)) (now (words .exit)) r ⌝ }
 {
     let second = put_point(words, at, frame.low);
@@ -57,7 +57,7 @@ pub(crate) fn put_marks(
     words: &mut [u32],
     place: usize,
 ) -> usize
-    requires { ⌜ (place < 2 ^ 40) × (course .count < 2 ^ 32) ⌝ }
+    requires { ⌜ (place < 2 ^ 56) × (course .count < 2 ^ 32) ⌝ }
     ensures { λ r. ⌜ Stored (now (words .entry)) place (marksOf (now (file .entry)) encoding course) (now (words .exit)) r ⌝ }
 {
     let mut left = course.count;

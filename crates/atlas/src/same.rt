@@ -2,7 +2,8 @@
 ghost use mathlib.Core.{Bool.{_&&_}, Path.{_≡_}, List.{[], _∷_}};
 ghost use Prim.Native.Nat.{_+_, _^_, _<_};
 ghost use Rattle.marks.specs.Marks.{wordOf, low, kindOf, nextOf, endOf, markOf};
-ghost use Rattle.atlas.specs.Marking.{boxed, stateWords, isAt, marksOf};
+ghost use Rattle.index.specs.inner.Own.{isAt};
+ghost use Rattle.atlas.specs.inner.Marking.{boxed, stateWords, marksOf};
 use crate::course::Course;
 use crate::span::Frame;
 use crate::span::span_from;
@@ -19,7 +20,7 @@ use border::reader::Reader;
 use border::reader::Run;
 
 fn same_spot(words: &[u32], at: usize, point: Point) -> bool
-    requires { ⌜ at < 2 ^ 50 ⌝ }
+    requires { ⌜ at < 2 ^ 59 ⌝ }
     ensures { λ r. ⌜ r ≡ isAt (now (words .entry)) at (wordOf (point .lat .0) ∷ wordOf (point .lon .0) ∷ []) ⌝ }
 {
     if is_word(words, at, word_of(point.lat.0)) {
@@ -29,7 +30,7 @@ fn same_spot(words: &[u32], at: usize, point: Point) -> bool
 }
 
 fn same_run(words: &[u32], at: usize, run: Run) -> bool
-    requires { ⌜ at < 2 ^ 51 ⌝ }
+    requires { ⌜ at < 2 ^ 60 ⌝ }
     ensures { λ r. ⌜ r ≡ isAt (now (words .entry)) at (kindOf run ∷ low (nextOf run) ∷ low (endOf run) ∷ []) ⌝ }
 {
     if !is_word(words, at, kind_of(run)) {
@@ -43,7 +44,7 @@ fn same_run(words: &[u32], at: usize, run: Run) -> bool
 }
 
 fn same_state(words: &[u32], at: usize, reader: Reader) -> bool
-    requires { ⌜ at < 2 ^ 50 ⌝ }
+    requires { ⌜ at < 2 ^ 59 ⌝ }
     ensures { λ r. ⌜ r ≡ isAt (now (words .entry)) at (stateWords reader) ⌝ }
 {
     if !same_spot(words, at, reader.point) {
@@ -62,7 +63,7 @@ fn same_state(words: &[u32], at: usize, reader: Reader) -> bool
 }
 
 fn same_mark(words: &[u32], at: usize, reader: Reader, frame: Frame) -> bool
-    requires { ⌜ at < 2 ^ 49 ⌝ }
+    requires { ⌜ at < 2 ^ 58 ⌝ }
     ensures { λ r. ⌜ r ≡ isAt (now (words .entry)) at (markOf reader (boxed frame)) ⌝ }
 {
     if !same_spot(words, at, frame.low) {
@@ -83,7 +84,7 @@ pub(crate) fn same_marks(
     words: &[u32],
     place: usize,
 ) -> bool
-    requires { ⌜ (place < 2 ^ 40) × (course .count < 2 ^ 32) ⌝ }
+    requires { ⌜ (place < 2 ^ 56) × (course .count < 2 ^ 32) ⌝ }
     ensures { λ r. ⌜ r ≡ isAt (now (words .entry)) place (marksOf (now (file .entry)) encoding course) ⌝ }
 {
     let mut left = course.count;

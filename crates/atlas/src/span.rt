@@ -3,7 +3,7 @@ ghost use mathlib.Core.Path.{_≡_};
 ghost use lib.Signed.{leZ};
 ghost use Rattle.border.specs.Box.{minZ, maxZ, grown};
 ghost use Rattle.marks.specs.Marks.{spanFrom, stretchEdges};
-ghost use Rattle.atlas.specs.Marking.{boxed, toldReach};
+ghost use Rattle.atlas.specs.inner.Marking.{boxed, toldReach};
 use border::place::FixedLat;
 use border::place::FixedLon;
 use border::place::Point;

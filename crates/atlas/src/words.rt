@@ -3,7 +3,7 @@ ghost use mathlib.Core.{Path.{_≡_}, List.{[], _∷_}};
 ghost use Prim.Native.Nat.{_^_, _<_};
 ghost use Rattle.writer.specs.inner.Stored.{Stored};
 ghost use Rattle.marks.specs.Marks.{wordOf, low, kindOf, nextOf, endOf};
-ghost use Rattle.atlas.specs.Marking.{isWord};
+ghost use Rattle.index.specs.inner.Own.{isWord};
 use border::reader::Run;
 
 // A word that does not fit is counted and left out: the place is held against the room once, at the end.

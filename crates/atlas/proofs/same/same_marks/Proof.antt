@@ -9,13 +9,13 @@ use denote.Ref.{now}
 use native.Mathlib.Nat.{mod-eq-of-lt}
 use Rattle.marks.specs.Marks.{wordOf, low, kindOf, nextOf, endOf, markOf, marksFrom, stretchEdges, counted, stretchesFrom}
 use Rattle.atlas.proofs.Standing.{first-not, first-so, word-said, mark-not, mark-so, no-marks, counted-none, counted-some}
-use Rattle.atlas.specs.Marking.{isAt}
+use Rattle.index.specs.inner.Own.{isAt}
 use Rattle.atlas.proofs.same.same_marks.Statement.{statement}
 use Rattle.atlas.proofs.same.same_marks.Tie as tie
 
 abbrev Inv-loop : tie.InvT-loop
 Inv-loop file encoding words place left₀ at₀ reader₀ left at reader =
-    (isAt words at (marksFrom stretchEdges left file encoding reader) ≡ isAt words at₀ (marksFrom stretchEdges left₀ file encoding reader₀)) × (at + 11 * left < 2 ^ 48)
+    (isAt words at (marksFrom stretchEdges left file encoding reader) ≡ isAt words at₀ (marksFrom stretchEdges left₀ file encoding reader₀)) × (at + 11 * left < 2 ^ 57)
 
 abbrev μ-loop : tie.MeasureT-loop
 μ-loop file encoding words place left₀ at₀ reader₀ left at reader = left

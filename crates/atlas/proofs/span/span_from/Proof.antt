@@ -4,7 +4,7 @@ use borrow.Author.Needs.{needs}
 use mathlib.Core.Path.{sym, ap, _∙_}
 use native.Mathlib.Omega.{arith}
 use Rattle.atlas.proofs.{Spanning.{Spanning, spanning-starts, spanning-full, spanning-ends, spanning-on}, span.span_from.Statement.{statement}}
-use Rattle.atlas.specs.Marking.{boxed}
+use Rattle.atlas.specs.inner.Marking.{boxed}
 use Rattle.border.specs.inner.Told as R
 use Rattle.atlas.proofs.span.span_from.Tie as tie
 

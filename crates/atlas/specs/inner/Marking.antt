@@ -1,7 +1,6 @@
 -- What the functions that work out the marks of a border say of each other.
-use Prim.Native.Nat.{ℕ, _+_}
-use lib.{Dec.{ltb, eqb}, ListN.{length, getD}}
-use mathlib.Core.{Bool.{Bool, true, _&&_}, List.{List, [], _∷_}}
+use Prim.Native.Nat.{ℕ}
+use mathlib.Core.List.{List, [], _∷_}
 use Rattle.numbers.specs.Answer.{Answer, found, failed}
 use Rattle.border.specs.Box.{Box}
 use Rattle.border.specs.declared.reader.{Reader.{Reader}, Encoding.{Encoding}}
@@ -28,12 +27,3 @@ marksOf file encoding course = counted (course .count) (marksFrom stretchEdges (
 abbrev pub stateWords : Reader → List ℕ
 stateWords s =
     wordOf (s .point .lat .0) ∷ wordOf (s .point .lon .0) ∷ low (s .place) ∷ low (s .moves) ∷ kindOf (s .run) ∷ low (nextOf (s .run)) ∷ low (endOf (s .run)) ∷ []
-
--- ---- words that stand in a list
-abbrev pub isWord : List ℕ → ℕ → ℕ → Bool
-isWord words at word = ltb at (length words) && eqb (getD words at 0) word
-
--- one after the other from a place on
-unfoldable pub isAt : List ℕ → ℕ → List ℕ → Bool
-isAt words at [] = true
-isAt words at (x ∷ xs) = isWord words at x && isAt words (at + 1) xs
