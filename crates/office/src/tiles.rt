@@ -1,9 +1,12 @@
-// The tile index of request Q-11, for firmware.
+// The tile index and the atlas, for C.
 ghost use mathlib.Core.{Path.{_≡_}, List.{[], _∷_}};
 ghost use lib.ListN.{length};
+ghost use Rattle.atlas.specs.Atlas.{atlasMade, isAtlasOf};
 ghost use Rattle.index.specs.{Index.{indexedOf, toldBuilt}, Own.{isIndexOf}, Through.{lookedThrough, lookedIndexed}, Tied.{tiedOf, toldTied}};
 ghost use Rattle.uskelzar.specs.Spoken.{saidOf, zonesValues, spoken, foundSpoken};
 ghost use Rattle.office.specs.Written.{lengthValue, noValues, indexSpoken};
+use atlas::build::build_atlas;
+use atlas::own::is_atlas;
 use index::build::Built;
 use index::build::build_index;
 use index::lookup::lookup_indexed;
@@ -63,6 +66,22 @@ pub extern "C" fn uskelzar_is_index(file: &[u8], index: &[u32], reply: &mut [u64
     ensures { λ r. ⌜ spoken r (now (reply .exit)) [] ≡ record { said = saidOf noValues (isIndexOf (now (file .entry)) (now (index .entry))); lent = [] } ⌝ }
 {
     speak(say_tied(is_index(file, index)), reply)
+}
+
+// Builds a file's atlas. Value: how many words are used.
+#[no_mangle]
+pub extern "C" fn uskelzar_build_atlas(file: &[u8], atlas: &mut [u32], reply: &mut [u64; 5]) -> u8
+    ensures { λ r. ⌜ spoken r (now (reply .exit)) (now (atlas .exit) ∷ []) ≡ indexSpoken (atlasMade (now (file .entry)) (length (now (atlas .entry)))) ⌝ }
+{
+    speak(say_built(build_atlas(file, atlas)), reply)
+}
+
+// Works a file's atlas out again: 0 where the words are those that `uskelzar_build_atlas`, lent as many, leaves for this file. No values.
+#[no_mangle]
+pub extern "C" fn uskelzar_is_atlas(file: &[u8], atlas: &[u32], reply: &mut [u64; 5]) -> u8
+    ensures { λ r. ⌜ spoken r (now (reply .exit)) [] ≡ record { said = saidOf noValues (isAtlasOf (now (file .entry)) (now (atlas .entry))); lent = [] } ⌝ }
+{
+    speak(say_tied(is_atlas(file, atlas)), reply)
 }
 
 // Looks a location up through an index that was held against the file. Values as for `uskelzar_lookup`.
