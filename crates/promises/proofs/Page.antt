@@ -4,6 +4,7 @@ use Prim.Native.Nat.{ℕ, _+_, _*_, _-_, _<_, _≤_}
 use lib.{Ieee.{Float}, IntN.{ℤ}, ListN.{length, getD, take}, Signed.{ltZ}}
 use mathlib.Core.{Bool.{Bool, true}, List.{List, [], _∷_}, Logic.{_↔_, _⊎_}, Path.{_≡_}}
 use mir.{Syntax.{w64}, Val.{SFits}}
+use Rattle.atlas.specs.{Atlas.{atlasMade, isAtlasOf}, Looked.{lookedAtlas}}
 use Rattle.border.specs.{Encoding.{encodingOf}, declared.place.{FixedLat.{FixedLat}, FixedLon.{FixedLon}}}
 use Rattle.builder.specs.{File.{Room, builtOf}, Yards.{Lent, Plan, Yard, planOf}}
 use Rattle.bundle.specs.{Bundle.{findOf}, First.{FoundAt}, declared.find.File.{File}}
@@ -34,6 +35,7 @@ use Rattle.uskelzar.specs.{Slips.{Printed, slipSpoken}, Spoken.{zonesValues, sp
 use Rattle.verdict.specs.Verdict.{judgedAt}
 use Rattle.writer.specs.WrittenAt.{WrittenAt}
 use Rattle.zones.specs.{Batch.{Many.{isTaken, fixesOf, lookedUpMany}, OneByOne.{oneByOne}}, Lookup.{lookedUp}, Unstopped.{lookedThroughAll}, declared.lookup.Zones.{Zones}}
+use Rattle.atlas.proofs.AtlasIsPlain as atlas
 use Rattle.bundle.proofs.Theorems as bundle
 use Rattle.calendar.proofs.Epoch as epoch
 use Rattle.calendar.proofs.SameCivil as calendar
@@ -72,7 +74,7 @@ pub many-is-one-by-one : (file : List ℕ) (lats lons : List Float) (asked : Boo
     → lookedUpMany file lats lons asked n room third ≡ oneByOne file asked n room third (fixesOf lats lons) 0 0 0 (zeros n) (zeros room) (zeros third)
 many-is-one-by-one = batch.many-is-one-by-one
 
--- ---- Does an index beside the file change an answer?
+-- ---- Does an index or an atlas beside the file change an answer?
 -- `is_index` says 0 of words exactly where building, lent as many, gives and leaves these for this file, whoever wrote them,
 pub is-index-exactly : (file words : List ℕ) → (isIndexOf file words ≡ given tt) ↔ ((used : ℕ) × (indexedOf file (length words) ≡ indexed (given used) words))
 is-index-exactly = index.is-index-exactly
@@ -81,6 +83,15 @@ is-index-exactly = index.is-index-exactly
 pub is-index-is-plain : (file words : List ℕ) → isIndexOf file words ≡ given tt → (location : Location) (asked : Bool) (n room : ℕ)
     → lookedIndexed file words location asked n room ≡ lookedUp file location asked n room
 is-index-is-plain file words e location asked n room = index.is-index-is-plain file words e location asked n room
+
+-- `is_atlas` says 0 of words exactly where building an atlas, lent as many, gives and leaves these for this file, whoever wrote them,
+pub is-atlas-exactly : (file words : List ℕ) → (isAtlasOf file words ≡ given tt) ↔ ((used : ℕ) × (atlasMade file (length words) ≡ indexed (given used) words))
+is-atlas-exactly = atlas.is-atlas-exactly
+
+-- and where it says 0 a lookup through them is the plain one.
+pub atlas-is-plain : (file words : List ℕ) → isAtlasOf file words ≡ given tt → (location : Location) (asked : Bool) (n room : ℕ)
+    → lookedAtlas file words location asked n room ≡ lookedUp file location asked n room
+atlas-is-plain = atlas.atlas-is-plain
 
 -- ---- When borders move from encoding version 0 to 1, what shows that a yard stays in its zone?
 -- One border, in whichever way it is written, gets one verdict and one distance at every fix.
