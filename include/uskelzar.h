@@ -1,11 +1,11 @@
 /* uskelzar.h: which zone holds a fix, by a PLB border file; a writer of borders, a builder of files, and one that holds yards which may still change; salvage of a damaged file;
  * local time, by a TZif file; dates; and the slip: from a receiver's sentence, a map and the zones' files to the line that is printed.
  *
- * For libuskelzar.a, which has what a printer calls (opening, lookups without an index, local and civil time, the slip and what it reads by), and liboffice.a, which has the rest: link the
+ * For libuskelzar.a, which has what a printer calls (opening, lookups, also through an atlas, local and civil time, the slip and what it reads by), and liboffice.a, which has the rest: link the
  * first, or both. What their functions answer, write and touch, and that they end, is proved for every input; of the calls of
  * a builder what they answer and write is proved for a state, lists and notes as its calls have left them, and for numbers
  * that do not fit the lists, and for all others what they touch, and that they end. What the archives call is seen to by a
- * test of them. What holds for all twenty-six:
+ * test of them. What holds for all twenty-nine:
  *
  * You bring    pointers that are not null, aligned for their type and good for their length: to read from, or where the
  *              buffer is lent (no const), to write to. Lent buffers and `reply` do not overlap each other or an input, and
@@ -370,6 +370,30 @@ uint8_t uskelzar_lookup_through(const uint8_t *file, size_t file_length, const u
 uint8_t uskelzar_lookup_indexed(const uint8_t *file, size_t file_length, const uint32_t *index, size_t index_length, float lat,
                                 float lon, bool asked, uint32_t *hits, size_t hits_length, uint8_t *text, size_t text_length,
                                 uint64_t reply[USKELZAR_REPLY_WORDS]);
+
+/* The atlas of a file: its index, and behind it marks along the borders of more than 256 edges, so that a lookup passes over stretches of 128 edges whose box does
+ * not hold the fix. As an index it needs a table that is in order. A border that can't be marked has none, and is read whole.
+ * Answers: how many words are used.
+ * atlas: the words, zeros behind them.
+ * Refuses: as uskelzar_build_index. */
+uint8_t uskelzar_build_atlas(const uint8_t *file, size_t file_length, uint32_t *atlas, size_t atlas_length,
+                             uint64_t reply[USKELZAR_REPLY_WORDS]);
+
+/* Whether words are the atlas of this file, whoever wrote them: each word is worked out again and compared, without room for them. They are those that
+ * uskelzar_build_atlas, lent as many, leaves for this file; through such words uskelzar_lookup_atlas is uskelzar_lookup.
+ * Answers: no value; 0 says that they are.
+ * Refuses: 36, for any other words and any other file. */
+uint8_t uskelzar_is_atlas(const uint8_t *file, size_t file_length, const uint32_t *atlas, size_t atlas_length,
+                          uint64_t reply[USKELZAR_REPLY_WORDS]);
+
+/* uskelzar_lookup through an atlas: it answers, writes and refuses what uskelzar_lookup does, where uskelzar_is_atlas said 0 of the words and this file. It does not
+ * ask that: any words are taken, and of other words the answer is theirs, and may miss a zone under end mark 1; nothing outside them is touched. With the safezone
+ * asked for, the borders of the tile's entries are read whole.
+ * Refuses: what open refuses but for its 18; then 16; then 36 where the words do not go with the file or are cut; then as lookup, and 36 at a number or a place in
+ *       the words that leads out of them. */
+uint8_t uskelzar_lookup_atlas(const uint8_t *file, size_t file_length, const uint32_t *atlas, size_t atlas_length, float lat,
+                              float lon, bool asked, uint32_t *hits, size_t hits_length, uint8_t *text, size_t text_length,
+                              uint64_t reply[USKELZAR_REPLY_WORDS]);
 
 /* The zone that holds a fix, as one text: of time zones TimezoneIdPrefix and TimezoneId joined ("Europe/" "Berlin"), of
  * countries Name; of the first match, and of fields with one name the last.

@@ -1,4 +1,4 @@
-//! The library's twenty-six functions over lent buffers (include/uskelzar.h has their contracts). It asks nothing of `std`.
+//! The library's twenty-nine functions over lent buffers (include/uskelzar.h has their contracts). It asks nothing of `std`.
 
 pub use crate::hit::HIT_WORDS;
 use crate::library;
@@ -147,6 +147,16 @@ pub fn index_tied(file: &[u8], index: &[u32]) -> Result<Reply, Refusal> {
     answered(|reply| library::uskelzar_index_tied(file, index, reply))
 }
 
+/// The words used; the atlas in the words.
+pub fn build_atlas(file: &[u8], atlas: &mut [u32]) -> Result<Reply, Refusal> {
+    answered(|reply| library::uskelzar_build_atlas(file, atlas, reply))
+}
+
+/// Whether words are those that `build_atlas`, lent as many, leaves for this file, whoever wrote them; no value.
+pub fn is_atlas(file: &[u8], atlas: &[u32]) -> Result<Reply, Refusal> {
+    answered(|reply| library::uskelzar_is_atlas(file, atlas, reply))
+}
+
 /// Lookup through an index in the library, without a comparison of header and table or with one.
 type Through = fn(&[u8], &[u32], f32, f32, bool, &mut [u32], &mut [u8], &mut Reply) -> u8;
 
@@ -169,6 +179,17 @@ pub fn lookup_through(
     text: &mut [u8],
 ) -> Result<Reply, Refusal> {
     through_by(library::uskelzar_lookup_through, (file, index), (lat, lon, asked), hits, text)
+}
+
+/// As `lookup`, through an atlas that `is_atlas` answered for.
+pub fn lookup_atlas(
+    file: &[u8],
+    atlas: &[u32],
+    (lat, lon, asked): (f32, f32, bool),
+    hits: &mut [u32],
+    text: &mut [u8],
+) -> Result<Reply, Refusal> {
+    through_by(library::uskelzar_lookup_atlas, (file, atlas), (lat, lon, asked), hits, text)
 }
 
 /// `index_tied`, then `lookup_through`.

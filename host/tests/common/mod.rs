@@ -141,6 +141,20 @@ impl Buffers {
         })
     }
 
+    /// Through an atlas.
+    pub fn lookup_atlas(
+        &mut self,
+        (file, atlas): (&[u8], &[u32]),
+        fix: Fix,
+        words: usize,
+        bytes: usize,
+        edge: Edge,
+    ) -> Outcome {
+        self.call(words, bytes, edge, |hits, text| {
+            raw::lookup_atlas(file, atlas, (fix.lat, fix.lon, fix.asked), hits, text)
+        })
+    }
+
     pub fn simple(
         &mut self,
         file: &[u8],
