@@ -36,7 +36,7 @@ pub fn read(path: &Path) -> Result<Day, Fault> {
     let day = day::read(path)?;
     let own = day.names.len().saturating_sub(HOUR.len() + WAYS.len());
     if !day.names.iter().skip(own).map(String::as_str).eq(HOUR.into_iter().chain(WAYS)) {
-        return Err(Fault::file(path, "has not the columns of stamped slips: give what `depot stamp day.csv -o slips.csv MAP TZDIR` wrote"));
+        return Err(Fault::file(path, "has not the columns of stamped slips: give what `depot stamp day.csv -o slips.csv MAP ZONES` wrote"));
     }
     let slip = |(line, asked): (&StringRecord, Result<Asked, String>)| slip_of(line, own, fix_of(asked));
     Ok(Day { names: day.names.iter().take(own).cloned().collect(), slips: day.lines.iter().zip(day.asked()).map(slip).collect() })
