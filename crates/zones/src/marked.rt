@@ -52,7 +52,17 @@ pub fn lookup_marked(
         ≡ lookedMarked (now (file .entry)) head location asked (now (records .entry)) (now (numbers .entry)) (now (marks .entry)) (length (now (hits .entry))) (length (now (text .entry))) ⌝ }
 {
     zero(text);
-    let zones = match look_marked(file, head, location, asked, records, numbers, marks, hits, text) {
+    let zones = match look_marked(
+        file,
+        head,
+        location,
+        asked,
+        records,
+        numbers,
+        marks,
+        hits,
+        text,
+    ) {
         Looked::Zones(zones) => zones,
         Looked::Refused(why) => {
             zero_both(hits, text);
