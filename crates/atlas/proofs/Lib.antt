@@ -11,3 +11,5 @@ pub mod AtlasIsPlain
 pub mod Parting
 pub mod Behind
 pub mod Owned
+pub mod Theorems
+mod WorkedAtlas
