@@ -1,5 +1,4 @@
-# Sourced by every script that proves something: how programs and archive are proved, built and run, each once and one script at a time; and, for zone and stamp,
-# how a person's words become the bytes of a proved program. Needs $root, the repository.
+# Sourced by every script that proves something: how programs and archives are proved, built and run, each once and one script at a time. Needs $root, the repository.
 # shellcheck shell=sh disable=SC2034,SC2154
 LC_ALL=C
 export LC_ALL
@@ -8,52 +7,23 @@ name=${0##*/}
 say() { printf '%s: %s\n' "$name" "$*" >&2; }
 die() { say "$@"; exit 2; }
 
-# Refusals 1 to 18 of the program `zone`, in words.
-refusal_words='over 65536 bytes,file too short,not a PLB file,unknown table type,unknown version,bad field name,bad notice,no first size,no second size,no third size,length mismatch,number of more than ten bytes,number out of range,string past the end,bad field value,bad precision,too many hits,too much text'
-
-# A decimal number as the four bytes of the nearest f32, low byte first, each as \0ooo.
-f32_bytes() {
-    awk -v text="$1" 'BEGIN {
-        if (text !~ /^[-+]?([0-9]+\.?[0-9]*|\.[0-9]+)$/) exit 1
-        sign = text ~ /^-/
-        size = text + 0
-        if (size < 0) size = -size
-        bits = 0
-        if (size > 0) {
-            exponent = 0
-            for (lead = size; lead >= 2 && exponent < 128; lead /= 2) exponent++
-            for (; lead < 1 && exponent > -126; lead *= 2) exponent--
-            scaled = lead * 8388608
-            digits = int(scaled)
-            rest = scaled - digits
-            if (rest > 0.5 || (rest == 0.5 && digits % 2)) digits++
-            bits = (exponent + 126) * 8388608 + digits
-            if (bits > 2139095040) bits = 2139095040
-        }
-        for (i = 0; i < 4; i++) {
-            if (i == 3 && sign) bits += 128
-            printf "\\0%03o", bits % 256
-            bits = int(bits / 256)
-        }
-    }'
-}
-
-# degrees TEXT: the bytes of a latitude or longitude.
-degrees() { f32_bytes "$1" || die "$1 is not a decimal number of degrees"; }
-
 # ---- proving
 
 # crates_of NAME..: these crates and all that they are built from, in the order of crates.txt; the kit's own are not among them.
 crates_of() {
-    awk -v names="$*" '
-    { crate = $1; sub(/:$/, "", crate); order[++n] = crate; for (i = 2; i <= NF; i++) needs[crate] = needs[crate] " " $i }
-    function take(crate,    i, list, many) {
-        if (crate in taken) return
-        taken[crate]
-        many = split(needs[crate], list, " ")
-        for (i = 1; i <= many; i++) take(list[i])
-    }
-    END { many = split(names, list, " "); for (i = 1; i <= many; i++) take(list[i]); for (i = 1; i <= n; i++) if (order[i] in taken) print order[i] }' "$root/crates.txt"
+    wanted=" $* " before=''
+    until [ "$wanted" = "$before" ]; do
+        before=$wanted
+        while read -r crate needs; do
+            case $wanted in *" ${crate%:} "*) ;; *) continue ;; esac
+            for part in $needs; do
+                case $wanted in *" $part "*) ;; *) wanted="$wanted$part " ;; esac
+            done
+        done <"$root/crates.txt"
+    done
+    while read -r crate needs; do
+        case $wanted in *" ${crate%:} "*) printf '%s\n' "${crate%:}" ;; esac
+    done <"$root/crates.txt"
 }
 
 # sum_of NAME: one number for the kit and all sources that this crate is built from.
@@ -104,9 +74,10 @@ lock() {
 
 # costs_of CRATE..: "CRATE:SECONDS" for each, by the table of docs/CHECKS.md; 30 for one that it does not have.
 costs_of() {
-    awk -F '|' -v names="$*" '
-    $2 ~ /^ [a-z_]+ $/ && $6 ~ /^ [0-9,]+ $/ { crate = $2; gsub(/ /, "", crate); seconds = $6; gsub(/[ ,]/, "", seconds); if (!(crate in known)) known[crate] = seconds }
-    END { n = split(names, list, " "); for (i = 1; i <= n; i++) printf "%s:%d ", list[i], list[i] in known ? known[list[i]] : 30 }' "$root/docs/CHECKS.md"
+    for crate; do
+        seconds=$(sed -n "s/^| $crate |[^|]*|[^|]*|[^|]*| \([0-9,]*\) |.*/\1/p" "$root/docs/CHECKS.md" | head -n 1 | tr -d ,)
+        printf '%s:%s ' "$crate" "${seconds:-30}"
+    done
 }
 
 # minutes SECONDS: of work, on as many processors as rt takes
@@ -186,11 +157,17 @@ prove() {
     [ -x "$emulator" ] || emulator=''
 }
 
-# prove_archive: target/staticlib/libuskelzar.a, for C and Rust to link.
-prove_archive() { ensure staticlib uskelzar:target/staticlib/libuskelzar.a || exit 2; }
+# prove_archive [CRATE]: for C and Rust to link, target/staticlib/libuskelzar.a, the printer's functions, and liboffice.a, the others; or another crate's archive.
+prove_archive() {
+    for each in ${1-uskelzar office}; do ensure staticlib "$each:target/staticlib/lib$each.a" || exit 2; done
+}
 
 # prove_libraries CRATE..: proved, with their folders in target/rlib. rt itself looks whether anything has changed.
 prove_libraries() { (lock; prove_by check "$@") || exit 2; }
 
-# run PROGRAM: as rt runs it, by the kit's loader, and on another processor than x86-64 by its emulator.
-run() { ${emulator:+"$emulator"} "$tools/lib/ld-linux-x86-64.so.2" --library-path "$tools/lib" "$root/target/bin/$1"; }
+# run PROGRAM [WORD..]: as rt runs it, by the kit's loader, and on another processor than x86-64 by its emulator.
+run() {
+    program=$root/target/bin/$1
+    shift
+    ${emulator:+"$emulator"} "$tools/lib/ld-linux-x86-64.so.2" --library-path "$tools/lib" "$program" "$@"
+}

@@ -3,6 +3,7 @@ fn main() {
     let target = concat!(env!("CARGO_MANIFEST_DIR"), "/../target");
     for (folder, name) in [
         ("staticlib", "uskelzar"),
+        ("staticlib", "office"),
         ("bench/counted/target/staticlib", "counted"),
     ] {
         println!("cargo:rustc-link-search=native={target}/{folder}");

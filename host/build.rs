@@ -1,8 +1,11 @@
-// Links libuskelzar.a, from ../target/staticlib or the folder that USKELZAR_LIB names. Where there is none, says so in words and stops: the linker would say it in its own.
+// Links libuskelzar.a, the printer's functions, and liboffice.a, the others, from ../target/staticlib or the folder that USKELZAR_LIB names. Where one is missing, says so in words and stops: the
+// linker would say it in its own.
 use std::env;
 use std::path::{Path, PathBuf};
 
-/// Where it is not this, the archive can't be linked: it holds x86-64 code for Linux.
+const ARCHIVES: [&str; 2] = ["uskelzar", "office"];
+
+/// Where it is not this, the archives can't be linked: they hold x86-64 code for Linux.
 const TARGET: [(&str, &str); 2] = [("CARGO_CFG_TARGET_ARCH", "x86_64"), ("CARGO_CFG_TARGET_OS", "linux")];
 
 fn stop(words: &str) -> ! {
@@ -25,14 +28,15 @@ fn check_target() {
     }
 }
 
-fn check_archive(folder: &Path) {
-    let archive = folder.join("libuskelzar.a");
-    let named = env::var_os("USKELZAR_LIB").is_some();
-    let advice = if named { "USKELZAR_LIB names that folder: name the one that has it" } else { "write it with `rt staticlib uskelzar` in the repository's root, or name the folder of one that is there, such as a release's lib, in USKELZAR_LIB" };
+fn check_archive(archive: &Path, name: &str) {
+    let advice = match env::var_os("USKELZAR_LIB") {
+        Some(_) => "USKELZAR_LIB names that folder: name the one that has it".to_string(),
+        None => format!("write it with `rt staticlib {name}` in the repository's root, or name the folder of one that is there, such as a release's lib, in USKELZAR_LIB"),
+    };
     if !archive.is_file() {
         stop(&format!("there is no {}: {advice}", archive.display()));
     }
-    let bytes = std::fs::read(&archive).unwrap_or_else(|error| stop(&format!("{}: {error}", archive.display())));
+    let bytes = std::fs::read(archive).unwrap_or_else(|error| stop(&format!("{}: {error}", archive.display())));
     if !bytes.starts_with(b"!<arch>\n") {
         stop(&format!("{} is no archive: {advice}", archive.display()));
     }
@@ -42,11 +46,17 @@ fn main() {
     let beside = PathBuf::from(env!("CARGO_MANIFEST_DIR")).join("../target/staticlib");
     let folder = env::var_os("USKELZAR_LIB").map_or(beside, PathBuf::from);
     println!("cargo:rerun-if-env-changed=USKELZAR_LIB");
-    println!("cargo:rerun-if-changed={}", folder.join("libuskelzar.a").display());
-    if is_asked() {
+    let asked = is_asked();
+    if asked {
         check_target();
-        check_archive(&folder);
     }
     println!("cargo:rustc-link-search=native={}", folder.display());
-    println!("cargo:rustc-link-lib=static=uskelzar");
+    for name in ARCHIVES {
+        let archive = folder.join(format!("lib{name}.a"));
+        println!("cargo:rerun-if-changed={}", archive.display());
+        if asked {
+            check_archive(&archive, name);
+        }
+        println!("cargo:rustc-link-lib=static={name}");
+    }
 }

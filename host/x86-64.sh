@@ -25,14 +25,22 @@ else
     export CARGO_TARGET_X86_64_UNKNOWN_LINUX_GNU_RUSTFLAGS="-L native=$geos -C link-arg=-Wl,-rpath-link,$geos"
 fi
 
-# Proves and writes libuskelzar.a, unless USKELZAR_LIB names a folder that has it.
+# Proves and writes libuskelzar.a, the printer's functions, and liboffice.a, the others, unless USKELZAR_LIB names a folder that has them.
 build_archive() {
     if [ -z "${USKELZAR_LIB-}" ]; then
         command -v rt >/dev/null || stop "rt is missing: the Rattle kit, or an archive's folder in USKELZAR_LIB"
         prove_archive
     fi
-    archive=${USKELZAR_LIB:-$root/target/staticlib}/libuskelzar.a
-    [ -f "$archive" ] || stop "no archive $archive"
+    archive=${USKELZAR_LIB:-$root/target/staticlib}/libuskelzar.a office=${USKELZAR_LIB:-$root/target/staticlib}/liboffice.a
+    for each in "$archive" "$office"; do [ -f "$each" ] || stop "no archive $each"; done
+}
+
+# build_stamp FILE: the proved program `stamp`, with the C main that has its exit status.
+build_stamp() {
+    prove_archive shell
+    rattle=$(rt doc)
+    "$cc" -std=c99 -Wall -Wextra -Wconversion -Werror -pedantic -O2 -o "$1" "$root/host/stamp.c" "$root/target/staticlib/libshell.a" "${rattle%/docs/*}/lib/libos_c.a" ||
+        stop "host/stamp.c was not built"
 }
 
 # What counting takes besides.

@@ -1,10 +1,11 @@
 /* uskelzar.h: which zone holds a fix, by a PLB border file; a writer of borders, a builder of files, and one that holds yards which may still change; salvage of a damaged file;
- * local time, by a TZif file; and dates.
+ * local time, by a TZif file; dates; and the slip: from a receiver's sentence, a map and the zones' files to the line that is printed.
  *
- * For libuskelzar.a. What its functions answer, write and touch, and that they end, is proved for every input; of the calls of
+ * For libuskelzar.a, which has what a printer calls (opening, lookups, also through an atlas, local and civil time, the slip and what it reads by), and liboffice.a, which has the rest: link the
+ * first, or both. What their functions answer, write and touch, and that they end, is proved for every input; of the calls of
  * a builder what they answer and write is proved for a state, lists and notes as its calls have left them, and for numbers
- * that do not fit the lists, and for all others what they touch, and that they end. What the library calls is seen to by a
- * test of the archive. What holds for all twenty-two:
+ * that do not fit the lists, and for all others what they touch, and that they end. What the archives call is seen to by a
+ * test of them. What holds for all twenty-nine:
  *
  * You bring    pointers that are not null, aligned for their type and good for their length: to read from, or where the
  *              buffer is lent (no const), to write to. Lent buffers and `reply` do not overlap each other or an input, and
@@ -28,8 +29,8 @@
 #include <stdint.h>
 
 /* ---- the release of this header, and of the archive that goes with it */
-#define USKELZAR_RELEASE "0.6.0"
-#define USKELZAR_RELEASE_NUMBER 600 /* major * 10,000 + minor * 100 + patch */
+#define USKELZAR_RELEASE "0.7.0"
+#define USKELZAR_RELEASE_NUMBER 700 /* major * 10,000 + minor * 100 + patch */
 
 #ifdef __cplusplus
 extern "C" {
@@ -55,7 +56,7 @@ enum uskelzar_refusal {
     USKELZAR_FIELD_VALUE = 15,        /* bad field value; with a cause */
     USKELZAR_PRECISION = 16,          /* precision 0 or above 32, at lookup only */
     USKELZAR_TOO_MANY_HITS = 17,      /* more hits than slots */
-    USKELZAR_TEXT_ROOM = 18,          /* text doesn't fit */
+    USKELZAR_TEXT_ROOM = 18,          /* text doesn't fit; a slip's line too, whose length is then in reply[1] */
     USKELZAR_BORDER_POINTS = 19,      /* no points, over 65,535, or the two lists differ in length */
     USKELZAR_COORDINATE = 20,         /* a coordinate beyond +-1,073,741,823 */
     USKELZAR_REPEATED_POINT = 21,     /* a point equal to the one before it (the last may equal the first) */
@@ -97,12 +98,23 @@ enum uskelzar_refusal {
     USKELZAR_TZIF_REST = 59,          /* bytes behind the end: the first of them */
     USKELZAR_TZIF_STRING = 60,        /* no TZ string: its fault; or it contradicts the last transition: the newline before it */
     USKELZAR_TZIF_YEAR = 61,          /* the rule's instant (local time) or the clock (civil time) is outside the years 1 to 9999; detail: 0 */
-    /* what no function here says, and whoever stamps a slip must: see below */
-    USKELZAR_NO_PLACE = 84,           /* latitude not from -90 to 90 or longitude not from -180 to 180; NaN is neither */
-    USKELZAR_LEAP_SECONDS = 91        /* the zone's file counts leap seconds: its scale is not the instant's */
+    /* of a slip: its request, its map, its zones and their hours */
+    USKELZAR_NOT_REQUEST = 80,        /* neither a sentence nor a plain line; detail: the place of the field or word */
+    USKELZAR_NO_FIX = 81,             /* the receiver has no fix, or one that is not measured */
+    USKELZAR_CHECKSUM = 82,           /* a sentence whose checksum is wrong; detail: where its `*` is looked for */
+    USKELZAR_OTHER_SENTENCE = 83,     /* a sentence, but not RMC */
+    USKELZAR_NO_PLACE = 84,           /* a number, date or time out of its range; latitude not from -90 to 90, longitude not from -180 to 180, NaN; detail: the place */
+    USKELZAR_NOT_WHOLE = 85,          /* the search of the map was not whole; detail: its mark */
+    USKELZAR_NO_ZONE = 86,            /* no zone holds the fix */
+    USKELZAR_NO_NAMES = 87,           /* the map is not one of time zones, or has not both names */
+    USKELZAR_NO_FILE = 88,            /* no file in the bundle under the zone's name */
+    USKELZAR_BUNDLE = 89,             /* the bundle of zones is damaged; detail: the place */
+    USKELZAR_UNKNOWN = 90,            /* the zone's file says nothing of the instant */
+    USKELZAR_LEAP_SECONDS = 91,       /* the zone's file counts leap seconds: its scale is not the instant's */
+    USKELZAR_HOURS_DIFFER = 92        /* zones hold the fix whose hours differ */
 };
 
-/* reply[0] of a refusal: which of the two causes, for 6, 7 and 15; otherwise none */
+/* reply[0] of a refusal: which of the two causes, for 6, 7 and 15; of a slip whose zone is refused, which match it was; otherwise none */
 enum uskelzar_cause { USKELZAR_CAUSE_NONE = 0, USKELZAR_CAUSE_ENCODING = 1, USKELZAR_CAUSE_UTF8 = 2 };
 
 /* ---- how a search ended. Print a zone only where it was whole.
@@ -185,6 +197,20 @@ enum {
 enum {
     USKELZAR_SCALE_UNIX = 1,          /* the instant was read as UNIX time */
     USKELZAR_SCALE_OWN = 2            /* it was read on the file's own scale, which counts leap seconds */
+};
+enum {
+    USKELZAR_REQUEST_LAT = 0,         /* the bits of a float */
+    USKELZAR_REQUEST_LON = 1,         /* the bits of a float */
+    USKELZAR_REQUEST_INSTANT = 2      /* seconds from 1970: the bits of an int64_t */
+};
+enum {
+    USKELZAR_FOUND_START = 0,         /* where a zone's file begins in its bundle */
+    USKELZAR_FOUND_LENGTH = 1         /* its bytes */
+};
+enum {
+    USKELZAR_SLIP_LENGTH = 0,         /* bytes of the line */
+    USKELZAR_SLIP_MATCHES = 1,
+    USKELZAR_SLIP_OFFSET = 2          /* seconds east of UT: the bits of an int32_t */
 };
 
 /* ---- a match in `hits`: four words. A list of n words has room for n / 4 hits. */
@@ -344,6 +370,30 @@ uint8_t uskelzar_lookup_through(const uint8_t *file, size_t file_length, const u
 uint8_t uskelzar_lookup_indexed(const uint8_t *file, size_t file_length, const uint32_t *index, size_t index_length, float lat,
                                 float lon, bool asked, uint32_t *hits, size_t hits_length, uint8_t *text, size_t text_length,
                                 uint64_t reply[USKELZAR_REPLY_WORDS]);
+
+/* The atlas of a file: its index, and behind it marks along the borders of more than 256 edges, so that a lookup passes over stretches of 128 edges whose box does
+ * not hold the fix. As an index it needs a table that is in order. A border that can't be marked has none, and is read whole.
+ * Answers: how many words are used.
+ * atlas: the words, zeros behind them.
+ * Refuses: as uskelzar_build_index. */
+uint8_t uskelzar_build_atlas(const uint8_t *file, size_t file_length, uint32_t *atlas, size_t atlas_length,
+                             uint64_t reply[USKELZAR_REPLY_WORDS]);
+
+/* Whether words are the atlas of this file, whoever wrote them: each word is worked out again and compared, without room for them. They are those that
+ * uskelzar_build_atlas, lent as many, leaves for this file; through such words uskelzar_lookup_atlas is uskelzar_lookup.
+ * Answers: no value; 0 says that they are.
+ * Refuses: 36, for any other words and any other file. */
+uint8_t uskelzar_is_atlas(const uint8_t *file, size_t file_length, const uint32_t *atlas, size_t atlas_length,
+                          uint64_t reply[USKELZAR_REPLY_WORDS]);
+
+/* uskelzar_lookup through an atlas: it answers, writes and refuses what uskelzar_lookup does, where uskelzar_is_atlas said 0 of the words and this file. It does not
+ * ask that: any words are taken, and of other words the answer is theirs, and may miss a zone under end mark 1; nothing outside them is touched. With the safezone
+ * asked for, the borders of the tile's entries are read whole.
+ * Refuses: what open refuses but for its 18; then 16; then 36 where the words do not go with the file or are cut; then as lookup, and 36 at a number or a place in
+ *       the words that leads out of them. */
+uint8_t uskelzar_lookup_atlas(const uint8_t *file, size_t file_length, const uint32_t *atlas, size_t atlas_length, float lat,
+                              float lon, bool asked, uint32_t *hits, size_t hits_length, uint8_t *text, size_t text_length,
+                              uint64_t reply[USKELZAR_REPLY_WORDS]);
 
 /* The zone that holds a fix, as one text: of time zones TimezoneIdPrefix and TimezoneId joined ("Europe/" "Berlin"), of
  * countries Name; of the first match, and of fields with one name the last.
@@ -520,11 +570,57 @@ uint8_t uskelzar_local_time(const uint8_t *file, size_t file_length, int64_t ins
  * Refuses: 61, with seven zeros, where the clock is outside the years 1 to 9999. */
 uint8_t uskelzar_civil_time(int64_t instant, int32_t offset, uint64_t reply[USKELZAR_CIVIL_WORDS]);
 
-/* To stamp a slip: refuse a fix that is no place on the globe (84: a lookup answers for any two numbers, NaN too). uskelzar_simple_lookup gives
- * the zone's name, to be used only under USKELZAR_END_WHOLE; find the TZif file of that name and lend it to uskelzar_local_time. Go on only
- * under USKELZAR_SCALE_UNIX: a clock that is shown at an instant of another scale is wrong by the leap seconds between them, so that such a file
- * is refused (91). The offset goes to uskelzar_civil_time. The library opens no file, so the name is checked by whoever makes a path of it.
- * host/example-stamp.c has every way of not stamping. */
+/* What a request means. A request is one line of at most 255 bytes; one line end (LF, CR LF or CR) at its end is no part of it. It is a sentence of a receiver, which begins with `$`, or a
+ * plain line:
+ *       $GNRMC,115959.00,A,5231.200000,N,01324.000000,E,0.0,0.0,010726,,,A*41
+ *       52.52 13.40 2026-07-01T11:59:59Z
+ *       52.52 13.40 1782907199
+ * A sentence is RMC of NMEA 0183 of any talker, with a checksum. Asked in this order: checksum; address, two of A to Z and 0 to 9, and RMC; ten fields at least; status A; mode, if there is a
+ *       field 12: none, A, D, F, P or R; time hhmmss, with a point and digits behind it or without, which are dropped; latitude ddmm, with a point and one to nine digits or without, then N or S;
+ *       longitude dddmm likewise, then E or W; date ddmmyy, of 1980 to 2079. Hours are below 24, minutes and seconds below 60, degrees at most 90 and 180. Other fields are not looked at.
+ * A plain line has three words, blanks or tabs between them: latitude and longitude, each a sign or none, one to three digits, and a point and one to nine digits or none, at most 90 and 180; the
+ *       instant as seconds from 1970, a sign or none and one to nineteen digits, or as a date and time in UTC of the years 1 to 9999.
+ * Answers: the bits of the floats nearest to the latitude and the longitude that it spells, each rounded once, and +0 for every zero; the bits of the instant, on a scale without leap seconds.
+ * Refuses: 80 where it is empty or too long (detail 0, 255). A sentence: 82 (detail: where its `*` is looked for, the length less 3 or 0); 83 for another address of two to eight such letters and
+ *       digits, which is no fault in a receiver's stream, and else 80; 80 for too few fields (detail: the `*`); 81 for status V, 80 for any other but A; 81 for another mode; then field by field 80 for
+ *       a field that has not its form and 84 for one out of its range, before the next is looked at. A plain line: the same word by word, and 80 last for what stands behind the third. Their detail is
+ *       the place of the field's or word's first byte, that of the line's end where a word is missing; of 81 and 83 it is 0. */
+uint8_t uskelzar_request(const uint8_t *request, size_t request_length, uint64_t reply[USKELZAR_REPLY_WORDS]);
+
+/* A zone's TZif file in a bundle of them, which has the form of Android's file `tzdata` (docs/FORMAT.md), by the zone's name.
+ * Answers: where the file begins, counted from the bundle's first byte, and its length: by the first entry whose 40 bytes are the name and then zeros. The file itself is not looked at.
+ * Refuses: 89 for the head, in this order (detail): under 24 bytes, or another beginning than "tzdata" (0); byte 11 not 0 (11); the index begins before byte 24 (12); the data before the index, or
+ *       the index is no whole number of entries (16); the data ends before it begins, or behind the bundle (20); a number above 2^31 - 1 in its turn. Then 88 where no entry has the name; 89 where
+ *       the entry that has it does not lie in the data (detail: the entry's first byte). Other entries are not looked at. */
+uint8_t uskelzar_bundle_find(const uint8_t *bundle, size_t bundle_length, const uint8_t *name, size_t name_length,
+                             uint64_t reply[USKELZAR_REPLY_WORDS]);
+
+/* The slip that a request asks for, by a map of time zones and a bundle of their TZif files: the line to print.
+ *       Wed 2026-07-01 13:59:59 +02:00 CEST Europe/Berlin
+ * Weekday, date, time, offset (`-` below zero, else `+`; with seconds where it has some), and of each different zone, in the order of the matches, the abbreviation and the name, ", " between one
+ * zone and the next; all of it ASCII: a byte of abbreviation or name outside 33 to 126 is a `?`. A zone's name is its TimezoneIdPrefix and its TimezoneId, joined; names are compared before that.
+ * request: as for uskelzar_request.
+ * map:     a file of type 'T' to look up in; it is looked up without the safezone. zones: a bundle, as for uskelzar_bundle_find.
+ * Answers: the line's length, how many matches there are, the offset's bits.
+ * hits, text: as uskelzar_lookup leaves them, so that a slip can be traced to its entries.
+ * out:     the line, without a line end or a zero byte (zeros stand behind it if there is room).
+ * Refuses: what uskelzar_request refuses; what uskelzar_lookup refuses, with its cause and detail; 85 where the search was not whole (detail: the end mark); 86 where nothing matches; 87 where the
+ *       map is of another type or has not both names. Then match by match, with its number in reply[0], from 1, and 255 from the 255th on: 89 and 88 as uskelzar_bundle_find; of the zone's file 1 and
+ *       40 to 60, places in that file; 91 where it counts leap seconds, so that its scale is not the instant's; 61 where its rule would answer outside the years 1 to 9999; 90 where local time is not
+ *       known; 61 where the clock is outside those years. Then 92 where the matches have not all one offset, and so one date and time; 18 last, for the line (detail: its length; of the lookup's it is
+ *       0). Not stamped, hits, text and out are zero, whatever the lookup had answered. */
+uint8_t uskelzar_slip(const uint8_t *request, size_t request_length, const uint8_t *map, size_t map_length,
+                      const uint8_t *zones, size_t zones_length, uint32_t *hits, size_t hits_length, uint8_t *text,
+                      size_t text_length, uint8_t *out, size_t out_length, uint64_t reply[USKELZAR_REPLY_WORDS]);
+
+/* The slip at a fix, in degrees, and an instant, in seconds from 1970: what uskelzar_slip answers, writes and refuses for a request that means these.
+ * Refuses: in the place of the request's refusals 84 (detail 0), where the latitude is not from -90 to 90 or the longitude not from -180 to 180; NaN is neither. */
+uint8_t uskelzar_slip_at(float lat, float lon, int64_t instant, const uint8_t *map, size_t map_length, const uint8_t *zones,
+                         size_t zones_length, uint32_t *hits, size_t hits_length, uint8_t *text, size_t text_length,
+                         uint8_t *out, size_t out_length, uint64_t reply[USKELZAR_REPLY_WORDS]);
+
+/* Whoever tells an hour by uskelzar_lookup, uskelzar_local_time and uskelzar_civil_time without a slip asks by himself what a slip asks: a fix on the globe, USKELZAR_END_WHOLE,
+ * USKELZAR_SCALE_UNIX (a clock shown at an instant of another scale is wrong by the leap seconds between them), and one offset of all matches. */
 
 /* ---- the same with fewer words: for each function above of nine parameters or more, a form of it that takes structs.
  * A struct has the lists that belong together: pointers and lengths and nothing else, under the names that the functions above give them, so that what is said there of a
@@ -612,6 +708,40 @@ static inline uint8_t uskelzar_file_simple_lookup(const struct uskelzar_file *ma
                                   found->text_length, reply);
 }
 
+/* What a printer goes by: a map of time zones, and the bundle of their TZif files. */
+struct uskelzar_printer {
+    const uint8_t *map;
+    size_t map_length;
+    const uint8_t *zones;
+    size_t zones_length;
+};
+
+/* Where the bytes go that are written: a slip's line, a border, or a file. Of an add and a replacement it is a list to work in. */
+struct uskelzar_output {
+    uint8_t *out;
+    size_t out_length;
+};
+
+/* uskelzar_slip: the line that a request asks for. */
+static inline uint8_t uskelzar_printer_slip(const struct uskelzar_printer *printer, const uint8_t *request, size_t request_length,
+                                            const struct uskelzar_matches *found, const struct uskelzar_output *output,
+                                            uint64_t reply[USKELZAR_REPLY_WORDS])
+{
+    return uskelzar_slip(request, request_length, printer->map, printer->map_length, printer->zones, printer->zones_length,
+                         found->hits, found->hits_length, found->text, found->text_length, output->out, output->out_length,
+                         reply);
+}
+
+/* uskelzar_slip_at: the line at a fix and an instant. */
+static inline uint8_t uskelzar_printer_slip_at(const struct uskelzar_printer *printer, float lat, float lon, int64_t instant,
+                                               const struct uskelzar_matches *found, const struct uskelzar_output *output,
+                                               uint64_t reply[USKELZAR_REPLY_WORDS])
+{
+    return uskelzar_slip_at(lat, lon, instant, printer->map, printer->map_length, printer->zones, printer->zones_length,
+                            found->hits, found->hits_length, found->text, found->text_length, output->out, output->out_length,
+                            reply);
+}
+
 /* A border: its points on the file's grid, and the words of its pieces. With none of these `pieces_length` is 0, and `pieces` still not null. */
 struct uskelzar_border {
     const int32_t *lats;
@@ -620,12 +750,6 @@ struct uskelzar_border {
     size_t lons_length;
     const uint32_t *pieces;
     size_t pieces_length;
-};
-
-/* Where the bytes go that are written: a border, or a file. Of an add and a replacement it is a list to work in. */
-struct uskelzar_output {
-    uint8_t *out;
-    size_t out_length;
 };
 
 /* uskelzar_write_border: the bytes of a border. */

@@ -25,6 +25,8 @@ pub enum Way {
     /// Through an index, without a comparison and with one.
     Through,
     Indexed,
+    /// Through an atlas.
+    Atlas,
 }
 
 /// The words `MAP CITIES QUESTION ROUNDS`. A question may end in `:N`, so many fixes a call, in `:through` or in `:indexed`. In 0 rounds each city is
@@ -78,6 +80,7 @@ impl Task {
         let (question, way) = match question.split_once(':') {
             Some((question, "through")) => (question, Way::Through),
             Some((question, "indexed")) => (question, Way::Indexed),
+            Some((question, "atlas")) => (question, Way::Atlas),
             Some((question, fixes)) => (question, Way::Together(fixes.parse().expect("fixes"))),
             None => (&question[..], Way::Plain),
         };

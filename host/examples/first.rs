@@ -1,11 +1,10 @@
-//! first: the hour of a slip. README.md shows it.
-use uskelzar::{Map, Printer};
+//! first: the line of a slip. README.md shows it.
+use uskelzar::{Bundle, Map, Printer};
 
 fn main() -> Result<(), Box<dyn std::error::Error>> {
-    let map = Map::read("examples/world-9.plb")?;
-    let printer = Printer::new(map, "/usr/share/zoneinfo");
+    let printer = Printer::new(Map::read("examples/world-9.plb")?, Bundle::read("examples/zones.tzdata")?);
     match printer.stamp(52.52, 13.40, 1_782_907_199) {
-        Ok(hours) => println!("{}", hours[0]),
+        Ok(slip) => println!("{slip}"),
         Err(why) => println!("not stamped: {why}"),
     }
     Ok(())

@@ -1,35 +1,31 @@
-//! stamp FILE TZDIR LAT LON INSTANT: the local hour that a slip carries, a line for each zone that holds the fix, or why it carries none.
-//! Exit status: 0 stamped, 1 not stamped, 2 not run. Where one zone holds the fix example-stamp.c prints the same hour.
+//! stamp MAP ZONES REQUEST: the slip that a request asks for, or why there is none: number, cause, detail, words. ZONES is a bundle, or a folder of TZif files, which becomes one.
+//! Exit status: 0 stamped, 1 not stamped, 2 not run. example-stamp.c prints the same, but for the words.
 
+use std::path::Path;
 use std::process::ExitCode;
-use uskelzar::{Map, Printer};
+use uskelzar::{Bundle, Error, Map, Printer};
 
-/// A decimal number; `NaN`, `inf` and exponents are none.
-fn degrees(text: &str) -> Option<f32> {
-    let decimal = |letter: char| letter.is_ascii_digit() || "+-.".contains(letter);
-    text.parse().ok().filter(|_| text.chars().all(decimal))
+fn printer(map: &str, zones: &str) -> Result<Printer<Vec<u8>>, Error> {
+    let zones = if Path::new(zones).is_dir() { Bundle::of_folder(zones)?.bundle } else { Bundle::read(zones)? };
+    Ok(Printer::new(Map::read(map)?, zones))
 }
 
 fn main() -> ExitCode {
     let words: Vec<String> = std::env::args().skip(1).collect();
-    let [path, folder, lat, lon, instant] = words.as_slice() else {
-        eprintln!("usage: stamp FILE TZDIR LAT LON INSTANT");
+    let [map, zones, request] = words.as_slice() else {
+        eprintln!("usage: stamp MAP ZONES REQUEST");
         return ExitCode::from(2);
     };
-    let (Some(lat), Some(lon), Ok(instant)) = (degrees(lat), degrees(lon), instant.parse()) else {
-        eprintln!("stamp: {lat} {lon} {instant} are not two coordinates and an instant");
-        return ExitCode::from(2);
-    };
-    let map = match Map::read(path) {
-        Ok(map) => map,
+    let printer = match printer(map, zones) {
+        Ok(printer) => printer,
         Err(error) => {
-            eprintln!("stamp: {path}: {error}");
+            eprintln!("stamp: {map} or {zones}: {error}");
             return ExitCode::from(2);
         }
     };
-    match Printer::new(map, folder).stamp(lat, lon, instant) {
-        Ok(hours) => {
-            hours.iter().for_each(|hour| println!("{hour}"));
+    match printer.stamp_request(request) {
+        Ok(slip) => {
+            println!("{slip}");
             ExitCode::SUCCESS
         }
         Err(why) => {

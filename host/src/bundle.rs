@@ -2,13 +2,13 @@
 
 use crate::answer::Error;
 use crate::local::TimeZone;
-use crate::printer::is_inside;
+use crate::raw;
 use crate::refusal::{Number, Refusal};
 use std::collections::{BTreeMap, HashMap};
 use std::fmt;
 use std::fs;
 use std::io;
-use std::path::Path;
+use std::path::{Component, Path};
 
 /// The bytes of a bundle, as they are lent to the library.
 #[derive(Clone, Debug, Eq, PartialEq)]
@@ -85,7 +85,9 @@ const ENTRY: usize = NAME + 12;
 const HEAD: usize = 24;
 /// No number of a bundle is larger.
 const MOST: usize = i32::MAX as usize;
-/// What stands in the head where the release is not known.
+/// Where the release stands in the head.
+const RELEASE: std::ops::Range<usize> = 6..11;
+/// What stands there where it is not known.
 const NO_RELEASE: &str = "?????";
 /// What the folder of tzdata holds besides zones.
 const OTHERS: [&str; 4] = ["localtime", "posix", "posixrules", "right"];
@@ -124,6 +126,28 @@ impl Bundle {
     /// A bundle's bytes, whoever wrote them; what is wrong with them the library says.
     pub fn of_bytes(bytes: Vec<u8>) -> Bundle {
         Bundle { bytes }
+    }
+
+    /// The file of a zone, by its name: that of the first entry that has it. Refused where there is none (88) and where the bundle is damaged (89).
+    ///
+    /// ```
+    /// use uskelzar::{Bundle, Number, TimeZone};
+    ///
+    /// let zones = Bundle::read("../examples/zones.tzdata")?;
+    /// let berlin = TimeZone::new(zones.find("Europe/Berlin")?)?;
+    /// assert_eq!(berlin.local_time(1_782_907_199)?.unwrap().abbreviation, b"CEST");
+    /// assert_eq!(zones.find("Europe/Berln").unwrap_err().number, Number::NoFile);
+    /// # Ok::<(), uskelzar::Error>(())
+    /// ```
+    pub fn find(&self, name: impl AsRef<[u8]>) -> Result<&[u8], Refusal> {
+        let [start, length, ..] = raw::bundle_find(&self.bytes, name.as_ref())?;
+        Ok(&self.bytes[start as usize..][..length as usize])
+    }
+
+    /// The release of tzdata in its head; none where it says none.
+    pub fn release(&self) -> Option<&str> {
+        let word = std::str::from_utf8(self.bytes.get(RELEASE)?).ok();
+        word.filter(|word| is_release(word))
     }
 
     /// Reads a file into memory.
@@ -240,6 +264,13 @@ impl Making {
     }
 }
 
+/// A name of letters, digits, `_`, `+` and `-` in parts that `/` separates: it leads to no place outside a folder.
+fn is_inside(zone: &str) -> bool {
+    let letter = |byte: u8| byte.is_ascii_alphanumeric() || b"_+-".contains(&byte);
+    let plain = |part: &str| !part.is_empty() && part.bytes().all(letter);
+    zone.split('/').all(plain) && Path::new(zone).components().all(|part| matches!(part, Component::Normal(_)))
+}
+
 /// Four bytes, the high one first; [`MOST`] is not passed.
 fn number(value: usize) -> [u8; 4] {
     (value as u32).to_be_bytes()
@@ -276,6 +307,16 @@ fn release_of(folder: &Path) -> Option<String> {
 #[cfg(test)]
 mod tests {
     use super::*;
+
+    #[test]
+    fn no_name_leads_out_of_the_folder() {
+        for zone in ["Europe/Berlin", "UTC", "Etc/GMT+1", "America/Port-au-Prince", "America/Argentina/Buenos_Aires"] {
+            assert!(is_inside(zone), "{zone}");
+        }
+        for zone in ["", "/", "/etc/passwd", "..", "../UTC", "Europe/../../UTC", "Europe/..", ".", "Europe//Berlin", "Europe/", "a\\b", "a\0b", "é"] {
+            assert!(!is_inside(zone), "{zone}");
+        }
+    }
 
     #[test]
     fn releases() {

@@ -3,8 +3,7 @@
 use crate::answer::{Error, Zones};
 use crate::map::Map;
 use crate::raw;
-use crate::refusal::Number;
-use std::io;
+use crate::words;
 use std::path::Path;
 
 /// The words of an index. It goes with every file that has the length, header and table of the one it was built for.
@@ -13,27 +12,13 @@ pub struct Index {
     words: Vec<u32>,
 }
 
-/// The first room that is tried; it grows while the index does not fit.
-const FIRST_ROOM: usize = 1 << 16;
-
 /// The words that say where the list of each tile begins, and then where the last one ends.
 const LISTS: std::ops::Range<usize> = 3..3 + 32 * 64 + 1;
 
 impl Index {
     /// Builds the index of a map.
     pub fn build<B: AsRef<[u8]>>(map: &Map<B>) -> Result<Index, Error> {
-        let mut room = FIRST_ROOM;
-        loop {
-            let mut words = vec![0; room];
-            match raw::build_index(map.bytes(), &mut words) {
-                Ok(reply) => {
-                    words.truncate(reply[0] as usize);
-                    return Ok(Index { words });
-                }
-                Err(refusal) if refusal.number == Number::IndexRoom && room < 1 << 32 => room *= 2,
-                Err(refusal) => return Err(refusal.into()),
-            }
-        }
+        Ok(Index { words: words::built(|room| raw::build_index(map.bytes(), room))? })
     }
 
     /// An index of these words. Any are taken, and their records, starts and lists are believed: ask [`Index::is_of`] of words that another program wrote.
@@ -54,18 +39,13 @@ impl Index {
 
     /// The words as bytes, the low byte of each first.
     pub fn to_bytes(&self) -> Vec<u8> {
-        self.words.iter().flat_map(|word| word.to_le_bytes()).collect()
+        words::to_bytes(&self.words)
     }
 
     /// What `to_bytes` gave for this map. Each word is worked out again: any other words are refused with 36, whoever wrote them; bytes that are not four a word
     /// are no index.
     pub fn of_bytes<B: AsRef<[u8]>>(bytes: &[u8], map: &Map<B>) -> Result<Index, Error> {
-        let words = bytes.chunks_exact(4);
-        if !words.remainder().is_empty() {
-            return Err(cut(bytes.len()).into());
-        }
-        let word = |four: &[u8]| u32::from_le_bytes([four[0], four[1], four[2], four[3]]);
-        let words: Vec<u32> = words.map(word).collect();
+        let words = words::of_bytes(bytes, "index")?;
         raw::is_index(map.bytes(), &words)?;
         Ok(Index { words })
     }
@@ -101,9 +81,4 @@ impl<B: AsRef<[u8]>> Map<B> {
     pub fn lookup_through(&self, index: &Index, lat: f32, lon: f32) -> Result<Zones, Error> {
         self.found_by(|hits, text| raw::lookup_through(self.bytes(), index.words(), (lat, lon, true), hits, text))
     }
-}
-
-fn cut(length: usize) -> io::Error {
-    let words = format!("{length} bytes are no whole number of words, so it is no index or a cut one: build it again");
-    io::Error::new(io::ErrorKind::InvalidData, words)
 }

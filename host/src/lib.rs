@@ -10,13 +10,15 @@
 //! # }
 //! ```
 //!
-//! [`Printer`] has the whole question of a slip: which hour holds at a fix and an instant, or why none is printed. [`Builder`] writes a file from yards, and a [`Draft`] holds yards that may still change. [`raw`] has the twenty-two functions as they are, over lent buffers, and needs no `std` (`default-features = false`); [`Map`] and [`TimeZone`] lend the buffers themselves.
+//! [`Printer`] has the whole question of a slip: the line that is printed for a receiver's sentence, or for a fix and an instant, or why there is none. [`Builder`] writes a file from yards, and a [`Draft`] holds yards that may still change. [`raw`] has the twenty-nine functions as they are, over lent buffers, and needs no `std` (`default-features = false`); [`Map`] and [`TimeZone`] lend the buffers themselves.
 
 #![cfg_attr(not(feature = "std"), no_std)]
 #![deny(unsafe_op_in_unsafe_fn, missing_docs)]
 
 #[cfg(feature = "std")]
 mod answer;
+#[cfg(feature = "std")]
+mod atlas;
 #[cfg(feature = "std")]
 mod builder;
 #[cfg(feature = "std")]
@@ -48,12 +50,18 @@ pub mod raw;
 mod reading;
 mod refusal;
 #[cfg(feature = "std")]
+mod request;
+#[cfg(feature = "std")]
 mod salvage;
 #[cfg(feature = "std")]
 mod survey;
+#[cfg(feature = "std")]
+mod words;
 
 #[cfg(feature = "std")]
 pub use answer::{zone_name, End, Error, Field, Header, Kind, Match, Simple, Table, Unknown, Zones};
+#[cfg(feature = "std")]
+pub use atlas::Atlas;
 #[cfg(feature = "std")]
 pub use builder::{Builder, NotBuilt, Place};
 #[cfg(feature = "std")]
@@ -75,10 +83,12 @@ pub use map::{Map, Room};
 #[cfg(feature = "std")]
 pub use mapping::Mapping;
 #[cfg(feature = "std")]
-pub use printer::{line, Hour, NotStamped, Printer, Slip, Traced};
+pub use printer::{Line, Printer, Stamped};
 #[cfg(feature = "std")]
 pub use reading::Unread;
-pub use refusal::{Cause, Number, Refusal, Stop};
+pub use refusal::{Cause, NotStamped, Number, Refusal, Stop};
+#[cfg(feature = "std")]
+pub use request::Request;
 #[cfg(feature = "std")]
 pub use salvage::{salvage, Dropped, Reason, Salvaged};
 #[cfg(feature = "std")]

@@ -1,4 +1,4 @@
-//! The library's twenty-two functions, each declared once, in one line of the list below. It takes nothing of this crate, so that bench/ takes this file too.
+//! The library's twenty-nine functions, each declared once, in one line of the list below. It takes nothing of this crate, so that bench/ takes this file too.
 
 /// What a type of a list or of a number is in C.
 macro_rules! in_c {
@@ -71,6 +71,9 @@ functions! {
     fn uskelzar_is_index(file: &[u8], index: &[u32], reply: &mut [u64; 5]);
     fn uskelzar_lookup_through(file: &[u8], index: &[u32], lat: f32, lon: f32, asked: bool, hits: &mut [u32], text: &mut [u8], reply: &mut [u64; 5]);
     fn uskelzar_lookup_indexed(file: &[u8], index: &[u32], lat: f32, lon: f32, asked: bool, hits: &mut [u32], text: &mut [u8], reply: &mut [u64; 5]);
+    fn uskelzar_build_atlas(file: &[u8], atlas: &mut [u32], reply: &mut [u64; 5]);
+    fn uskelzar_is_atlas(file: &[u8], atlas: &[u32], reply: &mut [u64; 5]);
+    fn uskelzar_lookup_atlas(file: &[u8], atlas: &[u32], lat: f32, lon: f32, asked: bool, hits: &mut [u32], text: &mut [u8], reply: &mut [u64; 5]);
     fn uskelzar_simple_lookup(file: &[u8], lat: f32, lon: f32, hits: &mut [u32], text: &mut [u8], reply: &mut [u64; 5]);
     fn uskelzar_write_border(version: u8, lats: &[i32], lons: &[i32], pieces: &[u32], earlier: &[u8], out: &mut [u8], reply: &mut [u64; 5]);
     fn uskelzar_build(
@@ -111,4 +114,8 @@ functions! {
     fn uskelzar_salvage(file: &[u8], dropped: &mut [u32], out: &mut [u8], reply: &mut [u64; 5]);
     fn uskelzar_local_time(file: &[u8], instant: i64, text: &mut [u8], reply: &mut [u64; 5]);
     fn uskelzar_civil_time(instant: i64, offset: i32, reply: &mut [u64; 7]);
+    fn uskelzar_request(request: &[u8], reply: &mut [u64; 5]);
+    fn uskelzar_bundle_find(bundle: &[u8], name: &[u8], reply: &mut [u64; 5]);
+    fn uskelzar_slip(request: &[u8], map: &[u8], zones: &[u8], hits: &mut [u32], text: &mut [u8], out: &mut [u8], reply: &mut [u64; 5]);
+    fn uskelzar_slip_at(lat: f32, lon: f32, instant: i64, map: &[u8], zones: &[u8], hits: &mut [u32], text: &mut [u8], out: &mut [u8], reply: &mut [u64; 5]);
 }

@@ -6,13 +6,15 @@ use crate::raw::{self, Reply, HIT_WORDS};
 use crate::refusal::Refusal;
 use std::path::Path;
 
-/// What a map lends the library for one call: hits, before those of one zone are merged, and bytes of text.
+/// What a map lends the library for one call: hits, before those of one zone are merged, bytes of text, and for a slip bytes of line. By default as much as the program `stamp` has.
 #[derive(Clone, Copy, Debug)]
 pub struct Room {
     /// Hits.
     pub hits: usize,
     /// Bytes.
     pub text: usize,
+    /// Bytes of a slip's line.
+    pub line: usize,
 }
 
 impl Default for Room {
@@ -20,6 +22,7 @@ impl Default for Room {
         Room {
             hits: 1024,
             text: 16_384,
+            line: 4096,
         }
     }
 }
@@ -87,6 +90,10 @@ impl<B: AsRef<[u8]>> Map<B> {
         self.bytes.as_ref()
     }
 
+    pub(crate) fn room(&self) -> Room {
+        self.room
+    }
+
     /// The zones that hold a fix, in degrees.
     pub fn lookup(&self, lat: f32, lon: f32) -> Result<Zones, Error> {
         self.lookup_by(raw::lookup, lat, lon)
@@ -117,13 +124,17 @@ impl<B: AsRef<[u8]>> Map<B> {
 
     /// From match count, end mark and safezone bits, what stands in front of the hits and of the fields.
     pub(crate) fn zones_of(&self, [matches, mark, safezone]: [u64; 3], hits: &[u32], fields: &mut Entries) -> Result<Zones, Unknown> {
-        let hits = hits.chunks_exact(HIT_WORDS).take(matches as usize);
-        let matches: Result<Vec<Match>, Unknown> = hits.map(|hit| self.match_of(hit, fields)).collect();
         Ok(Zones {
-            matches: matches?,
+            matches: self.matches_of(matches as usize, hits, fields)?,
             end: End::of(mark)?,
             safezone: f32::from_bits(safezone as u32),
         })
+    }
+
+    /// So many matches, from the front of the hits and of the fields.
+    pub(crate) fn matches_of(&self, count: usize, hits: &[u32], fields: &mut Entries) -> Result<Vec<Match>, Unknown> {
+        let hits = hits.chunks_exact(HIT_WORDS).take(count);
+        hits.map(|hit| self.match_of(hit, fields)).collect()
     }
 
     /// A description of the first zone that holds a fix, in degrees.

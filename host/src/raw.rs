@@ -1,9 +1,9 @@
-//! The library's twenty-two functions over lent buffers (include/uskelzar.h has their contracts). It asks nothing of `std`.
+//! The library's twenty-nine functions over lent buffers (include/uskelzar.h has their contracts). It asks nothing of `std`.
 
 pub use crate::hit::HIT_WORDS;
 use crate::library;
 pub use crate::library::PROTOTYPES;
-use crate::refusal::{Refusal, Stop};
+use crate::refusal::{NotStamped, Refusal, Stop};
 
 /// The five words of a reply.
 pub type Reply = [u64; 5];
@@ -147,6 +147,16 @@ pub fn index_tied(file: &[u8], index: &[u32]) -> Result<Reply, Refusal> {
     answered(|reply| library::uskelzar_index_tied(file, index, reply))
 }
 
+/// The words used; the atlas in the words.
+pub fn build_atlas(file: &[u8], atlas: &mut [u32]) -> Result<Reply, Refusal> {
+    answered(|reply| library::uskelzar_build_atlas(file, atlas, reply))
+}
+
+/// Whether words are those that `build_atlas`, lent as many, leaves for this file, whoever wrote them; no value.
+pub fn is_atlas(file: &[u8], atlas: &[u32]) -> Result<Reply, Refusal> {
+    answered(|reply| library::uskelzar_is_atlas(file, atlas, reply))
+}
+
 /// Lookup through an index in the library, without a comparison of header and table or with one.
 type Through = fn(&[u8], &[u32], f32, f32, bool, &mut [u32], &mut [u8], &mut Reply) -> u8;
 
@@ -169,6 +179,17 @@ pub fn lookup_through(
     text: &mut [u8],
 ) -> Result<Reply, Refusal> {
     through_by(library::uskelzar_lookup_through, (file, index), (lat, lon, asked), hits, text)
+}
+
+/// As `lookup`, through an atlas that `is_atlas` answered for.
+pub fn lookup_atlas(
+    file: &[u8],
+    atlas: &[u32],
+    (lat, lon, asked): (f32, f32, bool),
+    hits: &mut [u32],
+    text: &mut [u8],
+) -> Result<Reply, Refusal> {
+    through_by(library::uskelzar_lookup_atlas, (file, atlas), (lat, lon, asked), hits, text)
 }
 
 /// `index_tied`, then `lookup_through`.
@@ -457,4 +478,38 @@ pub const OWN_SCALE: u64 = 2;
 /// The scale, offset bits, daylight flag, the abbreviation's length, bits of the correction; the abbreviation in the text. All zero where it is unknown.
 pub fn local_time(file: &[u8], instant: i64, text: &mut [u8]) -> Result<Reply, Refusal> {
     answered(|reply| library::uskelzar_local_time(file, instant, text, reply))
+}
+
+/// The latitude's bits, the longitude's bits, the instant's bits, of a line that is a sentence of a receiver or three words.
+pub fn request(request: &[u8]) -> Result<Reply, Refusal> {
+    answered(|reply| library::uskelzar_request(request, reply))
+}
+
+/// Where the file of a zone begins in a bundle, and its length.
+pub fn bundle_find(bundle: &[u8], name: &[u8]) -> Result<Reply, Refusal> {
+    answered(|reply| library::uskelzar_bundle_find(bundle, name, reply))
+}
+
+/// What a slip writes: the matches, their fields, and its line.
+#[derive(Debug)]
+#[allow(missing_docs)] // as `lookup` has them
+pub struct Paper<'a> {
+    pub hits: &'a mut [u32],
+    pub text: &'a mut [u8],
+    pub out: &'a mut [u8],
+}
+
+/// Of a slip, whose refusals have the number of a match as their cause.
+fn stamped(call: impl FnOnce(&mut Reply) -> u8) -> Result<Reply, NotStamped> {
+    replied(call, 2).map_err(|(number, reply)| NotStamped::of(number, reply))
+}
+
+/// The length of the line, the matches, the offset's bits; the line in `out`. The request is read as [`request`] does.
+pub fn slip(request: &[u8], map: &[u8], zones: &[u8], paper: Paper) -> Result<Reply, NotStamped> {
+    stamped(|reply| library::uskelzar_slip(request, map, zones, paper.hits, paper.text, paper.out, reply))
+}
+
+/// The same at a fix and an instant.
+pub fn slip_at((lat, lon, instant): (f32, f32, i64), map: &[u8], zones: &[u8], paper: Paper) -> Result<Reply, NotStamped> {
+    stamped(|reply| library::uskelzar_slip_at(lat, lon, instant, map, zones, paper.hits, paper.text, paper.out, reply))
 }

@@ -2,7 +2,7 @@
 
 use core::fmt;
 
-/// What the library refuses: docs/FORMAT.md has the table, docs/TZIF.md that of a TZif file; and two numbers that a printer refuses with.
+/// What the library refuses: docs/FORMAT.md has the table, docs/TZIF.md that of a TZif file.
 #[derive(Clone, Copy, Debug, Eq, PartialEq)]
 #[repr(u8)]
 #[allow(missing_docs)] // `words` says each
@@ -65,14 +65,25 @@ pub enum Number {
     TzifRest = 59,
     TzifString = 60,
     TzifYear = 61,
+    NotRequest = 80,
+    NoFix = 81,
+    Checksum = 82,
+    OtherSentence = 83,
     NoPlace = 84,
+    NotWhole = 85,
+    NoZone = 86,
+    NoNames = 87,
+    NoFile = 88,
+    Bundle = 89,
+    Unknown = 90,
     LeapSeconds = 91,
+    HoursDiffer = 92,
 }
 
 use Number::*;
 
 /// Each number with its words, in order.
-const TABLE: [(Number, &str); 60] = [
+const TABLE: [(Number, &str); 71] = [
     (
         TooLarge,
         "file, or the writer's earlier data, over 1,073,741,824 bytes",
@@ -158,8 +169,19 @@ const TABLE: [(Number, &str); 60] = [
     (TzifRest, "bytes behind the end"),
     (TzifString, "no TZ string, or one that contradicts the last transition"),
     (TzifYear, "the rule's instant, or the clock, is outside the years 1 to 9999"),
-    (NoPlace, "no place on the globe"),
-    (LeapSeconds, "the zone's file counts leap seconds: its scale is not the instant's"),
+    (NotRequest, "not a request"),
+    (NoFix, "the receiver has no fix"),
+    (Checksum, "the checksum is wrong"),
+    (OtherSentence, "another sentence"),
+    (NoPlace, "out of range"),
+    (NotWhole, "the search was not whole"),
+    (NoZone, "no zone holds the fix"),
+    (NoNames, "not a map of time zones"),
+    (NoFile, "the zone is not in the bundle"),
+    (Bundle, "the bundle is damaged"),
+    (Unknown, "the local time is unknown"),
+    (LeapSeconds, "the zone's file counts leap seconds"),
+    (HoursDiffer, "the hours differ"),
 ];
 
 impl Number {
@@ -175,7 +197,7 @@ impl Number {
 
     fn of(number: u8) -> Number {
         Number::known(number)
-            .expect("the library's refusals are 1 to 36 and 40 to 61")
+            .expect("the library's refusals are 1 to 36, 40 to 61 and 80 to 92")
     }
 
     /// What it says, in words.
@@ -192,7 +214,8 @@ impl Number {
             TableType | Version => Some("byte"),
             FieldName | Piece => Some("index"),
             LengthMismatch => Some("computed length"),
-            TzifYear | NoPlace | LeapSeconds => None,
+            NotWhole => Some("mark"),
+            TzifYear | NoFix | OtherSentence | NoZone | NoNames | NoFile | Unknown | LeapSeconds | HoursDiffer => None,
             _ if self as u8 >= 40 => Some("place"),
             _ => None,
         }
@@ -272,13 +295,53 @@ impl fmt::Display for Stop {
 #[cfg(feature = "std")]
 impl std::error::Error for Stop {}
 
+/// Why a slip is not stamped: the refusal, and the match that met it. Its words are those of the program `stamp`: number, cause, detail, and what it says.
+#[derive(Clone, Copy, Debug, Eq, PartialEq)]
+pub struct NotStamped {
+    /// What was refused.
+    pub why: Refusal,
+    /// Whose zone met it, from 1, and 255 from the 255th match on; none where the request, the map or all matches together did.
+    pub at: Option<u8>,
+}
+
+impl NotStamped {
+    /// From what a call returned, and its reply. The map's names and fields have causes of their own; no other refusal of a request or a map has one.
+    pub(crate) fn of(number: u8, reply: [u64; 5]) -> NotStamped {
+        let why = Refusal::of(number, reply);
+        if matches!(why.number, FieldName | Notice | FieldValue) {
+            return NotStamped { why, at: None };
+        }
+        let at = u8::try_from(reply[0]).ok().filter(|at| *at > 0);
+        NotStamped { why: Refusal { cause: None, ..why }, at }
+    }
+
+    /// The cause as the library says it.
+    fn cause(&self) -> u8 {
+        match self.why.cause {
+            Some(Cause::Encoding) => 1,
+            Some(Cause::Utf8) => 2,
+            None => self.at.unwrap_or(0),
+        }
+    }
+}
+
+impl fmt::Display for NotStamped {
+    fn fmt(&self, f: &mut fmt::Formatter) -> fmt::Result {
+        let Refusal { number, detail, .. } = self.why;
+        write!(f, "{} {} {detail} {}", number as u8, self.cause(), number.words())
+    }
+}
+
+#[cfg(feature = "std")]
+impl std::error::Error for NotStamped {}
+
 #[cfg(test)]
 mod tests {
     use super::*;
 
     #[test]
     fn the_table_is_in_order() {
-        let numbers: Vec<u8> = (1..=36).chain(40..=61).chain([84, 91]).collect();
+        let numbers: Vec<u8> = (1..=36).chain(40..=61).chain(80..=92).collect();
         assert_eq!(TABLE.map(|(number, _)| number as u8).to_vec(), numbers);
         for (number, words) in TABLE {
             assert_eq!(Number::of(number as u8), number);
@@ -298,5 +361,17 @@ mod tests {
         assert_eq!(count.to_string(), "refusal 45: typecnt is 0 (place 36)");
         let third = Stop { index: 2, why: room };
         assert_eq!(third.to_string(), "fix 2: refusal 18: text doesn't fit");
+    }
+
+    #[test]
+    fn a_slips_cause_is_a_match() {
+        let said = |number, cause, detail| NotStamped::of(number, [cause, detail, 0, 0, 0]);
+        assert_eq!(said(88, 1, 0).to_string(), "88 1 0 the zone is not in the bundle");
+        assert_eq!((said(88, 1, 0).at, said(88, 1, 0).why.cause), (Some(1), None));
+        assert_eq!(said(6, 2, 3).to_string(), "6 2 3 field name");
+        assert_eq!((said(6, 2, 3).at, said(6, 2, 3).why.cause), (None, Some(Cause::Utf8)));
+        assert_eq!(said(15, 1, 0).to_string(), "15 1 0 field value");
+        assert_eq!(said(45, 255, 36).to_string(), "45 255 36 typecnt is 0");
+        assert_eq!((said(92, 0, 0).at, said(85, 0, 4).to_string()), (None, "85 0 4 the search was not whole".into()));
     }
 }

@@ -229,7 +229,7 @@ fn refusals_have_words() {
 #[test]
 fn little_room_is_refused_and_more_is_enough() {
     let number = |hits, text| {
-        let map = world().with_room(Room { hits, text });
+        let map = world().with_room(Room { hits, text, ..Room::default() });
         match map.lookup(52.52, 13.40) {
             Err(Error::Refused(refusal)) => Some(refusal.number),
             other => {

@@ -244,11 +244,11 @@ fn a_map_answers_as_fix_by_fix() {
 #[test]
 fn room_that_is_enough_for_one_is_enough_for_all() {
     let berlin = (52.52, 13.40);
-    let map = Map::read(WORLD).unwrap().with_room(Room { hits: 1, text: 34 });
+    let map = Map::read(WORLD).unwrap().with_room(Room { hits: 1, text: 34, ..Room::default() });
     assert_eq!(map.lookup_many(&[berlin; 1000]).unwrap().filter(|zones| zones.is_ok()).count(), 1000);
-    let map = map.with_room(Room { hits: 1, text: 33 });
+    let map = map.with_room(Room { hits: 1, text: 33, ..Room::default() });
     assert_eq!(map.lookup_many(&[berlin; 2]).err().unwrap(), Stop { index: 1, why: plain(Number::TextRoom) });
-    let map = map.with_room(Room { hits: 0, text: 34 });
+    let map = map.with_room(Room { hits: 0, text: 34, ..Room::default() });
     let sea = (0.0, -30.0);
     assert_eq!(map.lookup_many(&[sea, sea, berlin]).err().unwrap(), Stop { index: 2, why: plain(Number::TooManyHits) });
 }

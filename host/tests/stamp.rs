@@ -1,160 +1,148 @@
-//! The printer: a stamped slip, and each way of not stamping one.
+//! The printer: a stamped slip, and each reason for none, with its words.
 
 mod common;
 
 use common::files::*;
-use common::tzif::{ended, fixed, leaping, small};
-use std::fs;
-use std::path::{Path, PathBuf};
-use uskelzar::{line, End, Error, Hour, Index, Kind, Map, NotStamped, Number, Printer, Room};
-
-/// A folder that goes away with the test.
-struct Folder(PathBuf);
-
-impl Folder {
-    fn new(name: &str) -> Folder {
-        let path = std::env::temp_dir().join(format!("uskelzar-{name}-{}", std::process::id()));
-        fs::create_dir_all(path.join("Up")).unwrap();
-        Folder(path)
-    }
-
-    fn with(self, zone: &str, file: &[u8]) -> Folder {
-        fs::write(self.0.join(zone), file).unwrap();
-        self
-    }
-}
-
-impl Drop for Folder {
-    fn drop(&mut self) {
-        fs::remove_dir_all(&self.0).unwrap();
-    }
-}
+use common::tzif::{ended, fixed, header, leaping, small};
+use uskelzar::{Bundle, Cause, End, Error, Kind, Line, Map, NotStamped, Number, Printer, Refusal, Request, Room, Stamped, TimeZone};
 
 const FIX: (f32, f32) = (5.1 * LAT_STEP, 5.1 * LON_STEP);
 const ALONE: (f32, f32) = (15.1 * LAT_STEP, 15.1 * LON_STEP);
 const NOWHERE: (f32, f32) = (60.0, 60.0);
 
-fn stamp(file: &[u8], folder: &Path, fix: (f32, f32), instant: i64) -> Result<Vec<Hour>, NotStamped> {
-    Printer::new(Map::open(file).unwrap(), folder).stamp(fix.0, fix.1, instant)
+/// A bundle as `Bundle` makes it: what it would leave out is an error.
+fn zones(files: &[(&str, Vec<u8>)]) -> Bundle {
+    let bundled = Bundle::of_files(None, files.iter().map(|(name, file)| (name.to_string(), file.clone())));
+    assert!(bundled.left_out.is_empty(), "{:?}", bundled.left_out);
+    bundled.bundle
 }
 
-fn words(hours: &[Hour]) -> Vec<String> {
-    hours.iter().map(Hour::to_string).collect()
+/// A bundle of one file that `Bundle` would not take.
+fn bad_zone(name: &str, file: &[u8]) -> Bundle {
+    let stand_in = zones(&[(name, fixed(0, "UTC"))]);
+    let mut bytes = stand_in.to_bytes()[..24 + 52].to_vec();
+    bytes[20..24].copy_from_slice(&(76 + file.len() as u32).to_be_bytes());
+    bytes[24 + 44..24 + 48].copy_from_slice(&(file.len() as u32).to_be_bytes());
+    bytes.extend(file);
+    Bundle::of_bytes(bytes)
+}
+
+fn stamp(file: &[u8], zones: Bundle, fix: (f32, f32), instant: i64) -> Result<Stamped, NotStamped> {
+    Printer::new(Map::open(file).unwrap(), zones).stamp(fix.0, fix.1, instant)
+}
+
+/// Why there is no slip, in words.
+fn why(file: &[u8], zones: Bundle, fix: (f32, f32), instant: i64) -> String {
+    stamp(file, zones, fix, instant).unwrap_err().to_string()
 }
 
 #[test]
 fn stamped() {
-    let folder = Folder::new("stamped").with("Up/One", &fixed(7200, "CEST")).with("Up/Two", &fixed(-16_201, "XYZ"));
-    let hours = stamp(&overlap(1), &folder.0, ALONE, 1_782_907_199).unwrap();
-    assert_eq!(words(&hours), ["2026-07-01 07:29:58 -04:30:01 XYZ Up/Two"]);
-    assert_eq!(hours[0].civil.weekday, 3);
-    assert!(!hours[0].local.daylight);
+    let slip = stamp(&overlap(1), zones(&[("Up/One", fixed(7200, "CEST")), ("Up/Two", fixed(-16_201, "XYZ"))]), ALONE, 1_782_907_199).unwrap();
+    assert_eq!(slip.line, "Wed 2026-07-01 07:29:58 -04:30:01 XYZ Up/Two");
+    assert_eq!((slip.offset, slip.matches.len(), slip.to_string()), (-16_201, 1, slip.line.clone()));
+    assert_eq!(slip.matches, Map::open(overlap(1)).unwrap().lookup(ALONE.0, ALONE.1).unwrap().matches);
+    assert_eq!(slip.matches[0].kind, Kind::InZone);
 }
 
 #[test]
 fn one_hour_of_two_zones() {
-    let folder = Folder::new("one-hour").with("Up/One", &fixed(7200, "CEST")).with("Up/Two", &fixed(7200, "SAST"));
-    let hours = stamp(&overlap(0), &folder.0, FIX, 1_782_907_199).unwrap();
-    assert_eq!(words(&hours), ["2026-07-01 13:59:59 +02:00 CEST Up/One", "2026-07-01 13:59:59 +02:00 SAST Up/Two"]);
+    let slip = stamp(&overlap(0), zones(&[("Up/One", fixed(7200, "CEST")), ("Up/Two", fixed(7200, "SAST"))]), FIX, 1_782_907_199).unwrap();
+    assert_eq!(slip.line, "Wed 2026-07-01 13:59:59 +02:00 CEST Up/One, SAST Up/Two");
+    assert_eq!(slip.matches.len(), 2);
 }
 
 #[test]
 fn hours_that_differ() {
-    let folder = Folder::new("differ").with("Up/One", &fixed(3600, "A")).with("Up/Two", &fixed(7200, "B"));
-    let Err(NotStamped::HoursDiffer(hours)) = stamp(&overlap(1), &folder.0, FIX, 0) else {
-        panic!("stamped");
-    };
-    assert_eq!(words(&hours), ["1970-01-01 01:00:00 +01:00 A Up/One", "1970-01-01 02:00:00 +02:00 B Up/Two"]);
+    let both = || zones(&[("Up/One", fixed(3600, "A")), ("Up/Two", fixed(7200, "B"))]);
+    // inside two zones that overlap, and on the edge of one of them
+    for fix in [FIX, (3.1 * LAT_STEP, 5.1 * LON_STEP)] {
+        assert_eq!(why(&overlap(1), both(), fix, 0), "92 0 0 the hours differ");
+        let printer = Printer::new(Map::open(overlap(1)).unwrap(), both());
+        let found = printer.found(fix.0, fix.1).unwrap();
+        assert_eq!((found.end, found.matches.len()), (End::Whole, 2));
+    }
 }
 
 #[test]
 fn not_whole() {
-    let folder = Folder::new("not-whole");
     let mut cut = overlap(1);
     let end = cut.len() - 2;
     cut[end..].fill(0x80);
     let fix = |lat, lon| (f32::from_bits(lat), f32::from_bits(lon));
     for (file, fix, mark) in [
-        (&TABLE_CUT[..], fix(TABLE_CUT_LAT, TABLE_CUT_LON), "mark 2"),
-        (&cut, FIX, "mark 3"),
-        (&OUT_OF_ORDER, fix(OUT_OF_ORDER_LAT, OUT_OF_ORDER_LON), "mark 4"),
+        (&TABLE_CUT[..], fix(TABLE_CUT_LAT, TABLE_CUT_LON), 2),
+        (&cut, FIX, 3),
+        (&OUT_OF_ORDER, fix(OUT_OF_ORDER_LAT, OUT_OF_ORDER_LON), 4),
     ] {
-        let why = stamp(file, &folder.0, fix, 0).unwrap_err();
-        assert!(matches!(why, NotStamped::NotWhole(_)), "{why}");
-        assert!(why.to_string().ends_with(mark), "{why}");
+        assert_eq!(why(file, zones(&[]), fix, 0), format!("85 0 {mark} the search was not whole"));
     }
 }
 
 #[test]
-fn no_zone_and_no_name() {
-    let folder = Folder::new("no-zone");
-    assert!(matches!(stamp(&overlap(1), &folder.0, NOWHERE, 0), Err(NotStamped::NoZone)));
+fn no_zone_and_no_names() {
+    assert_eq!(why(&overlap(1), zones(&[]), NOWHERE, 0), "86 0 0 no zone holds the fix");
     // countries have a Name
     let fix = (f32::from_bits(SQUARE_LAT), f32::from_bits(SQUARE_LON));
-    assert!(matches!(stamp(&SQUARE, &folder.0, fix, 0), Err(NotStamped::Unnamed)));
+    assert_eq!(why(&SQUARE, zones(&[]), fix, 0), "87 0 0 not a map of time zones");
 }
 
+/// A map's names are looked for in the bundle and nowhere else: no name leads to a file of the machine.
 #[test]
-fn a_name_that_leads_out() {
-    let folder = Folder::new("leads-out").with("secret", &fixed(0, "UTC"));
-    for (prefix, id) in [("../", "secret"), ("", "../secret"), ("/", "secret"), ("Up/../", "secret"), ("", ""), ("./", "secret")] {
+fn names_that_would_lead_out() {
+    for (prefix, id) in [("../", "secret"), ("", "../secret"), ("/", "etc/passwd"), ("Up/../", "secret"), ("", ""), ("./", "secret")] {
         let square = [(1, 1), (9, 1), (9, 9), (1, 9)];
         let zone = Zone { fields: &[prefix, id], borders: &[&square] };
         let file = file(b'T', 1, &["TimezoneIdPrefix", "TimezoneId"], "", &[zone]);
-        let why = stamp(&file, &folder.0.join("Up"), FIX, 0).unwrap_err();
-        assert!(matches!(why, NotStamped::BadName(_)), "{prefix}{id}: {why}");
+        assert_eq!(why(&file, zones(&[("secret", fixed(0, "UTC"))]), FIX, 0), "88 1 0 the zone is not in the bundle", "{prefix}{id}");
     }
 }
 
 #[test]
-fn files_that_do_not_answer() {
-    let ask = |folder: &Folder, instant| stamp(&overlap(1), &folder.0, ALONE, instant).unwrap_err();
-    let none = Folder::new("no-file");
-    assert!(matches!(ask(&none, 0), NotStamped::NoFile(zone, _) if zone == "Up/Two"));
-    let ended = Folder::new("ended").with("Up/Two", &ended());
-    assert!(matches!(ask(&ended, 1), NotStamped::Unknown(zone) if zone == "Up/Two"));
-    let cut = Folder::new("cut").with("Up/Two", &fixed(0, "UTC")[..40]);
-    assert!(matches!(ask(&cut, 0), NotStamped::Refused(_, why) if why.number == Number::TzifHeader));
-    let long = Folder::new("years").with("Up/Two", &fixed(0, "UTC"));
-    assert!(matches!(ask(&long, i64::MAX), NotStamped::OutsideYears));
+fn zones_that_do_not_answer() {
+    let ask = |zones, instant| stamp(&overlap(1), zones, ALONE, instant).unwrap_err();
+    assert_eq!(ask(zones(&[("Up/One", fixed(0, "UTC"))]), 0).to_string(), "88 1 0 the zone is not in the bundle");
+    assert_eq!(ask(zones(&[("Up/Two", ended())]), 1).to_string(), "90 1 0 the local time is unknown");
+    let cut = ask(bad_zone("Up/Two", &fixed(0, "UTC")[..40]), 0);
+    assert_eq!(cut, NotStamped { why: Refusal { number: Number::TzifHeader, cause: None, detail: 0 }, at: Some(1) });
+    assert_eq!(cut.to_string(), "42 1 0 the file ends inside a header");
+    let mut bytes = zones(&[("Up/Two", fixed(0, "UTC"))]).to_bytes().to_vec();
+    bytes[11] = 1;
+    assert_eq!(ask(Bundle::of_bytes(bytes), 0).to_string(), "89 1 11 the bundle is damaged");
+    // the second of two matches
+    let second = stamp(&overlap(1), zones(&[("Up/One", fixed(0, "UTC"))]), FIX, 0).unwrap_err();
+    assert_eq!((second.why.number, second.at, second.to_string().as_str()), (Number::NoFile, Some(2), "88 2 0 the zone is not in the bundle"));
 }
 
 /// 61 of the rule's years, 61 of the clock's alone, and neither.
 #[test]
 fn years_of_the_rule_and_of_the_clock() {
     const LAST: i64 = 253_402_300_799;
-    let folder = Folder::new("clock").with("Up/One", &fixed(0, "UTC")).with("Up/Two", &fixed(3600, "CET"));
-    let ask = |instant| stamp(&overlap(1), &folder.0, ALONE, instant);
-    for instant in [LAST, LAST - 3599, i64::MAX] {
-        let why = ask(instant).unwrap_err();
-        assert!(matches!(why, NotStamped::OutsideYears), "{instant}: {why}");
-        assert_eq!(why.to_string(), "the instant, or the clock at it, is outside the years 1 to 9999");
+    let hour_east = || zones(&[("Up/Two", fixed(3600, "CET"))]);
+    for instant in [LAST, LAST - 3599, i64::MAX, i64::MIN] {
+        assert_eq!(why(&overlap(1), hour_east(), ALONE, instant), "61 1 0 the rule's instant, or the clock, is outside the years 1 to 9999", "{instant}");
     }
-    assert_eq!(words(&ask(LAST - 3600).unwrap()), ["9999-12-31 23:59:59 +01:00 CET Up/Two"]);
-    let ruled = Folder::new("rule").with("Up/Two", &small());
-    let why = stamp(&overlap(1), &ruled.0, ALONE, LAST + 1).unwrap_err();
-    assert!(matches!(why, NotStamped::OutsideYears), "{why}");
-    assert!(stamp(&overlap(1), &ruled.0, ALONE, LAST).is_ok());
+    assert_eq!(stamp(&overlap(1), hour_east(), ALONE, LAST - 3600).unwrap().line, "Fri 9999-12-31 23:59:59 +01:00 CET Up/Two");
+    let ruled = || zones(&[("Up/Two", small())]);
+    assert_eq!(stamp(&overlap(1), ruled(), ALONE, LAST + 1).unwrap_err().why.number, Number::TzifYear);
+    assert!(stamp(&overlap(1), ruled(), ALONE, LAST).is_ok());
 }
 
 /// 91: its scale is not the instant's, whatever the instant.
 #[test]
 fn a_file_that_counts_leap_seconds() {
-    let folder = Folder::new("leaps").with("Up/Two", &leaping(3600, "CET", &[78_796_800, 94_694_401]));
     for instant in [0, 78_796_799, 78_796_800, 1_761_440_400, i64::MIN, i64::MAX] {
-        let why = stamp(&overlap(1), &folder.0, ALONE, instant).unwrap_err();
-        assert!(matches!(&why, NotStamped::LeapSeconds(zone) if zone == "Up/Two"), "{instant}: {why}");
-        assert!(why.to_string().contains("refusal 91"), "{why}");
+        let leaps = bad_zone("Up/Two", &leaping(3600, "CET", &[78_796_800, 94_694_401]));
+        assert_eq!(why(&overlap(1), leaps, ALONE, instant), "91 1 0 the zone's file counts leap seconds", "{instant}");
     }
-    let plain = Folder::new("no-leaps").with("Up/Two", &leaping(3600, "CET", &[]));
-    assert_eq!(words(&stamp(&overlap(1), &plain.0, ALONE, 0).unwrap()), ["1970-01-01 01:00:00 +01:00 CET Up/Two"]);
+    let plain = zones(&[("Up/Two", leaping(3600, "CET", &[]))]);
+    assert_eq!(stamp(&overlap(1), plain, ALONE, 0).unwrap().line, "Thu 1970-01-01 01:00:00 +01:00 CET Up/Two");
 }
 
 /// 84: NaN, infinity and what is off the globe; the poles and the date line are places.
 #[test]
 fn no_place() {
-    let folder = Folder::new("no-place").with("Up/One", &fixed(0, "UTC")).with("Up/Two", &fixed(0, "UTC"));
-    let printer = Printer::new(Map::open(overlap(1)).unwrap(), &folder.0);
+    let printer = Printer::new(Map::open(overlap(1)).unwrap(), zones(&[]));
     let above = |degrees: f32| f32::from_bits(degrees.to_bits() + 1);
     for (lat, lon) in [
         (f32::NAN, FIX.1),
@@ -167,102 +155,109 @@ fn no_place() {
         (FIX.0, above(180.0)),
         (FIX.0, -above(180.0)),
     ] {
-        let why = printer.stamp(lat, lon, 0).unwrap_err();
-        assert!(matches!(why, NotStamped::NoPlace), "{lat} {lon}: {why}");
-        assert_eq!(why.to_string(), "refusal 84: no place on the globe");
-        // one among many stops no other
-        let many = printer.stamp_many(&[(ALONE.0, ALONE.1, 0), (lat, lon, 0), (lat, lon, 0), (ALONE.0, ALONE.1, 0)]);
-        assert_eq!(many.len(), 4);
-        assert!(many[0].is_ok() && many[3].is_ok());
-        assert!(many[1..3].iter().all(|slip| matches!(slip, Err(NotStamped::NoPlace))));
+        assert_eq!(printer.stamp(lat, lon, 0).unwrap_err().to_string(), "84 0 0 out of range", "{lat} {lon}");
     }
     for (lat, lon) in [(90.0, 180.0), (-90.0, -180.0)] {
-        assert!(matches!(printer.stamp(lat, lon, 0), Err(NotStamped::NoZone)));
+        assert_eq!(printer.stamp(lat, lon, 0).unwrap_err().why.number, Number::NoZone);
     }
 }
 
-fn told(slip: &Result<Vec<Hour>, NotStamped>) -> String {
-    slip.as_ref().map_or_else(NotStamped::to_string, |hours| words(hours).join("; "))
+/// A map whose fields can't be read is refused with its own cause, which is no match's number.
+#[test]
+fn a_map_that_is_refused() {
+    let square = [(1, 1), (9, 1), (9, 9), (1, 9)];
+    let zone = Zone { fields: &["Up/", "One"], borders: &[&square] };
+    let mut bytes = file(b'T', 1, &["TimezoneIdPrefix", "TimezoneId"], "", &[zone]);
+    let at = bytes.windows(3).position(|some| some == b"Up/".map(|byte| byte ^ 0x80)).unwrap();
+    bytes[at] = 0x7f;
+    let why = stamp(&bytes, zones(&[("Up/One", fixed(0, "UTC"))]), FIX, 0).unwrap_err();
+    assert_eq!((why.why.number, why.why.cause, why.at), (Number::FieldValue, Some(Cause::Utf8), None));
+    assert_eq!(why.to_string(), "15 2 0 field value");
+    assert!(matches!(Printer::new(Map::open(bytes).unwrap(), zones(&[])).found(FIX.0, FIX.1), Err(Error::Refused(found)) if found == why.why));
+}
+
+/// A slip needs room for hits, fields and its line; the last refusal says how much line.
+#[test]
+fn room() {
+    let in_room = |room| Printer::new(Map::open(overlap(1)).unwrap().with_room(room), zones(&[("Up/One", fixed(0, "A")), ("Up/Two", fixed(0, "B"))])).stamp(FIX.0, FIX.1, 0);
+    let line = "Thu 1970-01-01 00:00:00 +00:00 A Up/One, B Up/Two";
+    assert_eq!(in_room(Room { hits: 2, ..Room::default() }).unwrap_err().to_string(), "17 0 0 more hits than slots");
+    assert_eq!(in_room(Room { text: 23, ..Room::default() }).unwrap_err().to_string(), "18 0 0 text doesn't fit");
+    assert_eq!(in_room(Room { line: 48, ..Room::default() }).unwrap_err().to_string(), "18 0 49 text doesn't fit");
+    assert_eq!(in_room(Room { hits: 3, text: 24, line: 49 }).unwrap().line, line);
 }
 
 #[test]
-fn many_slips() {
-    let folder = Folder::new("many-slips").with("Up/One", &fixed(7200, "CEST")).with("Up/Two", &fixed(7200, "SAST"));
-    let printer = Printer::new(Map::open(overlap(1)).unwrap(), &folder.0);
-    let slip = |i: usize| ([FIX, ALONE, NOWHERE][i % 3], if i % 7 == 0 { i64::MAX } else { i as i64 });
-    let slips: Vec<_> = (0..5000).map(slip).map(|((lat, lon), instant)| (lat, lon, instant)).collect();
-    let all = printer.stamp_many(&slips);
-    assert_eq!(all.len(), slips.len());
-    for (&(lat, lon, instant), many) in slips.iter().zip(&all).step_by(11) {
-        assert_eq!(told(many), told(&printer.stamp(lat, lon, instant)));
+fn the_words_of_a_line() {
+    let both = zones(&[("Up/One", fixed(-16_201, "A\u{e9} B")), ("Up/Two", fixed(-16_201, ""))]);
+    let slip = stamp(&overlap(1), both, FIX, 1_782_907_199).unwrap();
+    assert_eq!(slip.line, "Wed 2026-07-01 07:29:58 -04:30:01 A???B Up/One,  Up/Two");
+    let zones = vec![("A???B", "Up/One"), ("", "Up/Two")];
+    assert_eq!(slip.words(), Line { weekday: "Wed", date: "2026-07-01", time: "07:29:58", offset: "-04:30:01", zones });
+    // commas of abbreviations and of the last name are theirs
+    let odd = Stamped { line: "Thu 1970-01-01 00:00:00 +00:00 A, Up/One,, B Up/Two,".into(), ..slip };
+    assert_eq!(odd.words().zones, [("A,", "Up/One,"), ("B", "Up/Two,")]);
+}
+
+/// A request is read by the library, and its slip is the slip at what it means.
+#[test]
+fn requests() {
+    let printer = Printer::new(Map::read(common::WORLD).unwrap(), Bundle::of_folder("/usr/share/zoneinfo").unwrap().bundle);
+    let sentence = "$GNRMC,115959.00,A,5231.200000,N,01324.000000,E,0.0,0.0,010726,,,A*41";
+    let berlin = printer.stamp(52.52, 13.40, 1_782_907_199).unwrap();
+    assert_eq!(berlin.line, "Wed 2026-07-01 13:59:59 +02:00 CEST Europe/Berlin");
+    for line in [sentence.to_string(), format!("{sentence}\r\n"), "52.52 13.40 1782907199".into(), "+52.520 13.4\t2026-07-01T11:59:59Z\n".into()] {
+        assert_eq!(printer.stamp_request(&line).unwrap(), berlin, "{line}");
+        assert_eq!(Request::read(&line).unwrap(), Request { lat: 52.52, lon: 13.40, instant: 1_782_907_199 });
     }
-    assert!(printer.stamp_many(&[]).is_empty());
-}
-
-/// One that is refused stops no other: FIX takes three hits.
-#[test]
-fn many_slips_with_a_refusal() {
-    let folder = Folder::new("refused-slip").with("Up/One", &fixed(7200, "CEST")).with("Up/Two", &fixed(7200, "SAST"));
-    let map = Map::open(overlap(1)).unwrap().with_room(Room { hits: 1, text: 64 });
-    let printer = Printer::new(map, &folder.0);
-    for order in [[FIX, ALONE], [ALONE, FIX]] {
-        let all = printer.stamp_many(&order.map(|(lat, lon)| (lat, lon, 0)));
-        let alone = order.map(|(lat, lon)| told(&printer.stamp(lat, lon, 0)));
-        assert_eq!(all.iter().map(told).collect::<Vec<_>>(), alone);
-        assert!(alone.contains(&"refusal 17: more hits than slots".to_string()));
+    for (line, words) in [
+        ("", "80 0 0 not a request"),
+        ("52.52 13.40", "80 0 11 not a request"),
+        ("$GNRMC,115959.00,V,,,,,,,010726,,,N*61", "81 0 0 the receiver has no fix"),
+        ("$GNRMC,115959.00,A,5231.200001,N,01324.000000,E,0.0,0.0,010726,,,A*41", "82 0 66 the checksum is wrong"),
+        ("$GPGLL,,,,,,V,N*64", "83 0 0 another sentence"),
+        ("52.52 13.40 2016-12-31T23:59:60Z", "84 0 12 out of range"),
+        ("0 -30 0", "86 0 0 no zone holds the fix"),
+    ] {
+        assert_eq!(printer.stamp_request(line).unwrap_err().to_string(), words, "{line}");
+        let read = Request::read(line).map_err(|why| why.number as u8);
+        assert!(words.starts_with("86") || read == Err(words[..2].parse().unwrap()), "{line}");
     }
-}
-
-/// What a slip rests on is what the map answers at its fix, and through an index no slip is another.
-#[test]
-fn traced_and_through_an_index() {
-    let folder = Folder::new("traced").with("Up/One", &fixed(7200, "CEST")).with("Up/Two", &fixed(3600, "B"));
-    let map = || Map::open(overlap(1)).unwrap();
-    let plain = Printer::new(map(), &folder.0);
-    let through = Printer::new(map(), &folder.0).with_index(Index::build(&map()).unwrap()).unwrap();
-    let slips = [FIX, ALONE, NOWHERE, (f32::NAN, 0.0), ALONE].map(|(lat, lon)| (lat, lon, 0));
-    for printer in [&plain, &through] {
-        for ((lat, lon, instant), traced) in slips.into_iter().zip(printer.trace_many(&slips)) {
-            assert_eq!(told(&traced.hours), told(&plain.stamp(lat, lon, instant)));
-            let found = traced.found.map(|found| (found.end, found.matches));
-            assert_eq!(found, map().lookup(lat, lon).ok().filter(|_| !lat.is_nan()).map(|found| (found.end, found.matches)));
-        }
-    }
-    assert_eq!(plain.trace_many(&slips)[1].found.as_ref().unwrap().end, End::Whole);
-    let other = Index::build(&Map::read(common::WORLD).unwrap()).unwrap();
-    assert!(matches!(plain.with_index(other), Err(Error::Refused(why)) if why.number == Number::OtherIndex));
-}
-
-/// Inside two zones that overlap there is no border; on the edge of one of them there is.
-#[test]
-fn overlapping_zones_are_no_border() {
-    let folder = Folder::new("overlapping").with("Up/One", &fixed(3600, "A")).with("Up/Two", &fixed(7200, "B"));
-    let said = |fix| stamp(&overlap(1), &folder.0, fix, 0).unwrap_err().to_string();
-    assert!(said(FIX).starts_with("in zones that overlap, and the hours differ; 1970"), "{}", said(FIX));
-    let edge = (3.1 * LAT_STEP, 5.1 * LON_STEP);
-    assert!(said(edge).starts_with("on a border, and the hours differ; 1970"), "{}", said(edge));
-    let Err(NotStamped::HoursDiffer(hours)) = stamp(&overlap(1), &folder.0, edge, 0) else { panic!("stamped") };
-    assert_eq!(hours.iter().map(|hour| hour.kind).collect::<Vec<_>>(), [Kind::InZone, Kind::OnBorderSegment]);
-}
-
-#[test]
-fn the_line_of_a_slip() {
-    let folder = Folder::new("line").with("Up/One", &fixed(-16_201, "A\u{e9} B")).with("Up/Two", &fixed(-16_201, "XYZ"));
-    let hours = stamp(&overlap(1), &folder.0, FIX, 1_782_907_199).unwrap();
-    assert_eq!(line(&hours), "Wed 2026-07-01 07:29:58 -04:30:01 A???B Up/One, XYZ Up/Two");
-    assert_eq!(line(&hours[1..]), "Wed 2026-07-01 07:29:58 -04:30:01 XYZ Up/Two");
-    assert_eq!(line(&[]), "");
 }
 
 /// Degrees that come as f64 are rounded once.
 #[test]
 fn degrees_of_twice_the_width() {
-    let folder = Folder::new("wide").with("Up/Two", &fixed(0, "UTC"));
-    let printer = Printer::new(Map::open(overlap(1)).unwrap(), &folder.0);
+    let printer = Printer::new(Map::open(overlap(1)).unwrap(), zones(&[("Up/Two", fixed(0, "UTC"))]));
     let (lat, lon) = (f64::from(ALONE.0) + 1e-9, f64::from(ALONE.1) - 1e-9);
-    assert_eq!(words(&printer.stamp_degrees(lat, lon, 0).unwrap()), words(&printer.stamp(ALONE.0, ALONE.1, 0).unwrap()));
+    assert_eq!(printer.stamp_degrees(lat, lon, 0).unwrap(), printer.stamp(ALONE.0, ALONE.1, 0).unwrap());
     assert_eq!(printer.map().lookup_degrees(lat, lon).unwrap(), printer.map().lookup(ALONE.0, ALONE.1).unwrap());
     // 90 and a little is the nearest place, 90
-    assert!(matches!(printer.stamp_degrees(90.000_000_1, 0.0, 0), Err(NotStamped::NoZone)));
-    assert!(matches!(printer.stamp_degrees(90.1, 0.0, 0), Err(NotStamped::NoPlace)));
+    assert_eq!(printer.stamp_degrees(90.000_000_1, 0.0, 0).unwrap_err().why.number, Number::NoZone);
+    assert_eq!(printer.stamp_degrees(90.1, 0.0, 0).unwrap_err().why.number, Number::NoPlace);
+}
+
+/// What the bundle has under a name is the file that the slip goes by; a head without a release says none.
+#[test]
+fn files_of_a_bundle() {
+    let both = Bundle::of_files(Some("2026a"), [("Up/One".to_string(), fixed(0, "A")), ("Up/Two".to_string(), small())]).bundle;
+    assert_eq!((both.find("Up/Two"), both.find(b"Up/One"), both.release()), (Ok(&small()[..]), Ok(&fixed(0, "A")[..]), Some("2026a")));
+    assert_eq!(TimeZone::new(both.find("Up/One").unwrap()).unwrap().local_time(0).unwrap().unwrap().abbreviation, b"A");
+    assert_eq!(both.find("Up/").unwrap_err().to_string(), "refusal 88: the zone is not in the bundle");
+    assert_eq!(Bundle::of_bytes(header(0, [0; 6])).find("Up").unwrap_err().to_string(), "refusal 89: the bundle is damaged (place 0)");
+    for bytes in [&b""[..], b"tzdata2026", b"tzdata?????\0", b"tzdata202\xff\xff\0"] {
+        assert_eq!(Bundle::of_bytes(bytes.to_vec()).release(), None);
+    }
+}
+
+/// Threads may stamp by one printer.
+#[test]
+fn threads() {
+    let printer = Printer::new(Map::open(overlap(1)).unwrap(), zones(&[("Up/Two", small())]));
+    let alone: Vec<Stamped> = (0..100).map(|i| printer.stamp(ALONE.0, ALONE.1, i << 28).unwrap()).collect();
+    std::thread::scope(|scope| {
+        for _ in 0..4 {
+            scope.spawn(|| alone.iter().zip(0i64..).for_each(|(want, i)| assert_eq!(&printer.stamp(ALONE.0, ALONE.1, i << 28).unwrap(), want)));
+        }
+    });
 }

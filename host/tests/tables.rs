@@ -75,7 +75,7 @@ fn header_says(name: &str) -> String {
 #[test]
 fn the_format_page_has_every_refusal() {
     let page: Vec<(String, u8)> = format_refusals().iter().map(|row| (row[1].clone(), row[0].parse().unwrap())).collect();
-    let header: Vec<(String, u8)> = header_refusals().into_iter().filter(|(_, number)| *number < 40).collect();
+    let header: Vec<(String, u8)> = header_refusals().into_iter().filter(|(_, number)| !(40..=61).contains(number)).collect();
     assert_eq!(page, header);
 }
 
@@ -95,9 +95,23 @@ fn the_format_page_says_what_is_said() {
     }
 }
 
+/// Number and words of each row of the table that the program `stamp` writes its reasons by.
+fn stamp_words() -> Vec<(u8, String)> {
+    let table = text("crates/shell/specs/Words.antt");
+    let rows = table.lines().filter_map(|line| line.trim().strip_prefix('(')?.strip_suffix("\") ∷"));
+    rows.map(|row| row.split_once(", \"").map(|(number, words)| (number.parse().unwrap(), words.to_string())).unwrap()).collect()
+}
+
+#[test]
+fn every_reason_of_stamp_has_its_words() {
+    let slips = |number: u8| number <= 18 || number >= 40;
+    let rust: Vec<_> = Number::all().map(|known| (known as u8, known.words().to_string())).filter(|(number, _)| slips(*number)).collect();
+    assert_eq!(stamp_words(), rust);
+}
+
 #[test]
 fn every_refusal_of_zone_has_its_words() {
-    let script = text("programs.sh");
+    let script = text("zone");
     let words = script.split("refusal_words='").nth(1).unwrap().split('\'').next().unwrap();
     assert_eq!(words.split(',').count(), uskelzar::Number::TextRoom as usize);
     assert!(words.split(',').all(|said| !said.trim().is_empty()));
@@ -143,6 +157,6 @@ fn one_width_of_a_hit() {
 fn one_width_of_a_state() {
     let header = text("include/uskelzar.h");
     assert_eq!(behind(&header, "enum { USKELZAR_STATE_WORDS ="), raw::STATE_WORDS.to_string());
-    let code = text("crates/uskelzar/src/calls.rt");
+    let code = text("crates/office/src/calls.rt");
     assert_eq!(behind(&code, "fn state_of(words: [u64;").trim_end_matches("])"), raw::STATE_WORDS.to_string());
 }

@@ -13,6 +13,7 @@ const BYTES: usize = 1024;
 mod library;
 
 #[link(name = "uskelzar", kind = "static")]
+#[link(name = "office", kind = "static")]
 extern "C" {}
 
 /// Builds an index and answers the words used.
@@ -33,13 +34,36 @@ fn index_of(file: &[u8]) -> Vec<u32> {
     index
 }
 
-/// Builds the index so many times, and prints how many words it takes.
+/// Builds an atlas and answers the words used.
+fn build_atlas(file: &[u8], atlas: &mut [u32]) -> usize {
+    let mut reply = [0; 5];
+    let refusal = library::uskelzar_build_atlas(file, atlas, &mut reply);
+    assert_eq!(refusal, 0, "no atlas");
+    reply[0] as usize
+}
+
+/// An atlas in no more words than it takes, held against its file.
+fn atlas_of(file: &[u8]) -> Vec<u32> {
+    let mut atlas = vec![0; 1 << 24];
+    let used = build_atlas(file, &mut atlas);
+    atlas.truncate(used);
+    let refusal = library::uskelzar_is_atlas(file, &atlas, &mut [0; 5]);
+    assert_eq!(refusal, 0, "the atlas is not that of its file");
+    atlas
+}
+
+/// Builds the index or the atlas so many times, and prints how many words it takes.
 fn run_build(task: &Task, file: &[u8]) {
-    let mut index = index_of(file);
+    let whole = matches!(task.way, Way::Atlas);
+    let mut words = if whole { atlas_of(file) } else { index_of(file) };
     for _ in 0..task.rounds {
-        build_index(file, &mut index);
+        if whole {
+            build_atlas(file, &mut words);
+        } else {
+            build_index(file, &mut words);
+        }
     }
-    println!("{}", index.len());
+    println!("{}", words.len());
 }
 
 struct Ours<'a> {
@@ -61,6 +85,7 @@ impl Ours<'_> {
                 let asked = matches!(question, Question::WithSafezone);
                 match self.way {
                     Way::Through => library::uskelzar_lookup_through(file, index, lat, lon, asked, hits, text, reply),
+                    Way::Atlas => library::uskelzar_lookup_atlas(file, index, lat, lon, asked, hits, text, reply),
                     Way::Indexed => library::uskelzar_lookup_indexed(file, index, lat, lon, asked, hits, text, reply),
                     _ => library::uskelzar_lookup(file, lat, lon, asked, hits, text, reply),
                 }
@@ -168,6 +193,7 @@ fn main() {
         (_, Way::Together(size)) => return run_together(&task, &file, size),
         (_, Way::Plain) => vec![],
         (_, Way::Through | Way::Indexed) => index_of(&file),
+        (_, Way::Atlas) => atlas_of(&file),
     };
     let mut ours = Ours {
         file: &file,

@@ -56,6 +56,27 @@ pub agree-end : (left : ℕ) (xs ys : List ℕ) → left ≡ 0 → true ≡ agre
 unfolding agrees
 agree-end left xs ys e = rw e refl
 
+-- one byte that differs is enough
+and-false : (a : Bool) → (a && false) ≡ false
+and-false true = refl
+and-false false = refl
+
+agree-differ : (n k : ℕ) (xs ys : List ℕ) → k < n → (getD xs k 0 ≡ getD ys k 0 → ⊥) → agrees n xs ys ≡ false
+unfolding agrees
+agree-differ zero k xs ys h d = absurd (omega arith)
+agree-differ (suc n) zero xs ys h d = simp (ne-eqb (getD xs 0 0) (getD ys 0 0) d)
+agree-differ (suc n) (suc k) xs ys h d =
+    let later = agree-differ n k (drop 1 xs) (drop 1 ys) (omega arith) (λ e. d (sym (one-on k xs) ∙ e ∙ one-on k ys)) in
+    ap (λ (t : Bool). eqb (getD xs 0 0) (getD ys 0 0) && t) later ∙ and-false (eqb (getD xs 0 0) (getD ys 0 0))
+  where
+    one-on : (k : ℕ) (text : List ℕ) → getD (drop 1 text) k 0 ≡ getD text (suc k) 0
+    one-on k text = getD-drop 1 text k 0 ∙ ap (λ (i : ℕ). getD text i 0) (let e : 1 + k ≡ suc k = omega arith in e)
+
+pub not-entry : (bundle name : List ℕ) (place probe : ℕ) → probe < 40 → (getD bundle (place + probe) 0 ≡ getD name probe 0 → ⊥) → isEntry bundle name place ≡ false
+unfolding isEntry
+not-entry bundle name place probe h d =
+    ap (λ (t : Bool). leb (length name) 40 && t) (agree-differ 40 probe (drop place bundle) name h (λ e. d (sym (getD-drop place bundle probe 0) ∙ e))) ∙ and-false (leb (length name) 40)
+
 -- places, counted from another
 pub from-start : (n : ℕ) (bundle name : List ℕ) (place : ℕ) → agrees n (drop (place + 0) bundle) name ≡ agrees n (drop place bundle) name
 from-start n bundle name place = ap (λ (k : ℕ). agrees n (drop k bundle) name) (let e : place + 0 ≡ place = omega arith in e)

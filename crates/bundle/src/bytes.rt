@@ -23,7 +23,7 @@ pub(crate) fn word_at(bundle: &[u8], place: usize) -> u64
 }
 
 // A byte of a name that stands in two parts under a mask; 0 behind it.
-fn byte_of(prefix: &[u8], id: &[u8], at: usize, mask: u8) -> u8
+pub(crate) fn byte_of(prefix: &[u8], id: &[u8], at: usize, mask: u8) -> u8
     ensures { λ r. ⌜ r ≡ getD (map (xored mask) (now (prefix .entry) ++ now (id .entry))) at 0 ⌝ }
 {
     let size = prefix.len();

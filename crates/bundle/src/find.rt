@@ -1,9 +1,10 @@
 // A zone's file in a bundle. Its name comes in two parts under a mask, so that nobody needs room to join them as they stand in a map.
 ghost use mathlib.Core.{Path.{_≡_}, List.{_++_, map}};
-ghost use Prim.Native.Nat.{_+_, _*_, _≤_};
-ghost use lib.ListN.{length};
+ghost use Prim.Native.Nat.{_+_, _*_, _≤_, _<_};
+ghost use lib.ListN.{length, getD};
 ghost use Rattle.bundle.specs.{Bundle.{isEntry, seekOf, findOf, xored}, Told.{toldSought, told}};
 use crate::bytes::agrees;
+use crate::bytes::byte_of;
 use crate::bytes::word_at;
 use crate::head::Headed;
 use crate::head::read_head;
@@ -41,15 +42,50 @@ fn is_entry(bundle: &[u8], place: usize, prefix: &[u8], id: &[u8], mask: u8) -> 
     agrees(bundle, place, prefix, id, 40, mask)
 }
 
+// Where a name has its last byte; 0 for one that no entry can have. Names that begin alike mostly differ there.
+fn probe_of(prefix: &[u8], id: &[u8]) -> usize
+    ensures { λ r. ⌜ r < 40 ⌝ }
+{
+    let size = prefix.len() + id.len();
+    if 40 < size {
+        return 0;
+    }
+    if size == 0 {
+        return 0;
+    }
+    size - 1
+}
+
+// Whether an entry has the name, one of whose bytes is asked first: a bundle has hundreds of entries.
+fn is_here(
+    bundle: &[u8],
+    place: usize,
+    prefix: &[u8],
+    id: &[u8],
+    mask: u8,
+    probe: usize,
+    byte: u8,
+) -> bool
+    requires { ⌜ (place + 40 ≤ length (now bundle)) × (probe < 40) × (byte ≡ getD (map (xored mask) (now prefix ++ now id)) probe 0) ⌝ }
+    ensures { λ r. ⌜ r ≡ isEntry (now (bundle .entry)) (map (xored mask) (now (prefix .entry) ++ now (id .entry))) place ⌝ }
+{
+    if bundle[place + probe] != byte {
+        return false;
+    }
+    is_entry(bundle, place, prefix, id, mask)
+}
+
 // The first entry of the name, of so many from a place on.
 fn seek(bundle: &[u8], place: usize, count: usize, prefix: &[u8], id: &[u8], mask: u8) -> Sought
     requires { ⌜ place + 52 * count ≤ length (now bundle) ⌝ }
     ensures { λ r. ⌜ toldSought r ≡ seekOf count (now (bundle .entry)) (map (xored mask) (now (prefix .entry) ++ now (id .entry))) place ⌝ }
 {
+    let probe = probe_of(prefix, id);
+    let byte = byte_of(prefix, id, probe, mask);
     let mut at = place;
     let mut left = count;
     while 0 < left {
-        if is_entry(bundle, at, prefix, id, mask) {
+        if is_here(bundle, at, prefix, id, mask, probe, byte) {
             return Sought::Entry(at);
         }
         at += 52;

@@ -14,13 +14,13 @@ use Rattle.index.specs.Index.{recordsOf, wordsFor, keptOf, listOf, lists
 use Rattle.index.specs.{Through.{startOf, isInside, placeOf, recordsIn, numbersIn}, Tiles.{wordOf, lift, tileOf}, declared.place.Place.{Place}}
 
 -- ---- lists one after the other
-joined-append : (a b : List (List ℕ)) → joined (a ++ b) ≡ joined a ++ joined b
+pub joined-append : (a b : List (List ℕ)) → joined (a ++ b) ≡ joined a ++ joined b
 unfolding joined
 joined-append [] b = refl
 joined-append (list ∷ a) b = ap (λ (x : List ℕ). list ++ x) (joined-append a b) ∙ sym (append-assoc list (joined a) (joined b))
 
 -- the first so many, one, and the rest
-joined-split : (lists : List (List ℕ)) (t : ℕ) → t < length lists → joined lists ≡ joined (take t lists) ++ (getD lists t [] ++ joined (drop (suc t) lists))
+pub joined-split : (lists : List (List ℕ)) (t : ℕ) → t < length lists → joined lists ≡ joined (take t lists) ++ (getD lists t [] ++ joined (drop (suc t) lists))
 unfolding joined
 joined-split lists t h = ap joined (split-at lists t [] h) ∙ joined-append (take t lists) (getD lists t [] ∷ drop (suc t) lists)
 

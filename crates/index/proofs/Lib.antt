@@ -29,4 +29,4 @@ pub mod Standing
 pub mod Comparing
 pub mod Owning
 pub mod Owned
-mod WorkedIndex
+pub mod WorkedIndex

@@ -9,7 +9,7 @@ use Rattle.numbers.proofs.{Refusals.{Listed, still-listed, either}, Replies.{Nu
 use Rattle.numbers.specs.{Reply.{Reply, given, refused, plain, _>>=_}, declared.refusal.Refusal.{Refusal}}
 use Rattle.header.proofs.{Numbered.{headerNumbers, text-numbered, head-numbered}, StrictHead.{head-strict}}
 use Rattle.header.specs.{Field.{field, fieldAt}, Header.{headOf}, Text.{bytesOf}, declared.header.Head.{Head}}
-use Rattle.table.specs.{Find.{fixOf, isPrecision}, GivenRows.{rowAt, rowsListed, searchedListed, matchedListed}, Hits.{width}, Rows.{Rows, row}}
+use Rattle.table.specs.{Find.{fixOf, isPrecision}, GivenRows.{rowAt, rowsBy, rowsListed, searchedListed, matchedListed}, Hits.{width}, Rows.{Rows, row}}
 use Rattle.table.specs.{Search.{kindOf, judgedTurn, rowTurn, Found, afterTurn, judgeIn, farthest}, Table.{holds}, Unstopped.{seekAll}}
 use Rattle.table.specs.declared.{hits.Hit.{Hit}, location.Location.{Location}, rows.Row.{Row}, search.Turn.{the-variants.{On, Met, Stopped, Refused}, Turn}}
 use Rattle.zones.proofs.NumberedLookup.{lookupNumbers}
@@ -73,7 +73,7 @@ module _ (judge : ℕ → ℕ → Judgement) (fix : Point) (judges : (place leas
   Sought room rows = (least : ℕ) (hits : List Hit) → Numbered (seekAll judge fix room rows least hits)
 
   seeks : (room : ℕ) (records numbers : List ℕ) → Sought room (rowsListed records numbers)
-  unfolding rowsListed seekAll
+  unfolding rowsBy seekAll
   seeks room records [] = λ least hits. answers
   seeks room records (k ∷ numbers) =
       either (Sought room) (ltb k (length records / 7)) {a = row (rowAt records k) (rowsListed records numbers)} {b = T.refused 36}

@@ -20,7 +20,7 @@ abbrev pub tyingNumbers : List ℕ
 tyingNumbers = headerNumbers ++ (16 ∷ 36 ∷ [])
 
 -- ---- building
-table-numbered : (end : ℕ) (floor : ℤ) (table : Rows) → NumberedReply (Listed buildingNumbers) (tableFrom end floor table)
+pub table-numbered : (end : ℕ) (floor : ℤ) (table : Rows) → NumberedReply (Listed buildingNumbers) (tableFrom end floor table)
 unfolding tableFrom
 table-numbered end floor (row r table) = and-then (demands (isNext end floor r) (plain 34) refl) (then-reply (table-numbered end (lowest r) table) (λ rest. answers))
 table-numbered end floor tableEnd = answers
@@ -34,7 +34,7 @@ words-numbered file head room =
     (then-reply (table-numbered (head .sections .metadata) bottom (rowsIn file head))
     (λ rows. and-then (demands (hasRoom room (length (indexOf file head rows))) (plain 35) refl) answers))
 
-replied-numbered : (n : ℕ) {reply : Reply (List ℕ)} → NumberedReply (Listed buildingNumbers) reply → NumberedReply (Listed buildingNumbers) (indexedBy n reply .reply)
+pub replied-numbered : (n : ℕ) {reply : Reply (List ℕ)} → NumberedReply (Listed buildingNumbers) reply → NumberedReply (Listed buildingNumbers) (indexedBy n reply .reply)
 unfolding indexedBy
 replied-numbered n answers = answers
 replied-numbered n (refuses h) = refuses h
@@ -45,7 +45,7 @@ unfolding indexedOf indexIn
 index-refusals file n why =
     number-of (replied-numbered n (then-reply (head-numbered (still-listed headerNumbers (16 ∷ 34 ∷ 35 ∷ [])) false differ file) (λ head. words-numbered file head n)))
 
-no-words : (n : ℕ) (reply : Reply (List ℕ)) (why : Refusal) → indexedBy n reply .reply ≡ refused why → indexedBy n reply .words ≡ zeros n
+pub no-words : (n : ℕ) (reply : Reply (List ℕ)) (why : Refusal) → indexedBy n reply .reply ≡ refused why → indexedBy n reply .words ≡ zeros n
 unfolding indexedBy
 no-words n (given words) why e = let z : _≡_ {A = ℕ} 0 1 = cc in absurd (omega arith)
 no-words n (refused why′) why e = refl

@@ -20,7 +20,7 @@ pub and-end : (a : Bool) → a ≡ (a && true)
 and-end true = refl
 and-end false = refl
 
-and-not : (a b : Bool) → b ≡ false → false ≡ (a && b)
+pub and-not : (a b : Bool) → b ≡ false → false ≡ (a && b)
 and-not true b e = sym e
 and-not false b e = refl
 

@@ -7,7 +7,7 @@ use mir.{Syntax.{w32}, Val.{SFits}}
 use native.Mathlib.Omega.{arith}
 use Rattle.border.specs.declared.place.Point.{Point}
 use Rattle.numbers.specs.{Answer.{if_then_else_}, Point.{readI32}}
-use Rattle.table.specs.{GivenRows.{rowAt, rowsListed}, Ordered.{followedAt, Thinned, done, kept, left}, Rows.{row}, Table.{holds}, declared.rows.Row.{Row}}
+use Rattle.table.specs.{GivenRows.{rowAt, rowsBy, rowsListed}, Ordered.{followedAt, Thinned, done, kept, left}, Rows.{row}, Table.{holds}, declared.rows.Row.{Row}}
 use Rattle.index.proofs.{Complete.{holding-meets}, Numbering.{read-back, Fitting, Sound, none, one}, Tabling.{records-length}}
 use Rattle.table.specs.Rows.{asRows}
 use Rattle.index.specs.{Index.{recordOf, recordsOf, listFrom, listOf}, Tiles.{wordOf, tileOf, tileAt, meets}, declared.tiles.Tile.{Tile}}
@@ -65,7 +65,7 @@ module _ (precision : ℕ) (fix : Point) (flat : SFits w32 (fix .lat .0)) (flon 
       }
 
   thinned-from : (k : ℕ) {rows : List Row} → Sound k rows → Standing rows k → Thinned fix (asRows rows) (rowsListed records (listFrom tile k rows))
-  unfolding asRows rowsListed listFrom
+  unfolding asRows rowsBy listFrom
   thinned-from k none s = done
   thinned-from k (one {r = r} {rows = rows} number f later) s = choose (isIn r) refl (thinned-from (k + 1) later (standing-rest r rows k s))
     where

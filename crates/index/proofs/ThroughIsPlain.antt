@@ -52,7 +52,7 @@ module _ (file : List ℕ) (head : Head) (rows : List Row) (rest : List ℕ) (op
       ∙ ap (λ (table : Rows). seekAll judge fix room table farthest []) (order .0)
       ∙ rows-left-out judge fix room (thinned precision fix (lat-fits location precision) (lon-fits location precision) sound) farthest [])
 
-  same-matched : (room : ℕ) → matchedListed file head location asked (recordsOf rows) numbers room ≡ matchedWith file head location asked room
+  pub same-matched : (room : ℕ) → matchedListed file head location asked (recordsOf rows) numbers room ≡ matchedWith file head location asked room
   unfolding matchedListed matchedWith
   same-matched room =
       ap (λ (reply : Reply Found). demand (isPrecision precision) (plain 16) >> (reply >>= λ found. given (record { matches = merged (found .hits); mark = found .mark; least = found .least }))) (same-search room)

@@ -30,7 +30,7 @@ module _ (words : List ℕ) where
   abbrev pub Holds : List Row → ℕ → Type 0
   Holds rows k = (i : ℕ) → i < 7 * length rows → getD words (recordsAt + 7 * k + i) 0 ≡ getD (recordsOf rows) i 0
 
-  holds-rest : (r : Row) (rows : List Row) (k : ℕ) → Holds (r ∷ rows) k → Holds rows (k + 1)
+  pub holds-rest : (r : Row) (rows : List Row) (k : ℕ) → Holds (r ∷ rows) k → Holds rows (k + 1)
   unfolding recordsOf
   holds-rest r rows k h i l =
       let e : recordsAt + 7 * (k + 1) + i ≡ recordsAt + 7 * k + (7 + i) = omega arith in

@@ -13,15 +13,15 @@ use Rattle.index.proofs.{Owned.{built-is-index}, Through.{through-opene
 use Rattle.index.specs.Index.{recordsOf, packedFrom, listFrom, listOf, listsFrom, joined, startsFrom, indexOf, indexWith, indexIn, indexedBy, indexedOf}
 use Rattle.index.specs.{Own.{isIndexOf}, Table.{tableFrom, tableOf}, Through.{placeOf, zonesThrough, lookedThrough, lookedIndexed}, Tied.{isTied}, Tiles.{spanOf, tileAlong, tileOf, meets}}
 
-abbrev printed : List ℕ
+abbrev pub printed : List ℕ
 printed =
     0x50 ∷ 0x4C ∷ 0x42 ∷ 0x43 ∷ 0x01 ∷ 0x10 ∷ 0x01 ∷ 0x04 ∷ 0xCE ∷ 0xE1 ∷ 0xED ∷ 0xE5 ∷ 0x00 ∷ 0x06 ∷ 0x02 ∷ 0x09 ∷ 0x04 ∷ 0x04 ∷ 0x14
     ∷ 0x14 ∷ 0x00 ∷ 0x00 ∷ 0x01 ∷ 0xC1 ∷ 0x30 ∷ 0x80 ∷ 0x02 ∷ 0x80 ∷ 0x04 ∷ 0x81 ∷ 0x02 ∷ 0x00 ∷ 0x00 ∷ []
 
-abbrev head : Head
+abbrev pub head : Head
 head = record { preamble = record { kind = 0x43; version = 1; precision = 16; count = 1 }; sections = record { table = 16; metadata = 22; «data» = 24 }; strict = false }
 
-abbrev only : Row
+abbrev pub only : Row
 only = record {
   place = 16;
   id = 0;

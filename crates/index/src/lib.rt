@@ -6,7 +6,7 @@ mod kept;
 mod lists;
 pub mod lookup;
 pub mod own;
-mod place;
+pub mod place;
 pub mod tied;
 pub mod tiles;
 mod words;

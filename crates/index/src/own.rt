@@ -178,7 +178,7 @@ fn same_lists(index: &[u32], precision: u8, n: usize, from: usize) -> Next
     Next::Other
 }
 
-fn is_empty_from(index: &[u32], from: usize) -> bool
+pub fn is_empty_from(index: &[u32], from: usize) -> bool
     ensures { λ r. ⌜ r ≡ isEmptyFrom (now (index .entry)) «from» ⌝ }
 {
     let mut at = from;

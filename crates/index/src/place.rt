@@ -36,7 +36,7 @@ fn is_inside(index: &[u32], t: usize) -> bool
 }
 
 // Of words whose head goes with a file of this length.
-pub(crate) fn list_of(length: usize, head: Head, index: &[u32], location: Location) -> Listing
+pub fn list_of(length: usize, head: Head, index: &[u32], location: Location) -> Listing
     ensures { λ r. ⌜ toldListing r ≡ placeOf length head (now (index .entry)) location ⌝ }
 {
     let preamble = head.preamble;

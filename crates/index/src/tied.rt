@@ -21,7 +21,7 @@ pub enum Tied {
     Refused(Refusal),
 }
 
-pub(crate) fn wide(word: u32) -> usize
+pub fn wide(word: u32) -> usize
     ensures { λ r. ⌜ (r ≡ word) × (r < 2 ^ 32) ⌝ }
 {
     word as usize

@@ -4,6 +4,7 @@ use Prim.Native.Nat.{ℕ, _+_, _*_, _-_, _<_, _≤_}
 use lib.{Ieee.{Float}, IntN.{ℤ}, ListN.{length, getD, take}, Signed.{ltZ}}
 use mathlib.Core.{Bool.{Bool, true}, List.{List, [], _∷_}, Logic.{_↔_, _⊎_}, Path.{_≡_}}
 use mir.{Syntax.{w64}, Val.{SFits}}
+use Rattle.atlas.specs.{Atlas.{atlasMade, isAtlasOf}, Looked.{lookedAtlas}}
 use Rattle.border.specs.{Encoding.{encodingOf}, declared.place.{FixedLat.{FixedLat}, FixedLon.{FixedLon}}}
 use Rattle.builder.specs.{File.{Room, builtOf}, Yards.{Lent, Plan, Yard, planOf}}
 use Rattle.bundle.specs.{Bundle.{findOf}, First.{FoundAt}, declared.find.File.{File}}
@@ -21,7 +22,7 @@ use Rattle.request.specs.{Clock.{Date, Time, utc}, Nearest.{Nearest}, Only.{Onl
 use Rattle.request.specs.Told as Q
 use Rattle.request.specs.declared.read.Asked.the-variants as A
 use Rattle.salvage.specs.{Kept.{keptOf}, Promises.{ListOf, KeptFile}, Salvage.{Counts, salvaged}}
-use Rattle.slip.specs.{Says.{Whole, Agreed}, Slip.{slipped}, declared.slip.{Stamped.{Stamped}, Slipped.{Slipped}}}
+use Rattle.slip.specs.{Says.{Meant, Whole, Agreed, Clocked, Short, isAtNumber, isSlipNumber}, Slip.{slippedAt, slipped}, declared.slip.{Stamped.{Stamped}, Slipped.{Slipped}}}
 use Rattle.slip.specs.Slip as Z
 use Rattle.slip.specs.Told as K
 use Rattle.table.specs.{Rows.{rowsIn}, declared.location.Location.{Location}}
@@ -29,10 +30,12 @@ use Rattle.tzif.specs.{Check.{correctionAt}, Local.{typeBehind, named}, Number.
 use Rattle.tzif.specs.Last.{Octets, transitionTime, LastNotAfter}
 use Rattle.tzif.specs.Reply as T
 use Rattle.tzrule.specs.{Ask.{corrected, inYears, clockAt}, Summer.{isSummer, IsSummer, IsRule}, declared.rule.{Rule.{Rule}, Tz.{Tz}}}
-use Rattle.uskelzar.specs.{Calls.{Shelf, Called, Made, TotalsIn}, Spoken.{zonesValues, spoken, foundSpoken}}
+use Rattle.office.specs.Calls.{Shelf, Called, Made, TotalsIn}
+use Rattle.uskelzar.specs.{Slips.{Printed, slipSpoken}, Spoken.{zonesValues, spoken, foundSpoken}}
 use Rattle.verdict.specs.Verdict.{judgedAt}
 use Rattle.writer.specs.WrittenAt.{WrittenAt}
 use Rattle.zones.specs.{Batch.{Many.{isTaken, fixesOf, lookedUpMany}, OneByOne.{oneByOne}}, Lookup.{lookedUp}, Unstopped.{lookedThroughAll}, declared.lookup.Zones.{Zones}}
+use Rattle.atlas.proofs.AtlasIsPlain as atlas
 use Rattle.bundle.proofs.Theorems as bundle
 use Rattle.calendar.proofs.Epoch as epoch
 use Rattle.calendar.proofs.SameCivil as calendar
@@ -45,7 +48,8 @@ use Rattle.request.proofs.Theorems as request
 use Rattle.slip.proofs.Theorems as slip
 use Rattle.tzif.proofs.Theorems as tzif
 use Rattle.tzrule.proofs.SummerAt as tzrule
-use Rattle.uskelzar.proofs.Made as calls
+use Rattle.office.proofs.Made as calls
+use Rattle.uskelzar.proofs.ReturnedSlip as printed
 use Rattle.uskelzar.proofs.ReturnedWhole as returned
 use Rattle.writer.proofs.OneVerdict as writer
 use Rattle.zones.proofs.WholeMeansWhole as zones
@@ -70,7 +74,7 @@ pub many-is-one-by-one : (file : List ℕ) (lats lons : List Float) (asked : Boo
     → lookedUpMany file lats lons asked n room third ≡ oneByOne file asked n room third (fixesOf lats lons) 0 0 0 (zeros n) (zeros room) (zeros third)
 many-is-one-by-one = batch.many-is-one-by-one
 
--- ---- Does an index beside the file change an answer?
+-- ---- Does an index or an atlas beside the file change an answer?
 -- `is_index` says 0 of words exactly where building, lent as many, gives and leaves these for this file, whoever wrote them,
 pub is-index-exactly : (file words : List ℕ) → (isIndexOf file words ≡ given tt) ↔ ((used : ℕ) × (indexedOf file (length words) ≡ indexed (given used) words))
 is-index-exactly = index.is-index-exactly
@@ -79,6 +83,15 @@ is-index-exactly = index.is-index-exactly
 pub is-index-is-plain : (file words : List ℕ) → isIndexOf file words ≡ given tt → (location : Location) (asked : Bool) (n room : ℕ)
     → lookedIndexed file words location asked n room ≡ lookedUp file location asked n room
 is-index-is-plain file words e location asked n room = index.is-index-is-plain file words e location asked n room
+
+-- `is_atlas` says 0 of words exactly where building an atlas, lent as many, gives and leaves these for this file, whoever wrote them,
+pub is-atlas-exactly : (file words : List ℕ) → (isAtlasOf file words ≡ given tt) ↔ ((used : ℕ) × (atlasMade file (length words) ≡ indexed (given used) words))
+is-atlas-exactly = atlas.is-atlas-exactly
+
+-- and where it says 0 a lookup through them is the plain one.
+pub atlas-is-plain : (file words : List ℕ) → isAtlasOf file words ≡ given tt → (location : Location) (asked : Bool) (n room : ℕ)
+    → lookedAtlas file words location asked n room ≡ lookedUp file location asked n room
+atlas-is-plain = atlas.atlas-is-plain
 
 -- ---- When borders move from encoding version 0 to 1, what shows that a yard stays in its zone?
 -- One border, in whichever way it is written, gets one verdict and one distance at every fix.
@@ -163,23 +176,78 @@ pub found-first : (bundle name : List ℕ) {file : File} → B.told (F.At file) 
 found-first = bundle.found-first
 
 -- ---- Is the line right for this sentence, this map and these zones?
--- Two replies of the slip that are permitted for a request, a map and zones are one, with all lent output.
+-- Two replies of the slip that are permitted for a request, a map and zones are one, with all lent output;
 pub one-slip : (request map zones : List ℕ) (n room size : ℕ) (r r′ : Slipped) (hs hs′ ts ts′ os os′ : List ℕ)
     → Z.replied (K.told r) hs ts os ≡ slipped request map zones n room size → Z.replied (K.told r′) hs′ ts′ os′ ≡ slipped request map zones n room size
     → (r ≡ r′) × (hs ≡ hs′) × (ts ≡ ts′) × (os ≡ os′)
 one-slip = slip.one-slip
 
+-- and so of the slip at a fix.
+pub one-slip-at : (fix : Fix) (map zones : List ℕ) (n room size : ℕ) (r r′ : Slipped) (hs hs′ ts ts′ os os′ : List ℕ)
+    → Z.replied (K.told r) hs ts os ≡ slippedAt fix map zones n room size → Z.replied (K.told r′) hs′ ts′ os′ ≡ slippedAt fix map zones n room size
+    → (r ≡ r′) × (hs ≡ hs′) × (ts ≡ ts′) × (os ≡ os′)
+one-slip-at = slip.one-slip-at
+
 -- Where it is stamped, hits and text are those of a lookup with mark 1 at what the request means, and so of a search that never stops early;
 pub slip-whole : (request map zones : List ℕ) (n room size : ℕ) (stamped : Stamped) (hs ts os : List ℕ)
-    → Z.replied (given stamped) hs ts os ≡ slipped request map zones n room size → Whole request map n room hs ts
+    → Z.replied (given stamped) hs ts os ≡ slipped request map zones n room size → Meant request (λ fix. Whole fix map n room hs ts)
 slip-whole = slip.slip-whole
 
--- each match's zone has a TZif file under its joined name, whose local time at the instant has the printed offset, and the line begins with the one civil reading of instant and offset.
+pub slip-at-whole : (fix : Fix) (map zones : List ℕ) (n room size : ℕ) (stamped : Stamped) (hs ts os : List ℕ)
+    → Z.replied (given stamped) hs ts os ≡ slippedAt fix map zones n room size → Whole fix map n room hs ts
+slip-at-whole = slip.slip-at-whole
+
+-- each match's zone has a TZif file under its joined name, whose local time at the instant has the printed offset, and the line begins with the one civil reading of instant and offset;
 pub slip-agrees : (request map zones : List ℕ) (n room size : ℕ) (stamped : Stamped) (hs ts os : List ℕ)
-    → Z.replied (given stamped) hs ts os ≡ slipped request map zones n room size → Agreed request map zones n size stamped hs os
+    → Z.replied (given stamped) hs ts os ≡ slipped request map zones n room size → Meant request (λ fix. Agreed fix map zones n size stamped hs os)
 slip-agrees = slip.slip-agrees
 
--- Where it is not stamped, all that was lent is zero.
+pub slip-at-agrees : (fix : Fix) (map zones : List ℕ) (n room size : ℕ) (stamped : Stamped) (hs ts os : List ℕ)
+    → Z.replied (given stamped) hs ts os ≡ slippedAt fix map zones n room size → Agreed fix map zones n size stamped hs os
+slip-at-agrees = slip.slip-at-agrees
+
+-- the printed bytes, read back as weekday, date, time and offset, are that reading and the offset of the reply;
+pub slip-clock : (request map zones : List ℕ) (n room size : ℕ) (stamped : Stamped) (hs ts os : List ℕ)
+    → Z.replied (given stamped) hs ts os ≡ slipped request map zones n room size → Meant request (λ fix. Clocked fix stamped os)
+slip-clock = slip.slip-clock
+
+pub slip-at-clock : (fix : Fix) (map zones : List ℕ) (n room size : ℕ) (stamped : Stamped) (hs ts os : List ℕ)
+    → Z.replied (given stamped) hs ts os ≡ slippedAt fix map zones n room size → Clocked fix stamped os
+slip-at-clock = slip.slip-at-clock
+
+-- and the line has at most 36 bytes, and for each different zone 43 and its abbreviation.
+pub slip-short : (request map zones : List ℕ) (n room size : ℕ) (stamped : Stamped) (hs ts os : List ℕ)
+    → Z.replied (given stamped) hs ts os ≡ slipped request map zones n room size → Meant request (λ fix. Short fix map zones n stamped hs)
+slip-short = slip.slip-short
+
+pub slip-at-short : (fix : Fix) (map zones : List ℕ) (n room size : ℕ) (stamped : Stamped) (hs ts os : List ℕ)
+    → Z.replied (given stamped) hs ts os ≡ slippedAt fix map zones n room size → Short fix map zones n stamped hs
+slip-at-short = slip.slip-at-short
+
+-- In C: what a call of `uskelzar_slip` left which returned 0 is such a slip, and its length, matches and offset are the reply's words;
+pub returned-slip : (request map zones : List ℕ) (n room size : ℕ) {number : ℕ} {words hits text out : List ℕ}
+    → spoken number words (hits ∷ text ∷ out ∷ []) ≡ slipSpoken (slipped request map zones n room size) → number ≡ 0 → Printed (slipped request map zones n room size) words hits text out
+returned-slip = printed.returned-slip
+
+-- and so of `uskelzar_slip_at`.
+pub returned-slip-at : (fix : Fix) (map zones : List ℕ) (n room size : ℕ) {number : ℕ} {words hits text out : List ℕ}
+    → spoken number words (hits ∷ text ∷ out ∷ []) ≡ slipSpoken (slippedAt fix map zones n room size) → number ≡ 0 → Printed (slippedAt fix map zones n room size) words hits text out
+returned-slip-at = printed.returned-slip-at
+
+-- Where it is not stamped, the number is one of 1 to 18, 40 to 61, 80 to 92, at a fix none of 80 to 83;
+pub slip-refusals : (request map zones : List ℕ) (n room size : ℕ) (why : Refusal) (hs ts os : List ℕ)
+    → Z.replied (refused why) hs ts os ≡ slipped request map zones n room size → isSlipNumber (why .number) ≡ true
+slip-refusals = slip.slip-refusals
+
+pub slip-at-refusals : (fix : Fix) (map zones : List ℕ) (n room size : ℕ) (why : Refusal) (hs ts os : List ℕ)
+    → Z.replied (refused why) hs ts os ≡ slippedAt fix map zones n room size → isAtNumber (why .number) ≡ true
+slip-at-refusals = slip.slip-at-refusals
+
+-- and all that was lent is zero.
 pub slip-refusal-zeroes : (request map zones : List ℕ) (n room size : ℕ) (why : Refusal) (hs ts os : List ℕ)
     → Z.replied (refused why) hs ts os ≡ slipped request map zones n room size → (hs ≡ zeros n) × (ts ≡ zeros room) × (os ≡ zeros size)
 slip-refusal-zeroes = slip.slip-refusal-zeroes
+
+pub slip-at-refusal-zeroes : (fix : Fix) (map zones : List ℕ) (n room size : ℕ) (why : Refusal) (hs ts os : List ℕ)
+    → Z.replied (refused why) hs ts os ≡ slippedAt fix map zones n room size → (hs ≡ zeros n) × (ts ≡ zeros room) × (os ≡ zeros size)
+slip-at-refusal-zeroes = slip.slip-at-refusal-zeroes

@@ -6,6 +6,7 @@ use crate::offer::offered_at;
 use crate::offer::replace_at;
 use crate::offer::unread;
 use crate::offer::values_at;
+use office::calls::uskelzar_clear;
 use recorded::record::byte_at;
 use recorded::record::size_at;
 use recorded::reply::Reply;
@@ -14,7 +15,6 @@ use recorded::reply::recorded_at;
 use recorded::reply::same_reply;
 use recorded::reply::unspoken;
 use std::num::wrapping_add_usize;
-use uskelzar::calls::uskelzar_clear;
 
 const ADD: u8 = 1;
 

@@ -4,6 +4,7 @@ use crate::calls::told;
 use crate::offer::unread;
 use crate::steps::is_recorded;
 use crate::steps::run_steps;
+use office::calls::uskelzar_begin;
 use recorded::lists::lengths_at;
 use recorded::record::byte_at;
 use recorded::record::same_bytes_at;
@@ -12,7 +13,6 @@ use recorded::record::word_at;
 use recorded::reply::Reply;
 use recorded::reply::unspoken;
 use std::num::wrapping_add_usize;
-use uskelzar::calls::uskelzar_begin;
 
 fn begin_with(
     record: &[u8],

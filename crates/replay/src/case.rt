@@ -7,7 +7,12 @@ use crate::index::index_right;
 use crate::many::recorded_many;
 use crate::many::run_many;
 use crate::salvaged::run_salvage;
+use crate::slips::judge_request;
+use crate::slips::judge_slip;
+use crate::slips::judge_slip_at;
 use crate::write::run_write;
+use crate::wrong::Verdict;
+use crate::wrong::print_wrong;
 use crate::yards::Asked;
 use crate::yards::run_build;
 use crate::yards::texts_at;
@@ -18,30 +23,8 @@ use recorded::record::long_at;
 use recorded::record::same_words;
 use recorded::record::size_at;
 use recorded::reply::Reply;
-use recorded::reply::print_reply;
 use recorded::reply::recorded;
 use recorded::reply::same_reply;
-
-pub enum Verdict {
-    Right,
-    Wrong,
-    // Too large for the buffers, of another length than its parts have, or of an unknown op.
-    Skipped,
-}
-
-// What was got, where the reply, the slots or the text is another than recorded.
-fn print_wrong(part: &[u8], record: &[u8], got: Reply) -> Verdict {
-    io::write_all(STDOUT_FILENO, b"wrong ");
-    io::write_all(STDOUT_FILENO, part);
-    io::write_all(STDOUT_FILENO, b": op ");
-    io::print_decimal(STDOUT_FILENO, byte_at(record, 0) as u64);
-    io::write_all(STDOUT_FILENO, b" id ");
-    io::print_decimal(STDOUT_FILENO, long_at(record, 1));
-    io::write_all(STDOUT_FILENO, b" got");
-    print_reply(got);
-    io::write_all(STDOUT_FILENO, b"\n");
-    Verdict::Wrong
-}
 
 fn filled_slots() -> [u32; 4096]
     ensures { λ r. ⌜ 4096 ≡ length r ⌝ }
@@ -390,6 +373,9 @@ pub fn judge(record: &[u8]) -> Verdict {
         9 | 17 => judge_many(record),
         12 => judge_salvage(record),
         10 => judge_build(record),
+        22 => judge_request(record),
+        23 => judge_slip(record),
+        24 => judge_slip_at(record),
         _ => Verdict::Skipped,
     }
 }

@@ -4,24 +4,26 @@ mod case;
 mod index;
 mod many;
 mod salvaged;
+mod slips;
 mod write;
+mod wrong;
 mod yards;
 
 ghost use Prim.Native.Nat.{_≤_};
 ghost use Rattle.io.specs.Counts.{Counts};
-use case::Verdict;
 use case::judge;
 use libc::STDIN_FILENO;
 use libc::STDOUT_FILENO;
 use recorded::record::byte_at;
 use recorded::record::size_at;
+use wrong::Verdict;
 
 // How many cases there were of each op, and then in all, wrong and skipped.
-const ALL: usize = 22;
+const ALL: usize = 25;
 
-const WRONG: usize = 23;
+const WRONG: usize = 26;
 
-const SKIPPED: usize = 24;
+const SKIPPED: usize = 27;
 
 fn count(tally: &mut [u64], which: usize) {
     if which < tally.len() {
@@ -126,6 +128,9 @@ fn report(tally: &[u64]) {
     print_op(b"salvage", counted(tally, 12));
     print_op(b"local", counted(tally, 20));
     print_op(b"listed", counted(tally, 21));
+    print_op(b"request", counted(tally, 22));
+    print_op(b"slip", counted(tally, 23));
+    print_op(b"slip at", counted(tally, 24));
     io::write_all(STDOUT_FILENO, b"replay: ");
     io::print_decimal(STDOUT_FILENO, counted(tally, ALL));
     io::write_all(STDOUT_FILENO, b" cases, ");
@@ -137,7 +142,7 @@ fn report(tally: &[u64]) {
 
 fn main() {
     let mut space = [0u8; 131072];
-    let mut tally = [0u64; 25];
+    let mut tally = [0u64; 28];
     run_all(&mut space, &mut tally);
     report(&tally);
 }

@@ -3,12 +3,12 @@
 ghost use mathlib.Core.Path.{_≡_};
 ghost use Prim.Native.Nat.{_+_, _*_, _≤_};
 ghost use lib.ListN.{length};
+use office::borders::uskelzar_write_border;
 use recorded::lists::coordinates;
 use recorded::lists::piece_words;
 use recorded::reply::Reply;
 use recorded::reply::spoken;
 use recorded::reply::unspoken;
-use uskelzar::uskelzar_write_border;
 
 // Writes into the lent output what the record asks for.
 pub fn run_write(

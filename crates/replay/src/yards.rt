@@ -3,6 +3,7 @@
 ghost use mathlib.Core.Path.{_≡_};
 ghost use Prim.Native.Nat.{_+_, _*_, _≤_};
 ghost use lib.ListN.{length};
+use office::yards::uskelzar_build;
 use recorded::lists::coordinates;
 use recorded::lists::lengths_at;
 use recorded::lists::piece_words;
@@ -11,7 +12,6 @@ use recorded::record::word_at;
 use recorded::reply::Reply;
 use recorded::reply::spoken;
 use recorded::reply::unspoken;
-use uskelzar::yards::uskelzar_build;
 
 // How many there are of each: words of yards, points, words of pieces, texts.
 pub struct Asked {

@@ -6,7 +6,7 @@ use mathlib.Core.{Bool.{Bool, true, false, _&&_}, List.{List, [], _∷_, _++_}, 
 use native.Mathlib.{Nat.{le-refl}, Numerals.{add-one}, Omega.{arith}}
 use Rattle.header.specs.declared.header.Head.{Head}
 use Rattle.numbers.specs.{Reply.{Reply, given, refused, _>>=_}, declared.refusal.Refusal.{Refusal}}
-use Rattle.slip.specs.{Hour.{Hour, hourOf, hoursFrom}, Slip.{haveOffset}, Told.{hourAt, Seen}, declared.{hour.Spot.{Spot}, hours.All.{All}}}
+use Rattle.slip.specs.{Hour.{Hour, hourOf, hoursFrom}, Slip.{haveOffset}, Told.{hourAt, Stands, Seen}, declared.{hour.Spot.{Spot}, hours.All.{All}}}
 use Rattle.table.{proofs.Agreeing.{agree-given}, specs.inner.Agreeing.{Agrees}}
 use Rattle.verdict.specs.Edge.{sameZ}
 use Rattle.table.specs.{Hits.{noHit}, declared.hits.Hit.{Hit}}
@@ -98,17 +98,20 @@ module _ (map : List ℕ) (head : Head) (zones : List ℕ) (instant : ℤ) where
     pub others : List Hour
     pub asked : Asked map head zones instant matches i (hourAt map zones first ∷ others)
     pub agrees : agree ≡ haveOffset (first .offset) (hourAt map zones first ∷ others)
+    pub stands : Stands (length map) (length zones) first
 
   same-self : (z : ℤ) → sameZ z z ≡ true
   same-self (pos n) = rw (le-leb n n (le-refl n))
   same-self (negsuc n) = rw (le-leb n n (le-refl n))
 
-  pub agreeing-one : (matches : List Hit) (first : Spot) {hit : Hit} → 0 < length matches → hit ≡ getD matches 0 noHit → hourOf map head zones instant 1 hit ≡ given (hourAt map zones first) → Agreeing matches first true 1
+  pub agreeing-one : (matches : List Hit) (first : Spot) {hit : Hit} → 0 < length matches → hit ≡ getD matches 0 noHit → hourOf map head zones instant 1 hit ≡ given (hourAt map zones first)
+      → Stands (length map) (length zones) first → Agreeing matches first true 1
   unfolding haveOffset
-  agreeing-one matches first {hit} h is e = record {
+  agreeing-one matches first {hit} h is e stands = record {
     others = [];
     asked = asked-one map head zones instant matches 0 [] (asked-none map head zones instant matches) h is e;
     agrees = rw (same-self (first .offset)) refl;
+    stands = stands;
   }
 
   pub agreeing-more : (matches : List Hit) (first spot : Spot) {agree after : Bool} (i : ℕ) {hit : Hit} → Agreeing matches first agree i → i < length matches → hit ≡ getD matches i noHit
@@ -120,6 +123,7 @@ module _ (map : List ℕ) (head : Head) (zones : List ℕ) (instant : ℤ) where
         b
         ∙ ap (λ (t : Bool). t && sameZ (spot .offset) (first .offset)) (a .agrees)
         ∙ sym (offset-one (first .offset) (hourAt map zones first ∷ a .others) (hourAt map zones spot));
+    stands = a .stands;
   }
 
   pub agreeing-stop : (matches : List Hit) (first : Spot) {agree : Bool} (i : ℕ) {hit : Hit} {why : Refusal} → Agreeing matches first agree i → i < length matches → hit ≡ getD matches i noHit
@@ -130,4 +134,4 @@ module _ (map : List ℕ) (head : Head) (zones : List ℕ) (instant : ℤ) where
       → Agrees (Seen map zones) (hoursFrom map head zones instant 1 matches) (given (record { first = first; agree = agree }))
   agreeing-all matches first agree i a h =
       agree-given (Seen map zones) (asked-all map head zones instant matches i (hourAt map zones first ∷ a .others) (a .asked) h)
-      (record { others = a .others; are = refl; agree = a .agrees })
+      (record { others = a .others; are = refl; agree = a .agrees; stands = a .stands })

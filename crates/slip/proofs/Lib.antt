@@ -5,4 +5,10 @@ pub mod Locals
 pub mod Asking
 pub mod Zones
 pub mod Stamps
+pub mod Length
+pub mod Clocks
+pub mod Numbered
+pub mod Making
+pub mod Shortness
 pub mod Theorems
+pub mod Worked

@@ -10,7 +10,7 @@ use Rattle.line.{proofs.Puts.{put-none, put-as, put-then, put-length}, specs.Pu
 use Rattle.numbers.{proofs.Replies.{given-from}, specs.{Reply.{Reply, given, refused}, declared.refusal.Refusal.{Refusal}}}
 use Rattle.slip.proofs.Asking.{append-nil, append-append, Asked, asked-none, asked-one, asked-stop, asked-all}
 use Rattle.slip.specs.{Hour.{Hour, nameOf, localIn, shown, hourIn, ofMatch, hourOf, hoursFrom}, Line.{clockText, isAmong, between, zoneText, added, zonesFrom, lineOf}}
-use Rattle.slip.specs.{Told.{nameIn, toldZone, isNamed, isNamedIn, addedBy, Lined, Inked}, declared.name.Zone.{Zone}}
+use Rattle.slip.specs.{Told.{nameIn, toldZone, isNamed, isNamedIn, addedBy, Lined, Inked, Seen, FirstAt}, declared.{hours.All.{All}, name.Zone.{Zone}}}
 use Rattle.tzif.specs.Text.{slice}
 use Rattle.slip.specs.declared.name.Zone.the-variants as Z
 use Rattle.table.specs.{Hits.{noHit}, declared.hits.Hit.{Hit}}
@@ -18,6 +18,9 @@ use Rattle.zones.specs.{Simple.{same}, declared.simple.Parts.{Parts}}
 
 pub same-given : {A : Type 0} {a b : A} → given a ≡ given b → a ≡ b
 same-given e = cc
+
+first-same : {A : Type 0} {a b : A} {xs ys : List A} → a ∷ xs ≡ b ∷ ys → a ≡ b
+first-same e = cc
 
 differ : {A : Type 0} {a : A} {why : Refusal} → refused why ≡ given a → _≡_ {A = ℕ} 0 1
 differ e = cc
@@ -164,6 +167,19 @@ module _ (file : List ℕ) (head : Head) (zones : List ℕ) (instant : ℤ) wher
     lining-all h = record {
       zones = λ e. put-as (ap (zonesFrom []) (same-given (asked-all file head zones instant matches i (l .done) (l .asked) h ∙ e))) (l .put);
       kept = lining-kept;
+    }
+
+-- where all matches said an hour, the first said the first
+pub first-at : (file : List ℕ) (head : Head) (zones : List ℕ) (instant : ℤ) (matches : List Hit) {hs : List Hour} {all : All} {first : Hit} → given hs ≡ hoursFrom file head zones instant 1 matches
+    → Seen file zones hs all → first ≡ getD matches 0 noHit → FirstAt file head zones instant first (all .first)
+unfolding hoursFrom
+first-at file head zones instant [] e seen is = let z : _≡_ {A = List Hour} [] (_ ∷ _) = same-given (sym e) ∙ seen .are in let n : _≡_ {A = ℕ} 0 1 = cc in absurd (omega arith)
+first-at file head zones instant (match ∷ matches) e seen is =
+    let hour = given-from (hourOf file head zones instant 1 match) _ e in
+    let rest = given-from (hoursFrom file head zones instant 2 matches) _ (hour .onto) in
+    record {
+      says = ap (hourOf file head zones instant 1) is ∙ sym (hour .is) ∙ ap given (first-same (sym (same-given (rest .onto)) ∙ seen .are));
+      stands = seen .stands;
     }
 
 -- the clock, and the zones behind it

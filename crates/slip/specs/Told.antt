@@ -1,13 +1,13 @@
 -- What the code's answers say: names, abbreviations and lines by where they stand in what was lent.
 use Prim.Native.Nat.{ℕ, _+_, _≤_}
-use lib.{Dec.{eqb}, ListN.{length}}
+use lib.{Dec.{eqb}, IntN.{ℤ}, ListN.{length}}
 use mathlib.Core.{Bool.{Bool, true, false, _||_}, List.{List, [], _∷_, _++_}, Path.{_≡_}}
 use Rattle.header.specs.{Text.{bytesOf}, declared.header.Head.{Head}}
 use Rattle.calendar.specs.declared.civil.Reading.{Reading}
 use Rattle.line.specs.Put.{Put}
 use Rattle.numbers.specs.{Answer.{if_then_else_}, Lists.{padded}, Reply.{Reply, given, refused, refusal, demand, _>>=_, _>>_}}
 use Rattle.request.specs.declared.read.Fix.{Fix}
-use Rattle.slip.specs.{Hour.{Hour, nameOf, hoursFrom}, Line.{between, zoneText, zonesFrom, lineOf}, Slip.{Slip, placeOf, agreed, fitted, repliedOf, replied, haveOffset}}
+use Rattle.slip.specs.{Hour.{Hour, nameOf, hourOf, hoursFrom}, Line.{between, zoneText, zonesFrom, lineOf}, Slip.{Slip, placeOf, agreed, fitted, repliedOf, replied, haveOffset}}
 use Rattle.slip.specs.declared.{hour.{Spot.{Spot}, Hourly.{Hourly}, Told.{Told}, Clock.{Clock}}, hours.{All.{All}, Hours.{Hours}}, name.Zone.{Zone}, slip.{Stamped.{Stamped}, Slipped.{Slipped}}}
 use Rattle.slip.specs.declared.hour.Hourly.the-variants as H
 use Rattle.slip.specs.declared.hour.Told.the-variants as T
@@ -66,6 +66,12 @@ pub record Seen (map zones : List ℕ) (hours : List Hour) (all : All) : Type 0 
   pub others : List Hour
   pub are : hours ≡ hourAt map zones (all .first) ∷ others
   pub agree : all .agree ≡ haveOffset (all .first .offset) hours
+  pub stands : Stands (length map) (length zones) (all .first)
+
+-- the first match says what stands at a spot
+pub record FirstAt (map : List ℕ) (head : Head) (zones : List ℕ) (instant : ℤ) (first : Hit) (spot : Spot) : Type 0 where
+  pub says : hourOf map head zones instant 1 first ≡ given (hourAt map zones spot)
+  pub stands : Stands (length map) (length zones) spot
 
 abbrev pub toldHours : Hours → Reply All
 toldHours (A.All all) = given all

@@ -1,10 +1,10 @@
 // The line, into a lent buffer: what does not fit is left out and counted.
 ghost use mathlib.Core.Path.{_≡_};
-ghost use Prim.Native.Nat.{_≤_, _/_};
+ghost use Prim.Native.Nat.{_+_, _≤_, _<_, _/_};
 ghost use lib.ListN.{length, take};
 ghost use Rattle.line.specs.{Clock.{offsetText}, Put.{Put}};
-ghost use Rattle.slip.specs.{Hour.{nameOf, hoursFrom}, Line.{clockText, between, shownText, zoneText}, Told.{nameIn, hourAt, Stands, isNamed, isNamedIn, addedBy, Lined, Inked}};
-ghost use Rattle.table.specs.Hits.{width, slots};
+ghost use Rattle.slip.specs.{Hour.{nameOf, hourOf, hoursFrom}, Line.{clockText, between, shownText, zoneText}, Told.{nameIn, hourAt, Stands, toldHour, StandsHour, isNamed, isNamedIn, addedBy, Lined, Inked, FirstAt}};
+ghost use Rattle.table.specs.Hits.{width, slots, hitAt};
 ghost use Rattle.zones.specs.Simple.{LiesParts};
 use crate::hour::Hourly;
 use crate::hour::Spot;
@@ -142,6 +142,26 @@ fn put_added(
     put_zone(out, next, map, zones, spot)
 }
 
+// What the match with this index says. The first one's is known, and most slips have no other.
+fn hour_again(
+    map: &[u8],
+    head: Head,
+    zones: &[u8],
+    fix: Fix,
+    hits: &[u32],
+    i: usize,
+    first: Spot,
+) -> Hourly
+    requires { ⌜ (i < length (now hits) / width) × FirstAt (now map) head (now zones) (fix .instant) (hitAt (now hits) 0) first ⌝ }
+    ensures { λ r. ⌜ (toldHour (now (map .entry)) (now (zones .entry)) r ≡ hourOf (now (map .entry)) head (now (zones .entry)) (fix .instant) (i + 1) (hitAt (now (hits .entry)) i))
+        × StandsHour (length (now (map .entry))) (length (now (zones .entry))) r ⌝ }
+{
+    if i == 0 {
+        return Hourly::Hour(first);
+    }
+    hour_of(map, head, zones, fix, i + 1, hit_at(hits, i))
+}
+
 // Each different zone, in order of its first match.
 fn put_zones(
     out: &mut [u8],
@@ -152,15 +172,16 @@ fn put_zones(
     fix: Fix,
     hits: &[u32],
     count: usize,
+    first: Spot,
 ) -> usize
-    requires { ⌜ count ≤ length (now hits) / width ⌝ }
+    requires { ⌜ (count ≤ length (now hits) / width) × FirstAt (now map) head (now zones) (fix .instant) (hitAt (now hits) 0) first ⌝ }
     ensures { λ r. ⌜ Lined (hoursFrom (now (map .entry)) head (now (zones .entry)) (fix .instant) 1 (take count (slots (now (hits .entry)))))
         (now (out .entry)) at (now (out .exit)) r ⌝ }
 {
     let mut next = at;
     let mut i = 0;
     while i < count {
-        let spot = match hour_of(map, head, zones, fix, i + 1, hit_at(hits, i)) {
+        let spot = match hour_again(map, head, zones, fix, hits, i, first) {
             Hourly::Hour(spot) => spot,
             Hourly::Refused(_) => return next,
         };
@@ -181,10 +202,10 @@ pub(crate) fn put_line(
     count: usize,
     spot: Spot,
 ) -> usize
-    requires { ⌜ count ≤ length (now hits) / width ⌝ }
+    requires { ⌜ (count ≤ length (now hits) / width) × FirstAt (now map) head (now zones) (fix .instant) (hitAt (now hits) 0) spot ⌝ }
     ensures { λ r. ⌜ Inked (hoursFrom (now (map .entry)) head (now (zones .entry)) (fix .instant) 1 (take count (slots (now (hits .entry)))))
         (hourAt (now (map .entry)) (now (zones .entry)) spot) (now (out .entry)) (now (out .exit)) r ⌝ }
 {
     let next = put_clock(out, spot);
-    put_zones(out, next, map, head, zones, fix, hits, count)
+    put_zones(out, next, map, head, zones, fix, hits, count, spot)
 }

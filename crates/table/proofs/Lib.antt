@@ -1,6 +1,7 @@
 pub mod Agreeing
 pub mod Words
 pub mod Matches
+pub mod MarkedAlike
 pub mod Merged
 pub mod TableRows
 pub mod Beside

@@ -6,7 +6,7 @@ use native.Mathlib.Omega.{arith}
 use Rattle.header.specs.declared.header.Head.{Head}
 use Rattle.numbers.specs.Reply.{Reply, given, refused}
 use Rattle.table.proofs.Words.{padded-slots, padded-room}
-use Rattle.table.specs.{inner.Agreeing.{Agrees}, Find.{Matched, matchedWith, Finding, finding, findingOf, foundWith, Matching}, GivenRows.{matchedListed, foundListed}}
+use Rattle.table.specs.{inner.Agreeing.{Agrees}, Find.{Matched, matchedWith, Finding, finding, findingOf, foundWith, Matching}, GivenRows.{matchedListed, foundListed}, MarkedRows.{matchedMarked, foundMarked}}
 use Rattle.table.specs.{Hits.{width, slots}, declared.{find.Matches.{Matches}, location.Location.{Location}}}
 
 module _ {n : ℕ} {ws : List ℕ} {found : Matched} {matches : Matches} (m : Matching n ws found matches) where
@@ -37,3 +37,9 @@ pub listed-agrees : (file : List ℕ) (head : Head) (location : Location) (asked
     → finding reply ws ≡ foundListed file head location asked records numbers n → Agrees (Matching n ws) (matchedListed file head location asked records numbers (n / width)) reply
 unfolding foundListed
 listed-agrees file head location asked records numbers n = finding-agrees n (matchedListed file head location asked records numbers (n / width))
+
+-- and of rows that are given with marks
+pub marked-agrees : (file : List ℕ) (head : Head) (location : Location) (asked : Bool) (records numbers marks : List ℕ) (n : ℕ) (reply : Reply Matches) (ws : List ℕ)
+    → finding reply ws ≡ foundMarked file head location asked records numbers marks n → Agrees (Matching n ws) (matchedMarked file head location asked records numbers marks (n / width)) reply
+unfolding foundMarked
+marked-agrees file head location asked records numbers marks n = finding-agrees n (matchedMarked file head location asked records numbers marks (n / width))

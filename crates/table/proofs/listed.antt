@@ -1,1 +1,1 @@
-mod Given
+pub mod Given

@@ -26,10 +26,13 @@ boxAt records k =
 abbrev pub rowAt : List ℕ → ℕ → Row
 rowAt records k = record { place = recordWord records k 0; id = k; metadata = recordWord records k 1; polygon = recordWord records k 2; bounds = boxAt records k; next = 0 }
 
--- the rows with these numbers; 36 at a number that has no record
-unfoldable pub rowsListed : List ℕ → List ℕ → Rows
-rowsListed records [] = tableEnd
-rowsListed records (k ∷ numbers) = if ltb k (length records / 7) then row (rowAt records k) (rowsListed records numbers) else refused 36
+-- the rows with these numbers, by what the row of a record is; 36 at a number that has no record
+unfoldable pub rowsBy : (List ℕ → ℕ → Row) → List ℕ → List ℕ → Rows
+rowsBy rowOf records [] = tableEnd
+rowsBy rowOf records (k ∷ numbers) = if ltb k (length records / 7) then row (rowOf records k) (rowsBy rowOf records numbers) else refused 36
+
+abbrev pub rowsListed : List ℕ → List ℕ → Rows
+rowsListed records numbers = rowsBy rowAt records numbers
 
 -- the search of them: every row is looked at, since none stops it
 unfoldable pub searchedListed : List ℕ → Head → Point → Bool → List ℕ → List ℕ → ℕ → Reply Found

@@ -10,4 +10,5 @@ pub mod Ending
 pub mod Unstopped
 pub mod Ordered
 pub mod GivenRows
+pub mod MarkedRows
 pub mod inner

@@ -4,6 +4,7 @@ pub mod find;
 pub mod hits;
 pub mod listed;
 pub mod location;
+pub mod marked;
 mod merge;
 mod pass;
 mod rest;

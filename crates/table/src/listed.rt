@@ -32,7 +32,7 @@ use header::zero::zero_words;
 use numbers::refusal::plain;
 
 // How many words a record has.
-const RECORD: usize = 7;
+pub(crate) const RECORD: usize = 7;
 
 // A coordinate has its 32 bits in a word, so that twice the word is its signed form.
 fn twice(word: u32) -> u64
@@ -41,13 +41,13 @@ fn twice(word: u32) -> u64
     2 * word as u64
 }
 
-fn wide(word: u32) -> usize
+pub(crate) fn wide(word: u32) -> usize
     ensures { λ r. ⌜ (r ≡ word) × (r < 2 ^ 32) ⌝ }
 {
     word as usize
 }
 
-fn box_at(records: &[u32], k: usize) -> Bounds
+pub(crate) fn box_at(records: &[u32], k: usize) -> Bounds
     requires { ⌜ k < length (now records) / 7 ⌝ }
     ensures { λ r. ⌜ r ≡ boxAt (now (records .entry)) k ⌝ }
 {
@@ -60,7 +60,7 @@ fn box_at(records: &[u32], k: usize) -> Bounds
 }
 
 // The row of a record whose box was read.
-fn row_at(records: &[u32], k: usize, bounds: Bounds) -> Row
+pub(crate) fn row_at(records: &[u32], k: usize, bounds: Bounds) -> Row
     requires { ⌜ (k < length (now records) / 7) × (k < 2 ^ 32) × (bounds ≡ boxAt (now records) k) ⌝ }
     ensures { λ r. ⌜ r ≡ rowAt (now (records .entry)) k ⌝ }
 {

@@ -71,7 +71,7 @@ fn kind_of(verdict: Verdict) -> u32
     }
 }
 
-fn version_of(byte: u8) -> Version
+pub(crate) fn version_of(byte: u8) -> Version
     ensures { λ r. ⌜ r ≡ versionOf byte ⌝ }
 {
     if byte == 0 {

@@ -1,14 +1,6 @@
 pub mod Saying
 pub mod Numbered
 pub mod ReturnedWhole
+pub mod ReturnedSlip
 pub mod Same
 pub mod SameCivil
-pub mod Drafts
-pub mod NotedDrafts
-pub mod NumberedCalls
-pub mod NumberedDrafts
-pub mod SameCalls
-pub mod SameDrafts
-pub mod WorkedDraft
-pub mod Made
-pub mod WorkedCalls

@@ -6,11 +6,7 @@ use native.Mathlib.Omega.{arith}
 use lib.{IntN.{ℤ}, Ieee.{Float}}
 use Rattle.zones.{proofs.batch.NumberedMany.{manyNumbers, many-refusals}, specs.{Batch.Many.{Batch, lookedUpMany}, declared.batch.many.Totals.{Totals}}}
 use Rattle.zones.specs.Batch.Many as B
-use Rattle.build.{proofs.Numbered.{buildNumbers, build-refusals}, specs.{Room.{roomOf}, declared.room.Work.{Work}}}
-use Rattle.builder.specs.{File.{builtOf}, Yards.{Lent, planOf}}
-use Rattle.builder.specs.File as F
 use Rattle.numbers.{proofs.Refusals.{Listed}, specs.{Reply.{Reply, given, refused}, declared.refusal.Refusal.{Refusal}}}
-use Rattle.writer.{proofs.NumberedWriter.{writerNumbers, writer-refusals}, specs.{Writer.{borderOf, fitted}, declared.write.Piece.{Piece}}}
 use Rattle.localtime.{proofs.Numbered.{footerNumbers, local-time-refusals}, specs.Local.{localTime, scaleAt}}
 use Rattle.tzif.specs.declared.local.LocalTime.{LocalTime}
 use Rattle.tzif.specs.declared.local.LocalTime.the-variants as L
@@ -18,14 +14,9 @@ use Rattle.tzif.specs.declared.refusal.Refusal as T
 use Rattle.header.{proofs.Numbered.{openingNumbers, opening-refusals, strict-opening-refusals}, specs.Opening.{openedOf, openedStrictly}}
 use Rattle.zones.proofs.NumberedLookup.{lookupNumbers, lookup-refusals, strict-lookup-refusals, simple-lookup-refusals}
 use Rattle.zones.specs.{Lookup.{lookedUp, lookedStrictly}, Simple.{simplyLooked}}
-use Rattle.index.proofs.{NumberedThrough.{throughNumbers, through-refusals, indexed-refusals}, Owned.{owningNumbers, is-index-refusals}}
-use Rattle.index.proofs.Refusing.{buildingNumbers, tyingNumbers, index-refusals, tied-refusals}
-use Rattle.index.specs.{Index.{indexedOf}, Own.{isIndexOf}, Through.{lookedThrough, lookedIndexed}, Tied.{tiedOf}}
-use Rattle.salvage.proofs.rescue.NumberedSalvage.{salvageNumbers, salvage-refusals}
-use Rattle.salvage.specs.Salvage.{salvaged}
 use Rattle.table.specs.declared.location.Location.{Location}
-use Rattle.uskelzar.specs.{Many.{manySaid, manySpoken}, Built.{builtFor, builtSpoken}, Salvaged.{countsValues, salvageSpoken}}
-use Rattle.uskelzar.specs.Spoken.{saidOf, openingValues, zonesValues, describedValues, lengthValue, localValues, localReply, noValues, openingSpoken, foundSpoken, writtenSpoken, localSpoken, indexSpoken}
+use Rattle.uskelzar.specs.{Many.{manySaid, manySpoken}}
+use Rattle.uskelzar.specs.Spoken.{saidOf, openingValues, zonesValues, describedValues, localValues, localReply, openingSpoken, foundSpoken, localSpoken}
 
 -- the reply is an answer, and no refusal
 abbrev pub Answered : {A : Type 0} → Reply A → Type 0
@@ -83,63 +74,12 @@ many-zero file lats lons asked n room third =
     many-said (lookedUpMany file lats lons asked n room third .reply)
     (λ index why is. never-zero manyNumbers (λ z. z) (why .number) (many-refusals file lats lons asked n room third index why is))
 
--- `uskelzar_build_index`
-pub build-index-zero : (file : List ℕ) (n : ℕ) → (indexSpoken (indexedOf file n) .said .number ≡ 0) ↔ Answered (indexedOf file n .reply)
-build-index-zero file n = zero-said lengthValue (indexedOf file n .reply) (λ why is. never-zero buildingNumbers (λ z. z) (why .number) (index-refusals file n why is))
-
--- `uskelzar_index_tied`
-pub index-tied-zero : (file words : List ℕ) → (saidOf noValues (tiedOf file words) .number ≡ 0) ↔ Answered (tiedOf file words)
-index-tied-zero file words = zero-said noValues (tiedOf file words) (λ why is. never-zero tyingNumbers (λ z. z) (why .number) (tied-refusals file words why is))
-
--- `uskelzar_is_index`
-pub is-index-zero : (file words : List ℕ) → (saidOf noValues (isIndexOf file words) .number ≡ 0) ↔ Answered (isIndexOf file words)
-is-index-zero file words = zero-said noValues (isIndexOf file words) (λ why is. never-zero owningNumbers (λ z. z) (why .number) (is-index-refusals file words why is))
-
--- `uskelzar_lookup_through`
-pub lookup-through-zero : (file words : List ℕ) (location : Location) (asked : Bool) (n room : ℕ)
-    → (foundSpoken zonesValues (lookedThrough file words location asked n room) .said .number ≡ 0) ↔ Answered (lookedThrough file words location asked n room .reply)
-lookup-through-zero file words location asked n room =
-    zero-said zonesValues (lookedThrough file words location asked n room .reply)
-    (λ why is. never-zero throughNumbers (λ z. z) (why .number) (through-refusals file words location asked n room why is))
-
--- `uskelzar_lookup_indexed`
-pub lookup-indexed-zero : (file words : List ℕ) (location : Location) (asked : Bool) (n room : ℕ)
-    → (foundSpoken zonesValues (lookedIndexed file words location asked n room) .said .number ≡ 0) ↔ Answered (lookedIndexed file words location asked n room .reply)
-lookup-indexed-zero file words location asked n room =
-    zero-said zonesValues (lookedIndexed file words location asked n room .reply)
-    (λ why is. never-zero throughNumbers (λ z. z) (why .number) (indexed-refusals file words location asked n room why is))
-
 -- `uskelzar_simple_lookup`
 pub simple-lookup-zero : (file : List ℕ) (location : Location) (n room : ℕ)
     → (foundSpoken describedValues (simplyLooked file location n room) .said .number ≡ 0) ↔ Answered (simplyLooked file location n room .reply)
 simple-lookup-zero file location n room =
     zero-said describedValues (simplyLooked file location n room .reply)
     (λ why is. never-zero lookupNumbers (λ z. z) (why .number) (simple-lookup-refusals file location n room why is))
-
--- `uskelzar_salvage`
-pub salvage-zero : (file : List ℕ) (words room : ℕ) → (salvageSpoken (salvaged file words room) .said .number ≡ 0) ↔ Answered (salvaged file words room .reply)
-salvage-zero file words room =
-    zero-said countsValues (salvaged file words room .reply) (λ why is. never-zero salvageNumbers (λ z. z) (why .number) (salvage-refusals file words room why is))
-
--- `uskelzar_write_border`
-pub write-border-zero : (room version : ℕ) (lats lons : List ℤ) (pieces : List Piece) (earlier : List ℕ)
-    → (writtenSpoken (fitted room (borderOf version lats lons pieces earlier)) .said .number ≡ 0) ↔ Answered (fitted room (borderOf version lats lons pieces earlier) .reply)
-write-border-zero room version lats lons pieces earlier =
-    zero-said lengthValue (fitted room (borderOf version lats lons pieces earlier) .reply)
-    (λ why is. never-zero writerNumbers (λ z. z) (why .number) (writer-refusals room version lats lons pieces earlier why is))
-
--- `uskelzar_build`
-fitted-refused : (file : ℕ) (built : Reply (List ℕ)) (why : Refusal) → F.fitted file built .reply ≡ refused why → built ≡ refused why
-unfolding F.fitted
-fitted-refused file (given bytes) why e = let z : _≡_ {A = ℕ} 0 1 = cc in absurd (omega arith)
-fitted-refused file (refused because) why e = cc
-
-pub build-zero : (lent : Lent) (work : Work) (file bytes : ℕ)
-    → (builtSpoken (builtFor lent work file bytes) .said .number ≡ 0) ↔ Answered (builtFor lent work file bytes .reply)
-build-zero lent work file bytes =
-    zero-said lengthValue (builtFor lent work file bytes .reply)
-    (λ why is. never-zero buildNumbers (λ z. z) (why .number)
-    (build-refusals (planOf lent) (roomOf lent work file bytes) why (fitted-refused file (builtOf (planOf lent) (roomOf lent work file bytes)) why is)))
 
 -- `uskelzar_local_time`, answered with a local time or with unknown
 of-local : (time : LocalTime) (why : Refusal) → localReply time ≡ refused why → ((told : T.Refusal) → time ≡ L.Refused told → Listed footerNumbers (told .number)) → Listed footerNumbers (why .number)

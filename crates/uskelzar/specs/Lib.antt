@@ -1,7 +1,4 @@
 pub mod Spoken
 pub mod Civil
 pub mod Many
-pub mod Salvaged
-pub mod Built
-pub mod Draft
-pub mod Calls
+pub mod Slips

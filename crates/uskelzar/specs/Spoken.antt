@@ -2,8 +2,6 @@
 use mathlib.Core.{List.{List, [], _∷_}, Option.{Option, none, some}}
 use mir.{Syntax.{w32}, Val.{ofZ}}
 use Prim.Native.Nat.{ℕ}
-use Rattle.writer.specs.Writer as W
-use Rattle.index.specs.Index.{Indexed}
 use Rattle.localtime.specs.declared.scale.Scale.{Scale}
 use Rattle.tzif.specs.Local as T
 use Rattle.tzif.specs.declared.local.{Local.{Local}, LocalTime.{LocalTime}}
@@ -39,9 +37,6 @@ descriptionValues D.Missing = 0 ∷ []
 abbrev pub describedValues : Described → List ℕ
 describedValues d = d .matches ∷ d .mark ∷ descriptionValues (d .description)
 
-abbrev pub lengthValue : ℕ → List ℕ
-lengthValue length = length ∷ []
-
 -- the scale, 1 for UNIX time's and 2 for the file's own, the offset's 32 bits, the daylight flag, the abbreviation's length and the correction's bits;
 -- nothing where local time is unknown
 abbrev pub localValues : Scale → Option Local → List ℕ
@@ -69,15 +64,5 @@ openingSpoken left = record { said = saidOf openingValues (left .reply); lent = 
 abbrev pub foundSpoken : {A : Type 0} → (A → List ℕ) → Replied A → Spoken
 foundSpoken values left = record { said = saidOf values (left .reply); lent = left .hits ∷ left .text ∷ [] }
 
-abbrev pub writtenSpoken : W.Replied → Spoken
-writtenSpoken left = record { said = saidOf lengthValue (left .reply); lent = left .out ∷ [] }
-
 abbrev pub localSpoken : Scale → T.Replied → Spoken
 localSpoken scale left = record { said = saidOf (localValues scale) (localReply (left .reply)); lent = left .text ∷ [] }
-
--- request Q-11: how many words an index has, with all lent words; and that it goes with a file, which has no value
-abbrev pub indexSpoken : Indexed → Spoken
-indexSpoken left = record { said = saidOf lengthValue (left .reply); lent = left .words ∷ [] }
-
-abbrev pub noValues : Unit {0} → List ℕ
-noValues u = []

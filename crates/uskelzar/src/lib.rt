@@ -1,20 +1,17 @@
 // The form in which firmware takes the library: functions of plain names over numbers and slices; include/uskelzar.h has them for C.
 // Each returns 0 where it answers, with the answer's values in `reply`, or a refusal's number, with its cause and detail there.
-pub mod calls;
 pub mod civil;
 pub mod many;
-pub mod salvaged;
-pub mod tiles;
-pub mod yards;
+pub mod marked;
+pub mod slips;
 
 ghost use mathlib.Core.{Path.{_≡_}, List.{[], _∷_}};
 ghost use lib.ListN.{length};
-ghost use Rattle.writer.specs.{Pieces.{piecesOf}, Writer.{borderOf, fitted, told}};
 ghost use Rattle.localtime.specs.Local.{localTime, scaleAt};
 ghost use Rattle.zones.specs.{Lookup.{lookedUp, lookedStrictly, toldLooked}, Simple.{simplyLooked, toldSimple}};
 ghost use Rattle.header.specs.Opening.{openedOf, openedStrictly, toldOpened};
 ghost use Rattle.numbers.specs.Reply.{Reply, given, refused};
-ghost use Rattle.uskelzar.specs.Spoken.{saidOf, openingValues, zonesValues, describedValues, lengthValue, localValues, refusedSaid, localReply, spoken, openingSpoken, foundSpoken, writtenSpoken, localSpoken};
+ghost use Rattle.uskelzar.specs.Spoken.{saidOf, openingValues, zonesValues, describedValues, localValues, refusedSaid, localReply, spoken, openingSpoken, foundSpoken, localSpoken};
 use header::opening::Opened;
 use header::opening::open;
 use header::opening::open_strict;
@@ -25,8 +22,6 @@ use numbers::refusal::refuse;
 use table::location::Location;
 use tzif::local::LocalTime;
 use tzif::local::offset_bits;
-use writer::write::Written;
-use writer::write::write_border_words;
 use zones::lookup::Looked;
 use zones::lookup::lookup;
 use zones::lookup::lookup_strict;
@@ -40,7 +35,7 @@ pub struct Said {
     pub words: [u64; 5],
 }
 
-pub(crate) fn say_refused(why: Refusal) -> Said
+pub fn say_refused(why: Refusal) -> Said
     ensures { λ r. ⌜ r ≡ refusedSaid why ⌝ }
 {
     Said {
@@ -67,7 +62,7 @@ fn say_opened(opened: Opened) -> Said
     }
 }
 
-pub(crate) fn say_looked(looked: Looked) -> Said
+pub fn say_looked(looked: Looked) -> Said
     ensures { λ r. ⌜ r ≡ saidOf zonesValues (toldLooked looked) ⌝ }
 {
     match looked {
@@ -102,18 +97,6 @@ fn say_described(simple: Simple) -> Said
     Said { number: 0, words }
 }
 
-fn say_written(written: Written) -> Said
-    ensures { λ r. ⌜ r ≡ saidOf lengthValue (told written) ⌝ }
-{
-    match written {
-        Written::Wrote(length) => Said {
-            number: 0,
-            words: [length as u64, 0, 0, 0, 0],
-        },
-        Written::Refused { number, detail } => say_refused(refuse(number, 0, detail)),
-    }
-}
-
 fn say_local(timed: Timed) -> Said
     ensures { λ r. ⌜ r ≡ saidOf (localValues (timed .scale)) (localReply (timed .time)) ⌝ }
 {
@@ -138,7 +121,7 @@ fn say_local(timed: Timed) -> Said
     }
 }
 
-pub(crate) fn speak(said: Said, reply: &mut [u64; 5]) -> u8
+pub fn speak(said: Said, reply: &mut [u64; 5]) -> u8
     ensures { λ r. ⌜ spoken r (now (reply .exit)) [] ≡ record { said = said; lent = [] } ⌝ }
 {
     let words = said.words;
@@ -219,24 +202,6 @@ pub extern "C" fn uskelzar_lookup_strict(
         say_looked(lookup_strict(file, Location { lat, lon }, asked, hits, text)),
         reply,
     )
-}
-
-// Writes a border, with pieces of five words each. Values: its length.
-#[no_mangle]
-pub extern "C" fn uskelzar_write_border(
-    version: u8,
-    lats: &[i32],
-    lons: &[i32],
-    pieces: &[u32],
-    earlier: &[u8],
-    out: &mut [u8],
-    reply: &mut [u64; 5],
-) -> u8
-    ensures { λ r. ⌜ spoken r (now (reply .exit)) (now (out .exit) ∷ [])
-        ≡ writtenSpoken (fitted (length (now (out .entry))) (borderOf version (now (lats .entry)) (now (lons .entry)) (piecesOf (now (pieces .entry))) (now (earlier .entry)))) ⌝ }
-{
-    let written = write_border_words(version, lats, lons, pieces, earlier, out);
-    speak(say_written(written), reply)
 }
 
 // Local time at an instant, by a TZif file and its TZ string. Values: 1 for UNIX time's scale or 2 for the file's own, the offset's 32 bits, the daylight flag, the abbreviation's length

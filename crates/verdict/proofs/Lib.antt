@@ -12,6 +12,9 @@ pub mod Verdicts
 pub mod Replies
 pub mod Unasked
 pub mod OutsideBox
+pub mod Winds
+pub mod Stretch
+mod WorkedStretch
 pub mod Strict
 pub mod LeftBound
 pub mod Numbered

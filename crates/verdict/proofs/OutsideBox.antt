@@ -32,7 +32,7 @@ leZ-total (pos a) (negsuc b) h = refl
 leZ-total (negsuc a) (pos b) h = differ (sym h)
 leZ-total (negsuc a) (negsuc b) h = le-leb a b (omega (arith, leb-false b a h))
 
-unless : (t u : Bool) → (t ≡ true → u ≡ true) → u ≡ false → t ≡ false
+pub unless : (t u : Bool) → (t ≡ true → u ≡ true) → u ≡ false → t ≡ false
 unless true u f e = sym (f refl) ∙ e
 unless false u f e = refl
 
@@ -60,18 +60,18 @@ pub data Side : Type 0 where
   south : Side
   east : Side
 
-abbrev first : Side → ℕ
+abbrev pub first : Side → ℕ
 first north = 0
 first west = 1
 first south = 2
 first east = 3
 
 -- the first of two quadrants, or the one that is ahead
-abbrev oneOf : ℕ → Bool → ℕ
+abbrev pub oneOf : ℕ → Bool → ℕ
 oneOf q ahead = if ahead then (q + 1) % 4 else q % 4
 
 -- how many quadrants an edge leads on, and how far the border has turned since its start, by which of them are ahead
-abbrev quarters : Bool → Bool → ℕ
+abbrev pub quarters : Bool → Bool → ℕ
 quarters false false = 0
 quarters false true = 1
 quarters true false = 3
@@ -83,7 +83,7 @@ turn false true = pos 1
 turn true false = negsuc 0
 turn true true = pos 0
 
-quarters-led : (q : ℕ) (from to : Bool) → (oneOf q to + 4 - oneOf q from) % 4 ≡ quarters from to
+pub quarters-led : (q : ℕ) (from to : Bool) → (oneOf q to + 4 - oneOf q from) % 4 ≡ quarters from to
 quarters-led q true true = omega arith
 quarters-led q true false = omega arith
 quarters-led q false true = omega arith
@@ -132,27 +132,27 @@ module _ (fix : Point) where
   AllBeyond side [] = Unit
   AllBeyond side (p ∷ ps) = Beyond side p × AllBeyond side ps
 
-  abbrev ahead : Side → Point → Bool
+  abbrev pub ahead : Side → Point → Bool
   ahead north p = not (leZ (fix .lon .0) (p .lon .0))
   ahead west p = not (leZ (fix .lat .0) (p .lat .0))
   ahead south p = leZ (fix .lon .0) (p .lon .0)
   ahead east p = leZ (fix .lat .0) (p .lat .0)
 
-  two-quadrants : (side : Side) (p : Point) → Beyond side p → quadrantOf fix p ≡ oneOf (first side) (ahead side p)
+  pub two-quadrants : (side : Side) (p : Point) → Beyond side p → quadrantOf fix p ≡ oneOf (first side) (ahead side p)
   unfolding quadrantOf
   two-quadrants north p h = rw (leZ-total (p .lat .0) (fix .lat .0) h) (other-way (leZ (fix .lon .0) (p .lon .0)) 0 1)
   two-quadrants west p h = rw h (other-way (leZ (fix .lat .0) (p .lat .0)) 1 2)
   two-quadrants south p h = rw h
   two-quadrants east p h = rw (leZ-total (p .lon .0) (fix .lon .0) h)
 
-  no-vertex : (side : Side) (p : Point) → Beyond side p → samePoint p fix ≡ false
+  pub no-vertex : (side : Side) (p : Point) → Beyond side p → samePoint p fix ≡ false
   unfolding samePoint
   no-vertex north p h = rw h
   no-vertex west p h = simp (h, and-false)
   no-vertex south p h = simp (h, and-false)
   no-vertex east p h = simp (h, and-false)
 
-  not-in-edge-box : (side : Side) (from to : Point) → Beyond side from → Beyond side to → inBox to fix from ≡ false
+  pub not-in-edge-box : (side : Side) (from to : Point) → Beyond side from → Beyond side to → inBox to fix from ≡ false
   unfolding inBox
   not-in-edge-box north from to h k = rw (below-both (to .lat .0) (fix .lat .0) (from .lat .0) k h)
   not-in-edge-box west from to h k = rw (above-both (to .lon .0) (fix .lon .0) (from .lon .0) k h, and-false)
@@ -193,7 +193,7 @@ module _ (fix : Point) where
   -- ---- the box
 
   -- the corner by which a whole box lies on a side
-  abbrev corner : Side → Box → Point
+  abbrev pub corner : Side → Box → Point
   corner north box = box .low
   corner west box = box .high
   corner south box = box .high
@@ -221,7 +221,7 @@ module _ (fix : Point) where
   box-beyond south (p ∷ ps) h = over-beyond south _ ps h
   box-beyond east (p ∷ ps) h = over-beyond east _ ps h
 
-  on-some-side : (box : Box) → holds box fix ≡ false → (side : Side) × Beyond side (corner side box)
+  pub on-some-side : (box : Box) → holds box fix ≡ false → (side : Side) × Beyond side (corner side box)
   on-some-side box =
       by-tests (leZ (box .low .lat .0) (fix .lat .0)) (leZ (fix .lat .0) (box .high .lat .0)) (leZ (box .low .lon .0) (fix .lon .0)) (leZ (fix .lon .0) (box .high .lon .0)) refl refl refl refl
     where

@@ -1,6 +1,7 @@
 -- The distance, asked for or not, does not change the verdict: where the border is answered with it, it is answered without it, and alike.
 -- Assumes nothing.
 use Prim.Native.Nat.{ℕ, _+_, _-_, _%_, _^_, min}
+use native.Mathlib.Omega.{arith}
 use mathlib.Core.{Path.{_≡_, refl, sym, subst, ap, _∙_}, Bool.{Bool, true, false, _&&_}, List.{List}, Logic.{_⊎_, inl, inr}}
 use lib.{Dec.{ltb, eqb}, IntN.{ℤ, pos, negsuc, _+ℤ_, _-ℤ_, _*ℤ_}, Signed.{mag}}
 use Rattle.numbers.specs.Answer.{if_then_else_}
@@ -172,3 +173,25 @@ pub judged-asked-or-not : (file : List ℕ) (encoding : Encoding) (place : ℕ) 
     → Agrees least′ (judgedAt file encoding place lat lon true least) (judgedAt file encoding place lat lon false least′)
 unfolding judgedAt
 judged-asked-or-not file encoding place lat lon least least′ = asked-or-not least′ (record { lat = lat; lon = lon }) none (record { winding = pos 0; least = least }) _
+
+-- ---- the least distance, where it is not asked for
+
+abbrev leastOf : Step Tally → ℕ
+leastOf (found t) = t .least
+leastOf (meets v) = 0
+leastOf (S.refused n) = 0
+
+stays : (fix from to : Point) (m : Step Tally) (d : ℕ) (u : Tally) → m ≡ (m >>= kept d) → (m >>= measured false fix from to) ≡ found u → u .least ≡ d
+unfolding measured
+stays fix from to (found v) d u h e = ap leastOf (sym e ∙ h)
+stays fix from to (meets v) d u h e = let z : _≡_ {A = ℕ} 0 1 = cc in absurd (omega arith)
+stays fix from to (S.refused n) d u h e = let z : _≡_ {A = ℕ} 0 1 = cc in absurd (omega arith)
+
+-- An edge that is passed without the distance leaves the least so far.
+pub passing-least : (fix from to : Point) (t u : Tally) → passing fix false (after from) to t ≡ found u → u .least ≡ t .least
+unfolding passing along
+passing-least fix from to t u = go (samePoint to fix)
+  where
+    go : (b : Bool) → (if b then meets OnBorderVertex else (woundBy fix from to t >>= measured false fix from to)) ≡ found u → u .least ≡ t .least
+    go true e = let z : _≡_ {A = ℕ} 0 1 = cc in absurd (omega arith)
+    go false e = stays fix from to (woundBy fix from to t) (t .least) u (wound-kept (t .least) fix from to t) e

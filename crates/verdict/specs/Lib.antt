@@ -3,4 +3,5 @@ pub mod Edge
 pub mod Winding
 pub mod Distance
 pub mod Verdict
+pub mod Stretch
 pub mod inner

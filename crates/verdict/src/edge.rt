@@ -34,7 +34,7 @@ pub struct Seen {
     pub spot: Spot,
 }
 
-pub(crate) fn same_point(one: Point, other: Point) -> bool
+pub fn same_point(one: Point, other: Point) -> bool
     ensures { λ r. ⌜ r ≡ samePoint one other ⌝ }
 {
     one.lat.0 == other.lat.0 && one.lon.0 == other.lon.0
@@ -66,7 +66,7 @@ fn lon_between(one: FixedLon, x: FixedLon, other: FixedLon) -> bool
 }
 
 // Whether the box with two opposite corners holds a point.
-pub(crate) fn in_box(one: Point, point: Point, other: Point) -> bool
+pub fn in_box(one: Point, point: Point, other: Point) -> bool
     ensures { λ r. ⌜ r ≡ inBox one point other ⌝ }
 {
     if lat_between(one.lat, point.lat, other.lat) {

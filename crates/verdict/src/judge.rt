@@ -1,5 +1,5 @@
 // A border's verdict on a location, over its points as they are read.
-ghost use mathlib.Core.Path.{_≡_};
+ghost use mathlib.Core.{Bool.{false}, Path.{_≡_}};
 ghost use Rattle.verdict.specs.{inner.Kept.{Sighted, lastOf, endedAt}, Verdict.{told, after, along, passing, onBorder, closedAt, thenOn, judgedAt}};
 ghost use Rattle.verdict.specs.Verdict as verdict;
 ghost use Rattle.verdict.specs.Step as step;
@@ -80,8 +80,18 @@ fn on_border(verdict: Verdict, asked: bool, least: u64) -> Judged
     Judged::Answered { verdict, least }
 }
 
+// The edge between two points of a border, without the distance.
+pub fn pass_edge(fix: Point, from: Point, to: Point, tally: Tally) -> Passed
+    ensures { λ r. ⌜ step.told r ≡ passing fix false (after «from») to tally ⌝ }
+{
+    let at = spot_of(fix);
+    let last = seen_from(fix, at, false, from);
+    let here = seen_from(fix, at, false, to);
+    judge_point(fix, at, false, true, last, here, tally)
+}
+
 // The answer of a border that was read to its end.
-fn closed(asked: bool, tally: Tally) -> Judged
+pub fn closed(asked: bool, tally: Tally) -> Judged
     ensures { λ r. ⌜ told r ≡ closedAt asked tally ⌝ }
 {
     let winding = tally.winding;
@@ -120,7 +130,7 @@ fn ended(next: Next, asked: bool, tally: Tally) -> Judged
 }
 
 // The answer of a step that does not go on.
-fn stopped(passed: Passed, asked: bool, least: u64) -> Judged
+pub fn stopped(passed: Passed, asked: bool, least: u64) -> Judged
     ensures { λ r. ⌜ told r ≡ thenOn asked least (step.told passed) (λ tally. verdict.refused 13) ⌝ }
 {
     let Passed::Meets(verdict) = passed else {

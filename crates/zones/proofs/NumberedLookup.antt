@@ -15,7 +15,7 @@ use Rattle.table.{proofs.TableRows.{rows-so}, specs.{Find.{fixOf, isPrecision, 
 use Rattle.table.specs.{Search.{kindOf, judgedTurn, rowTurn, Found, afterTurn, seek, judgeIn, farthest, searched}, Table.{stepsBy, entryBy, isAbove, holds}}
 use Rattle.table.specs.declared.{hits.Hit.{Hit}, location.Location.{Location}, rows.{Cursor.{Cursor}, Row.{Row}}, search.Turn.{the-variants.{On, Met, Stopped, Refused}, Turn}}
 use Rattle.zones.specs.{Fields.{fieldsPlace, fieldsFrom, fieldsOf}, Lent.{Outcome, repliedOf}, Lookup.{zonesWith, zonesBy, zonesIn, lookedUp, lookedStrictly}}
-use Rattle.zones.specs.{Simple.{pickedFrom, pickedOf, checked, descriptionOf, bytesIn, wordedOf, describedWith, describedIn, simplyLooked}, declared.simple.Picked.{Picked}}
+use Rattle.zones.specs.{Simple.{pickedFrom, pickedOf, checked, descriptionAt, descriptionOf, bytesIn, wordedOf, describedWith, describedIn, simplyLooked}, declared.simple.Picked.{Picked}}
 use Rattle.numbers.specs.Answer as A
 use Rattle.table.specs.Rows as T
 
@@ -27,7 +27,7 @@ lookupNumbers = headerNumbers ++ (15 ∷ 16 ∷ 17 ∷ 18 ∷ [])
 abbrev more : Bool → List ℕ
 more strict = if strict then 31 ∷ [] else []
 
-abbrev Known : Bool → ℕ → Type 0
+abbrev pub Known : Bool → ℕ → Type 0
 Known strict = Listed (lookupNumbers ++ more strict)
 
 known : (strict : Bool) (n : ℕ) → Listed headerNumbers n → Known strict n
@@ -142,7 +142,7 @@ module _ (file : List ℕ) (head : Head) (room : ℕ) where
 
 -- ---- a file that is opened first
 -- what was opened so is read so
-then-with : {A B : Type 0} {P : ℕ → Type 0} {reply : Reply A} {next : A → Reply B} → NumberedReply P reply → ((a : A) → reply ≡ given a → NumberedReply P (next a)) → NumberedReply P (reply >>= next)
+pub then-with : {A B : Type 0} {P : ℕ → Type 0} {reply : Reply A} {next : A → Reply B} → NumberedReply P reply → ((a : A) → reply ≡ given a → NumberedReply P (next a)) → NumberedReply P (reply >>= next)
 then-with answers k = k _ refl
 then-with (refuses h) k = refuses h
 
@@ -184,10 +184,14 @@ module _ (file : List ℕ) (head : Head) where
   checks [] = answers
   checks (match ∷ matches) = then-reply (picked match) (λ found. checks matches)
 
+  -- the wanted fields of a metadata id
+  pub described-at : (metadata : ℕ) → NumberedReply (Known (head .strict)) (descriptionAt file head metadata)
+  described-at metadata = then-reply (picks (head .preamble .count) 0 7 (fieldsPlace head metadata) _) (λ found. answers)
+
   describes : (matches : List Hit) → NumberedReply (Known (head .strict)) (descriptionOf file head matches)
   unfolding descriptionOf
   describes [] = answers
-  describes (match ∷ matches) = then-reply (picked match) (λ found. answers)
+  describes (match ∷ matches) = described-at (match .metadata)
 
   words : (room : ℕ) (matches : List Hit) → NumberedReply (Known (head .strict)) (wordedOf file head room matches)
   unfolding wordedOf

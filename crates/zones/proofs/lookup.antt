@@ -1,1 +1,1 @@
-mod Looking
+pub mod Looking

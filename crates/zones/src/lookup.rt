@@ -47,7 +47,7 @@ fn safezone(asked: bool, least: u64, precision: u8) -> u32
 }
 
 // After a search: the fields of its matches go into a text that is zero.
-fn tell(
+pub(crate) fn tell(
     file: &[u8],
     head: Head,
     asked: bool,

@@ -1,9 +1,9 @@
-//! fuzz TARGET SECONDS [SEED]: what depot reads, made at random and damaged. TARGET is geojson, csv, map or evidence.
+//! fuzz TARGET SECONDS [SEED]: what depot reads, made at random and damaged. TARGET is geojson, csv, nmea, map or evidence.
 //! The last line is "TARGET: N tried, M taken, 0 wrong". What is wrong is kept in fuzz-TARGET-N in the folder that it runs in; exit status 1.
 
 use arbitrary::{Arbitrary, Unstructured};
 use depot::build::file_of;
-use depot::day::day_of;
+use depot::day::{day_of, log_of, Cells};
 use depot::evidence::request_of;
 use depot::geojson::collect;
 use depot::plan::{plan, Form};
@@ -12,7 +12,7 @@ use std::fmt::Write;
 use std::panic::{catch_unwind, AssertUnwindSafe};
 use std::process::ExitCode;
 use std::time::{Duration, Instant};
-use uskelzar::{Builder, Index, Map, Table};
+use uskelzar::{Builder, Index, Map, Number, Request, Table};
 
 /// Numbers that are the same each time.
 struct Random(u64);
@@ -126,12 +126,59 @@ impl Rows {
 fn csv(bytes: &[u8]) -> bool {
     let Ok(day) = day_of(bytes) else { return false };
     assert_eq!(day.requests.len(), day.lines.len());
-    assert!(day.requests.windows(2).all(|two| two[0].line < two[1].line), "lines do not rise");
-    let text = String::from_utf8_lossy(bytes);
-    for (request, line) in day.requests.iter().zip(&day.lines) {
-        assert!(text.contains(&request.text), "no such line: {request:?}");
-        assert_eq!(day.reading.slip_of(&request.text), day.reading.slip(line), "{request:?}");
+    assert!(day.requests.windows(2).all(|two| two[0].number < two[1].number), "lines do not rise");
+    for (line, asked) in day.requests.iter().zip(day.asked()) {
+        assert!(line.text.is_empty() || bytes.windows(line.text.len()).any(|some| some == line.text), "no such line: {line:?}");
+        assert_eq!(day.reading.asked(line), asked, "{line:?}");
     }
+    true
+}
+
+#[derive(Arbitrary, Debug)]
+struct Sentences {
+    lines: Vec<(u8, u32, u32, u32, u8)>,
+    ends: u8,
+    damage: Damage,
+}
+
+impl Sentences {
+    fn bytes(&self) -> Vec<u8> {
+        let end = ["\n", "\r\n", "\r\r\n"][usize::from(self.ends) % 3];
+        let mut text = String::new();
+        for (kind, a, b, c, d) in self.lines.iter().take(20) {
+            let (side, east) = (if d % 2 == 0 { 'N' } else { 'S' }, if d % 4 < 2 { 'E' } else { 'W' });
+            let body = match kind % 4 {
+                0 => format!("GPGGA,{a},{b}"),
+                1 => format!("GNRMC,{:06},A,{:04}.{},{side},{:05}.{b},{east},,,{:06},,,A", a % 300_000, b % 10_000, c % 1000, c % 20_000, a % 320_000),
+                2 => format!("GPRMC,{:06}.{d},V,,,,,,,{c:06},,,N", b % 300_000),
+                _ => {
+                    let _ = write!(text, "{}.{} -{}.{} {c}{end}", d, a % 1000, c % 200, b % 1000);
+                    continue;
+                }
+            };
+            let sum = body.bytes().fold(0, |sum, byte| sum ^ byte);
+            let _ = write!(text, "${body}*{sum:02X}{end}");
+        }
+        self.damage.done(text.into_bytes())
+    }
+}
+
+/// No line of a log is lost: each is a request or was passed over; what it means is in its cells, from which the same is read.
+fn nmea(bytes: &[u8]) -> bool {
+    let Ok(day) = log_of(bytes) else { return false };
+    let lines: Vec<&[u8]> = bytes.strip_suffix(b"\n").unwrap_or(bytes).split(|byte| *byte == b'\n').collect();
+    let mut left = day.requests.iter().zip(&day.lines);
+    for (i, line) in lines.iter().enumerate() {
+        let read = Request::read(line);
+        if matches!(read, Err(why) if why.number == Number::OtherSentence) {
+            continue;
+        }
+        let (request, cells) = left.next().expect("a line that is not passed over");
+        assert_eq!((request.number, request.text.as_slice()), (i + 1, *line));
+        let again = Cells { separator: b',', columns: [0, 1, 2] }.request(cells);
+        assert_eq!(again.ok(), read.ok(), "{cells:?}");
+    }
+    assert!(left.next().is_none());
     true
 }
 
@@ -233,13 +280,13 @@ fn map(bytes: &[u8], fixes: &[(f32, f32)]) -> bool {
 /// A line of evidence with other numbers and texts: its request is read, or what is wrong is said.
 fn evidence(bytes: &[u8]) -> bool {
     let Ok(value) = serde_json::from_slice::<Value>(bytes) else { return false };
-    let Ok((request, reading)) = request_of(&value) else { return false };
-    let _ = reading.slip_of(&request.text);
+    let Ok((line, reading)) = request_of(&value) else { return false };
+    let _ = reading.asked(&line);
     true
 }
 
 fn kept() -> Vec<u8> {
-    br#"{"evidence":1,"number":2,"request":"52.52,13.40,\"x\n\",2026-07-01T11:59:59Z","separator":",","columns":[0,1,3],"library":"0"}"#.to_vec()
+    br#"{"evidence":2,"number":2,"request":"52.52,13.40,\"x\n\",2026-07-01T11:59:59Z","separator":",","columns":[0,1,3],"library":"0"}"#.to_vec()
 }
 
 fn files() -> Vec<Vec<u8>> {
@@ -262,6 +309,10 @@ fn one(target: &str, random: &[u8], files: &[Vec<u8>]) -> Option<Input> {
         "csv" => {
             let bytes = Rows::arbitrary(&mut source).ok()?.bytes();
             Some((bytes.clone(), Box::new(move || csv(&bytes))))
+        }
+        "nmea" => {
+            let bytes = Sentences::arbitrary(&mut source).ok()?.bytes();
+            Some((bytes.clone(), Box::new(move || nmea(&bytes))))
         }
         "geojson" => {
             let drawing = Drawing::arbitrary(&mut source).ok()?;
@@ -286,7 +337,7 @@ fn one(target: &str, random: &[u8], files: &[Vec<u8>]) -> Option<Input> {
 fn main() -> ExitCode {
     let words: Vec<String> = std::env::args().skip(1).collect();
     let (Some(target), Some(Ok(seconds))) = (words.first(), words.get(1).map(|word| word.parse())) else {
-        eprintln!("usage: fuzz geojson|csv|map|evidence SECONDS [SEED]");
+        eprintln!("usage: fuzz geojson|csv|nmea|map|evidence SECONDS [SEED]");
         return ExitCode::from(2);
     };
     let mut random = Random(words.get(2).and_then(|word| word.parse().ok()).unwrap_or(1));

@@ -1,13 +1,13 @@
 //! A day's lines: CSV or a receiver's log in, requests out. No line is lost: what can't be read as a line stops the run, with its number.
 
 use crate::fault::Fault;
-use crate::source;
+use crate::source::{self, STANDARD};
 use crate::words::count;
 use chrono::DateTime;
 use csv::{ReaderBuilder, StringRecord, Trim};
 use std::io::Read;
 use std::path::Path;
-use uskelzar::Slip;
+use uskelzar::{Number, Request};
 
 /// A file's lines, with the names of its columns.
 #[derive(Debug)]
@@ -15,54 +15,112 @@ pub struct Day {
     pub names: Vec<String>,
     pub lines: Vec<StringRecord>,
     /// Each line as it stands in the file.
-    pub requests: Vec<Request>,
+    pub requests: Vec<Line>,
     /// What was taken for granted, in words.
     pub notes: Vec<String>,
-    /// How a request is read.
+    /// How a line is read.
     pub reading: Reading,
 }
 
-/// A line of a day as it stands in the file, without its line end.
+/// A line of a day as it stands in the file, without its line end; of a log without its LF.
 #[derive(Clone, Debug, Eq, PartialEq)]
-pub struct Request {
+pub struct Line {
     /// The number of its first line, from 1.
-    pub line: usize,
-    pub text: String,
+    pub number: usize,
+    pub text: Vec<u8>,
+}
+
+/// How a line is read.
+#[derive(Clone, Debug, Eq, PartialEq)]
+pub enum Reading {
+    /// As cells.
+    Cells(Cells),
+    /// As a request, by the library.
+    Request,
 }
 
 /// How a line of CSV is read: what parts its cells, and which of them has what.
 #[derive(Clone, Debug, Eq, PartialEq)]
-pub struct Reading {
+pub struct Cells {
     pub separator: u8,
     /// Latitude, longitude, instant, from 0.
     pub columns: [usize; 3],
 }
 
+/// What a line asks for.
+#[derive(Clone, Debug, PartialEq)]
+pub enum Asked {
+    /// The slip at a fix and an instant.
+    Fix(Request),
+    /// The slip of a request, which the library reads.
+    Line(Vec<u8>),
+}
+
+impl Day {
+    /// What each of its lines asks for, or why nothing.
+    pub fn asked(&self) -> Vec<Result<Asked, String>> {
+        match &self.reading {
+            Reading::Cells(cells) => self.lines.iter().map(|line| cells.request(line).map(Asked::Fix)).collect(),
+            Reading::Request => self.requests.iter().map(|line| Ok(Asked::Line(line.text.clone()))).collect(),
+        }
+    }
+}
+
+impl Reading {
+    /// What a line asks for, as it stands in the file, or why nothing.
+    pub fn asked(&self, line: &Line) -> Result<Asked, String> {
+        match self {
+            Reading::Cells(cells) => cells.request_of(&line.text).map(Asked::Fix),
+            Reading::Request => Ok(Asked::Line(line.text.clone())),
+        }
+    }
+}
+
 /// Reads a file, or standard input where the path is `-`.
 pub fn read(path: &Path) -> Result<Day, Fault> {
     let bytes = source::bytes(path)?;
-    if is_log(path) {
-        return Err(log(path, &bytes));
-    }
-    day_of(&bytes).map_err(|words| Fault::file(path, words))
+    let day = if is_log(path, &bytes) { log_of(&bytes) } else { day_of(&bytes) };
+    day.map_err(|words| Fault::file(path, words))
 }
 
-/// Whether a file is a receiver's log of sentences.
-fn is_log(path: &Path) -> bool {
-    path.extension().is_some_and(|kind| kind.eq_ignore_ascii_case("nmea"))
+/// Whether a file is a receiver's log of sentences, by its name; standard input, which has none, by its first byte.
+fn is_log(path: &Path, bytes: &[u8]) -> bool {
+    path.extension().is_some_and(|kind| kind.eq_ignore_ascii_case("nmea")) || path == Path::new(STANDARD) && bytes.starts_with(b"$")
 }
 
-/// The requests of a receiver's log: what ends with LF or with the file, whole. What a sentence means, and which ones are passed over, the library says.
+/// The requests of a receiver's log: what ends with LF or with the file, whole.
 fn sentences(bytes: &[u8]) -> impl Iterator<Item = &[u8]> {
     let whole = bytes.strip_suffix(b"\n").unwrap_or(bytes);
     let some = !bytes.is_empty();
     whole.split(|byte| *byte == b'\n').filter(move |_| some)
 }
 
-/// The library of this release has no reader of sentences that can be called, and there is to be no second one.
-fn log(path: &Path, bytes: &[u8]) -> Fault {
-    let lines = count(sentences(bytes).count(), "line");
-    Fault::file(path, format!("is a receiver's log of {lines}, and this release reads no sentences: turn it into CSV, such as by gpsbabel -i nmea -o unicsv"))
+/// The lines of a receiver's log: what each means the library says, and which are other sentences (83), which are passed over.
+pub fn log_of(bytes: &[u8]) -> Result<Day, String> {
+    let names = ["latitude", "longitude", "instant", "request"].map(String::from).to_vec();
+    let mut day = Day { names, lines: vec![], requests: vec![], notes: vec![], reading: Reading::Request };
+    let mut others = 0;
+    for (i, line) in sentences(bytes).enumerate() {
+        let read = Request::read(line);
+        if matches!(read, Err(why) if why.number == Number::OtherSentence) {
+            others += 1;
+            continue;
+        }
+        day.lines.push(record_of(read.ok(), line));
+        day.requests.push(Line { number: i + 1, text: line.to_vec() });
+    }
+    if day.lines.is_empty() && others == 0 {
+        return Err("is empty: lines of a receiver are wanted".into());
+    }
+    day.notes.extend((others > 0).then(|| format!("{} passed over", count(others, "other sentence"))));
+    Ok(day)
+}
+
+/// Latitude, longitude and instant, where they can be read, and the line.
+fn record_of(read: Option<Request>, line: &[u8]) -> StringRecord {
+    let numbers = read.map_or_else(Default::default, |Request { lat, lon, instant }| [lat.to_string(), lon.to_string(), instant.to_string()]);
+    let text = String::from_utf8_lossy(line.strip_suffix(b"\r").unwrap_or(line)).to_string();
+    numbers.into_iter().chain([text]).collect::<Vec<_>>().into()
 }
 
 /// The lines of a file's bytes.
@@ -81,22 +139,22 @@ pub fn day_of(bytes: &[u8]) -> Result<Day, String> {
     }
     check_widths(&lines, &requests, names.len())?;
     let lines: Vec<StringRecord> = lines.iter().map(|line| widened(line, names.len())).collect();
-    let reading = Reading { separator, columns };
-    Ok(Day { notes: notes(&reading, &lines), names, lines, requests, reading })
+    let cells = Cells { separator, columns };
+    Ok(Day { notes: notes(&cells, &lines), names, lines, requests, reading: Reading::Cells(cells) })
 }
 
 /// Each record as it stands in the text, where it ends before the next one begins. Empty lines before it are not its own.
-fn requests(text: &str, records: &[StringRecord]) -> Vec<Request> {
+fn requests(text: &str, records: &[StringRecord]) -> Vec<Line> {
     // `records` puts a byte before the text
     let begins: Vec<usize> = records.iter().map(|record| record.position().map_or(0, |place| place.byte().saturating_sub(1) as usize)).collect();
     let ends = begins.iter().skip(1).copied().chain([text.len()]);
-    let (mut line, mut counted) = (1, 0);
+    let (mut number, mut counted) = (1, 0);
     let request = |(begin, end): (usize, usize)| {
         let own = text[begin..end].trim_start_matches(['\r', '\n']);
         let place = end - own.len();
-        line += line_ends(&text[counted..place]);
+        number += line_ends(&text[counted..place]);
         counted = place;
-        Request { line, text: own.trim_end_matches(['\r', '\n']).to_string() }
+        Line { number, text: own.trim_end_matches(['\r', '\n']).into() }
     };
     begins.iter().copied().zip(ends).map(request).collect()
 }
@@ -177,10 +235,10 @@ fn numbered(lines: &[StringRecord]) -> Vec<String> {
 }
 
 /// A cell without a column would be lost.
-fn check_widths(lines: &[StringRecord], requests: &[Request], width: usize) -> Result<(), String> {
+fn check_widths(lines: &[StringRecord], requests: &[Line], width: usize) -> Result<(), String> {
     let wide = lines.iter().zip(requests).find(|(line, _)| line.iter().skip(width).any(|cell| !cell.is_empty()));
-    let Some((wide, Request { line, .. })) = wide else { return Ok(()) };
-    Err(format!("line {line} has {} cells, and the first line names {width} columns: name them all, or take the others out", wide.len()))
+    let Some((wide, Line { number, .. })) = wide else { return Ok(()) };
+    Err(format!("line {number} has {} cells, and the first line names {width} columns: name them all, or take the others out", wide.len()))
 }
 
 /// The line with as many cells as there are columns.
@@ -189,7 +247,7 @@ fn widened(line: &StringRecord, width: usize) -> StringRecord {
 }
 
 /// What was taken for granted, in words.
-fn notes(reading: &Reading, lines: &[StringRecord]) -> Vec<String> {
+fn notes(reading: &Cells, lines: &[StringRecord]) -> Vec<String> {
     let parted = match reading.separator {
         b';' => Some("semicolons"),
         b'\t' => Some("tabs"),
@@ -210,24 +268,25 @@ fn columns_of(names: &StringRecord) -> Result<[usize; 3], String> {
     Ok([column(&["latitude", "lat"])?, column(&["longitude", "long", "lon", "lng"])?, column(&["instant", "time", "timestamp"])?])
 }
 
-impl Reading {
-    /// A request's fix and instant, or why there is none.
-    pub fn slip_of(&self, request: &str) -> Result<Slip, String> {
-        match records(request, self.separator)?.as_slice() {
-            [line] => self.slip(line),
+impl Cells {
+    /// The fix and the instant of a line as it stands in the file, or why there is none.
+    pub fn request_of(&self, line: &[u8]) -> Result<Request, String> {
+        let text = std::str::from_utf8(line).map_err(|_| "it is not UTF-8")?;
+        match records(text, self.separator)?.as_slice() {
+            [line] => self.request(line),
             lines => Err(format!("a request is one line, and here are {}", lines.len())),
         }
     }
 
     /// The fix and the instant of a line's cells. A text of degrees is rounded once, to the nearest f32.
-    pub fn slip(&self, line: &StringRecord) -> Result<Slip, String> {
+    pub fn request(&self, line: &StringRecord) -> Result<Request, String> {
         let word = |column: usize| line.get(column).unwrap_or_default();
         let degrees = |column: usize, most: f32, what: &str| {
             let value = number(word(column), self.separator).filter(|value| value.abs() <= most);
             value.ok_or_else(|| format!("{what} {:?} is no number from -{most} to {most}", word(column)))
         };
         let [lat, lon, instant] = self.columns;
-        Ok((degrees(lat, 90.0, "latitude")?, degrees(lon, 180.0, "longitude")?, instant_of(word(instant))?))
+        Ok(Request { lat: degrees(lat, 90.0, "latitude")?, lon: degrees(lon, 180.0, "longitude")?, instant: instant_of(word(instant))? })
     }
 }
 
@@ -293,6 +352,19 @@ mod tests {
         }
     }
 
+    fn line(number: usize, text: &str) -> Line {
+        Line { number, text: text.into() }
+    }
+
+    fn fix(lat: f32, lon: f32, instant: i64) -> Result<Asked, String> {
+        Ok(Asked::Fix(Request { lat, lon, instant }))
+    }
+
+    /// What its lines ask for as they stand in the file.
+    fn read_again(day: &Day) -> Vec<Result<Asked, String>> {
+        day.requests.iter().map(|line| day.reading.asked(line)).collect()
+    }
+
     fn fault(text: &str) -> String {
         day_of(text.as_bytes()).unwrap_err()
     }
@@ -311,7 +383,7 @@ mod tests {
     fn lines_that_end_with_a_carriage_return() {
         assert!(fault("lat,lon,time,note\r1,2,3,x\r\"stray\r1,2,3,x\r").contains("line 3: a quote is opened and never closed"));
         let day = day_of(b"note;lat;lon;time\rx;1,5;2;3\r\r\ny;1;2;3\r").unwrap();
-        assert_eq!(day.requests.iter().map(|request| (request.line, request.text.as_str())).collect::<Vec<_>>(), [(2, "x;1,5;2;3"), (4, "y;1;2;3")]);
+        assert_eq!(day.requests, [line(2, "x;1,5;2;3"), line(4, "y;1;2;3")]);
         assert!(fault("lat,lon,time\r1,2,3,4\r").contains("line 2 has 4 cells"));
     }
 
@@ -319,11 +391,9 @@ mod tests {
     #[test]
     fn a_mark_further_on() {
         let day = day_of("\u{feff}1,2,3\n\u{feff}4,5,6\n".as_bytes()).unwrap();
-        assert_eq!(day.reading.slip(&day.lines[0]), Ok((1.0, 2.0, 3)));
-        for (request, line) in day.requests.iter().zip(&day.lines) {
-            assert_eq!(day.reading.slip_of(&request.text), day.reading.slip(line));
-        }
-        assert!(day.reading.slip(&day.lines[1]).unwrap_err().contains("latitude"));
+        assert_eq!(day.asked()[0], fix(1.0, 2.0, 3));
+        assert_eq!(day.asked(), read_again(&day));
+        assert!(day.asked()[1].as_ref().unwrap_err().contains("latitude"));
     }
 
     #[test]
@@ -336,10 +406,10 @@ mod tests {
     #[test]
     fn files_of_the_world() {
         let day = day_of("\u{feff}Time;Long;Latitude\n2026-07-01T11:59:59Z;13,40;52,52\n".as_bytes()).unwrap();
-        assert_eq!(day.reading.slip(&day.lines[0]), Ok((52.52, 13.40, 1_782_907_199)));
+        assert_eq!(day.asked()[0], fix(52.52, 13.40, 1_782_907_199));
         assert!(day.notes[0].contains("semicolons"));
         let day = day_of(b"lat\tlon\ttime\n52.52\t13.40\t2026-07-01 11:59:59.5Z\n").unwrap();
-        assert_eq!(day.reading.slip(&day.lines[0]), Ok((52.52, 13.40, 1_782_907_199)));
+        assert_eq!(day.asked()[0], fix(52.52, 13.40, 1_782_907_199));
         assert_eq!(day.notes, ["cells are parted by tabs; a comma in a number is read as its point", "1 instant with parts of a second: the second that has begun is taken"]);
         assert!(day_of(b"lat,lon,time,depot\n1,2,3,M\xfcnchen\n").err().unwrap().contains("line 2 is not UTF-8"));
     }
@@ -356,14 +426,11 @@ mod tests {
     fn requests_are_the_lines_as_they_stand() {
         let text = "lat,lon,time,note\r\n\r\n1, 2,3,x\r\n1,2,3,\"two\nlines\"\n\n\n4,5,6, \n";
         let day = day_of(text.as_bytes()).unwrap();
-        let request = |line, text: &str| Request { line, text: text.into() };
-        assert_eq!(day.requests, [request(3, "1, 2,3,x"), request(4, "1,2,3,\"two\nlines\""), request(8, "4,5,6, ")]);
-        for (request, line) in day.requests.iter().zip(&day.lines) {
-            assert_eq!(day.reading.slip_of(&request.text), day.reading.slip(line));
-        }
-        assert!(day.reading.slip_of("1,2,3\n1,2,3").unwrap_err().contains("here are 2"));
+        assert_eq!(day.requests, [line(3, "1, 2,3,x"), line(4, "1,2,3,\"two\nlines\""), line(8, "4,5,6, ")]);
+        assert_eq!(day.asked(), read_again(&day));
+        assert!(day.reading.asked(&line(1, "1,2,3\n1,2,3")).unwrap_err().contains("here are 2"));
         let unnamed = day_of(b"1,2,3\n").unwrap();
-        assert_eq!(unnamed.requests, [request(1, "1,2,3")]);
+        assert_eq!(unnamed.requests, [line(1, "1,2,3")]);
     }
 
     #[test]
@@ -372,6 +439,23 @@ mod tests {
         let lines: Vec<&[u8]> = sentences(log).collect();
         assert_eq!(lines, [&b"$GPGGA,1*00\r"[..], b"", b"$GPRMC,2\xff*00\r", b"$GPRMC"]);
         assert_eq!((sentences(b"").count(), sentences(b"\n").count(), sentences(b"\n\n").count()), (0, 1, 2));
-        assert!(is_log(Path::new("a/day.NMEA")) && !is_log(Path::new("nmea")) && !is_log(Path::new("-")));
+        assert!(is_log(Path::new("a/day.NMEA"), b"x") && !is_log(Path::new("nmea"), b"$") && !is_log(Path::new("-"), b"lat") && is_log(Path::new("-"), b"$GP"));
+    }
+
+    #[test]
+    fn a_log_of_sentences() {
+        let rmc = "$GNRMC,115959.00,A,5231.200000,N,01324.000000,E,0.0,0.0,010726,,,A*41";
+        let log = [b"$GPGLL,,,,,,V,N*64\r\n", rmc.as_bytes(), b"\r\n\n$GPGLL,,,,,,V,N*64\n$GPRMC,\xff*00\r\n-33.87 151.21 0"].concat();
+        let day = log_of(&log).unwrap();
+        assert_eq!(day.requests.iter().map(|line| line.number).collect::<Vec<_>>(), [2, 3, 5, 6]);
+        assert_eq!(day.asked(), read_again(&day));
+        assert_eq!(day.asked()[0], Ok(Asked::Line(format!("{rmc}\r").into())));
+        assert_eq!(day.notes, ["2 other sentences passed over"]);
+        assert_eq!(day.lines[0], vec!["52.52", "13.4", "1782907199", rmc]);
+        assert_eq!(day.lines[1], vec!["", "", "", ""]);
+        assert_eq!(day.lines[2], vec!["", "", "", "$GPRMC,\u{fffd}*00"]);
+        assert_eq!(day.lines[3], vec!["-33.87", "151.21", "0", "-33.87 151.21 0"]);
+        assert!(log_of(b"").unwrap_err().contains("is empty"));
+        assert!(log_of(b"$GPGLL,,,,,,V,N*64").unwrap().lines.is_empty());
     }
 }

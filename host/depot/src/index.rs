@@ -24,7 +24,7 @@ pub fn run(path: &Path, output: &Path) -> Result<Said, Fault> {
 }
 
 /// Reads the index of a file, and holds it against the file.
-pub fn read(path: &Path, (file, map): (&Path, &Map<Vec<u8>>)) -> Result<Index, Fault> {
+fn read(path: &Path, (file, map): (&Path, &Map<Vec<u8>>)) -> Result<Index, Fault> {
     Index::read(path, map).map_err(|error| match error {
         Error::Refused(why) if why.number == Number::OtherIndex => other(path, file, why),
         error => Fault::map(path, error),

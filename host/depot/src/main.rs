@@ -138,24 +138,22 @@ enum Verb {
         #[arg(short, long)]
         output: PathBuf,
     },
-    /// Stamp the local hour on every line of a day
+    /// Stamp a slip for every line of a day
     ///
-    /// A line has a latitude, a longitude and an instant: seconds from 1970, or like 2026-07-01T11:59:59Z. The first line may name
-    /// the columns; other columns are kept. Each way of not stamping has a column of its own.
-    #[command(after_help = "Examples:\n  depot stamp examples/day.csv -o slips.csv examples/world-9.plb /usr/share/zoneinfo\n  depot stamp examples/day.csv -o slips.csv examples/world-9.plb /usr/share/zoneinfo --evidence day.jsonl\n\nExit status 0 only if every line was stamped.")]
+    /// A line of CSV has a latitude, a longitude and an instant: seconds from 1970, or like 2026-07-01T11:59:59Z. The first line may name
+    /// the columns; other columns are kept. A receiver's log (.nmea, or standard input that begins with $) has sentences: RMC is stamped, others are
+    /// passed over. Each way of not stamping has a column of its own.
+    #[command(after_help = "Examples:\n  depot stamp examples/day.csv -o slips.csv examples/world-15.plb examples/zones.tzdata\n  depot stamp examples/day.csv -o slips.csv examples/world-9.plb /usr/share/zoneinfo --evidence day.jsonl\n\nExit status 0 only if every line was stamped.")]
     Stamp {
-        /// CSV: latitude, longitude, instant
+        /// CSV of latitude, longitude, instant; or a receiver's log, .nmea
         day: PathBuf,
         /// The file to write
         #[arg(short, long)]
         output: PathBuf,
         /// PLB file of time zones
         map: PathBuf,
-        /// Folder with the zones' TZif files
-        folder: PathBuf,
-        /// Read only the entries near each fix, by an index of the map (depot index); no slip is another by that
-        #[arg(long, value_name = "INDEX")]
-        index: Option<PathBuf>,
+        /// Folder with the zones' TZif files, or a bundle of them (depot bundle)
+        zones: PathBuf,
         /// Write what each slip rests on, for depot verify
         #[arg(long, value_name = "FILE")]
         evidence: Option<PathBuf>,
@@ -169,8 +167,8 @@ enum Verb {
         evidence: PathBuf,
         /// PLB file of time zones
         map: PathBuf,
-        /// Folder with the zones' TZif files
-        folder: PathBuf,
+        /// Folder with the zones' TZif files, or a bundle of them (depot bundle)
+        zones: PathBuf,
     },
     /// Write the zones' TZif files into one file
     ///
@@ -276,11 +274,8 @@ fn run(verb: Verb) -> Result<Said, Fault> {
         Verb::Index { file, output } => index::run(&file, &output),
         Verb::Check { file } => check::run(&file),
         Verb::Salvage { file, output } => salvage::run(&file, &output),
-        Verb::Stamp { day, output, map, folder, index, evidence } => {
-            let files = Files { map: &map, zones: &folder, index: index.as_deref() };
-            stamp::run(&day, &output, &files, evidence.as_deref())
-        }
-        Verb::Verify { evidence, map, folder } => verify::run(&evidence, &Files { map: &map, zones: &folder, index: None }),
+        Verb::Stamp { day, output, map, zones, evidence } => stamp::run(&day, &output, &Files { map: &map, zones: &zones }, evidence.as_deref()),
+        Verb::Verify { evidence, map, zones } => verify::run(&evidence, &Files { map: &map, zones: &zones }),
         Verb::Bundle { folder, output, map } => bundle::run(&folder, &output, &map),
         Verb::Draw { file, output, columns, frame, plain } => draw::run(&file, &output, columns, frame, plain),
         Verb::Page { file, output, day, drawn, columns } => page::run(&file, &output, columns, day.as_deref(), drawn.as_deref()),

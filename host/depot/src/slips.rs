@@ -1,60 +1,115 @@
-//! A day's slips by a map and its zones' files. All that decides what a slip carries is asked for here, by `stamp` and by `verify`.
+//! A day's slips by a map and its zones' files. All that decides what a slip carries is asked for here, by `stamp` and by `verify`, and it is the library that decides it.
 
+use crate::day::Asked;
 use crate::fault::Fault;
-use crate::{index, output, source};
+use crate::{output, source};
 use rayon::prelude::*;
+use std::fmt;
 use std::path::Path;
-use uskelzar::{Printer, Slip, Traced};
-
-/// So many slips are asked for at once; the same on every machine, however many processors share them.
-const AT_ONCE: usize = 512;
+use uskelzar::{zone_name, Bundle, Bundled, LeftOut, NotStamped, Number, Printer, Refusal, Request, Stamped};
 
 /// The files that slips rest on.
 #[derive(Clone, Copy)]
 pub struct Files<'a> {
     pub map: &'a Path,
-    /// The folder with the zones' TZif files.
+    /// The folder with the zones' TZif files, or a bundle of them.
     pub zones: &'a Path,
-    pub index: Option<&'a Path>,
+}
+
+/// A printer by these files.
+pub struct Opened {
+    pub printer: Printer<Vec<u8>>,
+    /// What a folder has and its bundle has not.
+    pub left_out: Vec<LeftOut>,
 }
 
 impl Files<'_> {
-    /// Opens them.
-    pub fn printer(&self) -> Result<Printer<Vec<u8>>, Fault> {
-        if !self.zones.is_dir() {
-            let bundle = if self.zones.is_file() { "; this release does not stamp by a bundle yet" } else { "" };
-            return Err(Fault::file(self.zones, format!("is no folder: give the one with the zones' TZif files, such as /usr/share/zoneinfo{bundle}")));
+    /// Opens them. A folder of zones becomes a bundle in memory, the one that `depot bundle` writes of it.
+    pub fn open(&self) -> Result<Opened, Fault> {
+        let (zones, left_out) = if self.zones.is_dir() { self.folder()? } else { (self.bundle()?, vec![]) };
+        Ok(Opened { printer: Printer::new(source::open(self.map, false)?, zones), left_out })
+    }
+
+    fn folder(&self) -> Result<(Bundle, Vec<LeftOut>), Fault> {
+        let Bundled { bundle, zones, left_out, .. } = Bundle::of_folder(self.zones).map_err(|error| Fault::file(self.zones, error))?;
+        if zones.is_empty() {
+            return Err(Fault::file(self.zones, format!("has no zone: {WANTED}")));
         }
-        let map = source::open(self.map, false)?;
-        let index = self.index.map(|path| index::read(path, (self.map, &map))).transpose()?;
-        let printer = Printer::new(map, self.zones);
-        match index {
-            Some(index) => printer.with_index(index).map_err(|error| Fault::map(self.map, error)),
-            None => Ok(printer),
+        Ok((bundle, left_out))
+    }
+
+    fn bundle(&self) -> Result<Bundle, Fault> {
+        let bundle = Bundle::of_bytes(source::bytes(self.zones).map_err(|fault| Fault::NotRun(format!("{fault}: {WANTED}")))?);
+        match bundle.find("") {
+            // a fault of the head is met by every name
+            Err(why) if why.number == Number::Bundle && bundle.find("x") == Err(why) => Err(no_bundle(self.zones, why)),
+            _ => Ok(bundle),
         }
     }
 
     /// Those of them that an output may not take the place of.
     pub fn inputs(&self) -> Vec<&Path> {
-        [self.map].into_iter().chain(self.index).collect()
+        vec![self.map, self.zones]
     }
 }
 
-/// Works out every slip that could be read, on all processors, and tells each, in order.
-pub fn told<T: Send>(printer: &Printer<Vec<u8>>, slips: &[Result<Slip, String>], tell: impl Fn(usize, Result<Traced, &str>) -> T + Sync) -> Vec<T> {
-    let bar = output::progress(slips.len(), "slips");
-    let some_told = |(chunk, some): (usize, &[Result<Slip, String>])| {
-        let good: Vec<Slip> = some.iter().flatten().copied().collect();
-        let mut traced = printer.trace_many(&good).into_iter();
-        let one = |(i, slip): (usize, &Result<Slip, String>)| {
-            let traced = slip.as_ref().map(|_| traced.next().expect("one for each")).map_err(String::as_str);
-            tell(chunk * AT_ONCE + i, traced)
-        };
-        let told: Vec<T> = some.iter().enumerate().map(one).collect();
-        bar.inc(some.len() as u64);
+const WANTED: &str = "give the folder with the zones' TZif files, such as /usr/share/zoneinfo, or what `depot bundle` made of one";
+
+fn no_bundle(path: &Path, why: Refusal) -> Fault {
+    Fault::No(format!("{}: {why}\n  this is no bundle of zones: {WANTED}", path.display()))
+}
+
+/// A line's slip.
+pub struct Slip {
+    /// What was asked for, where it can be read.
+    pub request: Option<Request>,
+    pub stamped: Result<Stamped, Reason>,
+}
+
+/// Why a line has no slip.
+#[derive(Clone, Debug, Eq, PartialEq)]
+pub enum Reason {
+    /// Its cells have no fix or no instant.
+    Unread(String),
+    /// The library says why.
+    Not(NotStamped),
+}
+
+impl fmt::Display for Reason {
+    fn fmt(&self, f: &mut fmt::Formatter) -> fmt::Result {
+        match self {
+            Reason::Unread(words) => f.write_str(words),
+            Reason::Not(why) => why.fmt(f),
+        }
+    }
+}
+
+impl Slip {
+    fn of(printer: &Printer<Vec<u8>>, asked: &Result<Asked, String>) -> Slip {
+        match asked {
+            Err(words) => Slip { request: None, stamped: Err(Reason::Unread(words.clone())) },
+            Ok(Asked::Fix(fix)) => Slip { request: Some(*fix), stamped: printer.stamp(fix.lat, fix.lon, fix.instant).map_err(Reason::Not) },
+            Ok(Asked::Line(line)) => Slip { request: Request::read(line).ok(), stamped: printer.stamp_request(line).map_err(Reason::Not) },
+        }
+    }
+
+    /// The name of the zone that the bundle has not, where that is why there is no slip.
+    pub fn missing(&self, printer: &Printer<Vec<u8>>) -> Option<String> {
+        let (Some(fix), Err(Reason::Not(NotStamped { why, at: Some(at) }))) = (self.request, &self.stamped) else { return None };
+        let found = printer.found(fix.lat, fix.lon).ok().filter(|_| why.number == Number::NoFile)?;
+        found.matches.get(usize::from(*at) - 1).and_then(|zone| zone_name(&zone.fields))
+    }
+}
+
+/// Works out every slip, on all processors, and tells each, in order.
+pub fn told<T: Send>(printer: &Printer<Vec<u8>>, asked: &[Result<Asked, String>], tell: impl Fn(usize, Slip) -> T + Sync) -> Vec<T> {
+    let bar = output::progress(asked.len(), "slips");
+    let one = |(i, asked): (usize, &Result<Asked, String>)| {
+        let told = tell(i, Slip::of(printer, asked));
+        bar.inc(1);
         told
     };
-    let told: Vec<Vec<T>> = slips.par_chunks(AT_ONCE).enumerate().map(some_told).collect();
+    let told = asked.par_iter().enumerate().map(one).collect();
     bar.finish_and_clear();
-    told.into_iter().flatten().collect()
+    told
 }

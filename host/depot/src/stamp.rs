@@ -1,45 +1,48 @@
-//! `depot stamp`: a day's fixes in, its slips' hours out.
+//! `depot stamp`: a day's requests in, its slips out.
 
-use crate::day::{self, unlike, Day};
+use crate::day::{self, unlike, Asked, Day};
 use crate::evidence::Basis;
 use crate::fault::{Fault, Said};
 use crate::output;
-use crate::slips::{told, Files};
+use crate::slips::{told, Files, Opened, Reason, Slip};
 use crate::words::{count, grouped};
 use csv::Writer;
+use std::collections::BTreeSet;
 use std::path::Path;
-use uskelzar::{Hour, NotStamped, Printer, Slip};
+use uskelzar::{Number, Stamped};
 
-/// The columns of a stamped slip, behind those of its line.
-pub(crate) const HOUR: [&str; 5] = ["local", "offset", "daylight", "abbreviation", "zone"];
+/// The columns of a stamped slip, behind those of its line: what is printed, and the words of it.
+pub(crate) const HOUR: [&str; 5] = ["line", "local", "offset", "abbreviation", "zone"];
 /// A column for each way of not stamping.
-pub(crate) const WAYS: [&str; 12] =
-    ["unreadable line", "map refused", "not whole", "no zone", "zone unnamed", "bad zone name", "no zone file", "zone file refused", "hour unknown", "outside the years", "hours differ", "no place"];
+pub(crate) const WAYS: [&str; 14] = [
+    "unreadable line", "no fix", "out of range", "map refused", "no room", "not whole", NO_ZONE, "no names", "no zone file", "bundle damaged", "zone file refused", "hour unknown",
+    "outside the years", "hours differ",
+];
+pub(crate) const NO_ZONE: &str = "no zone";
 
 /// Stamps every line of a file, and writes the slips; and what each of them rests on, where it is asked for.
 pub fn run(day: &Path, output: &Path, files: &Files, evidence: Option<&Path>) -> Result<Said, Fault> {
     if evidence == Some(output) {
         return Err(Fault::file(output, "is to be the slips' file and their evidence: give two names with -o and --evidence"));
     }
-    let printer = files.printer()?;
+    let opened = files.open()?;
     let read = day::read(day)?;
-    let basis = evidence.map(|_| Basis::of(files, &printer)).transpose()?;
-    let (slips, lines) = stamped(&printer, &read, basis.as_ref());
+    let slips = stamped(&opened, &read, evidence.is_some());
     let names = names(&read);
     let inputs: Vec<&Path> = [day].into_iter().chain(files.inputs()).collect();
     output::write_whole(output, &inputs, |out| {
         let mut out = Writer::from_writer(out);
         out.write_record(&names)?;
         for (line, slip) in read.lines.iter().zip(&slips) {
-            out.write_record(line.iter().map(str::to_string).chain(cells(slip)))?;
+            out.write_record(line.iter().map(str::to_string).chain(cells(&slip.stamped)))?;
         }
         out.flush()
     })?;
     if let Some(evidence) = evidence {
         let inputs: Vec<&Path> = inputs.into_iter().chain([output]).collect();
-        output::write_whole(evidence, &inputs, |out| lines.iter().try_for_each(|line| out.write_all(line.as_bytes())))?;
+        output::write_whole(evidence, &inputs, |out| slips.iter().try_for_each(|slip| out.write_all(slip.evidence.as_bytes())))?;
     }
-    Ok(summary(output, &read, &slips))
+    Ok(summary(output, &opened, &read, &slips))
 }
 
 /// The columns of the slips: the day's own, then ours, with a number where the day has one of that name.
@@ -51,76 +54,101 @@ fn names(day: &Day) -> Vec<String> {
     names
 }
 
-/// The hours of a line's slip, or the way of not stamping it and its words.
-type Stamped = Result<Vec<Hour>, (usize, String)>;
-
-/// Every line's slip, in the lines' order, and its evidence where there is a basis for it.
-fn stamped(printer: &Printer<Vec<u8>>, day: &Day, basis: Option<&Basis>) -> (Vec<Stamped>, Vec<String>) {
-    let slips: Vec<Result<Slip, String>> = day.lines.iter().map(|line| day.reading.slip(line)).collect();
-    let all = told(printer, &slips, |i, traced| {
-        let evidence = basis.map(|basis| format!("{}\n", basis.evidence(&day.requests[i], &day.reading, &slips[i], &traced)));
-        let stamped = match traced {
-            Ok(traced) => traced.hours.map_err(|why| (way(&why), why.to_string())),
-            Err(words) => Err((0, words.to_string())),
-        };
-        (stamped, evidence.unwrap_or_default())
-    });
-    all.into_iter().unzip()
+/// What is written of a line's slip.
+struct Written {
+    stamped: Result<Stamped, Reason>,
+    /// Empty where it is not asked for.
+    evidence: String,
+    /// The zone that is not in the bundle.
+    missing: Option<String>,
 }
 
-fn summary(output: &Path, day: &Day, slips: &[Stamped]) -> Said {
-    let stamped = slips.iter().filter(|slip| slip.is_ok()).count();
+/// Every line's slip, in the lines' order.
+fn stamped(opened: &Opened, day: &Day, with_evidence: bool) -> Vec<Written> {
+    let basis = with_evidence.then(|| Basis::of(&opened.printer));
+    let asked: Vec<Result<Asked, String>> = day.asked();
+    told(&opened.printer, &asked, |i, slip: Slip| Written {
+        evidence: basis.as_ref().map_or(String::new(), |basis| format!("{}\n", basis.evidence(&opened.printer, &day.requests[i], &day.reading, &slip))),
+        missing: slip.missing(&opened.printer),
+        stamped: slip.stamped,
+    })
+}
+
+fn summary(output: &Path, opened: &Opened, day: &Day, slips: &[Written]) -> Said {
+    let stamped = slips.iter().filter(|slip| slip.stamped.is_ok()).count();
     let mut text = format!("{}: {}, {} stamped", output.display(), count(slips.len(), "line"), grouped(stamped));
-    for (number, way) in WAYS.iter().enumerate() {
-        let met = slips.iter().filter(|slip| matches!(slip, Err((kind, _)) if *kind == number)).count();
+    for (number, words) in WAYS.iter().enumerate() {
+        let met = slips.iter().filter(|slip| matches!(&slip.stamped, Err(why) if way(why) == number)).count();
         if met > 0 {
-            text.push_str(&format!(", {} {way}", grouped(met)));
+            text.push_str(&format!(", {} {words}", grouped(met)));
         }
     }
     text.push('\n');
     let renamed = names(day).into_iter().skip(day.names.len()).zip(HOUR.iter().chain(&WAYS)).filter(|(name, ours)| name != *ours);
     let renamed = renamed.map(|(name, ours)| format!("the day has a column {ours:?}: ours is {name:?}"));
-    for note in day.notes.iter().cloned().chain(renamed) {
+    for note in day.notes.iter().cloned().chain(renamed).chain(left_out(opened, slips)) {
         text.push_str(&format!("note: {note}\n"));
     }
     Said { text, yes: stamped == slips.len() }
 }
 
-/// What a slip has behind its line's own columns.
-fn cells(slip: &Stamped) -> Vec<String> {
+/// Why zones that slips asked for are not in the bundle, where the folder has a file of that name.
+fn left_out(opened: &Opened, slips: &[Written]) -> Vec<String> {
+    let missing: BTreeSet<&String> = slips.iter().filter_map(|slip| slip.missing.as_ref()).collect();
+    let asked = opened.left_out.iter().filter(|out| missing.contains(&out.name));
+    asked.map(|out| format!("{} is left out of the bundle of zones: {}", out.name, out.why)).collect()
+}
+
+/// What a slip has behind its line's own columns. On a border of several zones it has all their names.
+fn cells(slip: &Result<Stamped, Reason>) -> Vec<String> {
     let mut cells = vec![String::new(); HOUR.len() + WAYS.len()];
     match slip {
-        Ok(hours) => {
-            let hour = &hours[0];
-            // one date, time and offset; on a border of several zones all their names
-            let shown = hour.to_string();
-            let mut shown = shown.split(' ');
-            let mut word = || shown.next().unwrap_or_default().to_string();
-            cells[0] = format!("{} {}", word(), word());
-            cells[1] = word();
-            cells[2] = if hour.local.daylight { "1" } else { "0" }.into();
-            let joined = |part: fn(&Hour) -> String| hours.iter().map(part).collect::<Vec<_>>().join("; ");
-            cells[3] = joined(|hour| String::from_utf8_lossy(&hour.local.abbreviation).escape_default().to_string());
-            cells[4] = joined(|hour| hour.zone.clone());
+        Ok(slip) => {
+            let words = slip.words();
+            let joined = |part: fn(&(&str, &str)) -> String| words.zones.iter().map(part).collect::<Vec<_>>().join("; ");
+            let zone = [joined(|zone| zone.0.into()), joined(|zone| zone.1.into())];
+            let hour = [slip.line.clone(), format!("{} {}", words.date, words.time), words.offset.to_string()];
+            cells.splice(..HOUR.len(), hour.into_iter().chain(zone));
         }
-        Err((way, words)) => cells[HOUR.len() + way].clone_from(words),
+        Err(why) => cells[HOUR.len() + way(why)] = why.to_string(),
     }
     cells
 }
 
 /// The column of a way of not stamping.
-fn way(why: &NotStamped) -> usize {
-    match why {
-        NotStamped::Map(_) => 1,
-        NotStamped::NotWhole(_) => 2,
-        NotStamped::NoZone => 3,
-        NotStamped::Unnamed => 4,
-        NotStamped::BadName(_) => 5,
-        NotStamped::NoFile(..) => 6,
-        NotStamped::Refused(..) | NotStamped::LeapSeconds(_) => 7,
-        NotStamped::Unknown(_) => 8,
-        NotStamped::OutsideYears => 9,
-        NotStamped::HoursDiffer(_) => 10,
-        NotStamped::NoPlace => 11,
+fn way(why: &Reason) -> usize {
+    let Reason::Not(not) = why else { return 0 };
+    match not.why.number {
+        Number::NotRequest | Number::Checksum | Number::OtherSentence => 0,
+        Number::NoFix => 1,
+        Number::NoPlace => 2,
+        Number::TooManyHits | Number::TextRoom => 4,
+        Number::NotWhole => 5,
+        Number::NoZone => 6,
+        Number::NoNames => 7,
+        Number::NoFile => 8,
+        Number::Bundle => 9,
+        Number::Unknown => 11,
+        Number::TzifYear => 12,
+        Number::HoursDiffer => 13,
+        // of a zone's file, or of the map
+        _ if not.at.is_some() => 10,
+        _ => 3,
+    }
+}
+
+#[cfg(test)]
+mod tests {
+    use super::*;
+    use uskelzar::{NotStamped, Refusal};
+
+    #[test]
+    fn every_reason_has_its_column() {
+        let column = |number: Number, at: Option<u8>| WAYS[way(&Reason::Not(NotStamped { why: Refusal { number, cause: None, detail: 0 }, at }))];
+        assert_eq!([column(Number::TooLarge, None), column(Number::TooLarge, Some(1))], ["map refused", "zone file refused"]);
+        assert_eq!([column(Number::NoZone, None), column(Number::NoFile, Some(2)), column(Number::LeapSeconds, Some(1))], [NO_ZONE, "no zone file", "zone file refused"]);
+        assert_eq!([column(Number::TzifYear, Some(1)), column(Number::HoursDiffer, None), column(Number::TzifString, Some(3))], ["outside the years", "hours differ", "zone file refused"]);
+        assert_eq!([column(Number::NoFix, None), column(Number::NoPlace, None), column(Number::NotWhole, None)], ["no fix", "out of range", "not whole"]);
+        assert_eq!(way(&Reason::Unread("x".into())), 0);
     }
 }

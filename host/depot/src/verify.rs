@@ -1,6 +1,6 @@
 //! `depot verify`: every slip of a day's evidence, worked out again.
 
-use crate::day::{Reading, Request};
+use crate::day::{Asked, Line, Reading};
 use crate::evidence::{request_of, Basis};
 use crate::fault::{Fault, Said};
 use crate::slips::{told, Files};
@@ -9,27 +9,26 @@ use crate::words::{count, grouped};
 use serde_json::Value;
 use std::fmt::Write;
 use std::path::Path;
-use uskelzar::Slip;
 
 /// A line of evidence, and what is asked for again by it.
 struct Held {
     evidence: Value,
-    request: Request,
+    line: Line,
     reading: Reading,
 }
 
 /// Says first whether the files are those of the evidence, and then which of its slips do not come out again.
 pub fn run(path: &Path, files: &Files) -> Result<Said, Fault> {
     let (held, bad) = read(path)?;
-    let printer = files.printer()?;
-    let basis = Basis::of(files, &printer)?;
+    let printer = files.open()?.printer;
+    let basis = Basis::of(&printer);
     let mut text = others(files, &basis, &held);
     let same_files = text.is_empty();
     bad.iter().for_each(|words| text.push_str(words));
-    let slips: Vec<Result<Slip, String>> = held.iter().map(|held| held.reading.slip_of(&held.request.text)).collect();
-    let differ = told(&printer, &slips, |i, traced| {
-        let Held { evidence, request, reading } = &held[i];
-        differences(evidence, &basis.evidence(request, reading, &slips[i], &traced))
+    let asked: Vec<Result<Asked, String>> = held.iter().map(|held| held.reading.asked(&held.line)).collect();
+    let differ = told(&printer, &asked, |i, slip| {
+        let Held { evidence, line, reading } = &held[i];
+        differences(evidence, &basis.evidence(&printer, line, reading, &slip))
     });
     let wrong = differ.iter().filter(|words| !words.is_empty()).count();
     differ.iter().for_each(|words| text.push_str(words));
@@ -65,8 +64,8 @@ fn read(path: &Path) -> Result<(Vec<Held>, Vec<String>), Fault> {
 
 fn held(line: &[u8]) -> Result<Held, String> {
     let evidence: Value = serde_json::from_slice(line).map_err(|error| format!("is no JSON: {error}"))?;
-    let (request, reading) = request_of(&evidence)?;
-    Ok(Held { evidence, request, reading })
+    let (line, reading) = request_of(&evidence)?;
+    Ok(Held { evidence, line, reading })
 }
 
 /// What is said of slips that rest on other files, or on another library.

@@ -36,7 +36,7 @@ fn a_slip_has_what_it_rests_on() {
     // one that could not be read, one at sea
     let unread = lines.iter().find(|line| line["latitude"].is_null()).unwrap();
     assert!(unread["reason"].as_str().unwrap().contains("latitude") && unread["mark"].is_null(), "{unread}");
-    let sea = lines.iter().find(|line| line["reason"] == "no zone holds the fix").unwrap();
+    let sea = lines.iter().find(|line| line["reason"] == "86 0 0 no zone holds the fix").unwrap();
     assert_eq!((&sea["mark"], &sea["matches"]), (&json!(1), &json!([])));
 }
 
@@ -75,7 +75,7 @@ fn a_changed_line_is_named() {
         ("instant", json!(1)),
         ("mark", json!(4)),
         ("matches", json!([])),
-        ("reason", json!("no zone holds the fix")),
+        ("reason", json!("86 0 0 no zone holds the fix")),
         ("extra", json!(1)),
     ] {
         let mut changed = lines.clone();
@@ -109,7 +109,7 @@ fn other_files_are_said_first() {
     fs::create_dir_all(format!("{zones}/Europe")).unwrap();
     fs::copy(format!("{ZONEINFO}/Europe/Berlin"), format!("{zones}/Europe/Berlin")).unwrap();
     let ran = verified(&folder, &lines, WORLD, &zones);
-    assert!(ran.status == 1 && ran.out.starts_with("other zones than those of 7 slips: ") && ran.out.contains("reason was nothing, comes out as \"no TZif file "), "{ran:?}");
+    assert!(ran.status == 1 && ran.out.starts_with("other zones than those of 7 slips: ") && ran.out.contains("reason was nothing, comes out as \"88 1 0 the zone is not in the bundle\""), "{ran:?}");
     lines[0]["library"] = json!("0.0.1");
     let ran = verified(&folder, &lines, WORLD, ZONEINFO);
     assert!(ran.status == 1 && ran.out.starts_with("another library than that of 1 slip: this release is "), "{ran:?}");
@@ -120,12 +120,12 @@ fn lines_that_are_no_evidence() {
     let folder = Folder::new("no-evidence");
     let good = stamped(&folder, DAY)[0].clone();
     let mut newer = good.clone();
-    newer["evidence"] = json!(2);
+    newer["evidence"] = json!(3);
     let mut bare = good.clone();
     bare.as_object_mut().unwrap().remove("request");
     let ran = verified(&folder, &[good, newer, bare, json!({"type": "Feature"}), json!(5)], WORLD, ZONEINFO);
     assert!(ran.status == 1 && ran.out.contains("5 slips, 1 comes out again, 4 can't be read"), "{ran:?}");
-    assert!(ran.out.contains("line 2: its form is 2") && ran.out.contains("line 3: \"request\" is missing"), "{ran:?}");
+    assert!(ran.out.contains("line 2: its form is 3") && ran.out.contains("line 3: \"request\" is missing"), "{ran:?}");
     for text in ["", "lat,lon,time\n1,2,3\n"] {
         let ran = depot(&["verify", &folder.with("none.jsonl", text), WORLD, ZONEINFO]);
         assert!(ran.status == 2 && ran.err.contains("has no evidence"), "{ran:?}");
@@ -141,7 +141,7 @@ fn evidence_has_a_place_of_its_own() {
     let ran = depot(&["stamp", DAY, "-o", &out, WORLD, ZONEINFO, "--evidence", WORLD]);
     assert!(ran.status == 2 && ran.err.contains("which is read"), "{ran:?}");
     let ran = depot_of(&["stamp", "-", "-o", &out, WORLD, ZONEINFO, "--evidence", "-"], &fs::read(DAY).unwrap());
-    assert!(ran.out.lines().count() == 7 && ran.out.starts_with("{\"evidence\":1,") && ran.err.contains("7 lines, 4 stamped"), "{ran:?}");
+    assert!(ran.out.lines().count() == 7 && ran.out.starts_with("{\"evidence\":2,") && ran.err.contains("7 lines, 4 stamped"), "{ran:?}");
 }
 
 /// Cells parted by semicolons, a decimal comma, a quoted line end: read again as they were read.
@@ -154,4 +154,49 @@ fn a_request_is_read_as_it_was() {
     assert_eq!(lines[0]["line"], "Wed 2026-07-01 13:59:59 +02:00 CEST Europe/Berlin");
     let ran = verified(&folder, &lines, WORLD, ZONEINFO);
     assert!(ran.status == 0 && ran.out.contains("2 slips, 2 come out again"), "{ran:?}");
+}
+
+/// What was stamped by a folder comes out again by its bundle: the sum is that of the bytes that the library was lent.
+#[test]
+fn by_a_bundle_of_the_same_zones() {
+    let folder = Folder::new("verify-bundle");
+    let lines = stamped(&folder, DAY);
+    let zones = folder.path("zones.tzdata");
+    assert_eq!(depot(&["bundle", ZONEINFO, "-o", &zones]).status, 0);
+    let ran = verified(&folder, &lines, WORLD, &zones);
+    assert!(ran.status == 0 && ran.out.ends_with("7 slips, 7 come out again\n") && ran.out.lines().count() == 1, "{ran:?}");
+    // of some of the zones: others, and said to be
+    let some = folder.path("some.tzdata");
+    assert_eq!(depot(&["bundle", ZONEINFO, "-o", &some, "--map", WORLD]).status, 0);
+    let ran = verified(&folder, &lines, WORLD, &some);
+    assert!(ran.status == 1 && ran.out.starts_with("other zones than those of 7 slips: ") && ran.out.contains("7 come out again"), "{ran:?}");
+}
+
+/// A receiver's sentences: kept byte for byte, those that are no text too, and read again by the library.
+#[test]
+fn a_log_is_read_again() {
+    let folder = Folder::new("verify-log");
+    let rmc = b"$GNRMC,115959.00,A,5231.200000,N,01324.000000,E,0.0,0.0,010726,,,A*41\r\n";
+    // a byte above 127 in a field that nobody looks at, with its checksum
+    let odd = b"$GNRMC,115959.00,A,5231.200000,N,01324.000000,E,\xff,0.0,010726,,,A*90\r\n";
+    let log = folder.with("day.nmea", [&rmc[..], b"$GPGLL,,,,,,V,N*64\r\n", odd, b"$GPRMC*00"].concat());
+    let lines = stamped(&folder, &log);
+    assert_eq!(lines.iter().map(|line| line["number"].as_u64().unwrap()).collect::<Vec<_>>(), [1, 3, 4]);
+    assert_eq!(lines[0]["request"].as_str().unwrap().as_bytes(), &rmc[..rmc.len() - 1]);
+    assert!(lines[1]["request"].is_null() && lines[1]["bytes"].as_str().unwrap().contains("2cff2c"), "{}", lines[1]);
+    for line in &lines[..2] {
+        assert_eq!((&line["line"], &line["latitude"], &line["instant"]), (&json!("Wed 2026-07-01 13:59:59 +02:00 CEST Europe/Berlin"), &json!("4252147b"), &json!(1_782_907_199)), "{line}");
+        assert!(line["separator"].is_null() && line["columns"].is_null() && line["mark"] == 1, "{line}");
+    }
+    assert_eq!(lines[2]["reason"], "82 0 6 the checksum is wrong");
+    let ran = verified(&folder, &lines, WORLD, ZONEINFO);
+    assert!(ran.status == 0 && ran.out.contains("3 slips, 3 come out again"), "{ran:?}");
+    // another digit of the sentence, or of its bytes
+    for (place, from, to) in [(0, "115959", "115958"), (1, "2cff2c", "2cfe2c")] {
+        let mut changed = lines.clone();
+        let name = ["request", "bytes"][place];
+        changed[place][name] = json!(lines[place][name].as_str().unwrap().replace(from, to));
+        let ran = verified(&folder, &changed, WORLD, ZONEINFO);
+        assert!(ran.status == 1 && ran.out.contains("1 differs") && ran.out.contains("the checksum is wrong"), "{ran:?}");
+    }
 }

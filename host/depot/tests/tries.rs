@@ -195,15 +195,16 @@ fn a_day_of_slips() {
     let slips = fs::read_to_string(&out).unwrap();
     let lines: Vec<&str> = slips.lines().collect();
     assert_eq!(lines.len(), 8);
-    assert!(lines[0].starts_with("slip,latitude,longitude,instant,local,offset,daylight,abbreviation,zone,unreadable line,map refused,not whole,"));
-    assert_eq!(lines[1], "1001,52.52,13.40,2026-07-01T11:59:59Z,2026-07-01 13:59:59,+02:00,1,CEST,Europe/Berlin,,,,,,,,,,,,");
-    assert!(lines[5].ends_with("no zone holds the fix,,,,,,,,"));
+    assert!(lines[0].starts_with("slip,latitude,longitude,instant,line,local,offset,abbreviation,zone,unreadable line,no fix,out of range,map refused,"));
+    let printed = "Wed 2026-07-01 13:59:59 +02:00 CEST Europe/Berlin";
+    assert_eq!(lines[1], format!("1001,52.52,13.40,2026-07-01T11:59:59Z,{printed},2026-07-01 13:59:59,+02:00,CEST,Europe/Berlin{}", ",".repeat(14)));
+    assert!(lines[5].ends_with(",86 0 0 no zone holds the fix,,,,,,,"), "{slips}");
     assert!(lines[7].contains("latitude \"\"95.0\"\" is no number from -90 to 90"));
     assert_eq!(folder.names(), ["slips.csv"]);
     // lines without names, all of them stamped
     let plain = folder.with("plain.csv", "52.52,13.40,1782907199\n-33.87, 151.21, 1782907199\n");
     said(&depot(&["stamp", &plain, "-o", &out, WORLD, ZONEINFO]), 0, &["2 lines, 2 stamped"]);
-    assert!(fs::read_to_string(&out).unwrap().starts_with("latitude,longitude,instant,local,"));
+    assert!(fs::read_to_string(&out).unwrap().starts_with("latitude,longitude,instant,line,local,"));
 }
 
 /// A fix on the line that two yards share.
@@ -225,8 +226,8 @@ fn slips_of_the_yards() {
     let out = folder.path("slips.csv");
     said(&depot(&["stamp", &day, "-o", &out, &file, ZONEINFO]), 1, &["4 lines, 2 stamped, 1 no zone, 1 hours differ"]);
     let slips = fs::read_to_string(&out).unwrap();
-    assert!(slips.contains("2026-07-01 18:59:59,+07:00,0,WIB,Asia/Pontianak"), "{slips}");
-    assert!(slips.contains("2026-07-01 11:59:59,+00:00,0,UTC,Etc/UTC"), "{slips}");
+    assert!(slips.contains("Wed 2026-07-01 18:59:59 +07:00 WIB Asia/Pontianak,2026-07-01 18:59:59,+07:00,WIB,Asia/Pontianak"), "{slips}");
+    assert!(slips.contains("2026-07-01 11:59:59,+00:00,UTC,Etc/UTC"), "{slips}");
 }
 
 #[test]
@@ -237,7 +238,7 @@ fn stamps_that_are_not_run() {
     let unnamed = folder.with("unnamed.csv", "where,when\nhere,now\n");
     said(&depot(&["stamp", &empty, "-o", &out, WORLD, ZONEINFO]), 2, &["empty.csv: is empty"]);
     said(&depot(&["stamp", &unnamed, "-o", &out, WORLD, ZONEINFO]), 2, &["no column \"latitude\""]);
-    said(&depot(&["stamp", DAY, "-o", &out, WORLD, &folder.path("none")]), 2, &["is no folder", "/usr/share/zoneinfo"]);
+    said(&depot(&["stamp", DAY, "-o", &out, WORLD, &folder.path("none")]), 2, &["none: No such file", "give the folder", "/usr/share/zoneinfo"]);
     said(&depot(&["stamp", &folder.path("none.csv"), "-o", &out, WORLD, ZONEINFO]), 2, &["none.csv"]);
     said(&depot(&["stamp", DAY, "-o", &folder.path("none/slips.csv"), WORLD, ZONEINFO]), 2, &["nothing was written"]);
     assert_eq!(folder.names(), ["empty.csv", "unnamed.csv"]);

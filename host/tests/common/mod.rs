@@ -5,6 +5,7 @@ pub mod desk;
 pub mod encode;
 pub mod fence;
 pub mod files;
+pub mod model;
 pub mod tzif;
 
 use fence::{Edge, Fence};
@@ -137,6 +138,20 @@ impl Buffers {
     ) -> Outcome {
         self.call(words, bytes, edge, |hits, text| {
             raw::lookup_through(file, index, (fix.lat, fix.lon, fix.asked), hits, text)
+        })
+    }
+
+    /// Through an atlas.
+    pub fn lookup_atlas(
+        &mut self,
+        (file, atlas): (&[u8], &[u32]),
+        fix: Fix,
+        words: usize,
+        bytes: usize,
+        edge: Edge,
+    ) -> Outcome {
+        self.call(words, bytes, edge, |hits, text| {
+            raw::lookup_atlas(file, atlas, (fix.lat, fix.lon, fix.asked), hits, text)
         })
     }
 

@@ -14,7 +14,7 @@ either : (t : Bool) (x y : ℕ) → x < 2 ^ 31 → y < 2 ^ 31 → mag (cond t (n
 either true x y h k = h
 either false x y h k = k
 
-east-small : (west : ℕ) → west ≤ 1209600 → mag (eastOf west) < 2 ^ 31
+pub east-small : (west : ℕ) → west ≤ 1209600 → mag (eastOf west) < 2 ^ 31
 unfolding eastOf
 east-small zero h = omega arith
 east-small (suc w) h = either (ltb 604800 (suc w)) (suc w - suc 604800) (604800 - suc w) (omega arith) (omega arith)

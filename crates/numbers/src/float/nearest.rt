@@ -1,7 +1,7 @@
 // Rust's `as` from an integer to f32: the nearest float, and of two that are as near the one whose last digit is even.
 ghost use mathlib.Core.{Path.{_≡_}, Bool.{false}};
 ghost use Prim.Native.Nat.{_/_, _^_, _≤_, _<_};
-ghost use lib.{IntN.{pos}, Ieee.{binary32, units, size, Nearest.{closest}}};
+ghost use lib.{IntN.{pos, natAbs}, Ieee.{binary32, units, size, Nearest.{closest}}};
 ghost use Rattle.numbers.specs.Float.{toF32};
 
 // How many binary digits n has.
@@ -55,6 +55,16 @@ pub fn of_u64(n: u64) -> f32
     assembled(nearest_shifted(n, dropped), dropped + 149)
 }
 
+// The size of n: one more than -1 less it, so that the least i32 has one.
+fn magnitude(n: i32) -> u64
+    ensures { λ r. ⌜ r ≡ natAbs n ⌝ }
+{
+    if n < 0 {
+        return (-1 - n) as u64 + 1;
+    }
+    n as u64
+}
+
 // The quick path is the one that coordinates take at a precision of up to 25.
 pub fn of_i32(n: i32) -> f32
     ensures { λ r. ⌜ r ≡ toF32 n ⌝ }
@@ -62,5 +72,7 @@ pub fn of_i32(n: i32) -> f32
     if -16777216 <= n && n <= 16777216 {
         return n as f32;
     }
-    std::num::nearest_i32_to_f32(n)
+    // the kit's own nearest float would be compiled into every lookup
+    let rounded = of_u64(magnitude(n));
+    if n < 0 { -rounded } else { rounded }
 }

@@ -8,9 +8,9 @@ use Rattle.verdict.specs.Verdict.{Judgement}
 use Rattle.border.specs.declared.place.Point.{Point}
 use Rattle.numbers.{proofs.Replies.{carried, onward, met, unmet}, specs.{Point.{readI32, signedOf}, Reply.{Reply, given, plain}, declared.refusal.Refusal.{Refusal}}}
 use Rattle.table.proofs.{Agreeing.{agree-refused}, search.SoFar.{SoFar, ends, stops, refuses, full}}
-use Rattle.table.specs.{Find.{fixOf, isPrecision}, GivenRows.{recordWord, boxAt, rowAt, rowsListed, searchedListed, matchedListed}, Hits.{width}, inner.Agreeing.{Agrees}}
+use Rattle.table.specs.{Find.{fixOf, isPrecision, matchedBy}, GivenRows.{recordWord, boxAt, rowAt, rowsBy}, Hits.{width}, inner.Agreeing.{Agrees}}
 use Rattle.table.specs.{Merge.{merged}, Rows.{Rows, row, tableEnd}, Search.{Found, afterTurn, rowTurn, Sought}, Table.{boundsOf}, Unstopped.{seekAll}}
-use Rattle.table.specs.declared.{hits.Hit.{Hit}, location.Location.{Location}, search.Turn.{the-variants.{Met, Stopped, Refused}, Turn}, table.Bounds.{Bounds}}
+use Rattle.table.specs.declared.{hits.Hit.{Hit}, location.Location.{Location}, rows.Row.{Row}, search.Turn.{the-variants.{Met, Stopped, Refused}, Turn}, table.Bounds.{Bounds}}
 use Rattle.header.specs.declared.header.Head.{Head}
 use Rattle.numbers.specs.Reply as R
 use Rattle.table.specs.Rows as T
@@ -41,14 +41,14 @@ row-read records k p b =
     let there = p ∙ ap (λ (i : ℕ). getD records i 0) e in
     λ i. record { place = there i; id = k; metadata = recordWord records k 1; polygon = recordWord records k 2; bounds = b i; next = 0 }
 
--- ---- the numbers, one by one
-module _ (records numbers : List ℕ) (i : ℕ) where
+-- ---- the numbers, one by one, by what the row of a record is
+module _ (rowOf : List ℕ → ℕ → Row) (records numbers : List ℕ) (i : ℕ) where
   abbrev rows : Rows
-  rows = rowsListed records (drop i numbers)
+  rows = rowsBy rowOf records (drop i numbers)
 
   rows-done : length numbers ≤ i → rows ≡ tableEnd
-  unfolding rowsListed
-  rows-done h = ap (rowsListed records) (drop-of-length-le numbers h)
+  unfolding rowsBy
+  rows-done h = ap (rowsBy rowOf records) (drop-of-length-le numbers h)
 
   module _ (more : i < length numbers) {k : ℕ} (is : k ≡ getD numbers i 0) where
     next : drop i numbers ≡ k ∷ drop (i + 1) numbers
@@ -57,61 +57,55 @@ module _ (records numbers : List ℕ) (i : ℕ) where
         drop-cons numbers i 0 more ∙ (λ j. sym is j ∷ drop (e j) numbers)
 
     rows-none : length records / 7 ≤ k → rows ≡ T.refused 36
-    unfolding rowsListed
-    rows-none h = ap (rowsListed records) next ∙ rw (le-ltb k (length records / 7) h)
+    unfolding rowsBy
+    rows-none h = ap (rowsBy rowOf records) next ∙ rw (le-ltb k (length records / 7) h)
 
-    rows-one : k < length records / 7 → rows ≡ row (rowAt records k) (rowsListed records (drop (i + 1) numbers))
-    unfolding rowsListed
-    rows-one h = ap (rowsListed records) next ∙ rw (lt-ltb k (length records / 7) h)
+    rows-one : k < length records / 7 → rows ≡ row (rowOf records k) (rowsBy rowOf records (drop (i + 1) numbers))
+    unfolding rowsBy
+    rows-one h = ap (rowsBy rowOf records) next ∙ rw (lt-ltb k (length records / 7) h)
 
 -- ---- the loop over them
-module _ (judge : ℕ → ℕ → Judgement) (fix : Point) (records numbers : List ℕ) (n : ℕ) where
+module _ (rowOf : List ℕ → ℕ → Row) (judge : ℕ → ℕ → Judgement) (fix : Point) (records numbers : List ℕ) (n : ℕ) where
   -- the search of what is left
   abbrev pub onwardFrom : ℕ → ℕ → List Hit → Reply Found
-  onwardFrom i = seekAll judge fix (n / width) (rowsListed records (drop i numbers))
+  onwardFrom i = seekAll judge fix (n / width) (rowsBy rowOf records (drop i numbers))
 
   module _ {whole : Reply Found} {ws : List ℕ} {count least : ℕ} (i : ℕ) (g : SoFar n whole (onwardFrom i) ws count least) where
-    of-rows : {rows′ : Rows} → rowsListed records (drop i numbers) ≡ rows′ → seekAll judge fix (n / width) rows′ least (g .hits) ≡ whole
+    of-rows : {rows′ : Rows} → rowsBy rowOf records (drop i numbers) ≡ rows′ → seekAll judge fix (n / width) rows′ least (g .hits) ≡ whole
     of-rows e = ap (λ (r : Rows). seekAll judge fix (n / width) r least (g .hits)) (sym e) ∙ g .so-far
 
     pub all-done : length numbers ≤ i → Agrees (Sought n ws) whole (given (record { count = count; mark = 1; least = least }))
     unfolding seekAll
-    all-done h = ends g 1 least (of-rows (rows-done records numbers i h))
+    all-done h = ends g 1 least (of-rows (rows-done rowOf records numbers i h))
 
     module _ (more : i < length numbers) {k : ℕ} (is : k ≡ getD numbers i 0) where
       pub no-record : (ws′ : List ℕ) → length records / 7 ≤ k → Agrees (Sought n ws′) whole (R.refused (plain 36))
       unfolding seekAll
-      no-record ws′ h = agree-refused (Sought n ws′) (of-rows (rows-none records numbers i more is h))
+      no-record ws′ h = agree-refused (Sought n ws′) (of-rows (rows-none rowOf records numbers i more is h))
 
-      pub turned : {t : Turn} → k < length records / 7 → t ≡ rowTurn judge fix (rowAt records k) least → afterTurn t (g .hits) (n / width) (onwardFrom (i + 1)) ≡ whole
+      pub turned : {t : Turn} → k < length records / 7 → t ≡ rowTurn judge fix (rowOf records k) least → afterTurn t (g .hits) (n / width) (onwardFrom (i + 1)) ≡ whole
       unfolding seekAll
-      turned {t} h e = ap (λ (u : Turn). afterTurn u (g .hits) (n / width) (onwardFrom (i + 1))) e ∙ of-rows (rows-one records numbers i more is h)
+      turned {t} h e = ap (λ (u : Turn). afterTurn u (g .hits) (n / width) (onwardFrom (i + 1))) e ∙ of-rows (rows-one rowOf records numbers i more is h)
 
       module _ (h : k < length records / 7) where
-        pub halts : {mark last : ℕ} → Stopped mark last ≡ rowTurn judge fix (rowAt records k) least → Agrees (Sought n ws) whole (given (record { count = count; mark = mark; least = last }))
+        pub halts : {mark last : ℕ} → Stopped mark last ≡ rowTurn judge fix (rowOf records k) least → Agrees (Sought n ws) whole (given (record { count = count; mark = mark; least = last }))
         halts e = stops g (onwardFrom (i + 1)) (turned h e)
 
-        pub denies : (ws′ : List ℕ) {number : ℕ} → Refused number ≡ rowTurn judge fix (rowAt records k) least → Agrees (Sought n ws′) whole (R.refused (plain number))
+        pub denies : (ws′ : List ℕ) {number : ℕ} → Refused number ≡ rowTurn judge fix (rowOf records k) least → Agrees (Sought n ws′) whole (R.refused (plain number))
         denies ws′ e = refuses g (onwardFrom (i + 1)) ws′ (turned h e)
 
-        pub no-slot : (ws′ : List ℕ) {hit : Hit} {closer : ℕ} → Met hit closer ≡ rowTurn judge fix (rowAt records k) least → n / width ≤ count → Agrees (Sought n ws′) whole (R.refused (plain 17))
+        pub no-slot : (ws′ : List ℕ) {hit : Hit} {closer : ℕ} → Met hit closer ≡ rowTurn judge fix (rowOf records k) least → n / width ≤ count → Agrees (Sought n ws′) whole (R.refused (plain 17))
         no-slot ws′ {hit} {closer} e room = full g (onwardFrom (i + 1)) hit closer (turned h e) ws′ room
 
--- ---- from the header to the merged matches
-module _ (file : List ℕ) (head : Head) (location : Location) (asked : Bool) (records numbers : List ℕ) (room : ℕ) where
-  pub no-precision : isPrecision (head .preamble .precision) ≡ false → R.refused (plain 16) ≡ matchedListed file head location asked records numbers room
-  unfolding matchedListed
+-- ---- from the header to the merged matches, by a search
+module _ (head : Head) (location : Location) (search : Point → Reply Found) where
+  pub no-precision : isPrecision (head .preamble .precision) ≡ false → R.refused (plain 16) ≡ matchedBy head location search
   no-precision p = unmet p _ _
 
   module _ (p : isPrecision (head .preamble .precision) ≡ true) {fix : Point} (f : fix ≡ fixOf location (head .preamble .precision)) where
-    at-fix : searchedListed file head fix asked records numbers room ≡ searchedListed file head (fixOf location (head .preamble .precision)) asked records numbers room
-    at-fix = ap (λ (x : Point). searchedListed file head x asked records numbers room) f
+    pub no-search : {why : Refusal} → R.refused why ≡ search fix → R.refused why ≡ matchedBy head location search
+    no-search s = carried (s ∙ ap search f) _ ∙ met p _ _
 
-    pub no-search : {why : Refusal} → R.refused why ≡ searchedListed file head fix asked records numbers room → R.refused why ≡ matchedListed file head location asked records numbers room
-    unfolding matchedListed
-    no-search s = carried (s ∙ at-fix) _ ∙ met p _ _
-
-    pub searched-so : {found : Found} → given found ≡ searchedListed file head fix asked records numbers room
-        → given (record { matches = merged (found .hits); mark = found .mark; least = found .least }) ≡ matchedListed file head location asked records numbers room
-    unfolding matchedListed
-    searched-so s = onward (s ∙ at-fix) _ ∙ met p _ _
+    pub searched-so : {found : Found} → given found ≡ search fix
+        → given (record { matches = merged (found .hits); mark = found .mark; least = found .least }) ≡ matchedBy head location search
+    searched-so s = onward (s ∙ ap search f) _ ∙ met p _ _

@@ -1,7 +1,7 @@
 //! The slips of a day, as `depot stamp` wrote them.
 
 use super::answers::Fix;
-use crate::day;
+use crate::day::{self, Asked};
 use crate::fault::Fault;
 use crate::stamp::{HOUR, WAYS};
 use csv::StringRecord;
@@ -36,10 +36,17 @@ pub fn read(path: &Path) -> Result<Day, Fault> {
     let day = day::read(path)?;
     let own = day.names.len().saturating_sub(HOUR.len() + WAYS.len());
     if !day.names.iter().skip(own).map(String::as_str).eq(HOUR.into_iter().chain(WAYS)) {
-        return Err(Fault::file(path, "has not the columns of stamped slips: give what `depot stamp day.csv -o slips.csv MAP TZDIR` wrote"));
+        return Err(Fault::file(path, "has not the columns of stamped slips: give what `depot stamp day.csv -o slips.csv MAP ZONES` wrote"));
     }
-    let slip = |line: &StringRecord| slip_of(line, own, day.reading.slip(line).ok().map(|(lat, lon, _)| (lat, lon)));
-    Ok(Day { names: day.names.iter().take(own).cloned().collect(), slips: day.lines.iter().map(slip).collect() })
+    let slip = |(line, asked): (&StringRecord, Result<Asked, String>)| slip_of(line, own, fix_of(asked));
+    Ok(Day { names: day.names.iter().take(own).cloned().collect(), slips: day.lines.iter().zip(day.asked()).map(slip).collect() })
+}
+
+fn fix_of(asked: Result<Asked, String>) -> Option<Fix> {
+    match asked {
+        Ok(Asked::Fix(fix)) => Some((fix.lat, fix.lon)),
+        _ => None,
+    }
 }
 
 fn slip_of(line: &StringRecord, own: usize, fix: Option<Fix>) -> Slip {
@@ -49,6 +56,6 @@ fn slip_of(line: &StringRecord, own: usize, fix: Option<Fix>) -> Slip {
     let slip = |way: usize, said: String, zones: Vec<String>| Slip { cells: own.to_vec(), way, said, zones, fix };
     match ways.iter().position(|words| !words.is_empty()) {
         Some(way) => slip(way + 1, ways[way].clone(), vec![]),
-        None => slip(0, [&hour[0], &hour[1], &hour[3], &hour[4]].map(String::as_str).join(" "), hour[4].split("; ").map(str::to_string).collect()),
+        None => slip(0, hour[0].clone(), hour[4].split("; ").map(str::to_string).collect()),
     }
 }

@@ -2,6 +2,7 @@
 
 use super::answers::{Answer, Fix};
 use super::day::{way_words, Slip};
+use crate::stamp::NO_ZONE;
 use super::faults::Kind as FaultKind;
 use super::packed::{self, json_text, Packed};
 use super::thinning::{self, Scale};
@@ -193,13 +194,10 @@ impl Page<'_> {
         let Answer::Told { zones, .. } = answer else { return None };
         let names: Vec<&String> = self.yards.iter().filter(|yard| zones.iter().any(|(zone, _)| *zone == yard.metadata)).filter_map(|yard| yard.zone.as_ref()).collect();
         let known = slip.zones.iter().all(|zone| names.contains(&zone));
-        let told = if slip.way == 0 { !known } else { slip.way == NO_ZONE && !zones.is_empty() };
+        let told = if slip.way == 0 { !known } else { way_words(slip.way) == NO_ZONE && !zones.is_empty() };
         told.then(|| "not by this file: its answer here is another".into())
     }
 }
-
-/// The way of a slip that no zone held, counted from 1.
-const NO_ZONE: usize = 4;
 
 /// What the script draws.
 fn data(page: &Page) -> Value {

@@ -1,4 +1,5 @@
 -- `bundle::find::seek` meets its contract. Assumes nothing.
+use borrow.Author.Needs.{needs}
 use Prim.Native.Nat.{_+_, _*_, _≤_}
 use lib.ListN.{length}
 use mathlib.Core.List.{_++_, map}
@@ -10,40 +11,36 @@ use Rattle.bundle.specs.Bundle.{seekOf, xored}
 use Rattle.bundle.proofs.find.seek.Tie as tie
 
 abbrev Inv-loop : tie.InvT-loop
-Inv-loop bundle place count prefix id mask at₀ left₀ at left = (seekOf left bundle (map (xored mask) (prefix ++ id)) at ≡ seekOf count bundle (map (xored mask) (prefix ++ id)) place) × (at + 52 * left ≤ length bundle)
+Inv-loop bundle place count prefix id mask probe byte at₀ left₀ at left = (seekOf left bundle (map (xored mask) (prefix ++ id)) at ≡ seekOf count bundle (map (xored mask) (prefix ++ id)) place) × (at + 52 * left ≤ length bundle)
 
 abbrev μ-loop : tie.MeasureT-loop
-μ-loop bundle place count prefix id mask at₀ left₀ at left = left
+μ-loop bundle place count prefix id mask probe byte at₀ left₀ at left = left
 
 loop-holds : tie.Need-loop-holds Inv-loop μ-loop
-loop-holds c = (refl, c .before .before .before .pre)
+loop-holds c = (refl, c .before .before .before .before .before .pre)
 
-is-entry-requires : tie.Need-is-entry-requires Inv-loop μ-loop
-is-entry-requires c κs = omega (arith, c .before .loop .inv .1)
+is-here-requires : tie.Need-is-here-requires Inv-loop μ-loop
+is-here-requires c κs = (omega (arith, c .before .loop .inv .1, c .loop-test .taken), c .before .before .before .probe-of .ensures, c .before .before .byte-of .ensures)
 
 returns : tie.Need-returns Inv-loop μ-loop
 returns c =
+    let args = c .before .before .before .before .before .before .before .before .before .args in
     let loop = c .before .before .before .loop in
-    let args = c .before .before .before .before .before .before .before .args in
-    let loop-test = c .before .before .loop-test in
-    let is-entry = c .before .is-entry in
-    seek-here (loop .left) (args .bundle .now) (map (xored (args .mask)) (args .prefix .now ++ args .id .now)) (loop .at) (loop-test .taken) (sym (is-entry .ensures) ∙ c .if1 .taken) ∙ loop .inv .0
+    seek-here (loop .left) (args .bundle .now) (map (xored (args .mask)) (args .prefix .now ++ args .id .now)) (loop .at) (c .before .before .loop-test .taken) (sym (c .before .is-here .ensures) ∙ c .if1 .taken) ∙ loop .inv .0
 
 add-at : tie.Need-add-at Inv-loop μ-loop
-add-at c = omega (arith, c .before .before .before .loop .inv .1)
+add-at c = omega (arith, c .before .before .before .loop .inv .1, c .before .before .loop-test .taken)
 
 loop-again : tie.Need-loop-again Inv-loop μ-loop
 loop-again c =
+    let args = c .before .before .before .before .before .before .before .before .before .args in
     let loop = c .before .before .before .loop in
-    let args = c .before .before .before .before .before .before .before .args in
-    let loop-test = c .before .before .loop-test in
-    let is-entry = c .before .is-entry in
-    (seek-on (loop .left) (args .bundle .now) (map (xored (args .mask)) (args .prefix .now ++ args .id .now)) (loop .at) (loop-test .taken) (sym (is-entry .ensures) ∙ c .if1 .left) ∙ loop .inv .0, omega (arith, loop .inv .1))
+    (seek-on (loop .left) (args .bundle .now) (map (xored (args .mask)) (args .prefix .now ++ args .id .now)) (loop .at) (c .before .before .loop-test .taken) (sym (c .before .is-here .ensures) ∙ c .if1 .left) ∙ loop .inv .0, omega (arith, loop .inv .1))
 
 returns-2 : tie.Need-returns-2 Inv-loop μ-loop
 returns-2 c =
+    let args = c .before .before .before .before .before .before .before .args in
     let loop = c .before .loop in
-    let args = c .before .before .before .before .before .args in
     seek-end (loop .left) (args .bundle .now) (map (xored (args .mask)) (args .prefix .now ++ args .id .now)) (loop .at) (omega arith) ∙ loop .inv .0
 
 pub seek-spec : {M : Type 1} → statement M
@@ -52,8 +49,10 @@ seek-spec =
     (tie.spec
     Inv-loop
     μ-loop
+    (λ c κs. search needs)
+    (λ c κs. search needs)
     loop-holds
-    is-entry-requires
+    is-here-requires
     returns
     add-at
     (λ c. omega arith)

@@ -2,10 +2,10 @@
 use borrow.Author.Needs.{needs}
 use Prim.Native.Nat.{_-_, _≤_}
 use lib.ListN.{length, take, drop}
-use mathlib.Core.Path.{_≡_, refl, sym, ap, _∙_}
+use mathlib.Core.Path.{_≡_, refl, sym, ap, subst, _∙_}
 use native.Mathlib.Omega.{arith}
 use Rattle.slip.proofs.Asking.{Agreeing, agreeing-one, agreeing-more, agreeing-stop, agreeing-all, asked-stop, asked-none}
-use Rattle.slip.specs.Told.{Seen, toldHour}
+use Rattle.slip.specs.{Told.{Seen, toldHour, StandsHour}, declared.hour.Hourly.{Hourly}}
 use Rattle.table.proofs.{Agreeing.{agree-refused}, Words.{count-slots, slot-is}}
 use Rattle.table.specs.Hits.{slots}
 use Rattle.slip.proofs.hours.hours_of.Statement.{statement}
@@ -36,6 +36,7 @@ returns c =
     (args .zones .now)) (why .given .1)))
 
 loop-holds : tie.Need-loop-holds Inv-loop μ-loop
+unfolding StandsHour
 loop-holds c =
     let args = c .before .before .before .before .before .before .before .before .args in
     let pre = c .before .before .before .before .before .before .before .before .pre in
@@ -43,7 +44,8 @@ loop-holds c =
     let hour-of = c .before .before .before .hour-of in
     let spot = c .before .spot in (
       agreeing-one _ _ _ _ (take (args .count) (slots (args .hits .now))) _ (omega (arith, pre .0, count-slots (args .hits .now) (args .count) (pre .1))) (slot-is (args .hits .now)
-          (args .count) (pre .1) _ _ (pre .0) (hit-at .ensures)) (sym (hour-of .ensures .0) ∙ ap (toldHour (args .map .now) (args .zones .now)) (spot .given .1)),
+          (args .count) (pre .1) _ _ (pre .0) (hit-at .ensures)) (sym (hour-of .ensures .0) ∙ ap (toldHour (args .map .now) (args .zones .now)) (spot .given .1))
+          (subst (λ (h : Hourly). StandsHour (length (args .map .now)) (length (args .zones .now)) h) (spot .given .1) (hour-of .ensures .1)),
       omega (arith, pre .0),
     )
 

@@ -14,75 +14,55 @@ use Rattle.slip.proofs.lines.put_zones.Statement.{statement}
 use Rattle.slip.proofs.lines.put_zones.Tie as tie
 
 abbrev Inv-loop : tie.InvT-loop
-Inv-loop out₀ at map head zones fix hits count next₀ i₀ out next i = Lining map head zones (fix .instant) (take count (slots hits)) out₀ at out next i × (i ≤ count)
+Inv-loop out₀ at map head zones fix hits count first next₀ i₀ out next i = Lining map head zones (fix .instant) (take count (slots hits)) out₀ at out next i × (i ≤ count)
 
 abbrev μ-loop : tie.MeasureT-loop
-μ-loop out₀ at map head zones fix hits count next₀ i₀ out next i = count - i
+μ-loop out₀ at map head zones fix hits count first next₀ i₀ out next i = count - i
 
 loop-holds : tie.Need-loop-holds Inv-loop μ-loop
 loop-holds c = (lining-none _ _ _ _ _ _ _, omega arith)
 
-add-hour-of : tie.Need-add-hour-of Inv-loop μ-loop
-add-hour-of c = omega (arith, c .loop-test .taken)
-
-hit-at-requires : tie.Need-hit-at-requires Inv-loop μ-loop
-hit-at-requires c κs =
-    let pre = c .before .before .before .before .before .before .pre in
-    omega (arith, pre, c .loop-test .taken)
+hour-again-requires : tie.Need-hour-again-requires Inv-loop μ-loop
+hour-again-requires c κs = (omega (arith, c .before .before .before .before .before .before .pre .0, c .loop-test .taken), c .before .before .before .before .before .before .pre .1)
 
 same-length : tie.Need-same-length Inv-loop μ-loop
-same-length c =
-    let loop = c .before .before .before .before .before .loop in
-    lining-kept _ _ _ _ _ _ _ _ _ _ (loop .inv .0)
+same-length c = lining-kept _ _ _ _ _ _ _ _ _ _ (c .before .before .before .before .loop .inv .0)
 
 returns : tie.Need-returns Inv-loop μ-loop
 returns c =
-    let args = c .before .before .before .before .before .before .before .before .before .before .args in
-    let loop = c .before .before .before .before .before .loop in
-    let loop-test = c .before .before .before .before .loop-test in
-    let pre = c .before .before .before .before .before .before .before .before .before .before .pre in
-    let hit-at = c .before .before .before .hit-at in
-    let hour-of = c .before .before .hour-of in
-    lining-stop _ _ _ _ (take (args .count) (slots (args .hits .now))) _ _ _ _ (loop .i) (loop .inv .0) (omega (arith, loop-test .taken, count-slots (args .hits .now) (args .count) (pre)))
-    (slot-is (args .hits .now) (args .count) (pre) _ _ (loop-test .taken) (hit-at .ensures)) (sym (hour-of .ensures .0) ∙ ap (toldHour (args .map .now) (args .zones .now))
-    (c .enum-told .given .1))
+    let args = c .before .before .before .before .before .before .before .before .before .args in
+    let loop = c .before .before .before .before .loop in
+    let pre = c .before .before .before .before .before .before .before .before .before .pre .0 in
+    lining-stop _ _ _ _ (take (args .count) (slots (args .hits .now))) _ _ _ _ (loop .i) (loop .inv .0) (omega (arith, c .before .before .before .loop-test .taken, count-slots (args .hits .now) (args .count) pre))
+    (slot-is (args .hits .now) (args .count) pre _ _ (c .before .before .before .loop-test .taken) refl)
+    (sym (c .before .before .hour-again .ensures .0) ∙ ap (toldHour (args .map .now) (args .zones .now)) (c .enum-told .given .1))
 
 put-added-requires : tie.Need-put-added-requires Inv-loop μ-loop
 unfolding StandsHour
 put-added-requires c κs =
-    let args = c .before .before .before .before .before .before .before .before .before .before .before .before .args in
-    let spot = c .before .before .spot in
-    let hour-of = c .before .before .before .before .hour-of in
-    let pre = c .before .before .before .before .before .before .before .before .before .before .before .before .pre in
-    let loop-test = c .before .before .before .before .before .before .loop-test in
-    (subst (λ (h : Hourly). StandsHour (length (args .map .now)) (length (args .zones .now)) h) (spot .given .1) (hour-of .ensures .1), omega (arith, pre, loop-test .taken))
+    let args = c .before .before .before .before .before .before .before .before .before .before .before .args in
+    (subst (λ (h : Hourly). StandsHour (length (args .map .now)) (length (args .zones .now)) h) (c .before .before .spot .given .1) (c .before .before .before .before .hour-again .ensures .1), omega (arith, c .before .before .before .before .before .before .before .before .before .before .before .pre .0, c .before .before .before .before .before .loop-test .taken))
 
 add-i : tie.Need-add-i Inv-loop μ-loop
-add-i c = add-hour-of (c .before .before .before .before .before .before .before .before .before)
+add-i c = omega (arith, c .before .before .before .before .before .before .before .before .loop-test .taken, c .before .before .before .before .before .before .before .before .before .before .before .before .before .before .fits .count)
 
 loop-less : tie.Need-loop-less Inv-loop μ-loop
-loop-less c =
-    let loop-test = c .before .before .before .before .before .before .before .before .before .loop-test in
-    omega (arith, loop-test .taken)
+loop-less c = omega (arith, c .before .before .before .before .before .before .before .before .loop-test .taken)
 
 loop-again : tie.Need-loop-again Inv-loop μ-loop
 loop-again c =
-    let args = c .before .before .before .before .before .before .before .before .before .before .before .before .before .before .before .args in
-    let spot = c .before .before .before .before .before .spot in
-    let loop = c .before .before .before .before .before .before .before .before .before .before .loop in
-    let loop-test = c .before .before .before .before .before .before .before .before .before .loop-test in
-    let pre = c .before .before .before .before .before .before .before .before .before .before .before .before .before .before .before .pre in
-    let hit-at = c .before .before .before .before .before .before .before .before .hit-at in
-    let hour-of = c .before .before .before .before .before .before .before .hour-of in
-    let put-added = c .before .before .put-added in
-    let said = spot .given .0 .0 in
-    let same = first-of (loop .i) (args .count) (slots (args .hits .now)) (omega (arith, loop-test .taken)) in (
-      lining-one _ _ _ _ (take (args .count) (slots (args .hits .now))) _ _ _ _ (loop .i) (loop .inv .0) (omega (arith, loop-test .taken, count-slots (args .hits .now) (args .count) (pre)))
-          (slot-is (args .hits .now) (args .count) (pre) _ _ (loop-test .taken) (hit-at .ensures)) (sym (hour-of .ensures .0) ∙ ap (toldHour (args .map .now) (args .zones .now))
-          (spot .given .1))
-          (put-as (ap (λ (ms : List Hit). addedBy (isNamedIn (args .map .now) (args .head) (nameIn (args .map .now) (said .name)) ms) (loop .i) (hourAt (args .map .now)
-          (args .zones .now) said)) same) (put-added .ensures)),
-      omega (arith, loop-test .taken),
+    let args = c .before .before .before .before .before .before .before .before .before .before .before .before .before .before .args in
+    let loop = c .before .before .before .before .before .before .before .before .before .loop in
+    let taken = c .before .before .before .before .before .before .before .before .loop-test .taken in
+    let pre = c .before .before .before .before .before .before .before .before .before .before .before .before .before .before .pre .0 in
+    let said = c .before .before .before .before .before .spot .given .0 .0 in
+    let same = first-of (loop .i) (args .count) (slots (args .hits .now)) (omega (arith, taken)) in (
+      lining-one _ _ _ _ (take (args .count) (slots (args .hits .now))) _ _ _ _ (loop .i) (loop .inv .0) (omega (arith, taken, count-slots (args .hits .now) (args .count) pre))
+          (slot-is (args .hits .now) (args .count) pre _ _ taken refl)
+          (sym (c .before .before .before .before .before .before .before .hour-again .ensures .0) ∙ ap (toldHour (args .map .now) (args .zones .now)) (c .before .before .before .before .before .spot .given .1))
+          (put-as (ap (λ (ms : List Hit). addedBy (isNamedIn (args .map .now) (args .head) (nameIn (args .map .now) (said .name)) ms) (loop .i) (hourAt (args .map .now) (args .zones .now) said)) same)
+          (c .before .before .put-added .ensures)),
+      omega (arith, taken),
     )
 
 same-length-2 : tie.Need-same-length-2 Inv-loop μ-loop
@@ -92,8 +72,7 @@ returns-2 : tie.Need-returns-2 Inv-loop μ-loop
 returns-2 c =
     let args = c .before .before .before .before .before .before .args in
     let loop = c .before .loop in
-    let pre = c .before .before .before .before .before .before .pre in
-    lining-all _ _ _ _ (take (args .count) (slots (args .hits .now))) _ _ _ _ (loop .i) (loop .inv .0) (omega (arith, c .loop-test .left, count-slots (args .hits .now) (args .count) (pre)))
+    lining-all _ _ _ _ (take (args .count) (slots (args .hits .now))) _ _ _ _ (loop .i) (loop .inv .0) (omega (arith, c .loop-test .left, count-slots (args .hits .now) (args .count) (c .before .before .before .before .before .before .pre .0)))
 
 pub put-zones-spec : {M : Type 1} → statement M
 put-zones-spec =
@@ -102,9 +81,7 @@ put-zones-spec =
     Inv-loop
     μ-loop
     loop-holds
-    add-hour-of
-    hit-at-requires
-    (λ c κs. search needs)
+    hour-again-requires
     (λ c. search needs)
     (λ c. search needs)
     same-length

@@ -6,10 +6,11 @@ use mathlib.Core.Path.{_≡_, refl, sym, ap, _∙_}
 use mir.{Syntax.{w32}, ValLaws.{toZ-ofZ}}
 use native.Mathlib.Omega.{arith}
 use Rattle.numbers.specs.Reply.{given}
+use Rattle.slip.proofs.Zones.{first-at}
 use Rattle.slip.proofs.Stamps.{true-of, false-of, no-match, no-hours, not-agreed, no-room, stamped-so}
 use Rattle.slip.specs.Hour.{hoursFrom}
 use Rattle.slip.specs.Told.{Seen, toldHours}
-use Rattle.table.proofs.{Agreeing.{Gave, gave, refused-so}, Words.{count-slots}}
+use Rattle.table.proofs.{Agreeing.{Gave, gave, refused-so}, Words.{count-slots, slot-is}}
 use Rattle.table.specs.Hits.{slots}
 use Rattle.slip.proofs.slip.stamp.Statement.{statement}
 use Rattle.slip.proofs.slip.stamp.Tie as tie
@@ -63,6 +64,12 @@ returns-5 c =
     stamped-so (args .fix) _ _ _ _ _ (said .is) (said .fits) (true-of _ (if2 .left)) (put-line .ensures) refl (omega (arith, good .1 .1 .1 .1 .1 .1 .0 .1)) (pre .1) (omega
     (arith, if3 .left, put-line .ensures .kept)) (sym (count-slots (args .hits .now) (args .count) (pre .0))) (toZ-ofZ w32 _ (let told = c .struct-told .given in search needs))
 
+put-line-requires : tie.Need-put-line-requires
+put-line-requires c κs =
+    let args = c .before .before .before .before .before .before .before .before .before .before .before .before .before .args in
+    let said = seen (c .before .before .before .before .before) in
+    (c .before .before .before .before .before .before .before .before .before .before .before .before .before .pre .0, first-at _ _ _ _ (take (args .count) (slots (args .hits .now))) (said .is) (said .fits) (slot-is (args .hits .now) (args .count) (c .before .before .before .before .before .before .before .before .before .before .before .before .before .pre .0) _ 0 (omega (arith, c .before .before .before .before .before .before .before .before .if1 .left)) refl))
+
 pub stamp-spec : {M : Type 1} → statement M
 stamp-spec =
     tie.close
@@ -75,7 +82,7 @@ stamp-spec =
     returns-2
     (λ c κs. search needs)
     returns-3
-    (λ c κs. search needs)
+    put-line-requires
     (λ c κs. search needs)
     (λ c. search needs)
     returns-4

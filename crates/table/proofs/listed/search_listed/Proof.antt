@@ -11,7 +11,7 @@ use Rattle.table.proofs.listed.search_listed.Tie as tie
 
 abbrev Inv-loop : tie.InvT-loop
 Inv-loop file head fix asked records numbers hits₀ room rows count₀ least₀ i₀ hits count least i =
-    SoFar (length hits₀) (searchedListed file head fix asked records numbers (length hits₀ / width)) (onwardFrom (judgeIn file head fix asked) fix records numbers (length hits₀) i) hits count least
+    SoFar (length hits₀) (searchedListed file head fix asked records numbers (length hits₀ / width)) (onwardFrom rowAt (judgeIn file head fix asked) fix records numbers (length hits₀) i) hits count least
 
 abbrev μ-loop : tie.MeasureT-loop
 μ-loop file head fix asked records numbers hits₀ room rows count₀ least₀ i₀ hits count least i = length numbers - i
@@ -22,14 +22,14 @@ loop-holds c = starts _ _ _ _ (c .before .before .before .before .before .before
 
 returns : tie.Need-returns Inv-loop μ-loop
 returns c =
-    rw (c .plain .ensures) (no-record (judgeIn (c .before .before .before .before .before .before .before .before .before .before .before .before .args .file .now) (c .before .before .before .before .before .before .before .before .before .before .before .before .args .head) (c .before .before .before .before .before .before .before .before .before .before .before .before .args .fix) (c .before .before .before .before .before .before .before .before .before .before .before .before .args .asked)) (c .before .before .before .before .before .before .before .before .before .before .before .before .args .fix) (c .before .before .before .before .before .before .before .before .before .before .before .before .args .records .now) (c .before .before .before .before .before .before .before .before .before .before .before .before .args .numbers .now) _ _ (c .before .before .before .before .before .loop .inv) (c .before .before .before .before .loop-test .taken) (c .before .before .wide .ensures .0) _ (c .before .if1 .taken))
+    rw (c .plain .ensures) (no-record rowAt (judgeIn (c .before .before .before .before .before .before .before .before .before .before .before .before .args .file .now) (c .before .before .before .before .before .before .before .before .before .before .before .before .args .head) (c .before .before .before .before .before .before .before .before .before .before .before .before .args .fix) (c .before .before .before .before .before .before .before .before .before .before .before .before .args .asked)) (c .before .before .before .before .before .before .before .before .before .before .before .before .args .fix) (c .before .before .before .before .before .before .before .before .before .before .before .before .args .records .now) (c .before .before .before .before .before .before .before .before .before .before .before .before .args .numbers .now) _ _ (c .before .before .before .before .before .loop .inv) (c .before .before .before .before .loop-test .taken) (c .before .before .wide .ensures .0) _ (c .before .if1 .taken))
 
 loop-less : tie.Need-loop-less Inv-loop μ-loop
 loop-less c = omega (arith, c .before .before .before .before .before .before .before .loop-test .taken)
 
 loop-again : tie.Need-loop-again Inv-loop μ-loop
 loop-again c =
-    let t = turned (judgeIn (c .before .before .before .before .before .before .before .before .before .before .before .before .before .before .before .args .file .now) (c .before .before .before .before .before .before .before .before .before .before .before .before .before .before .before .args .head) (c .before .before .before .before .before .before .before .before .before .before .before .before .before .before .before .args .fix) (c .before .before .before .before .before .before .before .before .before .before .before .before .before .before .before .args .asked)) (c .before .before .before .before .before .before .before .before .before .before .before .before .before .before .before .args .fix) (c .before .before .before .before .before .before .before .before .before .before .before .before .before .before .before .args .records .now) (c .before .before .before .before .before .before .before .before .before .before .before .before .before .before .before .args .numbers .now) _ _ (c .before .before .before .before .before .before .before .before .loop .inv) (c .before .before .before .before .before .before .before .loop-test .taken) (c .before .before .before .before .before .wide .ensures .0) (c .before .before .before .before .if1 .left) (sym (c .before .turn .given .1) ∙ c .before .before .before .on-record .ensures) in
+    let t = turned rowAt (judgeIn (c .before .before .before .before .before .before .before .before .before .before .before .before .before .before .before .args .file .now) (c .before .before .before .before .before .before .before .before .before .before .before .before .before .before .before .args .head) (c .before .before .before .before .before .before .before .before .before .before .before .before .before .before .before .args .fix) (c .before .before .before .before .before .before .before .before .before .before .before .before .before .before .before .args .asked)) (c .before .before .before .before .before .before .before .before .before .before .before .before .before .before .before .args .fix) (c .before .before .before .before .before .before .before .before .before .before .before .before .before .before .before .args .records .now) (c .before .before .before .before .before .before .before .before .before .before .before .before .before .before .before .args .numbers .now) _ _ (c .before .before .before .before .before .before .before .before .loop .inv) (c .before .before .before .before .before .before .before .loop-test .taken) (c .before .before .before .before .before .wide .ensures .0) (c .before .before .before .before .if1 .left) (sym (c .before .turn .given .1) ∙ c .before .before .before .on-record .ensures) in
     on (c .before .before .before .before .before .before .before .before .loop .inv) _ t
 
 same-length-2 : tie.Need-same-length-2 Inv-loop μ-loop
@@ -37,7 +37,7 @@ same-length-2 c = kept-length (c .before .before .before .before .before .before
 
 returns-2 : tie.Need-returns-2 Inv-loop μ-loop
 returns-2 c =
-    rw (c .plain2 .ensures) (no-slot (judgeIn (c .before .before .before .before .before .before .before .before .before .before .before .before .before .before .before .before .before .args .file .now) (c .before .before .before .before .before .before .before .before .before .before .before .before .before .before .before .before .before .args .head) (c .before .before .before .before .before .before .before .before .before .before .before .before .before .before .before .before .before .args .fix) (c .before .before .before .before .before .before .before .before .before .before .before .before .before .before .before .before .before .args .asked)) (c .before .before .before .before .before .before .before .before .before .before .before .before .before .before .before .before .before .args .fix) (c .before .before .before .before .before .before .before .before .before .before .before .before .before .before .before .before .before .args .records .now) (c .before .before .before .before .before .before .before .before .before .before .before .before .before .before .before .before .before .args .numbers .now) _ _ (c .before .before .before .before .before .before .before .before .before .before .loop .inv) (c .before .before .before .before .before .before .before .before .before .loop-test .taken) (c .before .before .before .before .before .before .before .wide .ensures .0) (c .before .before .before .before .before .before .if1 .left) _ (sym (c .before .before .before .turn2 .given .1) ∙ c .before .before .before .before .before .on-record .ensures) (omega (arith, c .before .if2 .taken, c .before .before .before .before .before .before .before .before .before .before .before .room .ensures)))
+    rw (c .plain2 .ensures) (no-slot rowAt (judgeIn (c .before .before .before .before .before .before .before .before .before .before .before .before .before .before .before .before .before .args .file .now) (c .before .before .before .before .before .before .before .before .before .before .before .before .before .before .before .before .before .args .head) (c .before .before .before .before .before .before .before .before .before .before .before .before .before .before .before .before .before .args .fix) (c .before .before .before .before .before .before .before .before .before .before .before .before .before .before .before .before .before .args .asked)) (c .before .before .before .before .before .before .before .before .before .before .before .before .before .before .before .before .before .args .fix) (c .before .before .before .before .before .before .before .before .before .before .before .before .before .before .before .before .before .args .records .now) (c .before .before .before .before .before .before .before .before .before .before .before .before .before .before .before .before .before .args .numbers .now) _ _ (c .before .before .before .before .before .before .before .before .before .before .loop .inv) (c .before .before .before .before .before .before .before .before .before .loop-test .taken) (c .before .before .before .before .before .before .before .wide .ensures .0) (c .before .before .before .before .before .before .if1 .left) _ (sym (c .before .before .before .turn2 .given .1) ∙ c .before .before .before .before .before .on-record .ensures) (omega (arith, c .before .if2 .taken, c .before .before .before .before .before .before .before .before .before .before .before .room .ensures)))
 
 put-hit-requires : tie.Need-put-hit-requires Inv-loop μ-loop
 put-hit-requires c κs = omega (arith, kept-length (c .before .before .before .before .before .before .before .before .before .before .loop .inv), c .before .if2 .left, c .before .before .before .before .before .before .before .before .before .before .before .room .ensures)
@@ -52,7 +52,7 @@ loop-again-2 : tie.Need-loop-again-2 Inv-loop μ-loop
 loop-again-2 c =
     let judging = judgeIn (c .before .before .before .before .before .before .before .before .before .before .before .before .before .before .before .before .before .before .before .before .args .file .now) (c .before .before .before .before .before .before .before .before .before .before .before .before .before .before .before .before .before .before .before .before .args .head) (c .before .before .before .before .before .before .before .before .before .before .before .before .before .before .before .before .before .before .before .before .args .fix) (c .before .before .before .before .before .before .before .before .before .before .before .before .before .before .before .before .before .before .before .before .args .asked) in
     let e = sym (c .before .before .before .before .before .before .turn2 .given .1) ∙ c .before .before .before .before .before .before .before .before .on-record .ensures in
-    let t = turned judging (c .before .before .before .before .before .before .before .before .before .before .before .before .before .before .before .before .before .before .before .before .args .fix) (c .before .before .before .before .before .before .before .before .before .before .before .before .before .before .before .before .before .before .before .before .args .records .now) (c .before .before .before .before .before .before .before .before .before .before .before .before .before .before .before .before .before .before .before .before .args .numbers .now) _ _ (c .before .before .before .before .before .before .before .before .before .before .before .before .before .loop .inv) (c .before .before .before .before .before .before .before .before .before .before .before .before .loop-test .taken) (c .before .before .before .before .before .before .before .before .before .before .wide .ensures .0) (c .before .before .before .before .before .before .before .before .before .if1 .left) e in
+    let t = turned rowAt judging (c .before .before .before .before .before .before .before .before .before .before .before .before .before .before .before .before .before .before .before .before .args .fix) (c .before .before .before .before .before .before .before .before .before .before .before .before .before .before .before .before .before .before .before .before .args .records .now) (c .before .before .before .before .before .before .before .before .before .before .before .before .before .before .before .before .before .before .before .before .args .numbers .now) _ _ (c .before .before .before .before .before .before .before .before .before .before .before .before .before .loop .inv) (c .before .before .before .before .before .before .before .before .before .before .before .before .loop-test .taken) (c .before .before .before .before .before .before .before .before .before .before .wide .ensures .0) (c .before .before .before .before .before .before .before .before .before .if1 .left) e in
     rw (c .before .before .put-hit .ensures) (met (c .before .before .before .before .before .before .before .before .before .before .before .before .before .loop .inv) _ _ _ t (omega (arith, c .before .before .before .before .if2 .left, c .before .before .before .before .before .before .before .before .before .before .before .before .before .before .room .ensures)) (met-kind judging (c .before .before .before .before .before .before .before .before .before .before .before .before .before .before .before .before .before .before .before .before .args .fix) _ _ e))
 
 same-length-3 : tie.Need-same-length-3 Inv-loop μ-loop
@@ -60,17 +60,17 @@ same-length-3 c = kept-length (c .before .before .before .before .before .before
 
 returns-3 : tie.Need-returns-3 Inv-loop μ-loop
 returns-3 c =
-    rw (c .end-with .ensures) (halts (judgeIn (c .before .before .before .before .before .before .before .before .before .before .before .before .before .before .before .before .args .file .now) (c .before .before .before .before .before .before .before .before .before .before .before .before .before .before .before .before .args .head) (c .before .before .before .before .before .before .before .before .before .before .before .before .before .before .before .before .args .fix) (c .before .before .before .before .before .before .before .before .before .before .before .before .before .before .before .before .args .asked)) (c .before .before .before .before .before .before .before .before .before .before .before .before .before .before .before .before .args .fix) (c .before .before .before .before .before .before .before .before .before .before .before .before .before .before .before .before .args .records .now) (c .before .before .before .before .before .before .before .before .before .before .before .before .before .before .before .before .args .numbers .now) _ _ (c .before .before .before .before .before .before .before .before .before .loop .inv) (c .before .before .before .before .before .before .before .before .loop-test .taken) (c .before .before .before .before .before .before .wide .ensures .0) (c .before .before .before .before .before .if1 .left) (sym (c .before .before .turn3 .given .1) ∙ c .before .before .before .before .on-record .ensures))
+    rw (c .end-with .ensures) (halts rowAt (judgeIn (c .before .before .before .before .before .before .before .before .before .before .before .before .before .before .before .before .args .file .now) (c .before .before .before .before .before .before .before .before .before .before .before .before .before .before .before .before .args .head) (c .before .before .before .before .before .before .before .before .before .before .before .before .before .before .before .before .args .fix) (c .before .before .before .before .before .before .before .before .before .before .before .before .before .before .before .before .args .asked)) (c .before .before .before .before .before .before .before .before .before .before .before .before .before .before .before .before .args .fix) (c .before .before .before .before .before .before .before .before .before .before .before .before .before .before .before .before .args .records .now) (c .before .before .before .before .before .before .before .before .before .before .before .before .before .before .before .before .args .numbers .now) _ _ (c .before .before .before .before .before .before .before .before .before .loop .inv) (c .before .before .before .before .before .before .before .before .loop-test .taken) (c .before .before .before .before .before .before .wide .ensures .0) (c .before .before .before .before .before .if1 .left) (sym (c .before .before .turn3 .given .1) ∙ c .before .before .before .before .on-record .ensures))
 
 same-length-4 : tie.Need-same-length-4 Inv-loop μ-loop
 same-length-4 c = kept-length (c .before .before .before .before .before .before .before .before .before .loop .inv)
 
 returns-4 : tie.Need-returns-4 Inv-loop μ-loop
 returns-4 c =
-    rw (c .plain3 .ensures) (denies (judgeIn (c .before .before .before .before .before .before .before .before .before .before .before .before .before .before .before .before .args .file .now) (c .before .before .before .before .before .before .before .before .before .before .before .before .before .before .before .before .args .head) (c .before .before .before .before .before .before .before .before .before .before .before .before .before .before .before .before .args .fix) (c .before .before .before .before .before .before .before .before .before .before .before .before .before .before .before .before .args .asked)) (c .before .before .before .before .before .before .before .before .before .before .before .before .before .before .before .before .args .fix) (c .before .before .before .before .before .before .before .before .before .before .before .before .before .before .before .before .args .records .now) (c .before .before .before .before .before .before .before .before .before .before .before .before .before .before .before .before .args .numbers .now) _ _ (c .before .before .before .before .before .before .before .before .before .loop .inv) (c .before .before .before .before .before .before .before .before .loop-test .taken) (c .before .before .before .before .before .before .wide .ensures .0) (c .before .before .before .before .before .if1 .left) _ (sym (c .before .before .turn4 .given .1) ∙ c .before .before .before .before .on-record .ensures))
+    rw (c .plain3 .ensures) (denies rowAt (judgeIn (c .before .before .before .before .before .before .before .before .before .before .before .before .before .before .before .before .args .file .now) (c .before .before .before .before .before .before .before .before .before .before .before .before .before .before .before .before .args .head) (c .before .before .before .before .before .before .before .before .before .before .before .before .before .before .before .before .args .fix) (c .before .before .before .before .before .before .before .before .before .before .before .before .before .before .before .before .args .asked)) (c .before .before .before .before .before .before .before .before .before .before .before .before .before .before .before .before .args .fix) (c .before .before .before .before .before .before .before .before .before .before .before .before .before .before .before .before .args .records .now) (c .before .before .before .before .before .before .before .before .before .before .before .before .before .before .before .before .args .numbers .now) _ _ (c .before .before .before .before .before .before .before .before .before .loop .inv) (c .before .before .before .before .before .before .before .before .loop-test .taken) (c .before .before .before .before .before .before .wide .ensures .0) (c .before .before .before .before .before .if1 .left) _ (sym (c .before .before .turn4 .given .1) ∙ c .before .before .before .before .on-record .ensures))
 
 returns-5 : tie.Need-returns-5 Inv-loop μ-loop
-returns-5 c = rw (c .end-with2 .ensures) (all-done (judgeIn (c .before .before .before .before .before .before .before .before .before .args .file .now) (c .before .before .before .before .before .before .before .before .before .args .head) (c .before .before .before .before .before .before .before .before .before .args .fix) (c .before .before .before .before .before .before .before .before .before .args .asked)) (c .before .before .before .before .before .before .before .before .before .args .fix) (c .before .before .before .before .before .before .before .before .before .args .records .now) (c .before .before .before .before .before .before .before .before .before .args .numbers .now) _ _ (c .before .before .loop .inv) (c .before .loop-test .left))
+returns-5 c = rw (c .end-with2 .ensures) (all-done rowAt (judgeIn (c .before .before .before .before .before .before .before .before .before .args .file .now) (c .before .before .before .before .before .before .before .before .before .args .head) (c .before .before .before .before .before .before .before .before .before .args .fix) (c .before .before .before .before .before .before .before .before .before .args .asked)) (c .before .before .before .before .before .before .before .before .before .args .fix) (c .before .before .before .before .before .before .before .before .before .args .records .now) (c .before .before .before .before .before .before .before .before .before .args .numbers .now) _ _ (c .before .before .loop .inv) (c .before .loop-test .left))
 
 pub search-listed-spec : {M : Type 1} → statement M
 search-listed-spec =

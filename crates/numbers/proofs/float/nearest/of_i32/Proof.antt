@@ -1,10 +1,21 @@
--- `numbers::float::nearest::of_i32` meets its contract. Assumes nothing.
-use borrow.Author.Needs.{needs}
-use mathlib.Core.Path.{ap, _∙_}
-use mir.{Syntax.{w32}, ValLaws.{toZ-ofZ}}
+-- `numbers::float::nearest::of_i32` meets its contract: a negative number rounds as its size does. Assumes nothing.
+use Prim.Native.Nat.{ℕ}
+use borrow.Author.{Needs.{needs}, Tests.{ltb-true}}
+use native.Mathlib.Omega.{arith}
+use lib.{Dec.{T}, Ieee.{binary32, neg}, IntN.{ℤ, pos, negsuc, natAbs}, Signed.{ltZ}}
+use mathlib.Core.{Bool.{true, false}, Path.{_≡_, refl, sym, ap, _∙_, subst}}
+use mir.{Syntax.{w32}, Val.{toZ, ofZ}, ValLaws.{toZ-ofZ}}
+use Rattle.numbers.proofs.float.{Rounding.{ofInt-neg, signed-held}, nearest.of_i32.Statement.{statement}}
 use Rattle.numbers.specs.Float.{toF32}
-use Rattle.numbers.proofs.float.{Rounding.{signed-held}, nearest.of_i32.Statement.{statement}}
 use Rattle.numbers.proofs.float.nearest.of_i32.Tie as tie
+
+below-zero : (n : ℤ) → ltZ n (pos 0) ≡ true → neg (toF32 (pos (natAbs n))) ≡ toF32 n
+below-zero (pos k) e = absurd (omega (arith, ltb-true k 0 e))
+below-zero (negsuc k) e = ofInt-neg binary32 k
+
+from-zero : (n : ℤ) → ltZ n (pos 0) ≡ false → toF32 (pos (natAbs n)) ≡ toF32 n
+from-zero (pos k) e = refl
+from-zero (negsuc k) e = absurd (subst T e tt)
 
 int-to-float-result : tie.Need-int-to-float-result
 int-to-float-result c =
@@ -13,7 +24,27 @@ int-to-float-result c =
     signed-held _ (if1 .taken) (if2 .taken)
 
 returns-2 : tie.Need-returns-2
-returns-2 c = c .nearest-i32-to-f32 .ensures ∙ ap toF32 (toZ-ofZ w32 (c .before .before .args .n) (c .before .before .fits .n))
+returns-2 c =
+    let of-u64 = c .before .of-u64 in
+    let magnitude = c .before .before .magnitude in
+    let start = c .before .before .before .before in
+    let n = start .args .n in
+    let read : toZ w32 (ofZ w32 n) ≡ n = toZ-ofZ w32 n (start .fits .n) in
+    ap neg (of-u64 .ensures ∙ ap (λ (k : ℕ). toF32 (pos k)) (magnitude .ensures ∙ ap natAbs read))
+    ∙ below-zero n (ap (λ (z : ℤ). ltZ z (pos 0)) (sym read) ∙ c .if3 .taken)
+
+returns-3 : tie.Need-returns-3
+returns-3 c =
+    let of-u64 = c .before .of-u64 in
+    let magnitude = c .before .before .magnitude in
+    let start = c .before .before .before .before in
+    let n = start .args .n in
+    let read : toZ w32 (ofZ w32 n) ≡ n = toZ-ofZ w32 n (start .fits .n) in
+    of-u64 .ensures
+    ∙ ap (λ (k : ℕ). toF32 (pos k)) (magnitude .ensures ∙ ap natAbs read)
+    ∙ from-zero n (ap (λ (z : ℤ). ltZ z (pos 0)) (sym read) ∙ c .if3 .left)
 
 pub of-i32-spec : {M : Type 1} → statement M
-of-i32-spec = tie.close (tie.spec int-to-float-result (λ c. search needs) (λ c κs. search needs) returns-2)
+of-i32-spec =
+    tie.close
+    (tie.spec int-to-float-result (λ c. search needs) (λ c κs. search needs) (λ c κs. search needs) returns-2 returns-3)

@@ -1,0 +1,15 @@
+-- Laws on plain values that the functions' proofs cite.
+pub mod Bits
+pub mod Counting
+pub mod Spanning
+pub mod Standing
+pub mod Writing
+pub mod Courses
+pub mod HeldIsPlain
+pub mod Beside
+pub mod AtlasIsPlain
+pub mod Parting
+pub mod Behind
+pub mod Owned
+pub mod Theorems
+mod WorkedAtlas

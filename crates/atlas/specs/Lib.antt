@@ -1,0 +1,3 @@
+pub mod Atlas
+pub mod Looked
+pub mod inner

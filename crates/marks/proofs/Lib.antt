@@ -1,0 +1,9 @@
+-- Laws on plain values that the functions' proofs cite.
+pub mod Boxes
+pub mod Rounds
+pub mod Spans
+pub mod Stretches
+pub mod ReadBack
+pub mod Marked
+pub mod MarkedIsPlain
+mod WorkedMarks

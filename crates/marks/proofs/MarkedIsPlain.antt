@@ -1,0 +1,158 @@
+-- A border that is judged by its marks is judged as by all its points, at every location, without the distance. Assumes nothing.
+use Prim.Native.Nat.{ℕ, zero, suc, _+_, _-_, _*_, _/_, _≤_, _<_}
+use native.Mathlib.{Nat.{suc-mul, zero-mul}, Omega.{arith}}
+use borrow.Author.Tests.{ltb-true, lt-ltb, le-leb}
+use mathlib.Core.{Path.{_≡_, refl, sym, ap, _∙_, subst}, Bool.{Bool, true, false}, List.{List, [], _∷_, _++_}}
+use lib.{Dec.{ltb}, IntN.{pos}, ListN.{length, length-append}}
+use Rattle.numbers.specs.Answer.{Answer, found, if_then_else_}
+use Rattle.border.specs.Trace.{Trace, Given, point, reaches, ended, nextPoint, traceOf, borderAt}
+use Rattle.border.specs.declared.{place.{FixedLat.{FixedLat}, FixedLon.{FixedLon}, Point.{Point}}, reader.{Reader.{Reader}, Encoding.{Encoding}}}
+use Rattle.border.proofs.Trace.{point-trace}
+use Rattle.verdict.specs.{Step.{Step, meets}, Edge.{samePoint}, Verdict.{Judgement, none, after, along, passing, thenOn, judge, judgedAt}}
+use Rattle.verdict.specs.declared.step.{Tally.{Tally}, Verdict.the-variants.{OnBorderVertex}}
+use Rattle.marks.specs.Marks.{nextOr, spanFrom, markOf, marksFrom, isNarrow, edgesFrom, stretchEdges, stretchesOf, fewEdges, mostPoints, stretchesFrom, stretchesIn, counted, marksAt}
+use Rattle.marks.specs.{Judging.{stretchesBy, isInside, judgedBy}, Words.{wordAt, startIn}}
+use Rattle.marks.proofs.{Marked.{marked-so, marked-judge}, ReadBack.{At, at-left, at-right, start-back}, Rounds.{Round, counts}, Stretches.{then-same, states-judge}}
+use Rattle.numbers.specs.Answer as A
+use Rattle.verdict.specs.Step as S
+
+-- ---- the numbers
+record Numbers (m : ℕ) : Type 0 where
+  edges : 0 < m
+  count : 0 < stretchesOf m
+  few : m ≤ stretchesOf m * stretchEdges
+  full : stretchesOf m * stretchEdges < m + stretchEdges
+  room : 2 * (stretchesOf m * stretchEdges) < 2147483647
+
+numbers : (m : ℕ) → m < mostPoints → ltb fewEdges m ≡ true → Numbers m
+unfolding stretchesOf stretchEdges fewEdges mostPoints
+numbers m h g =
+    let big = ltb-true 256 m g in
+    record { edges = omega (arith, big); count = omega (arith, big); few = omega (arith, big); full = omega (arith, big); room = omega (arith, h) }
+
+some-edges : 0 < stretchEdges
+unfolding stretchEdges
+some-edges = omega arith
+
+marks-length : (edges more : ℕ) (file : List ℕ) (encoding : Encoding) (s : Reader) → length (marksFrom edges more file encoding s) ≡ more * 11
+unfolding marksFrom
+marks-length edges zero file encoding s = sym (zero-mul 11)
+marks-length edges (suc more) file encoding s =
+    let span = spanFrom edges file encoding s in
+    omega (arith, marks-length edges more file encoding (span .last), length-append (markOf s (span .box)) (marksFrom edges more file encoding (span .last)), suc-mul more 11)
+
+module _ (file : List ℕ) (encoding : Encoding) (border : ℕ) (words : List ℕ) (at : ℕ) (lat : FixedLat) (lon : FixedLon) (least : ℕ) where
+  abbrev fix : Point
+  fix = record { lat = lat; lon = lon }
+
+  abbrev start : Tally
+  start = record { winding = pos 0; least = least }
+
+  begun : (p : Point) (t u : Tally) → passing fix false none p t ≡ S.found u → u ≡ t
+  unfolding passing along
+  begun p t u e = go (samePoint p fix) e
+    where
+      go : (b : Bool) → (if b then meets OnBorderVertex else S.found t) ≡ S.found u → u ≡ t
+      go true e = let z : _≡_ {A = ℕ} 0 1 = cc in absurd (omega arith)
+      go false e = cc
+
+  -- the whole border, from its first point on
+  whole : (s : Reader) → nextPoint file encoding (borderAt border) ≡ found (reaches s)
+      → thenOn false least (passing fix false none (s .point) start) (λ u. judge fix false (after (s .point)) u (traceOf file encoding s)) ≡ judgedAt file encoding border lat lon false least
+  unfolding judgedAt judge
+  whole s e = ap (judge fix false none start) (point-trace file encoding (borderAt border) s (sym e))
+
+  module _ (s : Reader) (is : nextPoint file encoding (borderAt border) ≡ found (reaches s)) (m : ℕ) (n : Numbers m) (round : Round file encoding (s .point) s m) where
+    abbrev marks : List ℕ
+    marks = marksFrom stretchEdges (stretchesOf m) file encoding s
+
+    module _ (here : At words at (stretchesOf m ∷ marks)) (fits : at + suc (length marks) ≤ length words) where
+      first-word : wordAt words at ≡ stretchesOf m
+      first-word = let e : at ≡ at + 0 = omega arith in ap (λ (k : ℕ). wordAt words k) e ∙ here 0 (omega arith)
+
+      later : At words (at + 1) marks
+      later = at-right words at (stretchesOf m ∷ []) marks here
+
+      inside : isInside words at ≡ true
+      inside =
+          let long = marks-length stretchEdges (stretchesOf m) file encoding s in
+          let more : at < length words = omega (arith, fits) in
+          let few : stretchesOf m ≤ (length words - (at + 1)) / 11 = omega (arith, fits, long) in
+          rw (first-word, lt-ltb at (length words) more, lt-ltb 0 (stretchesOf m) (n .count), le-leb (stretchesOf m) ((length words - (at + 1)) / 11) few)
+
+      own-narrow : isNarrow (s .point) ≡ true
+      own-narrow = marked-so file encoding (s .point) s m round (n .edges) .narrow
+
+      first-so : (k : ℕ) → 0 < k → At words (at + 1) (marksFrom stretchEdges k file encoding s) → startIn words (at + 1) ≡ s .point
+      unfolding marksFrom
+      first-so zero h there = absurd (omega (arith, h))
+      first-so (suc more) h there =
+          let box = spanFrom stretchEdges file encoding s .box in
+          start-back words (at + 1) s box (at-left words (at + 1) (markOf s box) (marksFrom stretchEdges more file encoding (spanFrom stretchEdges file encoding s .last)) there) own-narrow
+
+      by-parts : judgedBy file encoding words at lat lon least ≡ thenOn false least (passing fix false none (s .point) start) (stretchesBy file encoding fix words (s .point) (stretchesOf m) (at + 1))
+      unfolding judgedBy
+      by-parts = rw (inside, first-so (stretchesOf m) (n .count) later, first-word)
+
+      -- what the marks come to behind the first point, and what the points do
+      abbrev byMarks : Tally → Judgement
+      byMarks = stretchesBy file encoding fix words (s .point) (stretchesOf m) (at + 1)
+
+      abbrev byPoints : Tally → Judgement
+      byPoints u = judge fix false (after (s .point)) u (traceOf file encoding s)
+
+      from-start : byMarks start ≡ byPoints start
+      from-start =
+          marked-judge file encoding (s .point) own-narrow fix words some-edges (stretchesOf m) s m (at + 1) start round (n .few) (n .full) later
+          ∙ states-judge file encoding fix (s .point) stretchEdges some-edges (stretchesOf m) s m start round (n .few) (omega (arith, n .room))
+
+      by-marks : judgedBy file encoding words at lat lon least ≡ judgedAt file encoding border lat lon false least
+      by-marks =
+          by-parts
+          ∙ then-same least (passing fix false none (s .point) start) byMarks byPoints (λ u e. subst (λ (t : Tally). byMarks t ≡ byPoints t) (sym (begun (s .point) start u e)) from-start)
+          ∙ whole s is
+
+  nothing : {C : Type 0} → 0 < length {A = ℕ} [] → C
+  nothing h = absurd (omega (arith, h))
+
+  counted-some : (k : ℕ) (xs : List ℕ) → 0 < k → counted k xs ≡ k ∷ xs
+  unfolding counted
+  counted-some zero xs h = absurd (omega (arith, h))
+  counted-some (suc k) xs h = refl
+
+  counted-none : {C : Type 0} (xs : List ℕ) → 0 < length (counted 0 xs) → C
+  unfolding counted
+  counted-none xs h = nothing h
+
+  abbrev Goal : List ℕ → Type 0
+  Goal marks = 0 < length marks → At words at marks → at + length marks ≤ length words → judgedBy file encoding words at lat lon least ≡ judgedAt file encoding border lat lon false least
+
+  module _ (s : Reader) (is : nextPoint file encoding (borderAt border) ≡ found (reaches s)) where
+    by-count : (a : Answer ℕ) → edgesFrom mostPoints file encoding (s .point) s 0 ≡ a → Goal (counted (stretchesFrom a) (marksFrom stretchEdges (stretchesFrom a) file encoding s))
+    unfolding stretchesFrom
+    by-count (found m) e = by-test (ltb fewEdges m) refl
+      where
+        by-test : (b : Bool) → ltb fewEdges m ≡ b → Goal (counted (if b then stretchesOf m else 0) (marksFrom stretchEdges (if b then stretchesOf m else 0) file encoding s))
+        by-test true g some here fits =
+            let c = counts file encoding (s .point) mostPoints s 0 m e in
+            let same : c .edges ≡ m = omega (arith, c .sum) in
+            let n = numbers m (subst (λ (k : ℕ). k < mostPoints) same (c .few)) g in
+            let list = counted-some (stretchesOf m) (marksFrom stretchEdges (stretchesOf m) file encoding s) (n .count) in
+            by-marks s is m n (subst (Round file encoding (s .point) s) same (c .round)) (subst (At words at) list here) (subst (λ (xs : List ℕ). at + length xs ≤ length words) list fits)
+        by-test false g some here fits = counted-none (marksFrom stretchEdges 0 file encoding s) some
+    by-count A.failed e = λ some here fits. counted-none (marksFrom stretchEdges 0 file encoding s) some
+    by-count (A.refused k) e = λ some here fits. counted-none (marksFrom stretchEdges 0 file encoding s) some
+
+  by-first : (a : Answer Given) → nextPoint file encoding (borderAt border) ≡ a
+      → Goal (nextOr a [] (λ s. counted (stretchesIn file encoding s) (marksFrom stretchEdges (stretchesIn file encoding s) file encoding s)))
+  unfolding nextOr
+  by-first (found (reaches s)) e = by-count s e (edgesFrom mostPoints file encoding (s .point) s 0) refl
+  by-first (found ended) e = λ some here fits. nothing some
+  by-first A.failed e = λ some here fits. nothing some
+  by-first (A.refused k) e = λ some here fits. nothing some
+
+  -- Where the marks of a border stand in the words, the judgement by them is the border's own.
+  pub marked-is-plain : 0 < length (marksAt file encoding border) → At words at (marksAt file encoding border) → at + length (marksAt file encoding border) ≤ length words
+      → judgedBy file encoding words at lat lon least ≡ judgedAt file encoding border lat lon false least
+  unfolding marksAt
+  marked-is-plain = by-first (nextPoint file encoding (borderAt border)) refl

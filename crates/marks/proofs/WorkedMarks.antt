@@ -1,0 +1,43 @@
+-- A location inside four stretches, none of whose boxes holds it: it is judged by their marks alone, and no byte of the file is read.
+use Prim.Native.Nat.{ℕ}
+use mathlib.Core.{Path.{_≡_, refl}, Bool.{true, false}, List.{List, [], _∷_}}
+use lib.IntN.{pos}
+use Rattle.border.specs.{Encoding.{encodedIn}, declared.{place.{FixedLat.{FixedLat}, FixedLon.{FixedLon}}, reader.Version.the-variants.{Packed}}}
+use Rattle.verdict.specs.{Step.{checked}, Edge.{samePoint, straight, between, inBox, quadrantOf}, Winding.{turned, quarterBy, clearOf, woundBy}, Distance.{measured}}
+use Rattle.verdict.specs.{Verdict.{reached, refused, along, passing, closedAt, thenOn}, declared.step.Verdict.the-variants.{InExcludedZone}}
+use Rattle.marks.specs.Judging.{endIn, stretchBy, stretchesBy, judgedBy}
+
+-- the words of -3, -4 and -9
+abbrev m3 : ℕ
+m3 = 4294967293
+
+abbrev m4 : ℕ
+m4 = 4294967292
+
+abbrev m9 : ℕ
+m9 = 4294967287
+
+-- westward in the north, southward in the west, eastward in the south, northward in the east; each with its box, its first point, and a state that is not asked
+abbrev four : List ℕ
+four =
+    4
+    ∷ 3 ∷ m4 ∷ 9 ∷ 4 ∷ 4 ∷ 4 ∷ 0 ∷ 0 ∷ 0 ∷ 0 ∷ 0
+    ∷ m4 ∷ m9 ∷ 4 ∷ m3 ∷ 4 ∷ m4 ∷ 0 ∷ 0 ∷ 0 ∷ 0 ∷ 0
+    ∷ m9 ∷ m4 ∷ m3 ∷ 4 ∷ m4 ∷ m4 ∷ 0 ∷ 0 ∷ 0 ∷ 0 ∷ 0
+    ∷ m4 ∷ 3 ∷ 4 ∷ 9 ∷ m4 ∷ 4 ∷ 0 ∷ 0 ∷ 0 ∷ 0 ∷ 0
+    ∷ []
+
+abbrev here : FixedLat
+here = record { 0 = pos 0 }
+
+abbrev there : FixedLon
+there = record { 0 = pos 0 }
+
+pub unread : judgedBy [] (encodedIn Packed 0) four 0 here there 7 ≡ reached InExcludedZone 7
+unfolding judgedBy stretchesBy stretchBy endIn thenOn passing along measured samePoint woundBy quadrantOf quarterBy turned checked clearOf straight between inBox closedAt
+unread = refl
+
+-- the same words one short
+pub cut-short : judgedBy [] (encodedIn Packed 0) (5 ∷ 3 ∷ m4 ∷ []) 0 here there 7 ≡ refused 36
+unfolding judgedBy
+cut-short = refl

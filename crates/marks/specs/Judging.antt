@@ -1,0 +1,45 @@
+-- A border's verdict by its marks, without the distance: of a stretch whose box does not hold the location only its one edge is judged, and its points are not read.
+use Prim.Native.Nat.{ℕ, zero, suc, _+_, _-_, _/_}
+use lib.{Dec.{ltb, leb}, IntN.{pos}, ListN.{length}}
+use mathlib.Core.{Bool.{Bool, false, _&&_}, List.{List}}
+use Rattle.numbers.specs.Answer.{if_then_else_}
+use Rattle.border.specs.{Trace.{nextPoint}, declared.{place.{FixedLat.{FixedLat}, FixedLon.{FixedLon}, Point.{Point}}, reader.{Reader.{Reader}, Encoding.{Encoding}}}}
+use Rattle.verdict.specs.{Step.{Step, found, _>>=_}, Edge.{inBox}, Verdict.{Judgement, refused, none, after, passing, closedAt, thenOn}, declared.step.Tally.{Tally}}
+use Rattle.marks.specs.{Marks.{nextOr, stretchEdges}, Words.{wordAt, markWide, lowIn, highIn, startIn, stateIn}}
+
+-- where the stretch of a mark leads that has so many behind it: to the next one's first point, the last one back to the border's
+unfoldable pub endIn : List ℕ → Point → ℕ → ℕ → Point
+endIn words first zero at = first
+endIn words first (suc more) at = startIn words (at + markWide)
+
+module _ (file : List ℕ) (encoding : Encoding) (fix : Point) where
+  -- over so many edges from a state on, or up to the border's end
+  unfoldable pub readOn : ℕ → Reader → Tally → Step Tally
+  readOn zero s tally = found tally
+  readOn (suc more) s tally = nextOr (nextPoint file encoding s) (found tally) (λ t. passing fix false (after (s .point)) (t .point) tally >>= readOn more t)
+
+  module _ (words : List ℕ) (first : Point) where
+    -- the stretch of a mark, which leads to a point
+    unfoldable pub stretchBy : ℕ → Point → Tally → Step Tally
+    stretchBy at to tally =
+        if inBox (lowIn words at) fix (highIn words at)
+        then readOn stretchEdges (stateIn words at first) tally
+        else passing fix false (after (startIn words at)) to tally
+
+    -- so many stretches
+    unfoldable pub stretchesBy : ℕ → ℕ → Tally → Judgement
+    stretchesBy zero at tally = closedAt false tally
+    stretchesBy (suc more) at tally = thenOn false (tally .least) (stretchBy at (endIn words first more at) tally) (stretchesBy more (at + markWide))
+
+-- so many marks, at least one, stand from a place on
+abbrev pub isInside : List ℕ → ℕ → Bool
+isInside words at = ltb at (length words) && (ltb 0 (wordAt words at) && leb (wordAt words at) ((length words - (at + 1)) / markWide))
+
+-- The judgement by the marks at a place of the words; 36 where there is no room for as many as it says.
+unfoldable pub judgedBy : List ℕ → Encoding → List ℕ → ℕ → FixedLat → FixedLon → ℕ → Judgement
+judgedBy file encoding words at lat lon least =
+    let fix : Point = record { lat = lat; lon = lon } in
+    let first = startIn words (at + 1) in
+    if isInside words at
+    then thenOn false least (passing fix false none first (record { winding = pos 0; least = least })) (stretchesBy file encoding fix words first (wordAt words at) (at + 1))
+    else refused 36

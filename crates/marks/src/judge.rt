@@ -1,0 +1,152 @@
+// A border's verdict by its marks: only stretches whose box holds the location are read.
+ghost use mathlib.Core.Path.{_≡_};
+ghost use Prim.Native.Nat.{_+_, _*_, _≤_};
+ghost use lib.ListN.{length};
+ghost use Rattle.verdict.specs.Verdict.{told};
+ghost use Rattle.verdict.specs.Step as step;
+ghost use Rattle.marks.specs.{Judging.{readOn, stretchBy, endIn, stretchesBy, judgedBy}, Marks.{stretchEdges}};
+use crate::words::MARK;
+use crate::words::point_at;
+use crate::words::state_at;
+use crate::words::wide;
+use border::place::FixedLat;
+use border::place::FixedLon;
+use border::place::Point;
+use border::reader::Encoding;
+use border::reader::Next;
+use border::reader::Reader;
+use border::reader::next_point;
+use verdict::edge::in_box;
+use verdict::edge::same_point;
+use verdict::judge::Judged;
+use verdict::judge::closed;
+use verdict::judge::pass_edge;
+use verdict::judge::stopped;
+use verdict::step::Passed;
+use verdict::step::Tally;
+use verdict::step::Verdict;
+
+// The refusal of words that are no marks.
+pub const NO_MARKS: u8 = 36;
+
+// Over the edges of a stretch, or up to the border's end.
+fn read_on(file: &[u8], encoding: Encoding, fix: Point, start: Reader, tally: Tally) -> Passed
+    ensures { λ r. ⌜ step.told r ≡ readOn (now (file .entry)) encoding fix stretchEdges start tally ⌝ }
+{
+    let mut reader = start;
+    let mut counted = tally;
+    let mut n: usize = 0;
+    while n < 128 {
+        let next = next_point(file, encoding, reader);
+        let Next::Point(later) = next else {
+            return Passed::On(counted);
+        };
+        n += 1;
+        let passed = pass_edge(fix, reader.point, later.point, counted);
+        let Passed::On(on) = passed else {
+            return passed;
+        };
+        counted = on;
+        reader = later;
+    }
+    Passed::On(counted)
+}
+
+// The stretch of a mark, which leads to a point.
+fn pass_stretch(
+    file: &[u8],
+    encoding: Encoding,
+    fix: Point,
+    words: &[u32],
+    first: Point,
+    at: usize,
+    to: Point,
+    tally: Tally,
+) -> Passed
+    requires { ⌜ at + 11 ≤ length (now words) ⌝ }
+    ensures { λ r. ⌜ step.told r ≡ stretchBy (now (file .entry)) encoding fix (now (words .entry)) first at to tally ⌝ }
+{
+    let low = point_at(words, at);
+    let high = point_at(words, at + 2);
+    if in_box(low, fix, high) {
+        let start = state_at(words, at, first);
+        return read_on(file, encoding, fix, start, tally);
+    }
+    let from = point_at(words, at + 4);
+    pass_edge(fix, from, to, tally)
+}
+
+// Where a stretch leads that has so many behind it.
+fn end_at(words: &[u32], first: Point, behind: usize, at: usize) -> Point
+    requires { ⌜ at + 11 + 11 * behind ≤ length (now words) ⌝ }
+    ensures { λ r. ⌜ r ≡ endIn (now (words .entry)) first behind at ⌝ }
+{
+    if behind == 0 {
+        return first;
+    }
+    point_at(words, at + MARK + 4)
+}
+
+fn pass_stretches(
+    file: &[u8],
+    encoding: Encoding,
+    fix: Point,
+    words: &[u32],
+    first: Point,
+    count: usize,
+    place: usize,
+    tally: Tally,
+) -> Judged
+    requires { ⌜ place + 11 * count ≤ length (now words) ⌝ }
+    ensures { λ r. ⌜ told r ≡ stretchesBy (now (file .entry)) encoding fix (now (words .entry)) first count place tally ⌝ }
+{
+    let mut left = count;
+    let mut at = place;
+    let mut counted = tally;
+    while left > 0 {
+        left -= 1;
+        let to = end_at(words, first, left, at);
+        let passed = pass_stretch(file, encoding, fix, words, first, at, to, counted);
+        let Passed::On(on) = passed else {
+            return stopped(passed, false, counted.least);
+        };
+        at += MARK;
+        counted = on;
+    }
+    closed(false, counted)
+}
+
+// What a border says of a location, by the marks at a place of the words. Refused: 36 where the words end before them, and what judging gives.
+pub fn judge_by(
+    file: &[u8],
+    encoding: Encoding,
+    words: &[u32],
+    at: usize,
+    lat: FixedLat,
+    lon: FixedLon,
+    least: u64,
+) -> Judged
+    ensures { λ r. ⌜ told r ≡ judgedBy (now (file .entry)) encoding (now (words .entry)) at lat lon least ⌝ }
+{
+    if words.len() <= at {
+        return Judged::Refused(NO_MARKS);
+    }
+    let count = wide(words[at]);
+    if count == 0 {
+        return Judged::Refused(NO_MARKS);
+    }
+    if (words.len() - (at + 1)) / MARK < count {
+        return Judged::Refused(NO_MARKS);
+    }
+    let fix = Point { lat, lon };
+    let place = at + 1;
+    let first = point_at(words, place + 4);
+    if same_point(first, fix) {
+        return Judged::Answered {
+            verdict: Verdict::OnBorderVertex,
+            least,
+        };
+    }
+    let tally = Tally { winding: 0, least };
+    pass_stretches(file, encoding, fix, words, first, count, place, tally)
+}

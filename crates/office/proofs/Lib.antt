@@ -1,0 +1,10 @@
+pub mod Numbered
+pub mod Drafts
+pub mod NotedDrafts
+pub mod NumberedCalls
+pub mod NumberedDrafts
+pub mod SameCalls
+pub mod SameDrafts
+pub mod WorkedDraft
+pub mod Made
+pub mod WorkedCalls

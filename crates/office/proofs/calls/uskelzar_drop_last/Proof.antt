@@ -1,0 +1,28 @@
+-- `office::calls::uskelzar_drop_last` meets its contract. Assumes nothing.
+use borrow.Author.Needs.{needs}
+use Rattle.office.proofs.{Drafts.{speaks}, calls.uskelzar_drop_last.Statement.{statement}}
+use Rattle.office.proofs.calls.uskelzar_drop_last.Tie as tie
+
+returns : tie.Need-returns
+returns c = (speaks (c .before .before .before .before .before .before .before .before .before .before .before .before .before .before .before .before .before .before .before .before .before .before .before .before .before .before .before .before .before .before .before .before .before .before .before .before .before .before .before .state-of .ensures) (c .before .before .before .before .before .before .before .before .before .before .before .before .before .before .before .before .before .before .before .before .before .before .before .before .before .before .drop-last .ensures .0) (c .speak-changed .ensures), c .before .before .before .before .before .before .before .before .before .before .before .before .before .before .before .before .before .before .before .before .before .before .before .before .before .before .drop-last .ensures .1)
+
+pub uskelzar-drop-last-spec : {M : Type 1} → statement M
+uskelzar-drop-last-spec =
+    tie.close
+    (tie.spec
+    (λ c κs. search needs)
+    (λ c κs. search needs)
+    (λ c κs. search needs)
+    (λ c. search needs)
+    (λ c. search needs)
+    (λ c. search needs)
+    (λ c. search needs)
+    (λ c. search needs)
+    (λ c. search needs)
+    (λ c. search needs)
+    (λ c. search needs)
+    (λ c. search needs)
+    (λ c. search needs)
+    (λ c. search needs)
+    (λ c. search needs)
+    returns)

@@ -1,0 +1,13 @@
+-- `office::salvaged::uskelzar_salvage` meets its contract. Assumes nothing.
+use borrow.Author.Needs.{needs}
+use mathlib.Core.Path.{ap, _∙_}
+use Rattle.uskelzar.proofs.Saying.{beside}
+use Rattle.office.proofs.salvaged.uskelzar_salvage.Statement.{statement}
+use Rattle.office.specs.Salvaged.{salvageSpoken}
+use Rattle.office.proofs.salvaged.uskelzar_salvage.Tie as tie
+
+returns : tie.Need-returns
+returns c = beside _ (c .speak .ensures) (c .before .before .say-rescued .ensures) ∙ ap salvageSpoken (c .before .before .before .before .before .before .before .salvage .ensures)
+
+pub uskelzar-salvage-spec : {M : Type 1} → statement M
+uskelzar-salvage-spec = tie.close (tie.spec (λ c κs. search needs) (λ c κs. search needs) (λ c κs. search needs) (λ c. search needs) (λ c. search needs) returns)

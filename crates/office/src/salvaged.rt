@@ -1,0 +1,44 @@
+// Salvage of a damaged file, for C.
+ghost use mathlib.Core.{Path.{_≡_}, List.{[], _∷_}};
+ghost use lib.ListN.{length};
+ghost use Rattle.salvage.specs.inner.Rescue.Told.{toldRescued};
+ghost use Rattle.salvage.specs.Salvage.{salvaged};
+ghost use Rattle.uskelzar.specs.Spoken.{saidOf, spoken};
+ghost use Rattle.office.specs.Salvaged.{countsValues, salvageSpoken};
+use salvage::rescue::reply::Rescued;
+use salvage::rescue::reply::salvage;
+use uskelzar::Said;
+use uskelzar::say_refused;
+use uskelzar::speak;
+
+fn say_rescued(rescued: Rescued) -> Said
+    ensures { λ r. ⌜ r ≡ saidOf countsValues (toldRescued rescued) ⌝ }
+{
+    match rescued {
+        Rescued::Counts(counts) => Said {
+            number: 0,
+            words: [
+                counts.size as u64,
+                counts.lines as u64,
+                counts.kept as u64,
+                0,
+                0,
+            ],
+        },
+        Rescued::Refused(why) => say_refused(why),
+    }
+}
+
+// Salvages a file. Values: the new file's length, the list's lines, the entries kept.
+#[no_mangle]
+pub extern "C" fn uskelzar_salvage(
+    file: &[u8],
+    dropped: &mut [u32],
+    out: &mut [u8],
+    reply: &mut [u64; 5],
+) -> u8
+    ensures { λ r. ⌜ spoken r (now (reply .exit)) (now (dropped .exit) ∷ now (out .exit) ∷ [])
+        ≡ salvageSpoken (salvaged (now (file .entry)) (length (now (dropped .entry))) (length (now (out .entry)))) ⌝ }
+{
+    speak(say_rescued(salvage(file, dropped, out)), reply)
+}

@@ -1,0 +1,13 @@
+-- `shell::words::put_words` meets its contract: the text that it has is checked against the table, line by line. Assumes nothing.
+use borrow.Author.Needs.{needs}
+use Rattle.shell.proofs.Saying.{says-all}
+use Rattle.shell.proofs.words.put_words.Statement.{statement}
+use Rattle.shell.specs.{Text.{bytes}, Words.{table, wordsIn, wordsOf, lineAt}}
+use Rattle.shell.proofs.words.put_words.Tie as tie
+
+put-line-of-requires : tie.Need-put-line-of-requires
+unfolding lineAt table wordsIn wordsOf bytes
+put-line-of-requires c κs = says-all _ tt
+
+pub put-words-spec : {M : Type 1} → statement M
+put-words-spec = tie.close (tie.spec (λ c. search needs) put-line-of-requires (λ c. search needs) (λ c. search needs))

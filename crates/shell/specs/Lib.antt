@@ -1,0 +1,9 @@
+pub mod Text
+pub mod Words
+pub mod Answer
+pub mod Requests
+pub mod Written
+pub mod Kept
+pub mod Turn
+pub mod Stream
+pub mod Run

@@ -1,0 +1,162 @@
+-- Which numbers a slip can be refused with. Assumes nothing.
+use Prim.Native.Nat.{ℕ, _+_, min}
+use borrow.Author.Tests.{eqb-true, leb-true, le-leb}
+use lib.{Dec.{eqb, leb}, IntN.{ℤ}, ListN.{length}}
+use mathlib.Core.{Bool.{Bool, true, false, not, _&&_, _||_}, List.{List, [], _∷_}, Option.{Option, none, some}, Path.{_≡_, refl, sym, ap, subst, _∙_}}
+use native.Mathlib.Omega.{arith}
+use Rattle.bundle.proofs.Theorems.{found-refusals}
+use Rattle.bundle.specs.Bundle.{findOf}
+use Rattle.calendar.specs.{Civil.{civilAt}, declared.civil.Civil.{Civil}}
+use Rattle.calendar.specs.declared.civil.Civil.the-variants as C
+use Rattle.header.proofs.StrictHead.{head-strict}
+use Rattle.header.specs.{Header.{headOf}, declared.header.Head.{Head}}
+use Rattle.line.specs.Put.{far}
+use Rattle.localtime.proofs.Numbered.{footerNumbers, local-time-refusals}
+use Rattle.localtime.specs.Local.{scaleAt, answerAt, localTimeBy}
+use Rattle.numbers.proofs.{Refusals.{Listed, oneOf}, Replies.{NumberedReply, answers, refuses, then-reply, and-then, demands}, Tests.{both, differ}}
+use Rattle.numbers.specs.{Reply.{Reply, given, refused, refusal, plain, _>>=_}, declared.refusal.Refusal.{Refusal}}
+use Rattle.request.proofs.Refusing.{fiveNumbers, request-told}
+use Rattle.request.specs.declared.read.Fix.{Fix}
+use Rattle.slip.specs.{Hour.{Hour, named, nameOf, plainly, known, localIn, shown, hourIn, blamed, ofMatch, hourOf, hoursFrom}, Line.{lineOf}, Says.{from, isAtNumber, isSlipNumber}}
+use Rattle.slip.specs.Slip.{placeOf, onGlobe, haveOffset, agreed, fitted, slipAt, slipOf}
+use Rattle.table.specs.declared.{hits.Hit.{Hit}, location.Location.{Location}}
+use Rattle.tzif.specs.{Header.{rfc9636}, Local.{lent}, Text.{slice}, declared.local.Answer.{Answer}}
+use Rattle.tzif.specs.declared.local.Answer.the-variants as A
+use Rattle.tzif.specs.Reply as Z
+use Rattle.zones.proofs.NumberedLookup.{lookupNumbers, Known, then-with, described-at, lookup-refusals}
+use Rattle.zones.specs.{Lookup.{zonesWith, zonesIn, lookedUp}, declared.lookup.Zones.{Zones}}
+use Rattle.zones.specs.Lent as L
+
+-- ---- lists of numbers
+-- every number of a list passes a test
+abbrev all : (ℕ → Bool) → List ℕ → Bool
+all test [] = true
+all test (m ∷ ms) = test m && all test ms
+
+listed-so : (test : ℕ → Bool) (ms : List ℕ) (n : ℕ) → all test ms ≡ true → Listed ms n → test n ≡ true
+listed-so test [] n a h = differ h
+listed-so test (m ∷ ms) n a h = go (eqb n m) refl h (listed-so test ms n (both (test m) (all test ms) a .1))
+  where
+    go : (t : Bool) → eqb n m ≡ t → (t || oneOf ms n) ≡ true → (Listed ms n → test n ≡ true) → test n ≡ true
+    go true e h later = ap test (eqb-true n m e) ∙ both (test m) (all test ms) a .0
+    go false e h later = later h
+
+-- by each refusal that it can be
+by-refusal : {A : Type 0} {P : ℕ → Type 0} (reply : Reply A) → ((why : Refusal) → refused why ≡ reply → P (why .number)) → NumberedReply P reply
+by-refusal (given a) k = answers
+by-refusal (refused why) k = refuses (k why refl)
+
+wider : {A : Type 0} {P Q : ℕ → Type 0} {reply : Reply A} → ((n : ℕ) → P n → Q n) → NumberedReply P reply → NumberedReply Q reply
+wider k answers = answers
+wider k (refuses {why} h) = refuses (k (why .number) h)
+
+-- ---- at a fix
+abbrev Mine : ℕ → Type 0
+Mine n = isAtNumber n ≡ true
+
+abbrev Told : {A : Type 0} → Reply A → Type 0
+Told reply = NumberedReply Mine reply
+
+lookup-mine : (n : ℕ) → Listed lookupNumbers n → Mine n
+unfolding isAtNumber
+lookup-mine n h = listed-so isAtNumber lookupNumbers n refl h
+
+-- opening and looking up: their refusals are those of the lookup
+module _ (map : List ℕ) (place : Location) (n room : ℕ) where
+  abbrev looked : Reply Head → Reply Zones
+  looked opened = L.repliedOf n room (opened >>= λ head. zonesWith map head place false n room) .reply
+
+  head-told : Told (headOf map)
+  unfolding lookedUp zonesIn L.repliedOf
+  head-told = by-refusal (headOf map) (λ why e. lookup-mine (why .number) (lookup-refusals map place false n room why (sym (ap looked e))))
+
+  zones-told : (head : Head) → headOf map ≡ given head → Told (zonesWith map head place false n room)
+  unfolding lookedUp zonesIn L.repliedOf
+  zones-told head o =
+      by-refusal (zonesWith map head place false n room)
+      (λ why e. lookup-mine (why .number) (lookup-refusals map place false n room why
+      (ap looked o ∙ ap (λ x. L.repliedOf n room x .reply) (sym e))))
+
+name-told : (map : List ℕ) (head : Head) (metadata : ℕ) → headOf map ≡ given head → Told (nameOf map head metadata)
+unfolding nameOf isAtNumber named
+name-told map head metadata o =
+    and-then (demands (eqb (head .preamble .kind) 0x54) (plain 87) refl)
+    (then-reply (wider (λ n h. lookup-mine n (subst (λ (s : Bool). Known s n) (head-strict false map o) h)) (described-at map head metadata)) named-told)
+  where
+    named-told : (name : Option (List ℕ)) → Told (named name)
+    named-told none = refuses refl
+    named-told (some name) = answers
+
+local-told : (file : List ℕ) (instant : ℤ) → Told (localIn file instant)
+unfolding localIn isAtNumber plainly localTimeBy lent known
+local-told file instant =
+    and-then (demands (not (eqb (scaleAt file instant .kind) 2)) (plain 91) refl) (then-reply (go (answerAt rfc9636 file instant) refl) known-told)
+  where
+    go : (reply : Z.Reply Answer) → answerAt rfc9636 file instant ≡ reply → Told (plainly reply)
+    go (Z.given a) e = answers
+    go (Z.refused why) e = refuses (listed-so isAtNumber footerNumbers (why .number) refl (local-time-refusals file instant 0 why (ap (λ (x : Z.Reply Answer). lent file 0 x .reply) e)))
+
+    known-told : (answer : Answer) → Told (known answer)
+    known-told (A.Found found) = answers
+    known-told A.Unknown = refuses refl
+
+shown-told : (civil : Civil) → Told (shown civil)
+unfolding shown isAtNumber
+shown-told (C.Shown reading) = answers
+shown-told C.Outside = refuses refl
+
+hour-told : (zones : List ℕ) (instant : ℤ) (name : List ℕ) → Told (hourIn zones instant name)
+unfolding hourIn isAtNumber
+hour-told zones instant name =
+    then-reply (by-refusal (findOf zones name) (λ why e. listed-so isAtNumber (88 ∷ 89 ∷ []) (why .number) refl (found-refusals zones name e)))
+    (λ file. then-reply (local-told (slice zones (file .start) (file .length)) instant) (λ found. then-reply (shown-told (civilAt instant (found .offset))) (λ reading. answers)))
+
+match-told : {A : Type 0} (number : ℕ) {reply : Reply A} → Told reply → Told (ofMatch number reply)
+unfolding ofMatch blamed
+match-told number answers = answers
+match-told number (refuses h) = refuses h
+
+hours-told : (map : List ℕ) (head : Head) (zones : List ℕ) (instant : ℤ) (number : ℕ) (matches : List Hit) → headOf map ≡ given head → Told (hoursFrom map head zones instant number matches)
+unfolding hoursFrom hourOf
+hours-told map head zones instant number [] o = answers
+hours-told map head zones instant number (match ∷ matches) o =
+    then-reply (then-reply (name-told map head (match .metadata) o) (λ name. match-told number (hour-told zones instant name)))
+    (λ hour. then-reply (hours-told map head zones instant (number + 1) matches o) (λ hours. answers))
+
+agreed-told : (hours : List Hour) → Told (agreed hours)
+unfolding agreed isAtNumber
+agreed-told [] = refuses refl
+agreed-told (hour ∷ hours) = and-then (demands (haveOffset (hour .offset) (hour ∷ hours)) (plain 92) refl) answers
+
+fitted-told : (size : ℕ) (line : List ℕ) → Told (fitted size line)
+unfolding fitted isAtNumber
+fitted-told size line = and-then (demands (leb (length line) size) (refusal 18 0 (min (length line) far)) refl) answers
+
+pub slip-at-told : (fix : Fix) (map zones : List ℕ) (n room size : ℕ) → Told (slipAt fix map zones n room size)
+unfolding slipAt isAtNumber
+slip-at-told fix map zones n room size =
+    and-then (demands (onGlobe fix) (plain 84) refl)
+    (then-with (head-told map (placeOf fix) n room)
+    (λ head o. then-reply (zones-told map (placeOf fix) n room head o)
+    (λ looked. and-then (demands (eqb (looked .answer .mark) 1) (refusal 85 0 (looked .answer .mark)) refl)
+    (then-reply (hours-told map head zones (fix .instant) 1 (looked .matches) o)
+    (λ hours. then-reply (agreed-told hours) (λ hour. then-reply (fitted-told size (lineOf hour hours)) (λ line. answers)))))))
+
+-- ---- of a request
+at-slip : (n : ℕ) → isAtNumber n ≡ true → isSlipNumber n ≡ true
+unfolding isAtNumber isSlipNumber
+at-slip n h = go (from 1 18 n) (from 40 61 n) (from 84 92 n) refl h
+  where
+    late : from 84 92 n ≡ true → from 80 92 n ≡ true
+    late e = let b = both (leb 84 n) (leb n 92) e in ap (λ (t : Bool). t && leb n 92) (le-leb 80 n (omega (arith, leb-true 84 n (b .0)))) ∙ b .1
+
+    go : (a b c : Bool) → from 84 92 n ≡ c → (a || b || c) ≡ true → (a || b || from 80 92 n) ≡ true
+    go true b c e h = refl
+    go false true c e h = refl
+    go false false true e h = late e
+    go false false false e h = differ h
+
+pub slip-told : (request map zones : List ℕ) (n room size : ℕ) → NumberedReply (λ (n : ℕ). isSlipNumber n ≡ true) (slipOf request map zones n room size)
+unfolding slipOf isSlipNumber
+slip-told request map zones n room size =
+    then-reply (wider (λ n h. listed-so isSlipNumber fiveNumbers n refl h) (request-told request)) (λ fix. wider at-slip (slip-at-told fix map zones n room size))

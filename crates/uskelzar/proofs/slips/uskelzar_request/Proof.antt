@@ -1,0 +1,13 @@
+-- `uskelzar::slips::uskelzar_request` meets its contract. Assumes nothing.
+use borrow.Author.Needs.{needs}
+use mathlib.Core.Path.{ap, _∙_}
+use Rattle.uskelzar.proofs.Saying.{beside}
+use Rattle.uskelzar.specs.Slips.{fixValues, replySpoken}
+use Rattle.uskelzar.proofs.slips.uskelzar_request.Statement.{statement}
+use Rattle.uskelzar.proofs.slips.uskelzar_request.Tie as tie
+
+returns : tie.Need-returns
+returns c = beside _ (c .speak .ensures) (c .before .before .say-asked .ensures) ∙ ap (replySpoken fixValues) (c .before .before .before .read-request .ensures)
+
+pub uskelzar-request-spec : {M : Type 1} → statement M
+uskelzar-request-spec = tie.close (tie.spec (λ c κs. search needs) (λ c κs. search needs) (λ c κs. search needs) returns)

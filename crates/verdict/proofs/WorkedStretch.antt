@@ -1,0 +1,40 @@
+-- A stretch north of a location, worked; and that the bound on the winding is needed.
+use native.Mathlib.Omega.{arith}
+use mathlib.Core.{Path.{_≡_, refl}, Bool.{true, false}}
+use lib.IntN.{pos, negsuc}
+use Rattle.border.specs.{Place.{pointAt}, Trace.{Trace, point, closed}, Box.{Box}, declared.place.Point.{Point}}
+use Rattle.verdict.specs.{Step.{checked}, Edge.{samePoint, straight, between, inBox, quadrantOf}, Winding.{turned, quarterBy, clearOf, woundBy}, Distance.{measured}}
+use Rattle.verdict.specs.{Verdict.{reached, refused, after, along, passing, closedAt, thenOn, judge}, Stretch.{Stretch, stays, leads}, declared.step.Verdict.the-variants.{OnBorderSegment}}
+use Rattle.verdict.proofs.{OutsideBox.{tallied}, Stretch.{stretch-is-edge}}
+
+abbrev here : Point
+here = pointAt (pos 0) (pos 0)
+
+-- from the north-east through three points to the north-west
+abbrev north-east : Point
+north-east = pointAt (pos 4) (pos 4)
+
+abbrev north-west : Point
+north-west = pointAt (pos 4) (negsuc 3)
+
+abbrev north-box : Box
+north-box = record { low = pointAt (pos 3) (negsuc 3); high = pointAt (pos 9) (pos 4) }
+
+abbrev westward : Trace
+westward = point (pointAt (pos 9) (pos 2)) (point (pointAt (pos 3) (negsuc 1)) (point (pointAt (pos 5) (pos 1)) (point north-west closed)))
+
+in-the-north : Stretch north-box north-east westward north-west closed
+in-the-north = leads refl (leads refl (leads refl (leads refl stays)))
+
+-- by four edges as by one
+pub turned-once : judge here false (after north-east) (tallied (pos 3) 7) westward ≡ judge here false (after north-east) (tallied (pos 3) 7) (point north-west closed)
+turned-once = stretch-is-edge here north-box (tallied (pos 3) 7) refl refl in-the-north (omega arith)
+
+-- With no room for one more quarter turn a stretch that turns on and back is refused, and its one edge is not.
+pub no-room : judge here false (after north-east) (tallied (pos 2147483647) 7) (point north-west (point (pointAt (pos 5) (pos 3)) closed)) ≡ refused 13
+unfolding judge thenOn passing along measured samePoint woundBy quadrantOf quarterBy turned checked clearOf straight between inBox
+no-room = refl
+
+pub no-turn : judge here false (after north-east) (tallied (pos 2147483647) 7) (point (pointAt (pos 5) (pos 3)) closed) ≡ reached OnBorderSegment 7
+unfolding judge thenOn passing along measured samePoint woundBy quadrantOf quarterBy turned checked clearOf straight between inBox closedAt
+no-turn = refl
