@@ -1,7 +1,7 @@
 /* uskelzar.h: which zone holds a fix, by a PLB border file; a writer of borders, a builder of files, and one that holds yards which may still change; salvage of a damaged file;
  * local time, by a TZif file; dates; and the slip: from a receiver's sentence, a map and the zones' files to the line that is printed.
  *
- * For libuskelzar.a, which has what a printer calls (opening, lookups, also through an atlas, local and civil time, the slip and what it reads by), and liboffice.a, which has the rest: link the
+ * For libuskelzar.a, which has what a printer calls (opening, lookups without an index or an atlas, local and civil time, the slip and what it reads by), and liboffice.a, which has the rest: link the
  * first, or both. What their functions answer, write and touch, and that they end, is proved for every input; of the calls of
  * a builder what they answer and write is proved for a state, lists and notes as its calls have left them, and for numbers
  * that do not fit the lists, and for all others what they touch, and that they end. What the archives call is seen to by a
