@@ -640,6 +640,12 @@ struct uskelzar_index {
     size_t index_length;
 };
 
+/* Its atlas: the words that uskelzar_build_atlas gave. */
+struct uskelzar_atlas {
+    const uint32_t *atlas;
+    size_t atlas_length;
+};
+
 /* Many fixes: fix i is lats[i], lons[i]. */
 struct uskelzar_fixes {
     const float *lats;
@@ -689,6 +695,15 @@ static inline uint8_t uskelzar_file_lookup_through(const struct uskelzar_file *m
 {
     return uskelzar_lookup_through(map->file, map->file_length, index->index, index->index_length, lat, lon, asked, found->hits,
                                    found->hits_length, found->text, found->text_length, reply);
+}
+
+/* uskelzar_lookup_atlas: the zones that hold a fix, through an atlas that is not looked at first. */
+static inline uint8_t uskelzar_file_lookup_atlas(const struct uskelzar_file *map, const struct uskelzar_atlas *atlas, float lat,
+                                                 float lon, bool asked, const struct uskelzar_matches *found,
+                                                 uint64_t reply[USKELZAR_REPLY_WORDS])
+{
+    return uskelzar_lookup_atlas(map->file, map->file_length, atlas->atlas, atlas->atlas_length, lat, lon, asked, found->hits,
+                                 found->hits_length, found->text, found->text_length, reply);
 }
 
 /* uskelzar_lookup_indexed: the same, after a comparison. */
