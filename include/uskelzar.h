@@ -1,7 +1,7 @@
 /* uskelzar.h: which zone holds a fix, by a PLB border file; a writer of borders, a builder of files, and one that holds yards which may still change; salvage of a damaged file;
  * local time, by a TZif file; dates; and the slip: from a receiver's sentence, a map and the zones' files to the line that is printed.
  *
- * For libuskelzar.a, which has what a printer calls (opening, lookups, also through an atlas, local and civil time, the slip and what it reads by), and liboffice.a, which has the rest: link the
+ * For libuskelzar.a, which has what a printer calls (opening, lookups without an index or an atlas, local and civil time, the slip and what it reads by), and liboffice.a, which has the rest: link the
  * first, or both. What their functions answer, write and touch, and that they end, is proved for every input; of the calls of
  * a builder what they answer and write is proved for a state, lists and notes as its calls have left them, and for numbers
  * that do not fit the lists, and for all others what they touch, and that they end. What the archives call is seen to by a
@@ -640,6 +640,12 @@ struct uskelzar_index {
     size_t index_length;
 };
 
+/* Its atlas: the words that uskelzar_build_atlas gave. */
+struct uskelzar_atlas {
+    const uint32_t *atlas;
+    size_t atlas_length;
+};
+
 /* Many fixes: fix i is lats[i], lons[i]. */
 struct uskelzar_fixes {
     const float *lats;
@@ -689,6 +695,15 @@ static inline uint8_t uskelzar_file_lookup_through(const struct uskelzar_file *m
 {
     return uskelzar_lookup_through(map->file, map->file_length, index->index, index->index_length, lat, lon, asked, found->hits,
                                    found->hits_length, found->text, found->text_length, reply);
+}
+
+/* uskelzar_lookup_atlas: the zones that hold a fix, through an atlas that is not looked at first. */
+static inline uint8_t uskelzar_file_lookup_atlas(const struct uskelzar_file *map, const struct uskelzar_atlas *atlas, float lat,
+                                                 float lon, bool asked, const struct uskelzar_matches *found,
+                                                 uint64_t reply[USKELZAR_REPLY_WORDS])
+{
+    return uskelzar_lookup_atlas(map->file, map->file_length, atlas->atlas, atlas->atlas_length, lat, lon, asked, found->hits,
+                                 found->hits_length, found->text, found->text_length, reply);
 }
 
 /* uskelzar_lookup_indexed: the same, after a comparison. */

@@ -2,7 +2,6 @@
 // Each returns 0 where it answers, with the answer's values in `reply`, or a refusal's number, with its cause and detail there.
 pub mod civil;
 pub mod many;
-pub mod marked;
 pub mod slips;
 
 ghost use mathlib.Core.{Path.{_≡_}, List.{[], _∷_}};
