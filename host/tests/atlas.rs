@@ -56,7 +56,7 @@ fn through_it_in_every_room() {
                 for hits in 0..=MOST {
                     for bytes in 0..=MOST {
                         let plain = lent.lookup(file, fix(asked), hits, bytes, edge);
-                        assert_eq!(lent.lookup_atlas((file, kept), fix(asked), hits, bytes, edge), plain);
+                        assert_eq!(lent.lookup_by(raw::lookup_atlas, (file, kept), fix(asked), hits, bytes, edge), plain);
                     }
                 }
             }
@@ -78,7 +78,7 @@ fn every_word_changed() {
                     assert_eq!(raw::is_atlas(&file, &atlas).unwrap_err().number, Number::OtherIndex);
                 }
                 for edge in EDGES {
-                    let got = lent.lookup_atlas((&file, &atlas), fix(false), MOST, 512, edge);
+                    let got = lent.lookup_by(raw::lookup_atlas, (&file, &atlas), fix(false), MOST, 512, edge);
                     got.assert_zero_behind(|reply| reply[3]);
                     assert!(at > 1 || got.number() == Number::OtherIndex as u8);
                 }
@@ -148,7 +148,7 @@ fn every_city_as_by_the_plain_lookup() {
         let lon: f32 = words.next().unwrap().parse().unwrap();
         let asked = count % 2 == 0;
         let fix = || Fix { lat, lon, asked };
-        assert_eq!(lent.lookup_atlas((&file, &atlas), fix(), MOST, 512, EDGES[0]), lent.lookup(&file, fix(), MOST, 512, EDGES[0]), "{line}");
+        assert_eq!(lent.lookup_by(raw::lookup_atlas, (&file, &atlas), fix(), MOST, 512, EDGES[0]), lent.lookup(&file, fix(), MOST, 512, EDGES[0]), "{line}");
         count += 1;
     }
     println!("{count} cities, {} words of atlas", atlas.len());

@@ -59,8 +59,8 @@ fn through_it_in_every_room() {
             for hits in 0..=MOST {
                 for bytes in 0..=MOST {
                     let plain = lent.lookup(file, fix(), hits, bytes, edge);
-                    assert_eq!(lent.lookup_indexed((file, kept), fix(), hits, bytes, edge), plain);
-                    assert_eq!(lent.lookup_through((file, kept), fix(), hits, bytes, edge), plain);
+                    assert_eq!(lent.lookup_by(raw::lookup_indexed, (file, kept), fix(), hits, bytes, edge), plain);
+                    assert_eq!(lent.lookup_by(raw::lookup_through, (file, kept), fix(), hits, bytes, edge), plain);
                 }
             }
         }
@@ -79,9 +79,9 @@ fn every_word_changed() {
             index[at] ^= change;
             assert_eq!(raw::is_index(&file, &index).unwrap_err().number, Number::OtherIndex);
             for edge in EDGES {
-                let got = lent.lookup_indexed((&file, &index), fix(), MOST, 512, edge);
+                let got = lent.lookup_by(raw::lookup_indexed, (&file, &index), fix(), MOST, 512, edge);
                 got.assert_zero_behind(|reply| reply[3]);
-                let through = lent.lookup_through((&file, &index), fix(), MOST, 512, edge);
+                let through = lent.lookup_by(raw::lookup_through, (&file, &index), fix(), MOST, 512, edge);
                 through.assert_zero_behind(|reply| reply[3]);
                 assert!(at > 1 || got.number() == Number::OtherIndex as u8);
             }

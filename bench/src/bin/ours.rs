@@ -16,52 +16,40 @@ mod library;
 #[link(name = "office", kind = "static")]
 extern "C" {}
 
-/// Builds an index and answers the words used.
-fn build_index(file: &[u8], index: &mut [u32]) -> usize {
-    let mut reply = [0; 5];
-    let refusal = library::uskelzar_build_index(file, index, &mut reply);
-    assert_eq!(refusal, 0, "no index");
-    reply[0] as usize
+/// What builds words beside a file, and what says that they go with it.
+#[derive(Clone, Copy)]
+struct Beside {
+    build: fn(&[u8], &mut [u32], &mut [u64; 5]) -> u8,
+    goes: fn(&[u8], &[u32], &mut [u64; 5]) -> u8,
 }
 
-/// An index in no more words than it takes, held against its file.
-fn index_of(file: &[u8]) -> Vec<u32> {
-    let mut index = vec![0; 1 << 24];
-    let used = build_index(file, &mut index);
-    index.truncate(used);
-    let refusal = library::uskelzar_index_tied(file, &index, &mut [0; 5]);
-    assert_eq!(refusal, 0, "the index does not go with its file");
-    index
-}
+const INDEX: Beside = Beside { build: library::uskelzar_build_index, goes: library::uskelzar_index_tied };
+const ATLAS: Beside = Beside { build: library::uskelzar_build_atlas, goes: library::uskelzar_is_atlas };
 
-/// Builds an atlas and answers the words used.
-fn build_atlas(file: &[u8], atlas: &mut [u32]) -> usize {
-    let mut reply = [0; 5];
-    let refusal = library::uskelzar_build_atlas(file, atlas, &mut reply);
-    assert_eq!(refusal, 0, "no atlas");
-    reply[0] as usize
-}
+impl Beside {
+    /// Builds them and answers how many are used.
+    fn build(self, file: &[u8], words: &mut [u32]) -> usize {
+        let mut reply = [0; 5];
+        assert_eq!((self.build)(file, words, &mut reply), 0, "not built");
+        reply[0] as usize
+    }
 
-/// An atlas in no more words than it takes, held against its file.
-fn atlas_of(file: &[u8]) -> Vec<u32> {
-    let mut atlas = vec![0; 1 << 24];
-    let used = build_atlas(file, &mut atlas);
-    atlas.truncate(used);
-    let refusal = library::uskelzar_is_atlas(file, &atlas, &mut [0; 5]);
-    assert_eq!(refusal, 0, "the atlas is not that of its file");
-    atlas
+    /// No more words than it takes, held against their file.
+    fn of(self, file: &[u8]) -> Vec<u32> {
+        let mut words = vec![0; 1 << 24];
+        let used = self.build(file, &mut words);
+        words.truncate(used);
+        assert_eq!((self.goes)(file, &words, &mut [0; 5]), 0, "the words do not go with their file");
+        words
+    }
 }
 
 /// Builds the index or the atlas so many times, and prints how many words it takes.
 fn run_build(task: &Task, file: &[u8]) {
-    let whole = matches!(task.way, Way::Atlas);
-    let mut words = if whole { atlas_of(file) } else { index_of(file) };
+    let beside = if matches!(task.way, Way::Atlas) { ATLAS } else { INDEX };
+    let mut words = beside.of(file);
     for _ in 0..task.rounds {
-        if whole {
-            build_atlas(file, &mut words);
-        } else {
-            build_index(file, &mut words);
-        }
+        beside.build(file, &mut words);
     }
     println!("{}", words.len());
 }
@@ -192,8 +180,8 @@ fn main() {
         (Question::Build, _) => return run_build(&task, &file),
         (_, Way::Together(size)) => return run_together(&task, &file, size),
         (_, Way::Plain) => vec![],
-        (_, Way::Through | Way::Indexed) => index_of(&file),
-        (_, Way::Atlas) => atlas_of(&file),
+        (_, Way::Through | Way::Indexed) => INDEX.of(&file),
+        (_, Way::Atlas) => ATLAS.of(&file),
     };
     let mut ours = Ours {
         file: &file,

@@ -53,6 +53,9 @@ impl Outcome {
     }
 }
 
+/// A lookup through an index or an atlas, as the crate has it over lent buffers.
+pub type Beside = fn(&[u8], &[u32], (f32, f32, bool), &mut [u32], &mut [u8]) -> Result<Reply, Refusal>;
+
 impl Buffers {
     pub fn new() -> Buffers {
         Buffers {
@@ -113,45 +116,18 @@ impl Buffers {
         })
     }
 
-    /// Through an index, held against the file at each call.
-    pub fn lookup_indexed(
+    /// Through words beside the file, by one of the three functions that do.
+    pub fn lookup_by(
         &mut self,
-        (file, index): (&[u8], &[u32]),
+        looking: Beside,
+        (file, beside): (&[u8], &[u32]),
         fix: Fix,
         words: usize,
         bytes: usize,
         edge: Edge,
     ) -> Outcome {
         self.call(words, bytes, edge, |hits, text| {
-            raw::lookup_indexed(file, index, (fix.lat, fix.lon, fix.asked), hits, text)
-        })
-    }
-
-    /// Through an index, without that.
-    pub fn lookup_through(
-        &mut self,
-        (file, index): (&[u8], &[u32]),
-        fix: Fix,
-        words: usize,
-        bytes: usize,
-        edge: Edge,
-    ) -> Outcome {
-        self.call(words, bytes, edge, |hits, text| {
-            raw::lookup_through(file, index, (fix.lat, fix.lon, fix.asked), hits, text)
-        })
-    }
-
-    /// Through an atlas.
-    pub fn lookup_atlas(
-        &mut self,
-        (file, atlas): (&[u8], &[u32]),
-        fix: Fix,
-        words: usize,
-        bytes: usize,
-        edge: Edge,
-    ) -> Outcome {
-        self.call(words, bytes, edge, |hits, text| {
-            raw::lookup_atlas(file, atlas, (fix.lat, fix.lon, fix.asked), hits, text)
+            looking(file, beside, (fix.lat, fix.lon, fix.asked), hits, text)
         })
     }
 
