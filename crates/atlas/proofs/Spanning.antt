@@ -2,30 +2,35 @@
 use Prim.Native.Nat.{ℕ, zero, suc, _+_, _-_, _≤_, _<_}
 use native.Mathlib.Omega.{arith}
 use mathlib.Core.{Path.{_≡_, refl, sym, ap, _∙_}, List.{List, [], _∷_}}
-use types.Run.{OneOf}
+use types.Run.{OneOf, miss}
 use denote.Enum.Declared.{tagOf}
 use Rattle.border.specs.{Box.{Box, grown}, Trace.{reaches, nextPoint}, declared.reader.{Reader.{Reader}, Next.{Next}, Encoding.{Encoding}}}
-use Rattle.marks.{specs.Marks.{nextOr, Span, spanned, spanOver, spanFrom, stretchEdges}, proofs.judge.Turns.{none-next}}
+use Rattle.marks.specs.Marks.{nextOr, Span, spanned, spanOver, spanFrom}
 use Rattle.border.specs.inner.Told as R
 use Rattle.numbers.specs.Answer as A
+use Rattle.border.specs.declared.reader.Next.the-variants as N
 use Rattle.border.proofs.reader.Next as Next'
 
-many : 0 + stretchEdges ≡ 128
-unfolding stretchEdges
-many = refl
+-- what a `let .. else` on the next point leaves
+pub none-next : {A : Type 0} (next : Next) (none : A) (go : Reader → A) → OneOf (1 ∷ 2 ∷ 3 ∷ []) (tagOf Next'.the-type next) → nextOr (R.told next) none go ≡ none
+unfolding nextOr
+none-next (N.Point s) none go o = absurd (miss (1 ∷ 2 ∷ 3 ∷ []) 0 tt o)
+none-next N.Ended none go o = refl
+none-next N.Failed none go o = refl
+none-next (N.Refused n) none go o = refl
 
-module _ (file : List ℕ) (encoding : Encoding) (start : Reader) where
+module _ (edges : ℕ) (file : List ℕ) (encoding : Encoding) (start : Reader) where
   abbrev all : Span
-  all = spanFrom stretchEdges file encoding start
+  all = spanFrom edges file encoding start
 
   -- after so many edges, with this box: the rest leads to where the whole stretch leads
   pub record Spanning (box : Box) (reader : Reader) (n : ℕ) : Type 0 where
     pub left : ℕ
-    pub sum : n + left ≡ 128
+    pub sum : n + left ≡ edges
     pub same : spanOver left file encoding reader box ≡ all
 
   pub spanning-starts : Spanning (record { low = start .point; high = start .point }) start 0
-  spanning-starts = record { left = stretchEdges; sum = many; same = refl }
+  spanning-starts = record { left = edges; sum = omega arith; same = refl }
 
   module _ {box : Box} {reader : Reader} {n : ℕ} (s : Spanning box reader n) where
     no-fuel : (left : ℕ) → left ≡ 0 → spanOver left file encoding reader box ≡ all → spanned box reader ≡ all
@@ -33,10 +38,10 @@ module _ (file : List ℕ) (encoding : Encoding) (start : Reader) where
     no-fuel zero e same = same
     no-fuel (suc k) e same = absurd (omega (arith, e))
 
-    pub spanning-full : 128 ≤ n → spanned box reader ≡ all
+    pub spanning-full : edges ≤ n → spanned box reader ≡ all
     spanning-full h = no-fuel (s .left) (omega (arith, h, s .sum)) (s .same)
 
-    module _ (more : n < 128) where
+    module _ (more : n < edges) where
       abbrev fuel : ℕ
       fuel = s .left - 1
 

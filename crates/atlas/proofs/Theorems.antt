@@ -5,8 +5,8 @@ use lib.{Dec.{ltb, leb}, ListN.{length, length-append, length-replicate}}
 use mathlib.Core.{Bool.{Bool, true, false}, List.{List, [], _∷_, _++_}, Path.{_≡_, refl, sym, ap, _∙_}}
 use native.Mathlib.Omega.{arith}
 use Rattle.header.{proofs.Numbered.{headerNumbers, head-numbered}, specs.{Header.{headOf}, declared.header.Head.{Head}}}
-use Rattle.index.proofs.Refusing.{buildingNumbers, table-numbered, replied-numbered, no-words}
-use Rattle.index.specs.{Index.{hasRoom, indexed}, Table.{bottom, tableOf}}
+use Rattle.index.proofs.{Refusing.{buildingNumbers, table-numbered, replied-numbered, no-words}, Same.{same-built, same-tie}}
+use Rattle.index.specs.{Index.{hasRoom, indexed, toldBuilt}, Table.{bottom, tableOf}, Tied.{toldTied}, declared.{build.Built.{Built}, tied.Tied.{Tied}}}
 use Rattle.numbers.proofs.{Refusals.{Listed, still-listed}, Replies.{NumberedReply, answers, then-reply, and-then, demands, number-of}, Tests.{both, differ}}
 use Rattle.numbers.specs.{Lists.{zeros}, Reply.{Reply, given, refused, plain, demand, _>>=_}, declared.refusal.Refusal.{Refusal}}
 use Rattle.table.specs.{Find.{isPrecision}, Rows.{rowsIn}, declared.location.Location.{Location}}
@@ -79,3 +79,17 @@ module _ (file words : List ℕ) (location : Location) (asked : Bool) (n room : 
   pub atlas-safe : (r r′ : Looked) (hs hs′ ts ts′ : List ℕ) → replied (toldLooked r) hs ts ≡ lookedAtlas file words location asked n room
       → replied (toldLooked r′) hs′ ts′ ≡ lookedAtlas file words location asked n room → (r ≡ r′) × (hs ≡ hs′) × (ts ≡ ts′)
   atlas-safe = same-looked {promised = lookedAtlas file words location asked n room}
+
+-- ---- what the promises fix
+-- Two replies that a promise permits are equal, with all lent output: of `lookup_atlas`,
+pub same-atlas : (file words : List ℕ) (location : Location) (asked : Bool) (n room : ℕ) (r r′ : Looked) (hs hs′ ts ts′ : List ℕ) → replied (toldLooked r) hs ts ≡ lookedAtlas file words location asked n room
+    → replied (toldLooked r′) hs′ ts′ ≡ lookedAtlas file words location asked n room → (r ≡ r′) × (hs ≡ hs′) × (ts ≡ ts′)
+same-atlas = atlas-safe
+
+-- of `build_atlas`,
+pub same-atlas-built : (file : List ℕ) (n : ℕ) (r r′ : Built) (ws ws′ : List ℕ) → indexed (toldBuilt r) ws ≡ atlasMade file n → indexed (toldBuilt r′) ws′ ≡ atlasMade file n → (r ≡ r′) × (ws ≡ ws′)
+same-atlas-built file n = same-built {promised = atlasMade file n}
+
+-- and of `is_atlas`.
+pub same-atlas-held : (file words : List ℕ) (r r′ : Tied) → toldTied r ≡ isAtlasOf file words → toldTied r′ ≡ isAtlasOf file words → r ≡ r′
+same-atlas-held file words = same-tie {promised = isAtlasOf file words}

@@ -10,7 +10,7 @@ use Rattle.border.specs.declared.{place.{FixedLat.{FixedLat}, FixedLon.{FixedLo
 use Rattle.border.proofs.Trace.{point-trace}
 use Rattle.verdict.specs.{Step.{Step, meets}, Edge.{samePoint}, Verdict.{Judgement, none, after, along, passing, thenOn, judge, judgedAt}}
 use Rattle.verdict.specs.declared.step.{Tally.{Tally}, Verdict.the-variants.{OnBorderVertex}}
-use Rattle.marks.specs.Marks.{nextOr, spanFrom, markOf, marksFrom, isNarrow, edgesFrom, stretchEdges, stretchesOf, fewEdges, mostPoints, stretchesFrom, stretchesIn, counted, marksAt}
+use Rattle.marks.specs.Marks.{nextOr, spanFrom, markOf, marksFrom, isNarrow, edgesFrom, stretchEdges, stretchesOf, groupEdges, groupsOf, fewEdges, mostPoints, stretchesFrom, stretchesIn, levelsFrom, counted, marksAt}
 use Rattle.marks.specs.{Judging.{stretchesBy, isInside, judgedBy}, Words.{wordAt, startIn}}
 use Rattle.marks.proofs.{Marked.{marked-so, marked-judge}, ReadBack.{At, at-left, at-right, start-back}, Rounds.{Round, counts}, Stretches.{then-same, states-judge}}
 use Rattle.numbers.specs.Answer as A
@@ -34,7 +34,7 @@ some-edges : 0 < stretchEdges
 unfolding stretchEdges
 some-edges = omega arith
 
-marks-length : (edges more : ℕ) (file : List ℕ) (encoding : Encoding) (s : Reader) → length (marksFrom edges more file encoding s) ≡ more * 11
+pub marks-length : (edges more : ℕ) (file : List ℕ) (encoding : Encoding) (s : Reader) → length (marksFrom edges more file encoding s) ≡ more * 11
 unfolding marksFrom
 marks-length edges zero file encoding s = sym (zero-mul 11)
 marks-length edges (suc more) file encoding s =
@@ -66,18 +66,21 @@ module _ (file : List ℕ) (encoding : Encoding) (border : ℕ) (words : List �
     abbrev marks : List ℕ
     marks = marksFrom stretchEdges (stretchesOf m) file encoding s
 
-    module _ (here : At words at (stretchesOf m ∷ marks)) (fits : at + suc (length marks) ≤ length words) where
+    abbrev groups : List ℕ
+    groups = marksFrom groupEdges (groupsOf (stretchesOf m)) file encoding s
+
+    module _ (here : At words at (stretchesOf m ∷ (marks ++ groups))) (fits : at + suc (length (marks ++ groups)) ≤ length words) where
       first-word : wordAt words at ≡ stretchesOf m
       first-word = let e : at ≡ at + 0 = omega arith in ap (λ (k : ℕ). wordAt words k) e ∙ here 0 (omega arith)
 
       later : At words (at + 1) marks
-      later = at-right words at (stretchesOf m ∷ []) marks here
+      later = at-left words (at + 1) marks groups (at-right words at (stretchesOf m ∷ []) (marks ++ groups) here)
 
       inside : isInside words at ≡ true
       inside =
           let long = marks-length stretchEdges (stretchesOf m) file encoding s in
           let more : at < length words = omega (arith, fits) in
-          let few : stretchesOf m ≤ (length words - (at + 1)) / 11 = omega (arith, fits, long) in
+          let few : stretchesOf m ≤ (length words - (at + 1)) / 11 = omega (arith, fits, long, length-append marks groups) in
           rw (first-word, lt-ltb at (length words) more, lt-ltb 0 (stretchesOf m) (n .count), le-leb (stretchesOf m) ((length words - (at + 1)) / 11) few)
 
       own-narrow : isNarrow (s .point) ≡ true
@@ -128,23 +131,23 @@ module _ (file : List ℕ) (encoding : Encoding) (border : ℕ) (words : List �
   Goal marks = 0 < length marks → At words at marks → at + length marks ≤ length words → judgedBy file encoding words at lat lon least ≡ judgedAt file encoding border lat lon false least
 
   module _ (s : Reader) (is : nextPoint file encoding (borderAt border) ≡ found (reaches s)) where
-    by-count : (a : Answer ℕ) → edgesFrom mostPoints file encoding (s .point) s 0 ≡ a → Goal (counted (stretchesFrom a) (marksFrom stretchEdges (stretchesFrom a) file encoding s))
+    by-count : (a : Answer ℕ) → edgesFrom mostPoints file encoding (s .point) s 0 ≡ a → Goal (counted (stretchesFrom a) (levelsFrom (stretchesFrom a) file encoding s))
     unfolding stretchesFrom
     by-count (found m) e = by-test (ltb fewEdges m) refl
       where
-        by-test : (b : Bool) → ltb fewEdges m ≡ b → Goal (counted (if b then stretchesOf m else 0) (marksFrom stretchEdges (if b then stretchesOf m else 0) file encoding s))
+        by-test : (b : Bool) → ltb fewEdges m ≡ b → Goal (counted (if b then stretchesOf m else 0) (levelsFrom (if b then stretchesOf m else 0) file encoding s))
         by-test true g some here fits =
             let c = counts file encoding (s .point) mostPoints s 0 m e in
             let same : c .edges ≡ m = omega (arith, c .sum) in
             let n = numbers m (subst (λ (k : ℕ). k < mostPoints) same (c .few)) g in
-            let list = counted-some (stretchesOf m) (marksFrom stretchEdges (stretchesOf m) file encoding s) (n .count) in
+            let list = counted-some (stretchesOf m) (levelsFrom (stretchesOf m) file encoding s) (n .count) in
             by-marks s is m n (subst (Round file encoding (s .point) s) same (c .round)) (subst (At words at) list here) (subst (λ (xs : List ℕ). at + length xs ≤ length words) list fits)
-        by-test false g some here fits = counted-none (marksFrom stretchEdges 0 file encoding s) some
-    by-count A.failed e = λ some here fits. counted-none (marksFrom stretchEdges 0 file encoding s) some
-    by-count (A.refused k) e = λ some here fits. counted-none (marksFrom stretchEdges 0 file encoding s) some
+        by-test false g some here fits = counted-none (levelsFrom 0 file encoding s) some
+    by-count A.failed e = λ some here fits. counted-none (levelsFrom 0 file encoding s) some
+    by-count (A.refused k) e = λ some here fits. counted-none (levelsFrom 0 file encoding s) some
 
   by-first : (a : Answer Given) → nextPoint file encoding (borderAt border) ≡ a
-      → Goal (nextOr a [] (λ s. counted (stretchesIn file encoding s) (marksFrom stretchEdges (stretchesIn file encoding s) file encoding s)))
+      → Goal (nextOr a [] (λ s. counted (stretchesIn file encoding s) (levelsFrom (stretchesIn file encoding s) file encoding s)))
   unfolding nextOr
   by-first (found (reaches s)) e = by-count s e (edgesFrom mostPoints file encoding (s .point) s 0) refl
   by-first (found ended) e = λ some here fits. nothing some
