@@ -3,10 +3,9 @@ use Prim.Native.Nat.{ℕ}
 use lib.{Dec.{eqb}, ListN.{length}}
 use mathlib.Core.{Bool.{false}, List.{List}, Path.{_≡_, sym, ap, _∙_}}
 use Rattle.header.specs.Header.{headOf}
-use Rattle.numbers.proofs.Replies.{given-from, demanded}
+use Rattle.numbers.proofs.Replies.{given-from, given-one, demanded}
 use Rattle.numbers.specs.Reply.{given, refusal, plain}
 use Rattle.request.specs.{Request.{requestOf}, declared.read.Fix.{Fix}}
-use Rattle.slip.proofs.Zones.{same-given}
 use Rattle.slip.specs.{Hour.{hoursFrom}, Line.{lineOf}, Slip.{Slip, placeOf, onGlobe, agreed, fitted, slipAt, slipOf}}
 use Rattle.zones.specs.Lookup.{zonesWith}
 
@@ -20,7 +19,7 @@ at-length fix map zones n room size e =
     let hours = given-from (hoursFrom map (head .it) zones (fix .instant) 1 (looked .it .matches)) _ (mark .1) in
     let hour = given-from (agreed (hours .it)) _ (hours .onto) in
     let line = given-from (fitted size (lineOf (hour .it) (hours .it))) _ (hour .onto) in
-    let is = same-given (line .onto) in
+    let is = given-one (line .onto) in
     ap (λ (s : Slip). s .stamped .length) is ∙ sym (ap (λ (s : Slip). length (s .line)) is)
 
 pub slip-length : (request map zones : List ℕ) (n room size : ℕ) {slip : Slip} → given slip ≡ slipOf request map zones n room size → slip .stamped .length ≡ length (slip .line)

@@ -6,10 +6,9 @@ use mathlib.Core.{Bool.{Bool, true, false, not}, List.{List, [], _∷_, _++_}, P
 use native.Mathlib.Omega.{arith}
 use Rattle.header.specs.{Header.{headOf}, declared.header.Head.{Head}}
 use Rattle.line.{proofs.Puts.{put-size, put-whole}, specs.Put.{far}}
-use Rattle.numbers.proofs.{Lists.{zeros-drop}, Replies.{carried, onward, met, unmet, given-from}}
+use Rattle.numbers.proofs.{Lists.{zeros-drop}, Replies.{carried, onward, met, unmet, given-from, given-one}}
 use Rattle.numbers.specs.{Lists.{zeros, padded}, Reply.{Reply, given, refused, refusal, plain, demand, _>>=_, _>>_}, declared.refusal.Refusal.{Refusal}}
 use Rattle.request.specs.{Request.{requestOf}, declared.read.Fix.{Fix}}
-use Rattle.slip.proofs.Zones.{same-given}
 use Rattle.slip.specs.{Hour.{Hour, hourOf, hoursFrom}, Line.{lineOf}, Slip.{Slip, placeOf, onGlobe, haveOffset, agreed, fitted, slipAt, slipOf, Replied, replied, repliedOf, slippedAt, slipped}}
 use Rattle.slip.specs.{Told.{hourAt, Seen, Inked, Ink, inkOf, slipWith, Wrote, Filled}, declared.{hour.Spot.{Spot}, hours.All.{All}, slip.Stamped.{Stamped}}}
 use Rattle.table.{proofs.Agreeing.{agree-given, agree-refused, gave, refused-so}, specs.{inner.Agreeing.{Agrees}, Hits.{words, slots}, declared.hits.Hit.{Hit}}}
@@ -27,11 +26,11 @@ false-of false e = refl
 -- an hour for each match
 pub as-many : (map : List ℕ) (head : Head) (zones : List ℕ) (instant : ℤ) (number : ℕ) (matches : List Hit) {hs : List Hour} → given hs ≡ hoursFrom map head zones instant number matches → length hs ≡ length matches
 unfolding hoursFrom
-as-many map head zones instant number [] e = ap length (same-given e)
+as-many map head zones instant number [] e = ap length (given-one e)
 as-many map head zones instant number (match ∷ matches) {hs} e =
     let hour = given-from (hourOf map head zones instant number match) _ e in
     let rest = given-from (hoursFrom map head zones instant (number + 1) matches) _ (hour .onto) in
-    ap length (same-given (rest .onto)) ∙ ap suc (as-many map head zones instant (number + 1) matches (rest .is))
+    ap length (given-one (rest .onto)) ∙ ap suc (as-many map head zones instant (number + 1) matches (rest .is))
 
 -- ---- steps 5 to 8
 module _ (fix : Fix) (map : List ℕ) (head : Head) (zones : List ℕ) (size : ℕ) (matches : List Hit) where

@@ -46,7 +46,7 @@ use Rattle.zones.specs.{Fields.{fieldsFrom, fieldsOf}, Lent.{Outcome}, Lookup.{
 
 -- ---- what is asked about
 -- $GNRMC,115959.00,A,5231.200000,N,01324.000000,E,0.0,0.0,010726,,,A*41
-abbrev sentence : List ℕ
+abbrev pub sentence : List ℕ
 sentence =
     36 ∷ 71 ∷ 78 ∷ 82 ∷ 77 ∷ 67 ∷ 44 ∷ 49 ∷ 49 ∷ 53 ∷ 57 ∷ 53 ∷ 57 ∷ 46 ∷ 48 ∷ 48 ∷ 44 ∷ 65 ∷ 44 ∷ 53 ∷ 50 ∷ 51 ∷ 49 ∷ 46 ∷ 50 ∷ 48 ∷ 48 ∷ 48 ∷ 48 ∷ 48 ∷ 44 ∷ 78 ∷
     44 ∷ 48 ∷ 49 ∷ 51 ∷ 50 ∷ 52 ∷ 46 ∷ 48 ∷ 48 ∷ 48 ∷ 48 ∷ 48 ∷ 48 ∷ 44 ∷ 69 ∷ 44 ∷ 48 ∷ 46 ∷ 48 ∷ 44 ∷ 48 ∷ 46 ∷ 48 ∷ 44 ∷ 48 ∷ 49 ∷ 48 ∷ 55 ∷ 50 ∷ 54 ∷ 44 ∷ 44 ∷
@@ -68,7 +68,7 @@ unfolding onGlobe within le neg
 placed instant = refl
 
 -- ---- the map: one square, from 58 degrees south to 56 north, whose prefix is `Europe/` and whose id is `Berlin`
-abbrev square : List ℕ
+abbrev pub square : List ℕ
 square =
     80 ∷ 76 ∷ 66 ∷ 84 ∷ 1 ∷ 7 ∷ 2 ∷ 16 ∷ 212 ∷ 233 ∷ 237 ∷ 229 ∷ 250 ∷ 239 ∷ 238 ∷ 229 ∷ 201 ∷ 228 ∷ 208 ∷ 242 ∷ 229 ∷ 230 ∷ 233 ∷ 248 ∷ 10 ∷ 212 ∷ 233 ∷ 237 ∷ 229 ∷ 250 ∷ 239 ∷ 238 ∷
     229 ∷ 201 ∷ 228 ∷ 0 ∷ 6 ∷ 15 ∷ 14 ∷ 81 ∷ 81 ∷ 80 ∷ 80 ∷ 0 ∷ 1 ∷ 7 ∷ 197 ∷ 245 ∷ 242 ∷ 239 ∷ 240 ∷ 229 ∷ 175 ∷ 6 ∷ 194 ∷ 229 ∷ 242 ∷ 236 ∷ 233 ∷ 238 ∷ 0 ∷ 131 ∷ 102 ∷ 128 ∷
@@ -84,7 +84,7 @@ opened = refl
 abbrev match : Hit
 match = hitOf 0 0 1 39
 
-abbrev texts : List ℕ
+abbrev pub texts : List ℕ
 texts = 0 ∷ 0 ∷ 7 ∷ 69 ∷ 117 ∷ 114 ∷ 111 ∷ 112 ∷ 101 ∷ 47 ∷ 1 ∷ 0 ∷ 6 ∷ 66 ∷ 101 ∷ 114 ∷ 108 ∷ 105 ∷ 110 ∷ []
 
 abbrev outcome : Outcome Zones
@@ -103,7 +103,7 @@ unfolding readingOf forwardAt valueOf sizeOf tooLong pickedFrom H.within remoteA
 name-is = refl
 
 -- ---- the zones: a bundle with one file of version 1, whose one type is `CEST`, two hours east
-abbrev berlin : List ℕ
+abbrev pub berlin : List ℕ
 berlin =
     116 ∷ 122 ∷ 100 ∷ 97 ∷ 116 ∷ 97 ∷ 50 ∷ 48 ∷ 50 ∷ 54 ∷ 97 ∷ 0 ∷ 0 ∷ 0 ∷ 0 ∷ 24 ∷ 0 ∷ 0 ∷ 0 ∷ 76 ∷ 0 ∷ 0 ∷ 0 ∷ 131 ∷ 69 ∷ 117 ∷ 114 ∷ 111 ∷ 112 ∷ 101 ∷ 47 ∷ 66 ∷
     101 ∷ 114 ∷ 108 ∷ 105 ∷ 110 ∷ 0 ∷ 0 ∷ 0 ∷ 0 ∷ 0 ∷ 0 ∷ 0 ∷ 0 ∷ 0 ∷ 0 ∷ 0 ∷ 0 ∷ 0 ∷ 0 ∷ 0 ∷ 0 ∷ 0 ∷ 0 ∷ 0 ∷ 0 ∷ 0 ∷ 0 ∷ 0 ∷ 0 ∷ 0 ∷ 0 ∷ 0 ∷
@@ -169,7 +169,7 @@ hour-is : given hour ≡ hourIn berlin (pos 1782907199) name
 hour-is = hour-by berlin name file local reading held local-is shown-so
 
 -- ---- the line: Wed 2026-07-01 13:59:59 +02:00 CEST Europe/Berlin
-abbrev line : List ℕ
+abbrev pub line : List ℕ
 line =
     87 ∷ 101 ∷ 100 ∷ 32 ∷ 50 ∷ 48 ∷ 50 ∷ 54 ∷ 45 ∷ 48 ∷ 55 ∷ 45 ∷ 48 ∷ 49 ∷ 32 ∷ 49 ∷ 51 ∷ 58 ∷ 53 ∷ 57 ∷ 58 ∷ 53 ∷ 57 ∷ 32 ∷ 43 ∷ 48 ∷ 50 ∷ 58 ∷ 48 ∷ 48 ∷ 32 ∷ 67 ∷
     69 ∷ 83 ∷ 84 ∷ 32 ∷ 69 ∷ 117 ∷ 114 ∷ 111 ∷ 112 ∷ 101 ∷ 47 ∷ 66 ∷ 101 ∷ 114 ∷ 108 ∷ 105 ∷ 110 ∷ []
