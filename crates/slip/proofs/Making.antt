@@ -5,6 +5,7 @@ use lib.{Dec.{eqb, leb}, IntN.{ℤ, pos, negsuc, _+ℤ_}, ListN.{length}}
 use mathlib.Core.{Bool.{true, false, not}, List.{List, [], _∷_}, Path.{_≡_, refl, sym, ap, subst, _∙_}}
 use mir.{Syntax.{w32}, Val.{SFits}}
 use native.Mathlib.Omega.{arith}
+use Rattle.atlas.specs.Beside.{zonesBeside}
 use Rattle.bundle.proofs.Theorems.{found-first, entry-bytes}
 use Rattle.bundle.specs.{Bundle.{findOf}, declared.find.File.{File}}
 use Rattle.calendar.proofs.CivilAt.{civil-at}
@@ -15,7 +16,7 @@ use Rattle.line.specs.Put.{far}
 use Rattle.localtime.proofs.Offsets.{offset-fits}
 use Rattle.localtime.specs.Local.{answerAt, scaleAt}
 use Rattle.numbers.proofs.{Replies.{given-from, given-one, demanded}, Tests.{both}}
-use Rattle.numbers.specs.{Lists.{padded}, Reply.{Reply, given, refused, refusal, plain, _>>=_}}
+use Rattle.numbers.specs.{Lists.{padded}, Reply.{Reply, given, refused, refusal, plain, demand, _>>=_, _>>_}}
 use Rattle.request.specs.{Request.{requestOf}, declared.read.Fix.{Fix}}
 use Rattle.slip.proofs.Zones.{same-match}
 use Rattle.slip.specs.{Hour.{Hour, nameOf, plainly, known, localIn, shown, hourIn, hourOf, hoursFrom}, Line.{lineOf}, Says.{Meant, Says, EachSays}}
@@ -26,18 +27,27 @@ use Rattle.tzif.specs.{Header.{rfc9636}, Text.{slice}, declared.local.{Answer.{
 use Rattle.tzif.specs.declared.local.Answer.the-variants as A
 use Rattle.tzif.specs.Reply as Z
 use Rattle.verdict.specs.Edge.{sameZ}
-use Rattle.zones.specs.{Lent.{Outcome}, Lookup.{zonesWith}, declared.lookup.Zones.{Zones}}
+use Rattle.zones.specs.{Lent.{Outcome}, declared.lookup.Zones.{Zones}}
 
 -- ---- stamped: what it was made of
 abbrev slipWith : Outcome Zones → List Hour → Hour → List ℕ → Slip
 slipWith looked hours hour line =
     record { stamped = record { length = length line; matches = length hours; offset = hour .offset }; line = line; matches = looked .matches; text = looked .text }
 
-pub record Made (fix : Fix) (map zones : List ℕ) (n room size : ℕ) (slip : Slip) : Type 0 where
+-- what follows the lookup
+abbrev pub afterLookup : Fix → List ℕ → Head → List ℕ → ℕ → Outcome Zones → Reply Slip
+afterLookup fix map head zones size looked = do
+  demand (eqb (looked .answer .mark) 1) (refusal 85 0 (looked .answer .mark))
+  hours ← hoursFrom map head zones (fix .instant) 1 (looked .matches)
+  hour ← agreed hours
+  line ← fitted size (lineOf hour hours)
+  given (slipWith looked hours hour line)
+
+pub record Made (fix : Fix) (map atlas zones : List ℕ) (n room size : ℕ) (slip : Slip) : Type 0 where
   pub head : Head
   pub opened : given head ≡ headOf map
   pub looked : Outcome Zones
-  pub found : given looked ≡ zonesWith map head (placeOf fix) false n room
+  pub found : given looked ≡ zonesBeside map head atlas (placeOf fix) false n room
   pub mark : looked .answer .mark ≡ 1
   pub hours : List Hour
   pub said : given hours ≡ hoursFrom map head zones (fix .instant) 1 (looked .matches)
@@ -49,12 +59,12 @@ fits-so : (size : ℕ) (text : List ℕ) {line : List ℕ} → given line ≡ fi
 unfolding fitted
 fits-so size text e = given-one (demanded (leb (length text) size) (refusal 18 0 (min (length text) far)) e .1)
 
-pub made : (fix : Fix) (map zones : List ℕ) (n room size : ℕ) {slip : Slip} → given slip ≡ slipAt fix map zones n room size → Made fix map zones n room size slip
+pub made : (fix : Fix) (map atlas zones : List ℕ) (n room size : ℕ) {slip : Slip} → given slip ≡ slipAt fix map atlas zones n room size → Made fix map atlas zones n room size slip
 unfolding slipAt
-made fix map zones n room size e =
+made fix map atlas zones n room size e =
     let globe = demanded (onGlobe fix) (plain 84) e in
     let head = given-from (headOf map) _ (globe .1) in
-    let looked = given-from (zonesWith map (head .it) (placeOf fix) false n room) _ (head .onto) in
+    let looked = given-from (zonesBeside map (head .it) atlas (placeOf fix) false n room) _ (head .onto) in
     let mark = demanded (eqb (looked .it .answer .mark) 1) (refusal 85 0 (looked .it .answer .mark)) (looked .onto) in
     let hours = given-from (hoursFrom map (head .it) zones (fix .instant) 1 (looked .it .matches)) _ (mark .1) in
     let hour = given-from (agreed (hours .it)) _ (hours .onto) in
@@ -101,12 +111,12 @@ asked-by n room size (refused why) at {stamped} {hs} {ts} {os} e = absurd (nothi
     nothing : {slip : Slip} → given slip ≡ refused why → ⊥
     nothing e = let z : _≡_ {A = ℕ} 0 1 = cc in omega arith
 
-pub meant : (request map zones : List ℕ) (n room size : ℕ) {stamped : Stamped} {hs ts os : List ℕ} {Holds : Fix → Type 0}
-    → replied (given stamped) hs ts os ≡ slipped request map zones n room size
-    → ((fix : Fix) → replied (given stamped) hs ts os ≡ slippedAt fix map zones n room size → Holds fix) → Meant request Holds
+pub meant : (request map atlas zones : List ℕ) (n room size : ℕ) {stamped : Stamped} {hs ts os : List ℕ} {Holds : Fix → Type 0}
+    → replied (given stamped) hs ts os ≡ slipped request map atlas zones n room size
+    → ((fix : Fix) → replied (given stamped) hs ts os ≡ slippedAt fix map atlas zones n room size → Holds fix) → Meant request Holds
 unfolding slipped slipOf slippedAt
-meant request map zones n room size e k =
-    let a = asked-by n room size (requestOf request) (λ fix. slipAt fix map zones n room size) e in
+meant request map atlas zones n room size e k =
+    let a = asked-by n room size (requestOf request) (λ fix. slipAt fix map atlas zones n room size) e in
     record { fix = a .0; asked = a .1; holds = k (a .0) (a .2) }
 
 -- ---- the matches
