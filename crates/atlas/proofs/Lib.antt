@@ -8,7 +8,9 @@ pub mod Courses
 pub mod HeldIsPlain
 pub mod Beside
 pub mod AtlasIsPlain
+pub mod BesideIsPlain
 pub mod Parting
+pub mod Choosing
 pub mod Behind
 pub mod Owned
 pub mod Theorems

@@ -5,7 +5,7 @@ use native.Mathlib.Omega.{arith}
 use Rattle.numbers.specs.{Lists.{padded}, Reply.{Reply, given, refused}, declared.refusal.Refusal.{Refusal}}
 use Rattle.bundle.{proofs.Theorems.{found-refusals}, specs.Bundle.{findOf}}
 use Rattle.request.{proofs.{Refusing.{fiveNumbers}, Theorems.{request-refusals}}, specs.{Request.{requestOf}, declared.read.Fix.{Fix}}}
-use Rattle.slip.proofs.Theorems.{slip-refusals, slip-at-refusals}
+use Rattle.slip.proofs.{Theorems.{slip-refusals, slip-at-refusals}, Worked.{sentence, square, berlin, texts, line, stamped}}
 use Rattle.slip.specs.{Says.{isAtNumber, isSlipNumber}, Slip.{Replied, replied, slippedAt, slipped}, declared.slip.Stamped.{Stamped}}
 use Rattle.uskelzar.proofs.Numbered.{Answered, never-zero, zero-said}
 use Rattle.uskelzar.specs.{Slips.{Printed, fixValues, fileValues, stampedValues, replySpoken, slipSpoken}, Spoken.{Spoken, saidOf, spoken}}
@@ -77,3 +77,8 @@ pub returned-slip-at : (fix : Fix) (map zones : List ℕ) (n room size : ℕ) {n
     → spoken number words (hits ∷ text ∷ out ∷ []) ≡ slipSpoken (slippedAt fix map zones n room size) → number ≡ 0 → Printed (slippedAt fix map zones n room size) words hits text out
 returned-slip-at fix map zones n room size e z =
     printed (slippedAt fix map zones n room size) e (slip-at-zero fix map zones n room size .0 (sym (ap (λ (s : Spoken). s .said .number) e) ∙ z))
+
+-- Document 03's example sentence on a map of one square: returned with a 0, with its length, matches and offset in the reply, and the line in what was lent.
+pub one-printed : Printed (slipped sentence square berlin 4 19 49) (49 ∷ 1 ∷ 7200 ∷ 0 ∷ 0 ∷ []) (0 ∷ 0 ∷ 1 ∷ 39 ∷ []) texts line
+unfolding saidOf
+one-printed = returned-slip sentence square berlin 4 19 49 (ap slipSpoken (sym stamped)) refl
