@@ -6,7 +6,8 @@ use native.Mathlib.Omega.{arith}
 use types.Run.{OneOf}
 use denote.Enum.Declared.{tagOf}
 use Rattle.border.specs.{Trace.{Given, reaches, ended, nextPoint, borderAt}, declared.{place.Point.{Point}, reader.{Reader.{Reader}, Next.{Next}, Encoding.{Encoding}}}}
-use Rattle.marks.{specs.Marks.{nextOr, isMarkable, edgesThen, edgesFrom, mostPoints, fewEdges, stretchesOf, stretchesFrom, stretchesIn, marksFrom, stretchEdges, counted, marksAt}, proofs.judge.Turns.{none-next}}
+use Rattle.marks.specs.Marks.{nextOr, isMarkable, edgesThen, edgesFrom, mostPoints, fewEdges, stretchesOf, stretchesFrom, stretchesIn, marksFrom, stretchEdges, counted, marksAt}
+use Rattle.atlas.proofs.Nexts.{none-next}
 use Rattle.numbers.{proofs.Answers.{found-one}, specs.Answer.{Answer, if_then_else_}}
 use Rattle.verdict.specs.Edge.{samePoint}
 use Rattle.border.specs.inner.Told as R

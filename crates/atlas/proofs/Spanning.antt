@@ -5,7 +5,8 @@ use mathlib.Core.{Path.{_≡_, refl, sym, ap, _∙_}, List.{List, [], _∷_}}
 use types.Run.{OneOf}
 use denote.Enum.Declared.{tagOf}
 use Rattle.border.specs.{Box.{Box, grown}, Trace.{reaches, nextPoint}, declared.reader.{Reader.{Reader}, Next.{Next}, Encoding.{Encoding}}}
-use Rattle.marks.{specs.Marks.{nextOr, Span, spanned, spanOver, spanFrom, stretchEdges}, proofs.judge.Turns.{none-next}}
+use Rattle.marks.specs.Marks.{nextOr, Span, spanned, spanOver, spanFrom, stretchEdges}
+use Rattle.atlas.proofs.Nexts.{none-next}
 use Rattle.border.specs.inner.Told as R
 use Rattle.numbers.specs.Answer as A
 use Rattle.border.proofs.reader.Next as Next'

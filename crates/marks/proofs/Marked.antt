@@ -6,7 +6,7 @@ use lib.ListN.{length, getD, length-append}
 use Rattle.numbers.specs.Answer.{if_then_else_}
 use Rattle.border.specs.{Box.{Box, grown}, declared.{place.Point.{Point}, reader.{Reader.{Reader}, Encoding.{Encoding}}}}
 use Rattle.verdict.specs.{Step.{Step}, Edge.{inBox}, Verdict.{Judgement, after, passing, closedAt, thenOn}, declared.step.Tally.{Tally}}
-use Rattle.marks.specs.{Judging.{readOn, stretchBy, endIn, stretchesBy}, Marks.{nextOr, Span, spanOver, spanFrom, markOf, marksFrom, isNarrow, stretchEdges}}
+use Rattle.marks.specs.{Judging.{stretchBy, endIn, stretchesBy}, Marks.{nextOr, Span, spanOver, spanFrom, markOf, marksFrom, isNarrow, stretchEdges}}
 use Rattle.marks.specs.Words.{markWide, startIn, stateIn, lowIn, highIn}
 use Rattle.marks.proofs.{ReadBack.{At, at-left, at-right, Narrow, grown-narrow, Markable, markable, low-back, high-back, start-back, state-back}, Rounds.{Round, closes, goes}}
 use Rattle.marks.proofs.{Spans.{spans}, Stretches.{stepBy, byStates}}

@@ -109,7 +109,7 @@ module _ (file : List ℕ) (encoding : Encoding) (border : ℕ) (words : List �
       by-marks : judgedBy file encoding words at lat lon least ≡ judgedAt file encoding border lat lon false least
       by-marks =
           by-parts
-          ∙ then-same least (passing fix false none (s .point) start) byMarks byPoints (λ u e. subst (λ (t : Tally). byMarks t ≡ byPoints t) (sym (begun (s .point) start u e)) from-start)
+          ∙ then-same false least (passing fix false none (s .point) start) byMarks byPoints (λ u e. subst (λ (t : Tally). byMarks t ≡ byPoints t) (sym (begun (s .point) start u e)) from-start)
           ∙ whole s is
 
   nothing : {C : Type 0} → 0 < length {A = ℕ} [] → C

@@ -3,33 +3,27 @@ use Prim.Native.Nat.{ℕ, zero, suc, _+_, _-_, _/_}
 use lib.{Dec.{ltb, leb}, IntN.{pos}, ListN.{length}}
 use mathlib.Core.{Bool.{Bool, false, _&&_}, List.{List}}
 use Rattle.numbers.specs.Answer.{if_then_else_}
-use Rattle.border.specs.{Trace.{nextPoint}, declared.{place.{FixedLat.{FixedLat}, FixedLon.{FixedLon}, Point.{Point}}, reader.{Reader.{Reader}, Encoding.{Encoding}}}}
-use Rattle.verdict.specs.{Step.{Step, found, _>>=_}, Edge.{inBox}, Verdict.{Judgement, refused, none, after, passing, closedAt, thenOn}, declared.step.Tally.{Tally}}
-use Rattle.marks.specs.{Marks.{nextOr, stretchEdges}, Words.{wordAt, markWide, lowIn, highIn, startIn, stateIn}}
+use Rattle.border.specs.{Trace.{traceOf}, declared.{place.{FixedLat.{FixedLat}, FixedLon.{FixedLon}, Point.{Point}}, reader.Encoding.{Encoding}}}
+use Rattle.verdict.specs.{Step.{Step}, Edge.{inBox}, Stretch.{passingFirst}, Verdict.{Judgement, refused, none, after, passing, closedAt, thenOn}, declared.step.Tally.{Tally}}
+use Rattle.marks.specs.{Marks.{stretchEdges}, Words.{wordAt, markWide, lowIn, highIn, startIn, stateIn}}
 
 -- where the stretch of a mark leads that has so many behind it: to the next one's first point, the last one back to the border's
 unfoldable pub endIn : List ℕ → Point → ℕ → ℕ → Point
 endIn words first zero at = first
 endIn words first (suc more) at = startIn words (at + markWide)
 
-module _ (file : List ℕ) (encoding : Encoding) (fix : Point) where
-  -- over so many edges from a state on, or up to the border's end
-  unfoldable pub readOn : ℕ → Reader → Tally → Step Tally
-  readOn zero s tally = found tally
-  readOn (suc more) s tally = nextOr (nextPoint file encoding s) (found tally) (λ t. passing fix false (after (s .point)) (t .point) tally >>= readOn more t)
+module _ (file : List ℕ) (encoding : Encoding) (fix : Point) (words : List ℕ) (first : Point) where
+  -- the stretch of a mark, which leads to a point
+  unfoldable pub stretchBy : ℕ → Point → Tally → Step Tally
+  stretchBy at to tally =
+      if inBox (lowIn words at) fix (highIn words at)
+      then passingFirst fix false stretchEdges (after (startIn words at)) (traceOf file encoding (stateIn words at first)) tally
+      else passing fix false (after (startIn words at)) to tally
 
-  module _ (words : List ℕ) (first : Point) where
-    -- the stretch of a mark, which leads to a point
-    unfoldable pub stretchBy : ℕ → Point → Tally → Step Tally
-    stretchBy at to tally =
-        if inBox (lowIn words at) fix (highIn words at)
-        then readOn stretchEdges (stateIn words at first) tally
-        else passing fix false (after (startIn words at)) to tally
-
-    -- so many stretches
-    unfoldable pub stretchesBy : ℕ → ℕ → Tally → Judgement
-    stretchesBy zero at tally = closedAt false tally
-    stretchesBy (suc more) at tally = thenOn false (tally .least) (stretchBy at (endIn words first more at) tally) (stretchesBy more (at + markWide))
+  -- so many stretches
+  unfoldable pub stretchesBy : ℕ → ℕ → Tally → Judgement
+  stretchesBy zero at tally = closedAt false tally
+  stretchesBy (suc more) at tally = thenOn false (tally .least) (stretchBy at (endIn words first more at) tally) (stretchesBy more (at + markWide))
 
 -- so many marks, at least one, stand from a place on
 abbrev pub isInside : List ℕ → ℕ → Bool

@@ -4,7 +4,7 @@ ghost use Prim.Native.Nat.{_+_, _*_, _≤_};
 ghost use lib.ListN.{length};
 ghost use Rattle.verdict.specs.Verdict.{told};
 ghost use Rattle.verdict.specs.Step as step;
-ghost use Rattle.marks.specs.{Judging.{readOn, stretchBy, endIn, stretchesBy, judgedBy}, Marks.{stretchEdges}};
+ghost use Rattle.marks.specs.Judging.{stretchBy, endIn, stretchesBy, judgedBy};
 use crate::words::MARK;
 use crate::words::point_at;
 use crate::words::state_at;
@@ -13,14 +13,12 @@ use border::place::FixedLat;
 use border::place::FixedLon;
 use border::place::Point;
 use border::reader::Encoding;
-use border::reader::Next;
-use border::reader::Reader;
-use border::reader::next_point;
 use verdict::edge::in_box;
 use verdict::edge::same_point;
 use verdict::judge::Judged;
 use verdict::judge::closed;
 use verdict::judge::pass_edge;
+use verdict::judge::pass_edges;
 use verdict::judge::stopped;
 use verdict::step::Passed;
 use verdict::step::Tally;
@@ -29,28 +27,8 @@ use verdict::step::Verdict;
 // The refusal of words that are no marks.
 pub const NO_MARKS: u8 = 36;
 
-// Over the edges of a stretch, or up to the border's end.
-fn read_on(file: &[u8], encoding: Encoding, fix: Point, start: Reader, tally: Tally) -> Passed
-    ensures { λ r. ⌜ step.told r ≡ readOn (now (file .entry)) encoding fix stretchEdges start tally ⌝ }
-{
-    let mut reader = start;
-    let mut counted = tally;
-    let mut n: usize = 0;
-    while n < 128 {
-        let next = next_point(file, encoding, reader);
-        let Next::Point(later) = next else {
-            return Passed::On(counted);
-        };
-        n += 1;
-        let passed = pass_edge(fix, reader.point, later.point, counted);
-        let Passed::On(on) = passed else {
-            return passed;
-        };
-        counted = on;
-        reader = later;
-    }
-    Passed::On(counted)
-}
+// How many edges a stretch has.
+const STRETCH: usize = 128;
 
 // The stretch of a mark, which leads to a point.
 fn pass_stretch(
@@ -70,7 +48,7 @@ fn pass_stretch(
     let high = point_at(words, at + 2);
     if in_box(low, fix, high) {
         let start = state_at(words, at, first);
-        return read_on(file, encoding, fix, start, tally);
+        return pass_edges(file, encoding, fix, false, STRETCH, start, tally);
     }
     let from = point_at(words, at + 4);
     pass_edge(fix, from, to, tally)

@@ -1,4 +1,4 @@
--- The loops over the points of a stretch and over the stretches of a border, turn by turn. Assumes nothing.
+-- The loop over the stretches of a border, turn by turn. Assumes nothing.
 use Prim.Native.Nat.{ℕ, zero, suc, _+_, _-_, _/_, _≤_, _<_}
 use borrow.Author.Tests.{lt-ltb, le-ltb, le-leb, lt-leb}
 use lib.{IntN.{pos}, ListN.{length}}
@@ -6,100 +6,30 @@ use native.Mathlib.Omega.{arith}
 use mathlib.Core.{Path.{_≡_, refl, sym, ap, _∙_}, Bool.{true, false, and-false}, List.{List, [], _∷_}}
 use types.Run.{OneOf, miss}
 use denote.Enum.Declared.{tagOf}
-use Rattle.border.specs.{Trace.{reaches, nextPoint}, declared.{place.{FixedLat.{FixedLat}, FixedLon.{FixedLon}, Point.{Point}}, reader.{Reader.{Reader}, Next.{Next}, Encoding.{Encoding}}}}
-use Rattle.verdict.specs.{Step.{Step, found, told, _>>=_}, Edge.{samePoint, inBox}, Verdict.{Judgement, reached, refused, after, along, passing, closedAt, thenOn}}
+use Rattle.border.specs.{Trace.{traceOf}, declared.{place.{FixedLat.{FixedLat}, FixedLon.{FixedLon}, Point.{Point}}, reader.{Reader.{Reader}, Encoding.{Encoding}}}}
+use Rattle.verdict.specs.{Step.{Step, told}, Edge.{samePoint, inBox}, Stretch.{passingFirst}, Verdict.{Judgement, reached, refused, after, along, passing, closedAt, thenOn}}
 use Rattle.verdict.specs.declared.step.{Tally.{Tally}, Passed.{Passed}, Verdict.the-variants.{OnBorderVertex}}
-use Rattle.marks.specs.{Judging.{readOn, stretchBy, endIn, stretchesBy, isInside, judgedBy}, Marks.{nextOr, stretchEdges}, Words.{wordAt, lowIn, highIn, startIn, stateIn}}
-use Rattle.border.specs.inner.Told as R
-use Rattle.numbers.specs.Answer as A
-use Rattle.border.specs.declared.reader.Next.the-variants as N
-use Rattle.border.proofs.reader.Next as Next'
+use Rattle.marks.specs.{Judging.{stretchBy, endIn, stretchesBy, isInside, judgedBy}, Marks.{stretchEdges}, Words.{wordAt, lowIn, highIn, startIn, stateIn}}
 use Rattle.verdict.proofs.step.Passed as Passed'
 use Rattle.verdict.specs.declared.step.Passed.the-variants as P
 
 -- ---- what a `let .. else` leaves
-pub none-next : {A : Type 0} (next : Next) (none : A) (go : Reader → A) → OneOf (1 ∷ 2 ∷ 3 ∷ []) (tagOf Next'.the-type next) → nextOr (R.told next) none go ≡ none
-unfolding nextOr
-none-next (N.Point s) none go o = absurd (miss (1 ∷ 2 ∷ 3 ∷ []) 0 tt o)
-none-next N.Ended none go o = refl
-none-next N.Failed none go o = refl
-none-next (N.Refused n) none go o = refl
-
-pub stays-stopped : (p : Passed) (go : Tally → Step Tally) → OneOf (1 ∷ 2 ∷ []) (tagOf Passed'.the-type p) → told p ≡ (told p >>= go)
-stays-stopped (P.On t) go o = absurd (miss (1 ∷ 2 ∷ []) 0 tt o)
-stays-stopped (P.Meets v) go o = refl
-stays-stopped P.Over go o = refl
-
 pub decides : (p : Passed) (least : ℕ) (go : Tally → Judgement) → OneOf (1 ∷ 2 ∷ []) (tagOf Passed'.the-type p) → thenOn false least (told p) (λ tally. refused 13) ≡ thenOn false least (told p) go
 unfolding thenOn
 decides (P.On t) least go o = absurd (miss (1 ∷ 2 ∷ []) 0 tt o)
 decides (P.Meets v) least go o = refl
 decides P.Over least go o = refl
 
--- ---- the points of a stretch
+-- ---- the stretches of a border
 module _ (file : List ℕ) (encoding : Encoding) (fix : Point) where
-  -- after so many edges, what is left comes to what the whole stretch comes to
-  pub record Reading (start : Reader) (tally : Tally) (reader : Reader) (counted : Tally) (n : ℕ) : Type 0 where
-    pub left : ℕ
-    pub sum : n + left ≡ 128
-    pub same : readOn file encoding fix left reader counted ≡ readOn file encoding fix stretchEdges start tally
-
-  module _ {start : Reader} {tally : Tally} where
-    pub reading-starts : Reading start tally start tally 0
-    unfolding stretchEdges
-    reading-starts = record { left = stretchEdges; sum = refl; same = refl }
-
-    module _ {reader : Reader} {counted : Tally} {n : ℕ} (r : Reading start tally reader counted n) where
-      pub reading-ends : 128 ≤ n → found counted ≡ readOn file encoding fix stretchEdges start tally
-      unfolding readOn
-      reading-ends h = go (r .left) (omega (arith, h, r .sum)) (r .same)
-        where
-          go : (left : ℕ) → left ≡ 0 → readOn file encoding fix left reader counted ≡ readOn file encoding fix stretchEdges start tally
-              → found counted ≡ readOn file encoding fix stretchEdges start tally
-          go zero e same = same
-          go (suc k) e same = absurd (omega (arith, e))
-
-      module _ (more : n < 128) where
-        abbrev fuel : ℕ
-        fuel = r .left - 1
-
-        whole : readOn file encoding fix (suc fuel) reader counted ≡ readOn file encoding fix stretchEdges start tally
-        whole =
-            let e : suc fuel ≡ r .left = omega (arith, more, r .sum) in
-            ap (λ (k : ℕ). readOn file encoding fix k reader counted) e ∙ r .same
-
-        pub reading-none : (next : Next) → R.told next ≡ nextPoint file encoding reader → OneOf (1 ∷ 2 ∷ 3 ∷ []) (tagOf Next'.the-type next)
-            → found counted ≡ readOn file encoding fix stretchEdges start tally
-        unfolding readOn
-        reading-none next e o =
-            sym (none-next next (found counted) (λ t. passing fix false (after (reader .point)) (t .point) counted >>= readOn file encoding fix fuel t) o) ∙ rw e whole
-
-        module _ (later : Reader) (is : A.found (reaches later) ≡ nextPoint file encoding reader) where
-          here : (passing fix false (after (reader .point)) (later .point) counted >>= readOn file encoding fix fuel later) ≡ readOn file encoding fix stretchEdges start tally
-          unfolding readOn nextOr
-          here = rw (← is) at whole
-
-          pub reading-stops : (p : Passed) → told p ≡ passing fix false (after (reader .point)) (later .point) counted → OneOf (1 ∷ 2 ∷ []) (tagOf Passed'.the-type p)
-              → told p ≡ readOn file encoding fix stretchEdges start tally
-          reading-stops p e o = stays-stopped p (readOn file encoding fix fuel later) o ∙ ap (λ (m : Step Tally). m >>= readOn file encoding fix fuel later) e ∙ here
-
-          pub reading-on : (t : Tally) → found t ≡ passing fix false (after (reader .point)) (later .point) counted → Reading start tally later t (n + 1)
-          reading-on t e =
-              record {
-                left = fuel;
-                sum = omega (arith, more, r .sum);
-                same = ap (λ (m : Step Tally). m >>= readOn file encoding fix fuel later) e ∙ here;
-              }
-
-  -- ---- the stretches of a border
   module _ (words : List ℕ) (first : Point) where
     -- one that is read, and one that is passed as an edge
     module _ (at : ℕ) (to : Point) (t : Tally) {low high : Point} (l : low ≡ lowIn words at) (h : high ≡ highIn words at) {m : Step Tally} where
-      pub stretch-read : inBox low fix high ≡ true → {s : Reader} → s ≡ stateIn words at first → m ≡ readOn file encoding fix stretchEdges s t → m ≡ stretchBy file encoding fix words first at to t
-      unfolding stretchBy
+      pub stretch-read : inBox low fix high ≡ true → {s : Reader} → s ≡ stateIn words at first → m ≡ passingFirst fix false 128 (after (s .point)) (traceOf file encoding s) t → m ≡ stretchBy file encoding fix words first at to t
+      unfolding stretchBy stretchEdges
       stretch-read b s e =
           let test = (λ i. inBox (sym l i) fix (sym h i)) ∙ b in
-          e ∙ (λ i. readOn file encoding fix stretchEdges (s i) t) ∙ rw test
+          e ∙ (λ i. passingFirst fix false 128 (after (s i .point)) (traceOf file encoding (s i)) t) ∙ rw test
 
       pub stretch-passed : inBox low fix high ≡ false → {from : Point} → from ≡ startIn words at → m ≡ passing fix false (after from) to t → m ≡ stretchBy file encoding fix words first at to t
       unfolding stretchBy

@@ -11,7 +11,7 @@ returns c =
     let in-box = c .before .before .before .in-box in
     let if1 = c .before .before .if1 in
     let state-at = c .before .state-at in
-    stretch-read _ _ _ _ _ _ _ _ (point-at .ensures) (point-at2 .ensures) (sym (in-box .ensures) ∙ if1 .taken) (state-at .ensures) (c .read-on .ensures)
+    stretch-read _ _ _ _ _ _ _ _ (point-at .ensures) (point-at2 .ensures) (sym (in-box .ensures) ∙ if1 .taken) (state-at .ensures) (c .pass-edges .ensures)
 
 returns-2 : tie.Need-returns-2
 returns-2 c =
