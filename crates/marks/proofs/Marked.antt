@@ -31,7 +31,7 @@ module _ (file : List ℕ) (encoding : Encoding) (first : Point) (narrow : isNar
   at-first s zero (closes e p) h = p
   at-first s (suc n) r h = absurd (omega (arith, h))
 
-  module _ (fix : Point) (words : List ℕ) (some : 0 < stretchEdges) where
+  module _ (fix : Point) (asked : Bool) (words : List ℕ) (some : 0 < stretchEdges) where
     -- where a stretch leads
     end-so : (more : ℕ) (s : Reader) (n at : ℕ) → Round file encoding first s n → (more ≡ 0 → n ≡ 0) → At words (at + markWide) (marksFrom stretchEdges more file encoding s)
         → endIn words first more at ≡ s .point
@@ -43,7 +43,7 @@ module _ (file : List ℕ) (encoding : Encoding) (first : Point) (narrow : isNar
         (round-narrow s n r)
 
     stretch-so : (s : Reader) (n at : ℕ) (to : Point) (t : Tally) → Round file encoding first s n → 0 < n → At words at (markOf s (spanFrom stretchEdges file encoding s .box))
-        → to ≡ spanFrom stretchEdges file encoding s .last .point → stretchBy file encoding fix words first at to t ≡ stepBy file encoding fix first stretchEdges some s t
+        → to ≡ spanFrom stretchEdges file encoding s .last .point → stretchBy file encoding fix asked words first at to t ≡ stepBy file encoding fix asked first stretchEdges some s t
     unfolding stretchBy
     stretch-so s n at to t r h here leads =
         let box = spanFrom stretchEdges file encoding s .box in
@@ -54,7 +54,7 @@ module _ (file : List ℕ) (encoding : Encoding) (first : Point) (narrow : isNar
 
     -- Marks of exactly as many stretches as the border has.
     pub marked-judge : (more : ℕ) (s : Reader) (n at : ℕ) (t : Tally) → Round file encoding first s n → n ≤ more * stretchEdges → more * stretchEdges < n + stretchEdges
-        → At words at (marksFrom stretchEdges more file encoding s) → stretchesBy file encoding fix words first more at t ≡ byStates file encoding fix first stretchEdges some more s t
+        → At words at (marksFrom stretchEdges more file encoding s) → stretchesBy file encoding fix asked words first more at t ≡ byStates file encoding fix asked first stretchEdges some more s t
     unfolding stretchesBy byStates marksFrom
     marked-judge zero s n at t r few full here = refl
     marked-judge (suc more) s n at t r few full here =
@@ -66,6 +66,6 @@ module _ (file : List ℕ) (encoding : Encoding) (first : Point) (narrow : isNar
         let many = suc-mul more stretchEdges in
         let leads = end-so more (span .last) (n - stretchEdges) at (over .behind) (λ z. omega (arith, few, many, ap (λ (k : ℕ). k * stretchEdges) z, zero-mul stretchEdges)) there in
         let now = stretch-so s n at (endIn words first more at) t r (omega (arith, full, many)) (at-left words at mark later here) leads in
-        let rest : (u : Tally) → stretchesBy file encoding fix words first more (at + markWide) u ≡ byStates file encoding fix first stretchEdges some more (span .last) u =
+        let rest : (u : Tally) → stretchesBy file encoding fix asked words first more (at + markWide) u ≡ byStates file encoding fix asked first stretchEdges some more (span .last) u =
         λ u. marked-judge more (span .last) (n - stretchEdges) (at + markWide) u (over .behind) (omega (arith, few, many)) (omega (arith, full, many)) there in
-        λ i. thenOn false (t .least) (now i) (λ u. rest u i)
+        λ i. thenOn asked (t .least) (now i) (λ u. rest u i)

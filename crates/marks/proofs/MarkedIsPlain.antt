@@ -1,4 +1,4 @@
--- A border that is judged by its marks is judged as by all its points, at every location, without the distance. Assumes nothing.
+-- A border that is judged by its marks is judged as by all its points, at every location, with the distance and without it. Assumes nothing.
 use Prim.Native.Nat.{ℕ, zero, suc, _+_, _-_, _*_, _/_, _≤_, _<_}
 use native.Mathlib.{Nat.{suc-mul, zero-mul}, Omega.{arith}}
 use borrow.Author.Tests.{ltb-true, lt-ltb, le-leb}
@@ -41,14 +41,14 @@ marks-length edges (suc more) file encoding s =
     let span = spanFrom edges file encoding s in
     omega (arith, marks-length edges more file encoding (span .last), length-append (markOf s (span .box)) (marksFrom edges more file encoding (span .last)), suc-mul more 11)
 
-module _ (file : List ℕ) (encoding : Encoding) (border : ℕ) (words : List ℕ) (at : ℕ) (lat : FixedLat) (lon : FixedLon) (least : ℕ) where
+module _ (file : List ℕ) (encoding : Encoding) (border : ℕ) (words : List ℕ) (at : ℕ) (lat : FixedLat) (lon : FixedLon) (asked : Bool) (least : ℕ) where
   abbrev fix : Point
   fix = record { lat = lat; lon = lon }
 
   abbrev start : Tally
   start = record { winding = pos 0; least = least }
 
-  begun : (p : Point) (t u : Tally) → passing fix false none p t ≡ S.found u → u ≡ t
+  begun : (p : Point) (t u : Tally) → passing fix asked none p t ≡ S.found u → u ≡ t
   unfolding passing along
   begun p t u e = go (samePoint p fix) e
     where
@@ -58,9 +58,9 @@ module _ (file : List ℕ) (encoding : Encoding) (border : ℕ) (words : List �
 
   -- the whole border, from its first point on
   whole : (s : Reader) → nextPoint file encoding (borderAt border) ≡ found (reaches s)
-      → thenOn false least (passing fix false none (s .point) start) (λ u. judge fix false (after (s .point)) u (traceOf file encoding s)) ≡ judgedAt file encoding border lat lon false least
+      → thenOn asked least (passing fix asked none (s .point) start) (λ u. judge fix asked (after (s .point)) u (traceOf file encoding s)) ≡ judgedAt file encoding border lat lon asked least
   unfolding judgedAt judge
-  whole s e = ap (judge fix false none start) (point-trace file encoding (borderAt border) s (sym e))
+  whole s e = ap (judge fix asked none start) (point-trace file encoding (borderAt border) s (sym e))
 
   module _ (s : Reader) (is : nextPoint file encoding (borderAt border) ≡ found (reaches s)) (m : ℕ) (n : Numbers m) (round : Round file encoding (s .point) s m) where
     abbrev marks : List ℕ
@@ -90,26 +90,26 @@ module _ (file : List ℕ) (encoding : Encoding) (border : ℕ) (words : List �
           let box = spanFrom stretchEdges file encoding s .box in
           start-back words (at + 1) s box (at-left words (at + 1) (markOf s box) (marksFrom stretchEdges more file encoding (spanFrom stretchEdges file encoding s .last)) there) own-narrow
 
-      by-parts : judgedBy file encoding words at lat lon least ≡ thenOn false least (passing fix false none (s .point) start) (stretchesBy file encoding fix words (s .point) (stretchesOf m) (at + 1))
+      by-parts : judgedBy file encoding words at lat lon asked least ≡ thenOn asked least (passing fix asked none (s .point) start) (stretchesBy file encoding fix asked words (s .point) (stretchesOf m) (at + 1))
       unfolding judgedBy
       by-parts = rw (inside, first-so (stretchesOf m) (n .count) later, first-word)
 
       -- what the marks come to behind the first point, and what the points do
       abbrev byMarks : Tally → Judgement
-      byMarks = stretchesBy file encoding fix words (s .point) (stretchesOf m) (at + 1)
+      byMarks = stretchesBy file encoding fix asked words (s .point) (stretchesOf m) (at + 1)
 
       abbrev byPoints : Tally → Judgement
-      byPoints u = judge fix false (after (s .point)) u (traceOf file encoding s)
+      byPoints u = judge fix asked (after (s .point)) u (traceOf file encoding s)
 
       from-start : byMarks start ≡ byPoints start
       from-start =
-          marked-judge file encoding (s .point) own-narrow fix words some-edges (stretchesOf m) s m (at + 1) start round (n .few) (n .full) later
-          ∙ states-judge file encoding fix (s .point) stretchEdges some-edges (stretchesOf m) s m start round (n .few) (omega (arith, n .room))
+          marked-judge file encoding (s .point) own-narrow fix asked words some-edges (stretchesOf m) s m (at + 1) start round (n .few) (n .full) later
+          ∙ states-judge file encoding fix asked (s .point) stretchEdges some-edges (stretchesOf m) s m start round (n .few) (omega (arith, n .room))
 
-      by-marks : judgedBy file encoding words at lat lon least ≡ judgedAt file encoding border lat lon false least
+      by-marks : judgedBy file encoding words at lat lon asked least ≡ judgedAt file encoding border lat lon asked least
       by-marks =
           by-parts
-          ∙ then-same false least (passing fix false none (s .point) start) byMarks byPoints (λ u e. subst (λ (t : Tally). byMarks t ≡ byPoints t) (sym (begun (s .point) start u e)) from-start)
+          ∙ then-same asked least (passing fix asked none (s .point) start) byMarks byPoints (λ u e. subst (λ (t : Tally). byMarks t ≡ byPoints t) (sym (begun (s .point) start u e)) from-start)
           ∙ whole s is
 
   nothing : {C : Type 0} → 0 < length {A = ℕ} [] → C
@@ -125,7 +125,7 @@ module _ (file : List ℕ) (encoding : Encoding) (border : ℕ) (words : List �
   counted-none xs h = nothing h
 
   abbrev Goal : List ℕ → Type 0
-  Goal marks = 0 < length marks → At words at marks → at + length marks ≤ length words → judgedBy file encoding words at lat lon least ≡ judgedAt file encoding border lat lon false least
+  Goal marks = 0 < length marks → At words at marks → at + length marks ≤ length words → judgedBy file encoding words at lat lon asked least ≡ judgedAt file encoding border lat lon asked least
 
   module _ (s : Reader) (is : nextPoint file encoding (borderAt border) ≡ found (reaches s)) where
     by-count : (a : Answer ℕ) → edgesFrom mostPoints file encoding (s .point) s 0 ≡ a → Goal (counted (stretchesFrom a) (marksFrom stretchEdges (stretchesFrom a) file encoding s))
@@ -153,6 +153,6 @@ module _ (file : List ℕ) (encoding : Encoding) (border : ℕ) (words : List �
 
   -- Where the marks of a border stand in the words, the judgement by them is the border's own.
   pub marked-is-plain : 0 < length (marksAt file encoding border) → At words at (marksAt file encoding border) → at + length (marksAt file encoding border) ≤ length words
-      → judgedBy file encoding words at lat lon least ≡ judgedAt file encoding border lat lon false least
+      → judgedBy file encoding words at lat lon asked least ≡ judgedAt file encoding border lat lon asked least
   unfolding marksAt
   marked-is-plain = by-first (nextPoint file encoding (borderAt border)) refl

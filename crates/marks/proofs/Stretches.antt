@@ -1,14 +1,16 @@
 -- A border that comes round, judged stretch by stretch from its states, is judged as by all its points. Assumes nothing.
 use Prim.Native.Nat.{ℕ, zero, suc, _+_, _-_, _*_, _≤_, _<_}
 use native.Mathlib.{Nat.{suc-mul, zero-mul}, Omega.{arith}}
-use mathlib.Core.{Path.{_≡_, refl, sym, ap, _∙_, subst}, Bool.{Bool, true, false}, List.{List}}
+use mathlib.Core.{Path.{_≡_, refl, sym, ap, _∙_, subst}, Bool.{Bool, true, false, not, _&&_}, List.{List}}
 use lib.{IntN.{ℤ, pos, negsuc, natAbs}}
 use Rattle.numbers.specs.Answer.{if_then_else_}
 use Rattle.border.specs.{Box.{Box, grown, holds}, Trace.{Trace, point, traceOf}, declared.{place.Point.{Point}, reader.{Reader.{Reader}, Encoding.{Encoding}}}}
 use Rattle.border.proofs.Trace.{point-trace}
-use Rattle.verdict.specs.{Step.{Step, found, meets, refused, _>>=_}, Edge.{inBox}, Stretch.{passingFirst}, Verdict.{Judgement, after, passing, closedAt, thenOn, judge}, declared.step.Tally.{Tally}}
-use Rattle.verdict.proofs.{Stretch.{Roomy, stretch-is-edge}, Unasked.{passing-least}, Winds.{Winds, bound-winds, passing-winds}}
-use Rattle.marks.specs.Marks.{nextOr, Span, spanOver, spanFrom}
+use Rattle.verdict.specs.{Step.{Step, found, meets, refused, _>>=_}, Edge.{inBox}, Far.{isAfar}, Stretch.{Stretch, passingFirst}, Verdict.{Judgement, after, passing, closedAt, thenOn, judge}, declared.step.Tally.{Tally}}
+use Rattle.verdict.proofs.{Stretch.{Roomy, stretch-is-edge, afar-is-edge}, Unasked.{passing-least}, Winds.{Winds, bound-winds, passing-winds}}
+use Rattle.marks.specs.{Judging.{canPass}, Marks.{nextOr, Span, spanOver, spanFrom}}
+use Rattle.numbers.proofs.Tests.{both}
+use borrow.Author.Tests.{not-true}
 use Rattle.marks.proofs.{Boxes.{own-holds, out-of-box}, Rounds.{Round, closes, goes}, Spans.{Spans, spans, ended-trace}}
 use Rattle.border.specs.Trace as T
 
@@ -62,6 +64,18 @@ module _ (fix : Point) (asked : Bool) where
   first-winds (suc more) p T.failed t = omega arith
   first-winds (suc more) p (T.refused n) t = omega arith
 
+-- a stretch that may be passed so does what its one edge does
+passed-is-edge : (asked : Bool) (fix : Point) (box : Box) {from to : Point} {trace left : Trace} (t : Tally) → canPass fix asked (t .least) (box .low) (box .high) ≡ true → holds box from ≡ true
+    → Stretch box from trace to left → Roomy (t .winding)
+    → judge fix asked (after from) t trace ≡ thenOn asked (t .least) (passing fix false (after from) to t) (λ u. judge fix asked (after to) u left)
+unfolding canPass judge
+passed-is-edge true fix box t e start stretch room =
+    let h = both (not (inBox (box .low) fix (box .high))) (isAfar fix (t .least) (box .low) (box .high)) e in
+    afar-is-edge fix box t (out-of-box box fix (not-true _ (h .0))) (h .1) start stretch room
+passed-is-edge false fix box t e start stretch room =
+    let h = both (not (inBox (box .low) fix (box .high))) true e in
+    stretch-is-edge fix box t (out-of-box box fix (not-true _ (h .0))) start stretch room
+
 module _ (file : List ℕ) (encoding : Encoding) (fix : Point) where
   abbrev rest : Reader → Trace
   rest = traceOf file encoding
@@ -82,50 +96,59 @@ module _ (file : List ℕ) (encoding : Encoding) (fix : Point) where
       ∙ read-all asked first more later n (grown box (later .point)) u r))
 
   -- ---- stretch by stretch
-  module _ (first : Point) (edges : ℕ) (some : 0 < edges) where
+  module _ (asked : Bool) (first : Point) (edges : ℕ) (some : 0 < edges) where
     abbrev lastOf : Reader → Reader
     lastOf s = spanFrom edges file encoding s .last
 
     abbrev boxFrom : Reader → Box
     boxFrom s = spanFrom edges file encoding s .box
 
-    -- by its points where its box holds the location, else by its one edge
+    abbrev passes : Reader → Tally → Bool
+    passes s t = canPass fix asked (t .least) (boxFrom s .low) (boxFrom s .high)
+
+    -- by its one edge where it may be passed so, else by its points
+    abbrev byEdge : Reader → Tally → Step Tally
+    byEdge s t = passing fix false (after (s .point)) (lastOf s .point) t
+
+    abbrev byPoints : Reader → Tally → Step Tally
+    byPoints s t = passingFirst fix asked edges (after (s .point)) (rest s) t
+
     abbrev pub stepBy : Reader → Tally → Step Tally
-    stepBy s t = if inBox (boxFrom s .low) fix (boxFrom s .high) then passingFirst fix false edges (after (s .point)) (rest s) t else passing fix false (after (s .point)) (lastOf s .point) t
+    stepBy s t = if passes s t then byEdge s t else byPoints s t
 
     unfoldable pub byStates : ℕ → Reader → Tally → Judgement
-    byStates zero s t = closedAt false t
-    byStates (suc more) s t = thenOn false (t .least) (stepBy s t) (byStates more (lastOf s))
+    byStates zero s t = closedAt asked t
+    byStates (suc more) s t = thenOn asked (t .least) (stepBy s t) (byStates more (lastOf s))
 
     step-winds : (s : Reader) (t : Tally) → Winds (natAbs (t .winding) + 2 * edges) (stepBy s t)
     step-winds s t =
-        if-winds (natAbs (t .winding) + 2 * edges) (inBox (boxFrom s .low) fix (boxFrom s .high)) (passingFirst fix false edges (after (s .point)) (rest s) t) (passing fix false (after (s .point)) (lastOf s .point) t)
-        (first-winds fix false edges (s .point) (rest s) t)
-        (weaker (natAbs (t .winding) + 2) (natAbs (t .winding) + 2 * edges) (passing fix false (after (s .point)) (lastOf s .point) t) (omega (arith, some))
-        (passing-winds fix false (s .point) (lastOf s .point) t))
+        if-winds (natAbs (t .winding) + 2 * edges) (passes s t) (byEdge s t) (byPoints s t)
+        (weaker (natAbs (t .winding) + 2) (natAbs (t .winding) + 2 * edges) (byEdge s t) (omega (arith, some)) (passing-winds fix false (s .point) (lastOf s .point) t))
+        (first-winds fix asked edges (s .point) (rest s) t)
+
+    -- what is left of a border behind a stretch
+    abbrev behind : Reader → Tally → Judgement
+    behind s u = judge fix asked (after (lastOf s .point)) u (rest (lastOf s))
 
     stretch-judge : (s : Reader) (n : ℕ) (t : Tally) → Round file encoding first s n → Roomy (t .winding)
-        → thenOn false (t .least) (stepBy s t) (λ u. judge fix false (after (lastOf s .point)) u (rest (lastOf s))) ≡ judge fix false (after (s .point)) t (rest s)
-    unfolding judge
-    stretch-judge s n t r room = go (inBox (boxFrom s .low) fix (boxFrom s .high)) refl
+        → thenOn asked (t .least) (stepBy s t) (behind s) ≡ judge fix asked (after (s .point)) t (rest s)
+    stretch-judge s n t r room = go (passes s t) refl
       where
         over : Spans file encoding first (record { low = s .point; high = s .point }) s (n - edges) (spanFrom edges file encoding s)
         over = spans file encoding first edges s n (record { low = s .point; high = s .point }) r
 
-        go : (b : Bool) → inBox (boxFrom s .low) fix (boxFrom s .high) ≡ b
-            → thenOn false (t .least) (if b then passingFirst fix false edges (after (s .point)) (rest s) t else passing fix false (after (s .point)) (lastOf s .point) t)
-            (λ u. judge fix false (after (lastOf s .point)) u (rest (lastOf s))) ≡ judge fix false (after (s .point)) t (rest s)
-        go true e = read-all false first edges s n (record { low = s .point; high = s .point }) t r
-        go false e = sym (stretch-is-edge fix (boxFrom s) t (out-of-box (boxFrom s) fix e) (over .wider (s .point) (own-holds (s .point))) (over .stretch) room)
+        go : (b : Bool) → passes s t ≡ b → thenOn asked (t .least) (if b then byEdge s t else byPoints s t) (behind s) ≡ judge fix asked (after (s .point)) t (rest s)
+        go true e = sym (passed-is-edge asked fix (boxFrom s) t e (over .wider (s .point) (own-holds (s .point))) (over .stretch) room)
+        go false e = read-all asked first edges s n (record { low = s .point; high = s .point }) t r
 
     -- A border that comes round within so many stretches.
     pub states-judge : (more : ℕ) (s : Reader) (n : ℕ) (t : Tally) → Round file encoding first s n → n ≤ more * edges → natAbs (t .winding) + 2 * (more * edges) < 2147483647
-        → byStates more s t ≡ judge fix false (after (s .point)) t (rest s)
+        → byStates more s t ≡ judge fix asked (after (s .point)) t (rest s)
     unfolding byStates judge
     states-judge zero s zero t (closes e p) few room = rw (ended-trace file encoding first s e)
     states-judge zero s (suc n) t r few room = absurd (omega (arith, few, zero-mul edges))
     states-judge (suc more) s n t r few room =
-        then-same false (t .least) (stepBy s t) (byStates more (lastOf s)) (λ u. judge fix false (after (lastOf s .point)) u (rest (lastOf s)))
+        then-same asked (t .least) (stepBy s t) (byStates more (lastOf s)) (behind s)
         (λ u e.
         let w = subst (Winds (natAbs (t .winding) + 2 * edges)) e (step-winds s t) in
         states-judge more (lastOf s) (n - edges) u (spans file encoding first edges s n (record { low = s .point; high = s .point }) r .behind)

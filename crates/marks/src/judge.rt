@@ -1,10 +1,10 @@
-// A border's verdict by its marks: only stretches whose box holds the location are read.
+// A border's verdict by its marks: only stretches are read whose box holds the location or, with the distance, is not far from it.
 ghost use mathlib.Core.Path.{_≡_};
 ghost use Prim.Native.Nat.{_+_, _*_, _≤_};
 ghost use lib.ListN.{length};
 ghost use Rattle.verdict.specs.Verdict.{told};
 ghost use Rattle.verdict.specs.Step as step;
-ghost use Rattle.marks.specs.Judging.{stretchBy, endIn, stretchesBy, judgedBy};
+ghost use Rattle.marks.specs.Judging.{canPass, stretchBy, endIn, stretchesBy, judgedBy};
 use crate::words::MARK;
 use crate::words::point_at;
 use crate::words::state_at;
@@ -13,10 +13,12 @@ use border::place::FixedLat;
 use border::place::FixedLon;
 use border::place::Point;
 use border::reader::Encoding;
+use verdict::afar::is_afar;
 use verdict::edge::in_box;
 use verdict::edge::same_point;
 use verdict::judge::Judged;
 use verdict::judge::closed;
+use verdict::judge::on_border;
 use verdict::judge::pass_edge;
 use verdict::judge::pass_edges;
 use verdict::judge::stopped;
@@ -30,11 +32,25 @@ pub const NO_MARKS: u8 = 36;
 // How many edges a stretch has.
 const STRETCH: usize = 128;
 
+// Whether a stretch with such a box is passed as its one edge.
+fn can_pass(fix: Point, asked: bool, least: u64, low: Point, high: Point) -> bool
+    ensures { λ r. ⌜ r ≡ canPass fix asked least low high ⌝ }
+{
+    if in_box(low, fix, high) {
+        return false;
+    }
+    if asked {
+        return is_afar(fix, least, low, high);
+    }
+    true
+}
+
 // The stretch of a mark, which leads to a point.
 fn pass_stretch(
     file: &[u8],
     encoding: Encoding,
     fix: Point,
+    asked: bool,
     words: &[u32],
     first: Point,
     at: usize,
@@ -42,16 +58,16 @@ fn pass_stretch(
     tally: Tally,
 ) -> Passed
     requires { ⌜ at + 11 ≤ length (now words) ⌝ }
-    ensures { λ r. ⌜ step.told r ≡ stretchBy (now (file .entry)) encoding fix (now (words .entry)) first at to tally ⌝ }
+    ensures { λ r. ⌜ step.told r ≡ stretchBy (now (file .entry)) encoding fix asked (now (words .entry)) first at to tally ⌝ }
 {
     let low = point_at(words, at);
     let high = point_at(words, at + 2);
-    if in_box(low, fix, high) {
-        let start = state_at(words, at, first);
-        return pass_edges(file, encoding, fix, false, STRETCH, start, tally);
+    if can_pass(fix, asked, tally.least, low, high) {
+        let from = point_at(words, at + 4);
+        return pass_edge(fix, from, to, tally);
     }
-    let from = point_at(words, at + 4);
-    pass_edge(fix, from, to, tally)
+    let start = state_at(words, at, first);
+    pass_edges(file, encoding, fix, asked, STRETCH, start, tally)
 }
 
 // Where a stretch leads that has so many behind it.
@@ -69,6 +85,7 @@ fn pass_stretches(
     file: &[u8],
     encoding: Encoding,
     fix: Point,
+    asked: bool,
     words: &[u32],
     first: Point,
     count: usize,
@@ -76,7 +93,7 @@ fn pass_stretches(
     tally: Tally,
 ) -> Judged
     requires { ⌜ place + 11 * count ≤ length (now words) ⌝ }
-    ensures { λ r. ⌜ told r ≡ stretchesBy (now (file .entry)) encoding fix (now (words .entry)) first count place tally ⌝ }
+    ensures { λ r. ⌜ told r ≡ stretchesBy (now (file .entry)) encoding fix asked (now (words .entry)) first count place tally ⌝ }
 {
     let mut left = count;
     let mut at = place;
@@ -84,14 +101,14 @@ fn pass_stretches(
     while left > 0 {
         left -= 1;
         let to = end_at(words, first, left, at);
-        let passed = pass_stretch(file, encoding, fix, words, first, at, to, counted);
+        let passed = pass_stretch(file, encoding, fix, asked, words, first, at, to, counted);
         let Passed::On(on) = passed else {
-            return stopped(passed, false, counted.least);
+            return stopped(passed, asked, counted.least);
         };
         at += MARK;
         counted = on;
     }
-    closed(false, counted)
+    closed(asked, counted)
 }
 
 // What a border says of a location, by the marks at a place of the words. Refused: 36 where the words end before them, and what judging gives.
@@ -102,9 +119,10 @@ pub fn judge_by(
     at: usize,
     lat: FixedLat,
     lon: FixedLon,
+    asked: bool,
     least: u64,
 ) -> Judged
-    ensures { λ r. ⌜ told r ≡ judgedBy (now (file .entry)) encoding (now (words .entry)) at lat lon least ⌝ }
+    ensures { λ r. ⌜ told r ≡ judgedBy (now (file .entry)) encoding (now (words .entry)) at lat lon asked least ⌝ }
 {
     if words.len() <= at {
         return Judged::Refused(NO_MARKS);
@@ -120,11 +138,18 @@ pub fn judge_by(
     let place = at + 1;
     let first = point_at(words, place + 4);
     if same_point(first, fix) {
-        return Judged::Answered {
-            verdict: Verdict::OnBorderVertex,
-            least,
-        };
+        return on_border(Verdict::OnBorderVertex, asked, least);
     }
     let tally = Tally { winding: 0, least };
-    pass_stretches(file, encoding, fix, words, first, count, place, tally)
+    pass_stretches(
+        file,
+        encoding,
+        fix,
+        asked,
+        words,
+        first,
+        count,
+        place,
+        tally,
+    )
 }

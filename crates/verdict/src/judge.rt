@@ -76,7 +76,7 @@ fn judge_point(
 }
 
 // The answer where the location is on the border.
-fn on_border(verdict: Verdict, asked: bool, least: u64) -> Judged
+pub fn on_border(verdict: Verdict, asked: bool, least: u64) -> Judged
     ensures { λ r. ⌜ told r ≡ onBorder verdict asked least ⌝ }
 {
     if asked {
