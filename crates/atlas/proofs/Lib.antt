@@ -1,6 +1,7 @@
 -- Laws on plain values that the functions' proofs cite.
 pub mod Bits
 pub mod Counting
+pub mod Nexts
 pub mod Spanning
 pub mod Standing
 pub mod Writing
@@ -11,5 +12,6 @@ pub mod AtlasIsPlain
 pub mod Parting
 pub mod Behind
 pub mod Owned
+pub mod NumberedAtlas
 pub mod Theorems
 mod WorkedAtlas

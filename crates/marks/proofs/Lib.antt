@@ -2,8 +2,11 @@
 pub mod Boxes
 pub mod Rounds
 pub mod Spans
+pub mod Groups
+pub mod Parts
 pub mod Stretches
 pub mod ReadBack
 pub mod Marked
 pub mod MarkedIsPlain
+pub mod NumberedMarks
 mod WorkedMarks

@@ -110,7 +110,10 @@ stretchEdges = 128
 unfoldable pub stretchesOf : ℕ → ℕ
 stretchesOf edges = (edges + 127) / 128
 
--- how many edges a group of sixteen stretches has, and how many groups so many stretches have
+-- how many stretches a group has, and how many edges; the last one may have fewer
+unfoldable pub groupWide : ℕ
+groupWide = 16
+
 unfoldable pub groupEdges : ℕ
 groupEdges = 2048
 

@@ -13,6 +13,9 @@ pub mod Replies
 pub mod Unasked
 pub mod OutsideBox
 pub mod Winds
+pub mod Finite
+pub mod AfarField
+pub mod AfarBox
 pub mod Stretch
 mod WorkedStretch
 pub mod Strict

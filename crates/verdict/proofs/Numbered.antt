@@ -25,7 +25,7 @@ pub data NumberedJudgement (P : ℕ → Type 0) : Judgement → Type 0 where
   unjudged : {least : ℕ} → NumberedJudgement P (J.failed least)
   not-judged : {n : ℕ} → P n → NumberedJudgement P (J.refused n)
 
-then-step : {P : ℕ → Type 0} {A B : Type 0} {step : Step A} {next : A → Step B} → NumberedStep P step → ((a : A) → NumberedStep P (next a)) → NumberedStep P (S._>>=_ step next)
+pub then-step : {P : ℕ → Type 0} {A B : Type 0} {step : Step A} {next : A → Step B} → NumberedStep P step → ((a : A) → NumberedStep P (next a)) → NumberedStep P (S._>>=_ step next)
 then-step goes k = k _
 then-step meets k = meets
 then-step (stops h) k = stops h
@@ -98,18 +98,18 @@ module _ {P : ℕ → Type 0} (twelve : P 12) (thirteen : P 13) where
   edge-numbered fix asked none to tally = goes
   edge-numbered fix asked (after from) to tally = then-step (winds fix from to tally) (measures asked fix from to)
 
-  passes : (fix : Point) (asked : Bool) (last : Last) (to : Point) (tally : Tally) → NumberedStep P (passing fix asked last to tally)
+  pub passes : (fix : Point) (asked : Bool) (last : Last) (to : Point) (tally : Tally) → NumberedStep P (passing fix asked last to tally)
   unfolding passing
   passes fix asked last to tally = either (NumberedStep P) (samePoint to fix) meets (edge-numbered fix asked last to tally)
 
-  closes : (asked : Bool) (tally : Tally) → NumberedJudgement P (closedAt asked tally)
+  pub closes : (asked : Bool) (tally : Tally) → NumberedJudgement P (closedAt asked tally)
   unfolding closedAt
   closes asked tally =
       either (NumberedJudgement P) (sameZ (tally .winding) (negsuc 3)) judged
       (either (NumberedJudgement P) (sameZ (tally .winding) (pos 4)) judged
       (either (NumberedJudgement P) (sameZ (tally .winding) (pos 0)) judged judged))
 
-  goes-on : (asked : Bool) (least : ℕ) {step : Step Tally} {rest : Tally → Judgement} → NumberedStep P step → ((tally : Tally) → NumberedJudgement P (rest tally))
+  pub goes-on : (asked : Bool) (least : ℕ) {step : Step Tally} {rest : Tally → Judgement} → NumberedStep P step → ((tally : Tally) → NumberedJudgement P (rest tally))
       → NumberedJudgement P (thenOn asked least step rest)
   unfolding thenOn
   goes-on asked least goes k = k _
