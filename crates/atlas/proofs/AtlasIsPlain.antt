@@ -22,20 +22,20 @@ use Rattle.atlas.specs.Atlas.{marksFor, marksIn, entryOf, besideOf, whol
 use Rattle.atlas.specs.{Looked.{isWhole, partsOf, partIn, matchedAtlas, zonesAtlas, lookedAtlas}, declared.parts.Parts.{Parts}}
 
 -- ---- each border is judged by its marks as it is without them
-module _ (file : List ℕ) (head : Head) (fix : Point) (marks : List ℕ) (polygon least : ℕ) where
+module _ (file : List ℕ) (head : Head) (fix : Point) (asked : Bool) (marks : List ℕ) (polygon least : ℕ) where
   abbrev plainly : Judgement
-  plainly = judgeIn file head fix false polygon least
+  plainly = judgeIn file head fix asked polygon least
 
   by-list : (at : ℕ) (list : List ℕ) (word : ℕ) → word ≡ entryOf at list → list ≡ marksFor file head polygon → At marks at list → at + length list ≤ length marks → 0 < at → at < 2 ^ 32
-      → (if eqb word 0 then plainly else judgedBy file (encodingIn head) marks word (fix .lat) (fix .lon) least) ≡ plainly
+      → (if eqb word 0 then plainly else judgedBy file (encodingIn head) marks word (fix .lat) (fix .lon) asked least) ≡ plainly
   unfolding entryOf
   by-list at [] word e is here fits some small = rw (eq-eqb word 0 e)
   by-list at (x ∷ xs) word e is here fits some small =
       let w : word ≡ at = e ∙ mod-eq-of-lt small in
       let long : 0 < length (x ∷ xs) = omega arith in
       rw (ne-eqb word 0 (λ z. omega (arith, w, z, some)))
-      (ap (λ (j : ℕ). judgedBy file (encodingIn head) marks j (fix .lat) (fix .lon) least) w
-      ∙ marked-is-plain file (encodingIn head) ((head .sections .«data» + polygon) % 2 ^ 32) marks at (fix .lat) (fix .lon) least
+      (ap (λ (j : ℕ). judgedBy file (encodingIn head) marks j (fix .lat) (fix .lon) asked least) w
+      ∙ marked-is-plain file (encodingIn head) ((head .sections .«data» + polygon) % 2 ^ 32) marks at (fix .lat) (fix .lon) asked least
       (subst (λ (l : List ℕ). 0 < length l) is long) (subst (At marks at) is here) (subst (λ (l : List ℕ). at + length l ≤ length marks) is fits))
 
 module _ (file : List ℕ) (head : Head) (rows : List Row) (tail : List ℕ) (few : length (besideOf (marksIn file head rows)) < 2 ^ 32) where
@@ -45,18 +45,14 @@ module _ (file : List ℕ) (head : Head) (rows : List Row) (tail : List ℕ) (fe
   abbrev marks : List ℕ
   marks = besideOf lists ++ tail
 
-  right-false : (fix : Point) (k : ℕ) → k < length rows → (least : ℕ)
-      → judgeMarked file head fix false marks k (recordWord (recordsOf rows) k 2) least ≡ judgeIn file head fix false (recordWord (recordsOf rows) k 2) least
-  unfolding judgeMarked
-  right-false fix k h least =
-      let l : k < length lists = omega (arith, h, marks-length file head rows) in
-      by-list file head fix marks (recordWord (recordsOf rows) k 2) least (S.placeOf lists tail k l) (getD lists k []) (getD marks k 0) (entry-there lists tail k l) (marks-of file head rows k h) (marks-stand lists tail k l) (marks-inside lists tail k l)
-      (omega (arith, l)) (omega (arith, few, marks-inside lists [] k l, ap length (append-nil (besideOf lists))))
-
   right : (asked : Bool) (fix : Point) → Right file head asked (recordsOf rows) marks fix
   unfolding judgeMarked
-  right true fix k h least = rw (eq-eqb 0 0 refl)
-  right false fix k h least = right-false fix k (omega (arith, h, records-length rows)) least
+  right asked fix k inside least =
+      let h : k < length rows = omega (arith, inside, records-length rows) in
+      let l : k < length lists = omega (arith, h, marks-length file head rows) in
+      by-list file head fix asked marks (recordWord (recordsOf rows) k 2) least (S.placeOf lists tail k l) (getD lists k []) (getD marks k 0)
+      (entry-there lists tail k l) (marks-of file head rows k h) (marks-stand lists tail k l) (marks-inside lists tail k l)
+      (omega (arith, l)) (omega (arith, few, marks-inside lists [] k l, ap length (append-nil (besideOf lists))))
 
 -- ---- a file, its header and rows, and the words of its atlas
 module _ (file : List ℕ) (head : Head) (rows : List Row) (tail : List ℕ) (opened : given head ≡ headOf file) (precise : isPrecision (head .preamble .precision) ≡ true) (listed : given rows ≡ tableOf file head)

@@ -10,7 +10,7 @@ use Rattle.index.{proofs.{Stores.{set-before, sets-before, read-below}, Sides.{
 use Rattle.index.specs.declared.build.Built.{Built}
 use Rattle.index.specs.declared.build.Built.the-variants as T
 use Rattle.index.specs.{Table.{tableOf}, Tied.{wordAt}}
-use Rattle.marks.{proofs.MarkedIsPlain.{marks-length}, specs.Marks.{low, marksAt, marksFrom, stretchEdges, groupEdges, groupsOf, levelsFrom, counted}}
+use Rattle.marks.{proofs.Marked.{marks-length}, specs.Marks.{low, marksAt, marksFrom, stretchEdges, groupEdges, groupsOf, levelsFrom, counted}}
 use Rattle.numbers.{proofs.{Lists.{zeros-drop}, Replies.{carried, onward, met, unmet, given-from, given-one, demanded}, Tests.{both}}, specs.Lists.{zeros, padded}}
 use Rattle.numbers.specs.{Answer.{if_then_else_}, Reply.{Reply, given, refused, plain, demand, _>>=_, _>>_}, declared.refusal.Refusal.{Refusal}}
 use Rattle.table.specs.{Find.{isPrecision}, MarkedRows.{encodingIn}, declared.rows.Row.{Row}}

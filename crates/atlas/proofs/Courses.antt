@@ -7,9 +7,9 @@ use types.Run.{OneOf}
 use denote.Enum.Declared.{tagOf}
 use Rattle.border.specs.{Trace.{Given, reaches, ended, nextPoint, borderAt}, declared.{place.Point.{Point}, reader.{Reader.{Reader}, Next.{Next}, Encoding.{Encoding}}}}
 use Rattle.marks.specs.Marks.{nextOr, isMarkable, edgesThen, edgesFrom, mostPoints, fewEdges, stretchesOf, stretchesFrom, stretchesIn, levelsFrom, counted, marksAt}
+use Rattle.atlas.proofs.Nexts.{none-next}
 use Rattle.numbers.{proofs.Answers.{found-one}, specs.Answer.{Answer, if_then_else_}}
 use Rattle.verdict.specs.Edge.{samePoint}
-use Rattle.atlas.proofs.Spanning.{none-next}
 use Rattle.border.specs.inner.Told as R
 use Rattle.numbers.specs.Answer as A
 use Rattle.border.proofs.reader.Next as Next'

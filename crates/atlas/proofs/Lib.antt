@@ -1,6 +1,7 @@
 -- Laws on plain values that the functions' proofs cite.
 pub mod Bits
 pub mod Counting
+pub mod Nexts
 pub mod Spanning
 pub mod Standing
 pub mod Writing
@@ -13,5 +14,6 @@ pub mod Parting
 pub mod Choosing
 pub mod Behind
 pub mod Owned
+pub mod NumberedAtlas
 pub mod Theorems
 mod WorkedAtlas

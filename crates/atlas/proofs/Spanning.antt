@@ -2,22 +2,14 @@
 use Prim.Native.Nat.{ℕ, zero, suc, _+_, _-_, _≤_, _<_}
 use native.Mathlib.Omega.{arith}
 use mathlib.Core.{Path.{_≡_, refl, sym, ap, _∙_}, List.{List, [], _∷_}}
-use types.Run.{OneOf, miss}
+use types.Run.{OneOf}
 use denote.Enum.Declared.{tagOf}
 use Rattle.border.specs.{Box.{Box, grown}, Trace.{reaches, nextPoint}, declared.reader.{Reader.{Reader}, Next.{Next}, Encoding.{Encoding}}}
 use Rattle.marks.specs.Marks.{nextOr, Span, spanned, spanOver, spanFrom}
+use Rattle.atlas.proofs.Nexts.{none-next}
 use Rattle.border.specs.inner.Told as R
 use Rattle.numbers.specs.Answer as A
-use Rattle.border.specs.declared.reader.Next.the-variants as N
 use Rattle.border.proofs.reader.Next as Next'
-
--- what a `let .. else` on the next point leaves
-pub none-next : {A : Type 0} (next : Next) (none : A) (go : Reader → A) → OneOf (1 ∷ 2 ∷ 3 ∷ []) (tagOf Next'.the-type next) → nextOr (R.told next) none go ≡ none
-unfolding nextOr
-none-next (N.Point s) none go o = absurd (miss (1 ∷ 2 ∷ 3 ∷ []) 0 tt o)
-none-next N.Ended none go o = refl
-none-next N.Failed none go o = refl
-none-next (N.Refused n) none go o = refl
 
 module _ (edges : ℕ) (file : List ℕ) (encoding : Encoding) (start : Reader) where
   abbrev all : Span

@@ -1,4 +1,4 @@
--- What document 04's A-3 asks, over what the functions write; `atlas-is-plain` stands in its own file. Assumes nothing.
+-- What document 04's A-3 asks, over what the functions write; `atlas-is-plain` and `atlas-refusals` stand in their own files. Assumes nothing.
 use Prim.Native.Nat.{ℕ, _-_}
 use borrow.Author.Tests.{leb-true}
 use lib.{Dec.{ltb, leb}, ListN.{length, length-append, length-replicate}}
@@ -71,9 +71,9 @@ module _ (file words : List ℕ) (location : Location) (asked : Bool) (n room : 
   unfolding lookedAtlas
   atlas-refusal-zeroes why = both-zero n room (headOf file >>= λ head. zonesAtlas file head words location asked n room) why
 
-  -- Through an atlas it is refused with the numbers of the plain lookup.
-  pub atlas-refusals : isAtlasOf file words ≡ given tt → (why : Refusal) → lookedAtlas file words location asked n room .reply ≡ refused why → Listed lookupNumbers (why .number)
-  atlas-refusals e why r = lookup-refusals file location asked n room why (ap (λ (x : Replied Zones). x .reply) (sym (atlas-is-plain file words e location asked n room)) ∙ r)
+  -- Through an atlas of the file it is refused with the numbers of the plain lookup alone.
+  pub own-atlas-refusals : isAtlasOf file words ≡ given tt → (why : Refusal) → lookedAtlas file words location asked n room .reply ≡ refused why → Listed lookupNumbers (why .number)
+  own-atlas-refusals e why r = lookup-refusals file location asked n room why (ap (λ (x : Replied Zones). x .reply) (sym (atlas-is-plain file words e location asked n room)) ∙ r)
 
   -- With any words at all the reply and all lent output are fixed; `lookup_atlas` has no `requires`, so that it ends and stays inside what it was lent.
   pub atlas-safe : (r r′ : Looked) (hs hs′ ts ts′ : List ℕ) → replied (toldLooked r) hs ts ≡ lookedAtlas file words location asked n room
@@ -82,7 +82,8 @@ module _ (file words : List ℕ) (location : Location) (asked : Bool) (n room : 
 
 -- ---- what the promises fix
 -- Two replies that a promise permits are equal, with all lent output: of `lookup_atlas`,
-pub same-atlas : (file words : List ℕ) (location : Location) (asked : Bool) (n room : ℕ) (r r′ : Looked) (hs hs′ ts ts′ : List ℕ) → replied (toldLooked r) hs ts ≡ lookedAtlas file words location asked n room
+pub same-atlas : (file words : List ℕ) (location : Location) (asked : Bool) (n room : ℕ) (r r′ : Looked) (hs hs′ ts ts′ : List ℕ)
+    → replied (toldLooked r) hs ts ≡ lookedAtlas file words location asked n room
     → replied (toldLooked r′) hs′ ts′ ≡ lookedAtlas file words location asked n room → (r ≡ r′) × (hs ≡ hs′) × (ts ≡ ts′)
 same-atlas = atlas-safe
 

@@ -1,5 +1,6 @@
--- Two files whose atlas is built, of which `is_atlas` says 0, and through which a lookup is the plain one. Document 01's printed file: its border is too short for marks, so that its atlas has the words of the
--- index, the length, and a 0 for the one entry; no words are no atlas. And the same file with a border of 260 edges, which has the marks of three stretches and of their one group. Assumes nothing.
+-- Two files whose atlas is built, of which `is_atlas` says 0, and through which a lookup is the plain one. Document 01's printed file: its border is too short for marks, so that its
+-- atlas has the words of the index, the length, and a 0 for the one entry; no words are no atlas. And the same file with a border of 260 edges, which has the marks of three stretches
+-- and of their one group. Assumes nothing.
 use Prim.Native.Nat.{ℕ, _+_}
 use lib.{IntN.{pos}, ListN.{length, replicate, length-append}}
 use mathlib.Core.{Bool.{Bool, true, false}, List.{List, [], _∷_, _++_}, Path.{_≡_, refl, sym, ap, _∙_}}
@@ -64,8 +65,8 @@ yard = record {
   next = 25;
 }
 
--- three stretches: up the west side and along most of the north; the rest of it, the east side and most of the south; the last four edges. Behind them their group: the whole border. Each has its box, its first
--- point, and the place where its reading goes on; no run, and no moves left
+-- three stretches: up the west side and along most of the north; the rest of it, the east side and most of the south; the last four edges. Behind them their group: the whole border.
+-- Each has its box, its first point, and the place where its reading goes on; no run, and no moves left
 pub walked-marks : marksFor walked front 0
     ≡ 3
     ∷ 2 ∷ 2 ∷ 67 ∷ 65 ∷ 2 ∷ 2 ∷ 28 ∷ 0 ∷ 0 ∷ 0 ∷ 0

@@ -73,8 +73,8 @@ pub fn lookup_beside(
     atlas_in(file, head, words, location, asked, hits, text)
 }
 
-// The plain lookup, for words of which `is_atlas` says 0. With the safezone asked for the borders are read whole. Any words are taken: of them only what keeps the
-// lookup inside is asked. Refused: opening's numbers, 16, 36, and what a lookup is refused with.
+// The plain lookup, for words of which `is_atlas` says 0. Any words are taken: of them only what keeps the lookup inside is asked. Refused: opening's numbers, 16,
+// 36, and what a lookup is refused with.
 pub fn lookup_atlas(
     file: &[u8],
     words: &[u32],

@@ -1,13 +1,14 @@
 -- A stretch of a border that comes round, by its points or, where it may be passed so, by a leap. Assumes nothing.
-use Prim.Native.Nat.{ℕ, zero, suc, _+_, _-_, _*_, _≤_, _<_}
+use Prim.Native.Nat.{ℕ, zero, suc, _+_, _-_, _*_, _%_, _≤_, _<_}
 use native.Mathlib.Omega.{arith}
 use mathlib.Core.{Path.{_≡_, refl, sym, ap, _∙_}, Bool.{Bool, true, false, not, _&&_}, List.{List}}
-use lib.{IntN.{ℤ, pos, negsuc, natAbs}}
+use lib.{Dec.{eqb}, IntN.{ℤ, pos, negsuc, natAbs, _+ℤ_}}
 use borrow.Author.Tests.{not-true}
 use Rattle.numbers.{proofs.Tests.{both}, specs.Answer.{if_then_else_}}
 use Rattle.border.specs.{Box.{Box, grown, holds}, Trace.{Trace, point, traceOf}, declared.{place.Point.{Point}, reader.{Reader.{Reader}, Encoding.{Encoding}}}}
 use Rattle.border.proofs.Trace.{point-trace}
-use Rattle.verdict.specs.{Step.{Step, _>>=_}, Edge.{inBox}, Far.{isAfar}, Stretch.{Stretch, leapt, passingFirst}, Verdict.{Judgement, after, passing, thenOn, judge}, declared.step.Tally.{Tally}}
+use Rattle.verdict.specs.{Step.{Step, found, meets, refused, _>>=_, checked}, Edge.{inBox, quadrantOf}, Far.{isAfar}, Winding.{turned, quarterBy}, Stretch.{Stretch, leapt, passingFirst}}
+use Rattle.verdict.specs.{Verdict.{Judgement, after, passing, thenOn, judge}, declared.step.Tally.{Tally}}
 use Rattle.verdict.proofs.{Stretch.{Roomy, stretch-is-leap, afar-is-leap}, Unasked.{passing-least}, Winds.{Winds, bound-winds, passing-winds, leapt-winds}}
 use Rattle.marks.specs.{Judging.{canPass}, Marks.{nextOr, Span, spanOver, spanFrom}}
 use Rattle.marks.proofs.{Boxes.{own-holds, out-of-box}, Groups.{lastOver}, Rounds.{Round, closes, goes}, Spans.{Spans, spans, ended-trace}}
@@ -73,6 +74,33 @@ module _ (file : List ℕ) (encoding : Encoding) (fix : Point) (asked : Bool) (f
   }
 
 -- ---- a stretch that is passed by a leap
+-- a leap leaves the least distance so far
+abbrev leastOf : Step Tally → ℕ
+leastOf (found t) = t .least
+leastOf (meets v) = 0
+leastOf (refused n) = 0
+
+turned-least : (by : ℤ) (t u : Tally) → turned by t ≡ found u → u .least ≡ t .least
+unfolding turned
+turned-least by t u = go (checked 31 (t .winding +ℤ by))
+  where
+    go : (m : Step ℤ) → (m >>= λ w. found (record { winding = w; least = t .least })) ≡ found u → u .least ≡ t .least
+    go (found w) e = sym (ap leastOf e)
+    go (meets v) e = let z : _≡_ {A = ℕ} 0 1 = cc in absurd (omega arith)
+    go (refused n) e = let z : _≡_ {A = ℕ} 0 1 = cc in absurd (omega arith)
+
+leapt-least : (fix from to : Point) (t u : Tally) → leapt fix from to t ≡ found u → u .least ≡ t .least
+unfolding leapt quarterBy
+leapt-least fix from to t u = go (eqb quarters 1) (eqb quarters 3)
+  where
+    quarters : ℕ
+    quarters = (quadrantOf fix to + 4 - quadrantOf fix from) % 4
+
+    go : (a b : Bool) → (if a then turned (pos 1) t else (if b then turned (negsuc 0) t else found t)) ≡ found u → u .least ≡ t .least
+    go true b e = turned-least (pos 1) t u e
+    go false true e = turned-least (negsuc 0) t u e
+    go false false e = sym (ap leastOf e)
+
 -- a stretch that may be passed so does what the leap to its end does
 passed-is-leap : (asked : Bool) (fix : Point) (box : Box) {from to : Point} {trace left : Trace} (t : Tally) → canPass fix asked (t .least) (box .low) (box .high) ≡ true → holds box from ≡ true
     → Stretch box from trace to left → Roomy (t .winding)
@@ -101,7 +129,7 @@ module _ (file : List ℕ) (encoding : Encoding) (fix : Point) (asked : Bool) (f
   edge-judges : (t : Tally) → canPass fix asked (t .least) (box .low) (box .high) ≡ true → JudgesAt file encoding fix asked edges s t (byLeap t)
   edge-judges t can = record {
     winds = weaker (natAbs (t .winding) + 2) (natAbs (t .winding) + 2 * edges) (byLeap t) (omega (arith, some)) (leapt-winds fix (s .point) (last .point) t);
-    keeps = record { least = λ plainly u e. passing-least fix (s .point) (last .point) t u e };
+    keeps = record { least = λ plainly u e. leapt-least fix (s .point) (last .point) t u e };
     same = λ room. sym (passed-is-leap asked fix box t can (over .wider (s .point) (own-holds (s .point))) (over .stretch) (roomy (t .winding) (omega (arith, room))));
   }
 

@@ -6,7 +6,7 @@ use lib.ListN.{length}
 use mathlib.Core.Path.{_≡_, sym, ap, _∙_}
 use native.Mathlib.{Nat.{mod-eq-of-lt}, Omega.{arith}}
 use Rattle.index.specs.inner.Own.{isAt}
-use Rattle.marks.{proofs.MarkedIsPlain.{marks-length}, specs.Marks.{marksFrom, stretchEdges, groupEdges, groupsOf, levelsFrom}}
+use Rattle.marks.{proofs.Marked.{marks-length}, specs.Marks.{marksFrom, stretchEdges, groupEdges, groupsOf, levelsFrom}}
 use Rattle.atlas.proofs.{Behind.{groups-few}, Standing.{word-said, counted-none, other-count, other-fine, same-fine}, same.same_marks.Statement.{statement}}
 use Rattle.atlas.proofs.same.same_marks.Tie as tie
 

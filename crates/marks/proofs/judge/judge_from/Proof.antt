@@ -1,9 +1,10 @@
 -- `marks::judge::judge_from` meets its contract, by the tests that led to each answer. Assumes nothing.
 use borrow.Author.Needs.{needs}
-use mathlib.Core.Path.{sym, _∙_}
+use mathlib.Core.Path.{sym, ap, _∙_}
 use native.Mathlib.Omega.{arith}
 use Rattle.marks.proofs.judge.Turns.{from-none, from-vertex, from-groups}
 use Rattle.marks.proofs.judge.judge_from.Statement.{statement}
+use Rattle.verdict.specs.{Step.{Step}, Verdict.{closedAt, thenOn}, declared.step.Tally.{Tally}}
 use Rattle.marks.proofs.judge.judge_from.Tie as tie
 
 returns : tie.Need-returns
@@ -32,16 +33,20 @@ returns-2 c =
     ∙ from-vertex _ _ _ _ _ _ _ (c .before .before .before .before .before .count-at .result) (c .before .before .before .before .before .count-at .ensures .0)
     (omega (arith, c .before .before .before .before .if1 .left)) (c .before .before .before .point-at .ensures) (sym (c .before .before .same-point .ensures) ∙ c .before .if2 .taken)
 
-pass-stretches-requires : tie.Need-pass-stretches-requires
-pass-stretches-requires c κs =
+pass-groups-requires : tie.Need-pass-groups-requires
+pass-groups-requires c κs =
     let bound = c .before .before .before .before .count-at .ensures .1 (omega (arith, c .before .before .before .if1 .left)) in
     omega (arith, bound)
 
 returns-3 : tie.Need-returns-3
 returns-3 c =
-    c .pass-stretches .ensures
-    ∙ from-stretches _ _ _ _ _ _ _ (c .before .before .before .before .before .count-at .result) (c .before .before .before .before .before .count-at .ensures .0)
-    (omega (arith, c .before .before .before .before .if1 .left)) (c .before .before .before .point-at .ensures) (sym (c .before .before .same-point .ensures) ∙ c .before .if2 .left)
+    let a = c .before .before .before .before .before .before .before .before .before .args in
+    let count-at = c .before .before .before .before .before .before .count-at in
+    let point-at = c .before .before .before .before .point-at in
+    c .answer .ensures
+    ∙ ap (λ (m : Step Tally). thenOn (a .asked) (a .least) m (closedAt (a .asked))) (c .before .pass-groups .ensures)
+    ∙ from-groups _ _ _ _ _ _ _ (count-at .result) (count-at .ensures .0) (omega (arith, c .before .before .before .before .before .if1 .left)) (point-at .ensures)
+    (sym (c .before .before .before .same-point .ensures) ∙ c .before .before .if2 .left)
 
 pub judge-from-spec : {M : Type 1} → statement M
 judge-from-spec =
@@ -55,5 +60,6 @@ judge-from-spec =
     (λ c κs. search needs)
     (λ c κs. search needs)
     returns-2
-    pass-stretches-requires
+    pass-groups-requires
+    (λ c κs. search needs)
     returns-3)
