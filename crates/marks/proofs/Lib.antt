@@ -5,5 +5,6 @@ pub mod Spans
 pub mod Stretches
 pub mod ReadBack
 pub mod Marked
+pub mod Nearest
 pub mod MarkedIsPlain
 mod WorkedMarks

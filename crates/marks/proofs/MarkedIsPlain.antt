@@ -11,9 +11,12 @@ use Rattle.border.proofs.Trace.{point-trace}
 use Rattle.verdict.specs.{Step.{Step, meets}, Edge.{samePoint}, Verdict.{Judgement, none, after, along, passing, thenOn, judge, judgedAt}}
 use Rattle.verdict.specs.declared.step.{Tally.{Tally}, Verdict.the-variants.{OnBorderVertex}}
 use Rattle.marks.specs.Marks.{nextOr, spanFrom, markOf, marksFrom, isNarrow, edgesFrom, stretchEdges, stretchesOf, fewEdges, mostPoints, stretchesFrom, stretchesIn, counted, marksAt}
-use Rattle.marks.specs.{Judging.{stretchesBy, isInside, judgedBy}, Words.{wordAt, startIn}}
-use Rattle.marks.proofs.{Marked.{marked-so, marked-judge}, ReadBack.{At, at-left, at-right, start-back}, Rounds.{Round, counts}, Stretches.{then-same, states-judge}}
+use Rattle.marks.specs.{Judging.{stretchesBy, isInside, judgedFrom, nearIn, isBelow, judgedBy}, Words.{wordAt, startIn}}
+use Rattle.marks.proofs.{Marked.{marked-so, marked-judge}, Nearest.{near-less}, ReadBack.{At, at-left, at-right, start-back}, Rounds.{Round, counts}, Stretches.{then-same, states-judge}}
+use Rattle.verdict.proofs.NearerStart.{Below, nearer-start}
+use Rattle.numbers.proofs.Tests.{differ}
 use Rattle.numbers.specs.Answer as A
+use Rattle.verdict.specs.Verdict as J
 use Rattle.verdict.specs.Step as S
 
 -- ---- the numbers
@@ -90,8 +93,9 @@ module _ (file : List ℕ) (encoding : Encoding) (border : ℕ) (words : List �
           let box = spanFrom stretchEdges file encoding s .box in
           start-back words (at + 1) s box (at-left words (at + 1) (markOf s box) (marksFrom stretchEdges more file encoding (spanFrom stretchEdges file encoding s .last)) there) own-narrow
 
-      by-parts : judgedBy file encoding words at lat lon asked least ≡ thenOn asked least (passing fix asked none (s .point) start) (stretchesBy file encoding fix asked words (s .point) (stretchesOf m) (at + 1))
-      unfolding judgedBy
+      by-parts : judgedFrom file encoding words at fix asked least ≡ thenOn asked least (passing fix asked none (s .point) start)
+          (stretchesBy file encoding fix asked words (s .point) (stretchesOf m) (at + 1))
+      unfolding judgedFrom
       by-parts = rw (inside, first-so (stretchesOf m) (n .count) later, first-word)
 
       -- what the marks come to behind the first point, and what the points do
@@ -106,7 +110,7 @@ module _ (file : List ℕ) (encoding : Encoding) (border : ℕ) (words : List �
           marked-judge file encoding (s .point) own-narrow fix asked words some-edges (stretchesOf m) s m (at + 1) start round (n .few) (n .full) later
           ∙ states-judge file encoding fix asked (s .point) stretchEdges some-edges (stretchesOf m) s m start round (n .few) (omega (arith, n .room))
 
-      by-marks : judgedBy file encoding words at lat lon asked least ≡ judgedAt file encoding border lat lon asked least
+      by-marks : judgedFrom file encoding words at fix asked least ≡ judgedAt file encoding border lat lon asked least
       by-marks =
           by-parts
           ∙ then-same asked least (passing fix asked none (s .point) start) byMarks byPoints (λ u e. subst (λ (t : Tally). byMarks t ≡ byPoints t) (sym (begun (s .point) start u e)) from-start)
@@ -125,7 +129,7 @@ module _ (file : List ℕ) (encoding : Encoding) (border : ℕ) (words : List �
   counted-none xs h = nothing h
 
   abbrev Goal : List ℕ → Type 0
-  Goal marks = 0 < length marks → At words at marks → at + length marks ≤ length words → judgedBy file encoding words at lat lon asked least ≡ judgedAt file encoding border lat lon asked least
+  Goal marks = 0 < length marks → At words at marks → at + length marks ≤ length words → judgedFrom file encoding words at fix asked least ≡ judgedAt file encoding border lat lon asked least
 
   module _ (s : Reader) (is : nextPoint file encoding (borderAt border) ≡ found (reaches s)) where
     by-count : (a : Answer ℕ) → edgesFrom mostPoints file encoding (s .point) s 0 ≡ a → Goal (counted (stretchesFrom a) (marksFrom stretchEdges (stretchesFrom a) file encoding s))
@@ -151,8 +155,43 @@ module _ (file : List ℕ) (encoding : Encoding) (border : ℕ) (words : List �
   by-first A.failed e = λ some here fits. nothing some
   by-first (A.refused k) e = λ some here fits. nothing some
 
-  -- Where the marks of a border stand in the words, the judgement by them is the border's own.
-  pub marked-is-plain : 0 < length (marksAt file encoding border) → At words at (marksAt file encoding border) → at + length (marksAt file encoding border) ≤ length words
-      → judgedBy file encoding words at lat lon asked least ≡ judgedAt file encoding border lat lon asked least
+  -- Where the marks of a border stand in the words, the judgement by them from any least distance is the border's own.
+  from-is-plain : 0 < length (marksAt file encoding border) → At words at (marksAt file encoding border) → at + length (marksAt file encoding border) ≤ length words
+      → judgedFrom file encoding words at fix asked least ≡ judgedAt file encoding border lat lon asked least
   unfolding marksAt
-  marked-is-plain = by-first (nextPoint file encoding (borderAt border)) refl
+  from-is-plain = by-first (nextPoint file encoding (borderAt border)) refl
+
+-- a verdict that is below
+below-so : (near : ℕ) (j : Judgement) → isBelow near j ≡ true → Below near j
+unfolding isBelow
+below-so near (J.reached v d) e = ltb-true d near e
+below-so near (J.failed d) e = differ e
+below-so near (J.refused n) e = differ e
+
+-- Where the marks of a border stand in the words, the judgement by them is the border's own, with the distance and without it.
+pub marked-is-plain : (file : List ℕ) (encoding : Encoding) (border : ℕ) (words : List ℕ) (at : ℕ) (lat : FixedLat) (lon : FixedLon) (asked : Bool) (least : ℕ)
+    → 0 < length (marksAt file encoding border) → At words at (marksAt file encoding border) → at + length (marksAt file encoding border) ≤ length words
+    → judgedBy file encoding words at lat lon asked least ≡ judgedAt file encoding border lat lon asked least
+unfolding judgedBy
+marked-is-plain file encoding border words at lat lon asked least some here fits = by-test (isBelow near (judged near)) refl
+  where
+    fix : Point
+    fix = record { lat = lat; lon = lon }
+
+    near : ℕ
+    near = nearIn words at fix asked least
+
+    judged : ℕ → Judgement
+    judged = judgedFrom file encoding words at fix asked
+
+    plain : (d : ℕ) → judged d ≡ judgedAt file encoding border lat lon asked d
+    plain d = from-is-plain file encoding border words at lat lon asked d some here fits
+
+    starts : (asked : Bool) → Below (nearIn words at fix asked least) (judgedAt file encoding border lat lon asked (nearIn words at fix asked least))
+        → judgedAt file encoding border lat lon asked (nearIn words at fix asked least) ≡ judgedAt file encoding border lat lon asked least
+    starts true low = sym (nearer-start file encoding border lat lon (nearIn words at fix true least) least (near-less words at fix true least) low)
+    starts false low = refl
+
+    by-test : (b : Bool) → isBelow near (judged near) ≡ b → (if b then judged near else judged least) ≡ judgedAt file encoding border lat lon asked least
+    by-test true e = plain near ∙ starts asked (subst (Below near) (plain near) (below-so near (judged near) e))
+    by-test false e = plain least

@@ -3,9 +3,10 @@ use Prim.Native.Nat.{ℕ}
 use mathlib.Core.{Path.{_≡_, refl}, Bool.{true, false}, List.{List, [], _∷_}}
 use lib.IntN.{pos}
 use Rattle.border.specs.{Encoding.{encodedIn}, declared.{place.{FixedLat.{FixedLat}, FixedLon.{FixedLon}}, reader.Version.the-variants.{Packed}}}
-use Rattle.verdict.specs.{Step.{checked}, Edge.{samePoint, straight, between, inBox, quadrantOf}, Winding.{turned, quarterBy, clearOf, woundBy}, Distance.{measured}, Far.{small, isSmall, raised, gapOf, isAfar}}
+use Rattle.verdict.specs.{Step.{checked}, Edge.{samePoint, straight, between, inBox, quadrantOf}, Winding.{turned, quarterBy, clearOf, woundBy}}
+use Rattle.verdict.specs.{Distance.{squared, toVertex, measured}, Far.{small, isSmall, raised, gapOf, isAfar}}
 use Rattle.verdict.specs.{Verdict.{reached, refused, along, passing, closedAt, thenOn}, declared.step.Verdict.the-variants.{InExcludedZone}}
-use Rattle.marks.specs.Judging.{canPass, endIn, stretchBy, stretchesBy, judgedBy}
+use Rattle.marks.specs.Judging.{canPass, endIn, stretchBy, stretchesBy, countIn, judgedFrom, nearerBy, nearestOf, isBelow, judgedBy}
 
 -- the words of -3, -4 and -9
 abbrev m3 : ℕ
@@ -34,15 +35,15 @@ abbrev there : FixedLon
 there = record { 0 = pos 0 }
 
 pub unread : judgedBy [] (encodedIn Packed 0) four 0 here there false 7 ≡ reached InExcludedZone 7
-unfolding judgedBy stretchesBy stretchBy canPass endIn thenOn passing along measured samePoint woundBy quadrantOf quarterBy turned checked clearOf straight between inBox closedAt
+unfolding judgedBy judgedFrom isBelow stretchesBy stretchBy canPass endIn thenOn passing along measured samePoint woundBy quadrantOf quarterBy turned checked clearOf straight between inBox closedAt
 unread = refl
 
 -- two numbers lie between the location and each box, so that none is nearer than 4
 pub unread-afar : judgedBy [] (encodedIn Packed 0) four 0 here there true 4 ≡ reached InExcludedZone 4
-unfolding judgedBy stretchesBy stretchBy canPass isAfar isSmall small gapOf raised endIn thenOn passing along measured samePoint woundBy quadrantOf quarterBy turned checked clearOf straight between inBox closedAt
+unfolding judgedBy judgedFrom isBelow countIn nearestOf nearerBy stretchesBy stretchBy canPass isAfar isSmall small gapOf raised toVertex squared endIn thenOn passing along measured samePoint woundBy quadrantOf quarterBy turned checked clearOf straight between inBox closedAt
 unread-afar = refl
 
 -- the same words one short
 pub cut-short : judgedBy [] (encodedIn Packed 0) (5 ∷ 3 ∷ m4 ∷ []) 0 here there false 7 ≡ refused 36
-unfolding judgedBy
+unfolding judgedBy judgedFrom isBelow
 cut-short = refl

@@ -4,7 +4,9 @@ use lib.{Dec.{ltb, leb}, IntN.{pos}, ListN.{length}}
 use mathlib.Core.{Bool.{Bool, true, false, _&&_, not}, List.{List}}
 use Rattle.numbers.specs.Answer.{if_then_else_}
 use Rattle.border.specs.{Trace.{traceOf}, declared.{place.{FixedLat.{FixedLat}, FixedLon.{FixedLon}, Point.{Point}}, reader.Encoding.{Encoding}}}
-use Rattle.verdict.specs.{Step.{Step}, Edge.{inBox}, Far.{isAfar}, Stretch.{passingFirst}, Verdict.{Judgement, refused, none, after, passing, closedAt, thenOn}, declared.step.Tally.{Tally}}
+use Rattle.verdict.specs.{Step.{Step, found, meets}, Edge.{inBox}, Distance.{toVertex}, Far.{isAfar}, Stretch.{passingFirst}}
+use Rattle.verdict.specs.{Verdict.{Judgement, reached, failed, refused, none, after, passing, closedAt, thenOn}, declared.step.Tally.{Tally}}
+use Rattle.verdict.specs.Step as S
 use Rattle.marks.specs.{Marks.{stretchEdges}, Words.{wordAt, markWide, lowIn, highIn, startIn, stateIn}}
 
 -- where the stretch of a mark leads that has so many behind it: to the next one's first point, the last one back to the border's
@@ -33,11 +35,44 @@ module _ (file : List ℕ) (encoding : Encoding) (fix : Point) (asked : Bool) (w
 abbrev pub isInside : List ℕ → ℕ → Bool
 isInside words at = ltb at (length words) && (ltb 0 (wordAt words at) && leb (wordAt words at) ((length words - (at + 1)) / markWide))
 
--- The judgement by the marks at a place of the words; 36 where there is no room for as many as it says.
-unfoldable pub judgedBy : List ℕ → Encoding → List ℕ → ℕ → FixedLat → FixedLon → Bool → ℕ → Judgement
-judgedBy file encoding words at lat lon asked least =
-    let fix : Point = record { lat = lat; lon = lon } in
+-- how many there are, 0 where there is no room for as many as it says
+unfoldable pub countIn : List ℕ → ℕ → ℕ
+countIn words at = if isInside words at then wordAt words at else 0
+
+-- the judgement by them from a least distance on; 36 where there are none
+unfoldable pub judgedFrom : List ℕ → Encoding → List ℕ → ℕ → Point → Bool → ℕ → Judgement
+judgedFrom file encoding words at fix asked least =
     let first = startIn words (at + 1) in
     if isInside words at
     then thenOn asked least (passing fix asked none first (record { winding = pos 0; least = least })) (stretchesBy file encoding fix asked words first (wordAt words at) (at + 1))
     else refused 36
+
+-- ---- a distance to begin with: most borders come to less, and most of their stretches are afar by it
+-- one more than a distance, if that is less
+unfoldable pub nearerBy : Step ℕ → ℕ → ℕ
+nearerBy (found squared) near = if ltb squared near then squared + 1 else near
+nearerBy (meets verdict) near = near
+nearerBy (S.refused n) near = near
+
+-- the same of the first points of so many stretches
+unfoldable pub nearestOf : List ℕ → Point → ℕ → ℕ → ℕ → ℕ
+nearestOf words fix zero at near = near
+nearestOf words fix (suc more) at near = nearestOf words fix more (at + markWide) (nearerBy (toVertex (startIn words at) fix) near)
+
+-- where the distance is asked for
+abbrev pub nearIn : List ℕ → ℕ → Point → Bool → ℕ → ℕ
+nearIn words at fix asked least = if asked then nearestOf words fix (countIn words at) (at + 1) least else least
+
+-- a verdict with less than this
+unfoldable pub isBelow : ℕ → Judgement → Bool
+isBelow near (reached verdict least) = ltb least near
+isBelow near (failed least) = false
+isBelow near (refused n) = false
+
+-- The judgement by the marks at a place of the words: from that distance, if it comes to less, else from the least one.
+unfoldable pub judgedBy : List ℕ → Encoding → List ℕ → ℕ → FixedLat → FixedLon → Bool → ℕ → Judgement
+judgedBy file encoding words at lat lon asked least =
+    let fix : Point = record { lat = lat; lon = lon } in
+    let near = nearIn words at fix asked least in
+    let judged = judgedFrom file encoding words at fix asked in
+    if isBelow near (judged near) then judged near else judged least

@@ -1,10 +1,10 @@
 // A border's verdict by its marks: only stretches are read whose box holds the location or, with the distance, is not far from it.
 ghost use mathlib.Core.Path.{_≡_};
-ghost use Prim.Native.Nat.{_+_, _*_, _≤_};
+ghost use Prim.Native.Nat.{_+_, _*_, _≤_, _<_};
 ghost use lib.ListN.{length};
-ghost use Rattle.verdict.specs.Verdict.{told};
+ghost use Rattle.verdict.specs.{Distance.{toVertex}, Verdict.{told}};
 ghost use Rattle.verdict.specs.Step as step;
-ghost use Rattle.marks.specs.Judging.{canPass, stretchBy, endIn, stretchesBy, judgedBy};
+ghost use Rattle.marks.specs.Judging.{canPass, stretchBy, endIn, stretchesBy, countIn, judgedFrom, nearerBy, nearestOf, nearIn, isBelow, judgedBy};
 use crate::words::MARK;
 use crate::words::point_at;
 use crate::words::state_at;
@@ -14,6 +14,8 @@ use border::place::FixedLon;
 use border::place::Point;
 use border::reader::Encoding;
 use verdict::afar::is_afar;
+use verdict::distance::Distance;
+use verdict::distance::to_vertex;
 use verdict::edge::in_box;
 use verdict::edge::same_point;
 use verdict::judge::Judged;
@@ -111,30 +113,36 @@ fn pass_stretches(
     closed(asked, counted)
 }
 
-// What a border says of a location, by the marks at a place of the words. Refused: 36 where the words end before them, and what judging gives.
-pub fn judge_by(
+// How many marks stand from a place of the words on; 0 where there is no room for as many as it says.
+fn count_at(words: &[u32], at: usize) -> usize
+    ensures { λ r. ⌜ (r ≡ countIn (now (words .entry)) at) × (0 < r → at + 1 + 11 * r ≤ length (now (words .entry))) ⌝ }
+{
+    if words.len() <= at {
+        return 0;
+    }
+    let count = wide(words[at]);
+    if (words.len() - (at + 1)) / MARK < count {
+        return 0;
+    }
+    count
+}
+
+// From a least distance on.
+fn judge_from(
     file: &[u8],
     encoding: Encoding,
     words: &[u32],
     at: usize,
-    lat: FixedLat,
-    lon: FixedLon,
+    fix: Point,
     asked: bool,
     least: u64,
 ) -> Judged
-    ensures { λ r. ⌜ told r ≡ judgedBy (now (file .entry)) encoding (now (words .entry)) at lat lon asked least ⌝ }
+    ensures { λ r. ⌜ told r ≡ judgedFrom (now (file .entry)) encoding (now (words .entry)) at fix asked least ⌝ }
 {
-    if words.len() <= at {
-        return Judged::Refused(NO_MARKS);
-    }
-    let count = wide(words[at]);
+    let count = count_at(words, at);
     if count == 0 {
         return Judged::Refused(NO_MARKS);
     }
-    if (words.len() - (at + 1)) / MARK < count {
-        return Judged::Refused(NO_MARKS);
-    }
-    let fix = Point { lat, lon };
     let place = at + 1;
     let first = point_at(words, place + 4);
     if same_point(first, fix) {
@@ -152,4 +160,84 @@ pub fn judge_by(
         place,
         tally,
     )
+}
+
+// One more than the distance of a point, if that is less.
+fn nearer(fix: Point, p: Point, near: u64) -> u64
+    ensures { λ r. ⌜ r ≡ nearerBy (toVertex p fix) near ⌝ }
+{
+    let Distance::Is(squared) = to_vertex(p, fix) else {
+        return near;
+    };
+    if squared < near {
+        return squared + 1;
+    }
+    near
+}
+
+// The same of the first points of so many stretches.
+fn nearest(words: &[u32], fix: Point, count: usize, place: usize, least: u64) -> u64
+    requires { ⌜ place + 11 * count ≤ length (now words) ⌝ }
+    ensures { λ r. ⌜ r ≡ nearestOf (now (words .entry)) fix count place least ⌝ }
+{
+    let mut left = count;
+    let mut at = place;
+    let mut near = least;
+    while left > 0 {
+        left -= 1;
+        let p = point_at(words, at + 4);
+        at += MARK;
+        near = nearer(fix, p, near);
+    }
+    near
+}
+
+// The distance to begin with: with the distance asked for, one that most borders come to less than.
+fn near_by(words: &[u32], at: usize, fix: Point, asked: bool, least: u64) -> u64
+    ensures { λ r. ⌜ r ≡ nearIn (now (words .entry)) at fix asked least ⌝ }
+{
+    if !asked {
+        return least;
+    }
+    let count = count_at(words, at);
+    if count == 0 {
+        return least;
+    }
+    nearest(words, fix, count, at + 1, least)
+}
+
+// Whether there is a verdict with less than this.
+fn is_below(judged: Judged, near: u64) -> bool
+    ensures { λ r. ⌜ r ≡ isBelow near (told judged) ⌝ }
+{
+    match judged {
+        Judged::Answered { verdict: _, least } => least < near,
+        Judged::Failed { least: _ } => false,
+        Judged::Refused(_) => false,
+    }
+}
+
+// What a border says of a location, by the marks at a place of the words. Refused: 36 where the words end before them, and what judging gives.
+pub fn judge_by(
+    file: &[u8],
+    encoding: Encoding,
+    words: &[u32],
+    at: usize,
+    lat: FixedLat,
+    lon: FixedLon,
+    asked: bool,
+    least: u64,
+) -> Judged
+    ensures { λ r. ⌜ told r ≡ judgedBy (now (file .entry)) encoding (now (words .entry)) at lat lon asked least ⌝ }
+{
+    let fix = Point { lat, lon };
+    let near = near_by(words, at, fix, asked, least);
+    if least <= near {
+        return judge_from(file, encoding, words, at, fix, asked, least);
+    }
+    let judged = judge_from(file, encoding, words, at, fix, asked, near);
+    if is_below(judged, near) {
+        return judged;
+    }
+    judge_from(file, encoding, words, at, fix, asked, least)
 }

@@ -11,6 +11,7 @@ pub mod WorkedGliding
 pub mod Verdicts
 pub mod Replies
 pub mod Unasked
+pub mod NearerStart
 pub mod OutsideBox
 pub mod Winds
 pub mod Finite

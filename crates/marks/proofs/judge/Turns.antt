@@ -1,16 +1,20 @@
 -- The loop over the stretches of a border, turn by turn. Assumes nothing.
 use Prim.Native.Nat.{ℕ, zero, suc, _+_, _-_, _/_, _≤_, _<_}
-use borrow.Author.Tests.{lt-ltb, le-ltb, le-leb, lt-leb}
-use lib.{IntN.{pos}, ListN.{length}}
+use borrow.Author.Tests.{ltb-true, ltb-false, lt-ltb, le-ltb, le-leb, lt-leb}
+use lib.{Dec.{ltb, leb}, IntN.{pos}, ListN.{length}}
 use native.Mathlib.Omega.{arith}
-use mathlib.Core.{Path.{_≡_, refl, sym, ap, _∙_}, Bool.{Bool, true, false, and-false}, List.{List, [], _∷_}}
+use mathlib.Core.{Path.{_≡_, refl, sym, ap, _∙_, subst}, Bool.{Bool, true, false, _&&_, and-false}, List.{List, [], _∷_}}
 use types.Run.{OneOf, miss}
 use denote.Enum.Declared.{tagOf}
 use Rattle.border.specs.{Trace.{traceOf}, declared.{place.{FixedLat.{FixedLat}, FixedLon.{FixedLon}, Point.{Point}}, reader.{Reader.{Reader}, Encoding.{Encoding}}}}
-use Rattle.verdict.specs.{Step.{Step, told}, Edge.{samePoint, inBox}, Stretch.{passingFirst}, Verdict.{Judgement, refused, onBorder, after, along, passing, closedAt, thenOn}}
+use Rattle.verdict.specs.{Step.{Step, told}, Edge.{samePoint}, Distance.{toVertex}, Stretch.{passingFirst}, Verdict.{Judgement, refused, onBorder, after, along, passing, closedAt, thenOn}}
 use Rattle.verdict.specs.declared.step.{Tally.{Tally}, Passed.{Passed}, Verdict.the-variants.{OnBorderVertex}}
-use Rattle.marks.specs.{Judging.{canPass, stretchBy, endIn, stretchesBy, isInside, judgedBy}, Marks.{stretchEdges}, Words.{wordAt, lowIn, highIn, startIn, stateIn}}
+use Rattle.marks.specs.{Judging.{canPass, stretchBy, endIn, stretchesBy, isInside, countIn, judgedFrom, nearerBy, nearestOf, nearIn, isBelow, judgedBy}}
+use Rattle.marks.specs.{Marks.{stretchEdges}, Words.{wordAt, lowIn, highIn, startIn, stateIn}}
 use Rattle.verdict.proofs.step.Passed as Passed'
+use Rattle.numbers.specs.Answer.{if_then_else_}
+use Rattle.numbers.proofs.Tests.{both}
+use Rattle.marks.proofs.Nearest.{near-less}
 use Rattle.verdict.specs.declared.step.Passed.the-variants as P
 
 -- ---- what a `let .. else` leaves
@@ -51,37 +55,117 @@ module _ (file : List ℕ) (encoding : Encoding) (fix : Point) (asked : Bool) wh
     stretches-next zero at t h = absurd (omega (arith, h))
     stretches-next (suc k) at t h = let e : suc k - 1 ≡ k = omega arith in rw e
 
+-- ---- how many marks there are
+module _ (words : List ℕ) (at : ℕ) where
+  pub no-words : length words ≤ at → 0 ≡ countIn words at
+  unfolding countIn
+  no-words h = rw (le-ltb at (length words) h)
+
+  pub no-room : (length words - (at + 1)) / 11 < wordAt words at → 0 ≡ countIn words at
+  unfolding countIn
+  no-room h = simp (lt-leb (wordAt words at) ((length words - (at + 1)) / 11) h, and-false)
+
+  -- a word that says 0 says so
+  pub room-for : at < length words → wordAt words at ≤ (length words - (at + 1)) / 11 → wordAt words at ≡ countIn words at
+  unfolding countIn
+  room-for more room = go (ltb 0 (wordAt words at)) refl
+    where
+      go : (b : Bool) → ltb 0 (wordAt words at) ≡ b → wordAt words at ≡ (if (ltb at (length words) && (b && leb (wordAt words at) ((length words - (at + 1)) / 11))) then wordAt words at else 0)
+      go true e = rw (lt-ltb at (length words) more, le-leb (wordAt words at) ((length words - (at + 1)) / 11) room)
+      go false e = let none = ltb-false 0 (wordAt words at) e in rw (lt-ltb at (length words) more) (omega (arith, none))
+
+  none-in : countIn words at ≡ 0 → isInside words at ≡ false
+  unfolding countIn
+  none-in e = go (isInside words at) refl e
+    where
+      go : (b : Bool) → isInside words at ≡ b → (if b then wordAt words at else 0) ≡ 0 → isInside words at ≡ false
+      go true i e =
+          let two = both (ltb at (length words)) (ltb 0 (wordAt words at) && leb (wordAt words at) ((length words - (at + 1)) / 11)) i in
+          let some = ltb-true 0 (wordAt words at) (both (ltb 0 (wordAt words at)) (leb (wordAt words at) ((length words - (at + 1)) / 11)) (two .1) .0) in
+          absurd (omega (arith, some, e))
+      go false i e = i
+
+  some-in : 0 < countIn words at → (isInside words at ≡ true) × (countIn words at ≡ wordAt words at)
+  unfolding countIn
+  some-in h = go (isInside words at) refl h
+    where
+      go : (b : Bool) → isInside words at ≡ b → 0 < (if b then wordAt words at else 0) → (isInside words at ≡ true) × ((if b then wordAt words at else 0) ≡ wordAt words at)
+      go true i h = (i, refl)
+      go false i h = absurd (omega (arith, h))
+
+-- ---- from a least distance on
+module _ (file : List ℕ) (encoding : Encoding) (words : List ℕ) (at : ℕ) (fix : Point) (asked : Bool) (least n : ℕ) (is : n ≡ countIn words at) where
+  abbrev by : Judgement
+  by = judgedFrom file encoding words at fix asked least
+
+  pub from-none : n ≡ 0 → refused 36 ≡ by
+  unfolding judgedFrom
+  from-none e = rw (none-in words at (sym is ∙ e))
+
+  module _ (some : 0 < n) where
+    there : (isInside words at ≡ true) × (countIn words at ≡ wordAt words at)
+    there = some-in words at (subst (λ (k : ℕ). 0 < k) is some)
+
+    pub from-vertex : {first : Point} → first ≡ startIn words (at + 1) → samePoint first fix ≡ true → onBorder OnBorderVertex asked least ≡ by
+    unfolding judgedFrom passing thenOn
+    from-vertex e same = let test = (λ i. samePoint (sym e i) fix) ∙ same in rw (there .0, test)
+
+    pub from-stretches : {first : Point} → first ≡ startIn words (at + 1) → samePoint first fix ≡ false
+        → stretchesBy file encoding fix asked words first n (at + 1) (record { winding = pos 0; least = least }) ≡ by
+    unfolding judgedFrom passing along thenOn
+    from-stretches e other =
+        let test = (λ i. samePoint (sym e i) fix) ∙ other in
+        let count = is ∙ there .1 in
+        (λ i. stretchesBy file encoding fix asked words (e i) (count i) (at + 1) (record { winding = pos 0; least = least })) ∙ rw (there .0, test)
+
+-- ---- a distance to begin with
+pub nearest-done : (words : List ℕ) (fix : Point) (left at near : ℕ) → left ≡ 0 → near ≡ nearestOf words fix left at near
+unfolding nearestOf
+nearest-done words fix zero at near e = refl
+nearest-done words fix (suc k) at near e = absurd (omega (arith, e))
+
+pub nearest-next : (words : List ℕ) (fix : Point) (left at near : ℕ) → 0 < left
+    → nearestOf words fix (left - 1) (at + 11) (nearerBy (toVertex (startIn words at) fix) near) ≡ nearestOf words fix left at near
+unfolding nearestOf
+nearest-next words fix zero at near h = absurd (omega (arith, h))
+nearest-next words fix (suc k) at near h = let e : suc k - 1 ≡ k = omega arith in rw e
+
 -- ---- all of it
 module _ (file : List ℕ) (encoding : Encoding) (words : List ℕ) (at : ℕ) (lat : FixedLat) (lon : FixedLon) (asked : Bool) (least : ℕ) where
-  abbrev by : Judgement
-  by = judgedBy file encoding words at lat lon asked least
-
   abbrev fix : Point
   fix = record { lat = lat; lon = lon }
 
-  pub no-words : length words ≤ at → refused 36 ≡ by
-  unfolding judgedBy
-  no-words h = rw (le-ltb at (length words) h)
+  abbrev near : ℕ
+  near = nearIn words at fix asked least
 
-  pub no-count : wordAt words at ≡ 0 → refused 36 ≡ by
-  unfolding judgedBy
-  no-count e = simp (e, and-false)
+  abbrev judged : ℕ → Judgement
+  judged = judgedFrom file encoding words at fix asked
 
-  pub no-room : (length words - (at + 1)) / 11 < wordAt words at → refused 36 ≡ by
-  unfolding judgedBy
-  no-room h = simp (lt-leb (wordAt words at) ((length words - (at + 1)) / 11) h, and-false)
+  abbrev by-all : Judgement
+  by-all = judgedBy file encoding words at lat lon asked least
 
-  module _ (more : at < length words) (some : 0 < wordAt words at) (room : wordAt words at ≤ (length words - (at + 1)) / 11) where
-    inside : isInside words at ≡ true
-    inside = rw (lt-ltb at (length words) more, lt-ltb 0 (wordAt words at) some, le-leb (wordAt words at) ((length words - (at + 1)) / 11) room)
+  -- with the distance that was found, and what it led to
+  module _ {n : ℕ} (e : n ≡ near) where
+    -- where it is no less to begin with
+    pub from-same : least ≤ n → judged least ≡ by-all
+    unfolding judgedBy
+    from-same h = either (isBelow near (judged near)) (ap judged (omega (arith, h, e, near-less words at fix asked least)))
+      where
+        either : (b : Bool) → judged least ≡ judged near → judged least ≡ (if b then judged near else judged least)
+        either true e = e
+        either false e = refl
 
-    pub at-vertex : {first : Point} → first ≡ startIn words (at + 1) → samePoint first fix ≡ true → onBorder OnBorderVertex asked least ≡ by
-    unfolding judgedBy passing thenOn
-    at-vertex e same = let test = (λ i. samePoint (sym e i) fix) ∙ same in rw (inside, test)
+    module _ {j : Judgement} (g : j ≡ judged n) where
+      led : j ≡ judged near
+      led = g ∙ ap judged e
 
-    pub by-stretches : {first : Point} → first ≡ startIn words (at + 1) → samePoint first fix ≡ false
-        → stretchesBy file encoding fix asked words first (wordAt words at) (at + 1) (record { winding = pos 0; least = least }) ≡ by
-    unfolding judgedBy passing along thenOn
-    by-stretches e other =
-        let test = (λ i. samePoint (sym e i) fix) ∙ other in
-        (λ i. stretchesBy file encoding fix asked words (e i) (wordAt words at) (at + 1) (record { winding = pos 0; least = least })) ∙ rw (inside, test)
+      tested : (b : Bool) → isBelow n j ≡ b → isBelow near (judged near) ≡ b
+      tested b h = sym (λ i. isBelow (e i) (led i)) ∙ h
+
+      pub from-near : isBelow n j ≡ true → j ≡ by-all
+      unfolding judgedBy
+      from-near h = led ∙ rw (tested true h)
+
+      pub from-least : isBelow n j ≡ false → judged least ≡ by-all
+      unfolding judgedBy
+      from-least h = rw (tested false h)
