@@ -4,7 +4,8 @@ use Prim.Native.Nat.{ℕ, _+_, _*_, _-_, _<_, _≤_}
 use lib.{Ieee.{Float}, IntN.{ℤ}, ListN.{length, getD, take}, Signed.{ltZ}}
 use mathlib.Core.{Bool.{Bool, true}, List.{List, [], _∷_}, Logic.{_↔_, _⊎_}, Path.{_≡_}}
 use mir.{Syntax.{w64}, Val.{SFits}}
-use Rattle.atlas.specs.{Atlas.{atlasMade, isAtlasOf}, Looked.{lookedAtlas}}
+use Rattle.atlas.specs.{Atlas.{atlasMade, isAtlasOf}, Beside.{NoneOrAtlas, simplyBeside}, Looked.{lookedAtlas}}
+use Rattle.batch.specs.{Many.{isTaken, fixesOf, manyBeside, lookedUpMany}, OneByOne.{oneByOne}}
 use Rattle.border.specs.{Encoding.{encodingOf}, declared.place.{FixedLat.{FixedLat}, FixedLon.{FixedLon}}}
 use Rattle.builder.specs.{File.{Room, builtOf}, Yards.{Lent, Plan, Yard, planOf}}
 use Rattle.bundle.specs.{Bundle.{findOf}, First.{FoundAt}, declared.find.File.{File}}
@@ -34,8 +35,11 @@ use Rattle.office.specs.Calls.{Shelf, Called, Made, TotalsIn}
 use Rattle.uskelzar.specs.{Slips.{Printed, slipSpoken}, Spoken.{zonesValues, spoken, foundSpoken}}
 use Rattle.verdict.specs.Verdict.{judgedAt}
 use Rattle.writer.specs.WrittenAt.{WrittenAt}
-use Rattle.zones.specs.{Batch.{Many.{isTaken, fixesOf, lookedUpMany}, OneByOne.{oneByOne}}, Lookup.{lookedUp}, Unstopped.{lookedThroughAll}, declared.lookup.Zones.{Zones}}
+use Rattle.zones.specs.{Lookup.{lookedUp}, Simple.{simplyLooked}, Unstopped.{lookedThroughAll}, declared.lookup.Zones.{Zones}}
 use Rattle.atlas.proofs.AtlasIsPlain as atlas
+use Rattle.atlas.proofs.BesideIsPlain as beside
+use Rattle.batch.proofs.ManyIsOneByOne as batch
+use Rattle.batch.proofs.ManyIsPlain as many
 use Rattle.bundle.proofs.Theorems as bundle
 use Rattle.calendar.proofs.Epoch as epoch
 use Rattle.calendar.proofs.SameCivil as calendar
@@ -53,7 +57,6 @@ use Rattle.uskelzar.proofs.ReturnedSlip as printed
 use Rattle.uskelzar.proofs.ReturnedWhole as returned
 use Rattle.writer.proofs.OneVerdict as writer
 use Rattle.zones.proofs.WholeMeansWhole as zones
-use Rattle.zones.proofs.batch.ManyIsOneByOne as batch
 
 -- ---- Can a slip carry a zone from a search that stopped halfway?
 -- Under mark 1 reply, hit list and text are those of a search that never stops early.
@@ -92,6 +95,25 @@ is-atlas-exactly = atlas.is-atlas-exactly
 pub atlas-is-plain : (file words : List ℕ) → isAtlasOf file words ≡ given tt → (location : Location) (asked : Bool) (n room : ℕ)
     → lookedAtlas file words location asked n room ≡ lookedUp file location asked n room
 atlas-is-plain = atlas.atlas-is-plain
+
+-- So is a simple lookup,
+pub simple-atlas-is-plain : (file words : List ℕ) → isAtlasOf file words ≡ given tt → (location : Location) (n room : ℕ) → simplyBeside file words location n room ≡ simplyLooked file location n room
+simple-atlas-is-plain = beside.simple-atlas-is-plain
+
+-- so are many fixes,
+pub many-atlas-is-plain : (file words : List ℕ) → isAtlasOf file words ≡ given tt → (lats lons : List Float) (asked : Bool) (n room third : ℕ)
+    → manyBeside file words lats lons asked n room third ≡ lookedUpMany file lats lons asked n room third
+many-atlas-is-plain = many.many-atlas-is-plain
+
+-- and a slip through the map's atlas is the slip without one,
+pub slip-atlas-is-plain : (request map atlas zones : List ℕ) → isAtlasOf map atlas ≡ given tt → (n room size : ℕ)
+    → slipped request map atlas zones n room size ≡ slipped request map [] zones n room size
+slip-atlas-is-plain = slip.slip-atlas-is-plain
+
+-- at a fix too.
+pub slip-at-atlas-is-plain : (fix : Fix) (map atlas zones : List ℕ) → isAtlasOf map atlas ≡ given tt → (n room size : ℕ)
+    → slippedAt fix map atlas zones n room size ≡ slippedAt fix map [] zones n room size
+slip-at-atlas-is-plain = slip.slip-at-atlas-is-plain
 
 -- ---- When borders move from encoding version 0 to 1, what shows that a yard stays in its zone?
 -- One border, in whichever way it is written, gets one verdict and one distance at every fix.
@@ -176,78 +198,78 @@ pub found-first : (bundle name : List ℕ) {file : File} → B.told (F.At file) 
 found-first = bundle.found-first
 
 -- ---- Is the line right for this sentence, this map and these zones?
--- Two replies of the slip that are permitted for a request, a map and zones are one, with all lent output;
-pub one-slip : (request map zones : List ℕ) (n room size : ℕ) (r r′ : Slipped) (hs hs′ ts ts′ os os′ : List ℕ)
-    → Z.replied (K.told r) hs ts os ≡ slipped request map zones n room size → Z.replied (K.told r′) hs′ ts′ os′ ≡ slipped request map zones n room size
+-- Two replies of the slip that are permitted for a request, a map, an atlas or none, and zones are one, with all lent output;
+pub one-slip : (request map atlas zones : List ℕ) (n room size : ℕ) (r r′ : Slipped) (hs hs′ ts ts′ os os′ : List ℕ)
+    → Z.replied (K.told r) hs ts os ≡ slipped request map atlas zones n room size → Z.replied (K.told r′) hs′ ts′ os′ ≡ slipped request map atlas zones n room size
     → (r ≡ r′) × (hs ≡ hs′) × (ts ≡ ts′) × (os ≡ os′)
 one-slip = slip.one-slip
 
 -- and so of the slip at a fix.
-pub one-slip-at : (fix : Fix) (map zones : List ℕ) (n room size : ℕ) (r r′ : Slipped) (hs hs′ ts ts′ os os′ : List ℕ)
-    → Z.replied (K.told r) hs ts os ≡ slippedAt fix map zones n room size → Z.replied (K.told r′) hs′ ts′ os′ ≡ slippedAt fix map zones n room size
+pub one-slip-at : (fix : Fix) (map atlas zones : List ℕ) (n room size : ℕ) (r r′ : Slipped) (hs hs′ ts ts′ os os′ : List ℕ)
+    → Z.replied (K.told r) hs ts os ≡ slippedAt fix map atlas zones n room size → Z.replied (K.told r′) hs′ ts′ os′ ≡ slippedAt fix map atlas zones n room size
     → (r ≡ r′) × (hs ≡ hs′) × (ts ≡ ts′) × (os ≡ os′)
 one-slip-at = slip.one-slip-at
 
--- Where it is stamped, hits and text are those of a lookup with mark 1 at what the request means, and so of a search that never stops early;
-pub slip-whole : (request map zones : List ℕ) (n room size : ℕ) (stamped : Stamped) (hs ts os : List ℕ)
-    → Z.replied (given stamped) hs ts os ≡ slipped request map zones n room size → Meant request (λ fix. Whole fix map n room hs ts)
+-- Where it is stamped, without an atlas or through the map's own, hits and text are those of a lookup with mark 1 at what the request means, and so of a search that never stops early;
+pub slip-whole : (request map atlas zones : List ℕ) → NoneOrAtlas map atlas → (n room size : ℕ) (stamped : Stamped) (hs ts os : List ℕ)
+    → Z.replied (given stamped) hs ts os ≡ slipped request map atlas zones n room size → Meant request (λ fix. Whole fix map n room hs ts)
 slip-whole = slip.slip-whole
 
-pub slip-at-whole : (fix : Fix) (map zones : List ℕ) (n room size : ℕ) (stamped : Stamped) (hs ts os : List ℕ)
-    → Z.replied (given stamped) hs ts os ≡ slippedAt fix map zones n room size → Whole fix map n room hs ts
+pub slip-at-whole : (fix : Fix) (map atlas zones : List ℕ) → NoneOrAtlas map atlas → (n room size : ℕ) (stamped : Stamped) (hs ts os : List ℕ)
+    → Z.replied (given stamped) hs ts os ≡ slippedAt fix map atlas zones n room size → Whole fix map n room hs ts
 slip-at-whole = slip.slip-at-whole
 
 -- each match's zone has a TZif file under its joined name, whose local time at the instant has the printed offset, and the line begins with the one civil reading of instant and offset;
-pub slip-agrees : (request map zones : List ℕ) (n room size : ℕ) (stamped : Stamped) (hs ts os : List ℕ)
-    → Z.replied (given stamped) hs ts os ≡ slipped request map zones n room size → Meant request (λ fix. Agreed fix map zones n size stamped hs os)
+pub slip-agrees : (request map atlas zones : List ℕ) (n room size : ℕ) (stamped : Stamped) (hs ts os : List ℕ)
+    → Z.replied (given stamped) hs ts os ≡ slipped request map atlas zones n room size → Meant request (λ fix. Agreed fix map zones n size stamped hs os)
 slip-agrees = slip.slip-agrees
 
-pub slip-at-agrees : (fix : Fix) (map zones : List ℕ) (n room size : ℕ) (stamped : Stamped) (hs ts os : List ℕ)
-    → Z.replied (given stamped) hs ts os ≡ slippedAt fix map zones n room size → Agreed fix map zones n size stamped hs os
+pub slip-at-agrees : (fix : Fix) (map atlas zones : List ℕ) (n room size : ℕ) (stamped : Stamped) (hs ts os : List ℕ)
+    → Z.replied (given stamped) hs ts os ≡ slippedAt fix map atlas zones n room size → Agreed fix map zones n size stamped hs os
 slip-at-agrees = slip.slip-at-agrees
 
 -- the printed bytes, read back as weekday, date, time and offset, are that reading and the offset of the reply;
-pub slip-clock : (request map zones : List ℕ) (n room size : ℕ) (stamped : Stamped) (hs ts os : List ℕ)
-    → Z.replied (given stamped) hs ts os ≡ slipped request map zones n room size → Meant request (λ fix. Clocked fix stamped os)
+pub slip-clock : (request map atlas zones : List ℕ) (n room size : ℕ) (stamped : Stamped) (hs ts os : List ℕ)
+    → Z.replied (given stamped) hs ts os ≡ slipped request map atlas zones n room size → Meant request (λ fix. Clocked fix stamped os)
 slip-clock = slip.slip-clock
 
-pub slip-at-clock : (fix : Fix) (map zones : List ℕ) (n room size : ℕ) (stamped : Stamped) (hs ts os : List ℕ)
-    → Z.replied (given stamped) hs ts os ≡ slippedAt fix map zones n room size → Clocked fix stamped os
+pub slip-at-clock : (fix : Fix) (map atlas zones : List ℕ) (n room size : ℕ) (stamped : Stamped) (hs ts os : List ℕ)
+    → Z.replied (given stamped) hs ts os ≡ slippedAt fix map atlas zones n room size → Clocked fix stamped os
 slip-at-clock = slip.slip-at-clock
 
 -- and the line has at most 36 bytes, and for each different zone 43 and its abbreviation.
-pub slip-short : (request map zones : List ℕ) (n room size : ℕ) (stamped : Stamped) (hs ts os : List ℕ)
-    → Z.replied (given stamped) hs ts os ≡ slipped request map zones n room size → Meant request (λ fix. Short fix map zones n stamped hs)
+pub slip-short : (request map atlas zones : List ℕ) (n room size : ℕ) (stamped : Stamped) (hs ts os : List ℕ)
+    → Z.replied (given stamped) hs ts os ≡ slipped request map atlas zones n room size → Meant request (λ fix. Short fix map zones n stamped hs)
 slip-short = slip.slip-short
 
-pub slip-at-short : (fix : Fix) (map zones : List ℕ) (n room size : ℕ) (stamped : Stamped) (hs ts os : List ℕ)
-    → Z.replied (given stamped) hs ts os ≡ slippedAt fix map zones n room size → Short fix map zones n stamped hs
+pub slip-at-short : (fix : Fix) (map atlas zones : List ℕ) (n room size : ℕ) (stamped : Stamped) (hs ts os : List ℕ)
+    → Z.replied (given stamped) hs ts os ≡ slippedAt fix map atlas zones n room size → Short fix map zones n stamped hs
 slip-at-short = slip.slip-at-short
 
--- In C: what a call of `uskelzar_slip` left which returned 0 is such a slip, and its length, matches and offset are the reply's words;
-pub returned-slip : (request map zones : List ℕ) (n room size : ℕ) {number : ℕ} {words hits text out : List ℕ}
-    → spoken number words (hits ∷ text ∷ out ∷ []) ≡ slipSpoken (slipped request map zones n room size) → number ≡ 0 → Printed (slipped request map zones n room size) words hits text out
+-- In C: what a call of `uskelzar_slip`, or of `uskelzar_slip_atlas` with the map's atlas, left which returned 0 is such a slip, and its length, matches and offset are the reply's words;
+pub returned-slip : (request map atlas zones : List ℕ) → NoneOrAtlas map atlas → (n room size : ℕ) {number : ℕ} {words hits text out : List ℕ}
+    → spoken number words (hits ∷ text ∷ out ∷ []) ≡ slipSpoken (slipped request map atlas zones n room size) → number ≡ 0 → Printed (slipped request map atlas zones n room size) words hits text out
 returned-slip = printed.returned-slip
 
--- and so of `uskelzar_slip_at`.
-pub returned-slip-at : (fix : Fix) (map zones : List ℕ) (n room size : ℕ) {number : ℕ} {words hits text out : List ℕ}
-    → spoken number words (hits ∷ text ∷ out ∷ []) ≡ slipSpoken (slippedAt fix map zones n room size) → number ≡ 0 → Printed (slippedAt fix map zones n room size) words hits text out
+-- and so of `uskelzar_slip_at` and `uskelzar_slip_at_atlas`.
+pub returned-slip-at : (fix : Fix) (map atlas zones : List ℕ) → NoneOrAtlas map atlas → (n room size : ℕ) {number : ℕ} {words hits text out : List ℕ}
+    → spoken number words (hits ∷ text ∷ out ∷ []) ≡ slipSpoken (slippedAt fix map atlas zones n room size) → number ≡ 0 → Printed (slippedAt fix map atlas zones n room size) words hits text out
 returned-slip-at = printed.returned-slip-at
 
--- Where it is not stamped, the number is one of 1 to 18, 40 to 61, 80 to 92, at a fix none of 80 to 83;
-pub slip-refusals : (request map zones : List ℕ) (n room size : ℕ) (why : Refusal) (hs ts os : List ℕ)
-    → Z.replied (refused why) hs ts os ≡ slipped request map zones n room size → isSlipNumber (why .number) ≡ true
+-- Where it is not stamped, without an atlas or through the map's own, the number is one of 1 to 18, 40 to 61, 80 to 92, at a fix none of 80 to 83;
+pub slip-refusals : (request map atlas zones : List ℕ) → NoneOrAtlas map atlas → (n room size : ℕ) (why : Refusal) (hs ts os : List ℕ)
+    → Z.replied (refused why) hs ts os ≡ slipped request map atlas zones n room size → isSlipNumber (why .number) ≡ true
 slip-refusals = slip.slip-refusals
 
-pub slip-at-refusals : (fix : Fix) (map zones : List ℕ) (n room size : ℕ) (why : Refusal) (hs ts os : List ℕ)
-    → Z.replied (refused why) hs ts os ≡ slippedAt fix map zones n room size → isAtNumber (why .number) ≡ true
+pub slip-at-refusals : (fix : Fix) (map atlas zones : List ℕ) → NoneOrAtlas map atlas → (n room size : ℕ) (why : Refusal) (hs ts os : List ℕ)
+    → Z.replied (refused why) hs ts os ≡ slippedAt fix map atlas zones n room size → isAtNumber (why .number) ≡ true
 slip-at-refusals = slip.slip-at-refusals
 
 -- and all that was lent is zero.
-pub slip-refusal-zeroes : (request map zones : List ℕ) (n room size : ℕ) (why : Refusal) (hs ts os : List ℕ)
-    → Z.replied (refused why) hs ts os ≡ slipped request map zones n room size → (hs ≡ zeros n) × (ts ≡ zeros room) × (os ≡ zeros size)
+pub slip-refusal-zeroes : (request map atlas zones : List ℕ) (n room size : ℕ) (why : Refusal) (hs ts os : List ℕ)
+    → Z.replied (refused why) hs ts os ≡ slipped request map atlas zones n room size → (hs ≡ zeros n) × (ts ≡ zeros room) × (os ≡ zeros size)
 slip-refusal-zeroes = slip.slip-refusal-zeroes
 
-pub slip-at-refusal-zeroes : (fix : Fix) (map zones : List ℕ) (n room size : ℕ) (why : Refusal) (hs ts os : List ℕ)
-    → Z.replied (refused why) hs ts os ≡ slippedAt fix map zones n room size → (hs ≡ zeros n) × (ts ≡ zeros room) × (os ≡ zeros size)
+pub slip-at-refusal-zeroes : (fix : Fix) (map atlas zones : List ℕ) (n room size : ℕ) (why : Refusal) (hs ts os : List ℕ)
+    → Z.replied (refused why) hs ts os ≡ slippedAt fix map atlas zones n room size → (hs ≡ zeros n) × (ts ≡ zeros room) × (os ≡ zeros size)
 slip-at-refusal-zeroes = slip.slip-at-refusal-zeroes
