@@ -11,8 +11,7 @@ use Rattle.numbers.specs.{Reply.{refused, plain}, declared.refusal.Refusal.{Ref
 use Rattle.table.specs.{Find.{fixOf, isPrecision}, Hits.{width}, MarkedRows.{markFor, judgeMarked, judgeNumbered, rowNumbered, searchedMarked, matchedMarked}, Search.{farthest}}
 use Rattle.table.specs.declared.location.Location.{Location}
 use Rattle.verdict.proofs.Numbered.{NumberedJudgement, judged-numbered}
-use Rattle.zones.specs.Marked.{zonesMarked}
-use Rattle.atlas.specs.Looked.{isWhole, partsOf, zonesAtlas, lookedAtlas}
+use Rattle.atlas.specs.Looked.{isWhole, partsOf, matchedAtlas, zonesAtlas, lookedAtlas}
 
 parts-numbered : (file : List ℕ) (head : Head) (words : List ℕ) (location : Location) → Numbered (partsOf (length file) head words location)
 unfolding partsOf
@@ -26,18 +25,18 @@ module _ (file : List ℕ) (head : Head) (plainly : head .strict ≡ false) wher
       either (NumberedJudgement Known) (eqb (markFor marks k) 0) (judged-numbered refl refl file _ (cut file head plainly) _ _ _ asked least)
       (marked-numbered refl refl refl file _ marks _ _ _ asked least)
 
-  marked : (location : Location) (asked : Bool) (records numbers marks : List ℕ) (n room : ℕ) → Numbered (zonesMarked file head location asked records numbers marks n room)
-  unfolding zonesMarked matchedMarked searchedMarked
-  marked location asked records numbers marks n room =
+  matched : (location : Location) (asked : Bool) (records numbers marks : List ℕ) (room : ℕ) → Numbered (matchedMarked file head location asked records numbers marks room)
+  unfolding matchedMarked searchedMarked
+  matched location asked records numbers marks room =
       let fix = fixOf location (head .preamble .precision) in
-      then-reply
-      (and-then (demands (isPrecision (head .preamble .precision)) (plain 16) refl)
-      (then-reply (seeks (judgeNumbered file head fix asked records marks) fix (judges fix asked records marks) rowNumbered (n / width) records numbers farthest []) (λ found. answers)))
-      (λ found. then-reply (fields file head plainly room (found .matches) []) (λ text. answers))
+      and-then (demands (isPrecision (head .preamble .precision)) (plain 16) refl)
+      (then-reply (seeks (judgeNumbered file head fix asked records marks) fix (judges fix asked records marks) rowNumbered room records numbers farthest []) (λ found. answers))
 
   zones-numbered : (words : List ℕ) (location : Location) (asked : Bool) (n room : ℕ) → Numbered (zonesAtlas file head words location asked n room)
-  unfolding zonesAtlas
-  zones-numbered words location asked n room = then-reply (parts-numbered file head words location) (λ parts. marked location asked _ _ _ n room)
+  unfolding zonesAtlas matchedAtlas
+  zones-numbered words location asked n room =
+      then-reply (then-reply (parts-numbered file head words location) (λ parts. matched location asked _ _ _ (n / width)))
+      (λ found. then-reply (fields file head plainly room (found .matches) []) (λ text. answers))
 
 -- A lookup through any words that is not answered is refused with a plain lookup's numbers, or 36.
 pub atlas-refusals : (file words : List ℕ) (location : Location) (asked : Bool) (n room : ℕ) (why : Refusal) → lookedAtlas file words location asked n room .reply ≡ refused why

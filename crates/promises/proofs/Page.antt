@@ -1,12 +1,12 @@
 -- The page of promises: the questions of README in its order, each with the theorem that answers it, over what the entry points promise. A statement stands here in full, so that a reader looks up
 -- definitions alone (`tools/floor` lists them); its proof is the law of the crate where it belongs.
 use Prim.Native.Nat.{ℕ, _+_, _*_, _-_, _<_, _≤_}
-use lib.{Ieee.{Float}, IntN.{ℤ}, ListN.{length, getD, take}, Signed.{ltZ}}
+use lib.{Ieee.{Float}, IntN.{ℤ}, ListN.{length, getD, take}, Signed.{mag, ltZ}}
 use mathlib.Core.{Bool.{Bool, true}, List.{List, [], _∷_}, Logic.{_↔_, _⊎_}, Path.{_≡_}}
 use mir.{Syntax.{w64}, Val.{SFits}}
 use Rattle.atlas.specs.{Atlas.{atlasMade, isAtlasOf}, Beside.{NoneOrAtlas, simplyBeside}, Looked.{lookedAtlas}}
 use Rattle.batch.specs.{Many.{isTaken, fixesOf, manyBeside, lookedUpMany}, OneByOne.{oneByOne}}
-use Rattle.border.specs.{Encoding.{encodingOf}, declared.place.{FixedLat.{FixedLat}, FixedLon.{FixedLon}}}
+use Rattle.border.specs.{Box.{Box, holds}, Encoding.{encodingOf}, Trace.{Trace, point}, declared.place.{FixedLat.{FixedLat}, FixedLon.{FixedLon}, Point.{Point}}}
 use Rattle.builder.specs.{File.{Room, builtOf}, Yards.{Lent, Plan, Yard, planOf}}
 use Rattle.bundle.specs.{Bundle.{findOf}, First.{FoundAt}, declared.find.File.{File}}
 use Rattle.bundle.specs.Told as B
@@ -33,11 +33,13 @@ use Rattle.tzif.specs.Reply as T
 use Rattle.tzrule.specs.{Ask.{corrected, inYears, clockAt}, Summer.{isSummer, IsSummer, IsRule}, declared.rule.{Rule.{Rule}, Tz.{Tz}}}
 use Rattle.office.specs.Calls.{Shelf, Called, Made, TotalsIn}
 use Rattle.uskelzar.specs.{Slips.{Printed, slipSpoken}, Spoken.{zonesValues, spoken, foundSpoken}}
-use Rattle.verdict.specs.Verdict.{judgedAt}
+use Rattle.verdict.specs.{Stretch.{Stretch}, Verdict.{after, judge, judgedAt}, declared.step.Tally.{Tally}}
 use Rattle.writer.specs.WrittenAt.{WrittenAt}
-use Rattle.zones.specs.{Lookup.{lookedUp}, Simple.{simplyLooked}, Unstopped.{lookedThroughAll}, declared.lookup.Zones.{Zones}}
+use Rattle.zones.specs.{Lookup.{lookedUp, toldLooked}, Simple.{simplyLooked}, Unstopped.{lookedThroughAll}, declared.lookup.{Looked.{Looked}, Zones.{Zones}}}
+use Rattle.zones.specs.Lent as L
 use Rattle.atlas.proofs.AtlasIsPlain as atlas
 use Rattle.atlas.proofs.BesideIsPlain as beside
+use Rattle.atlas.proofs.Theorems as theorems
 use Rattle.batch.proofs.ManyIsOneByOne as batch
 use Rattle.batch.proofs.ManyIsPlain as many
 use Rattle.bundle.proofs.Theorems as bundle
@@ -55,6 +57,7 @@ use Rattle.tzrule.proofs.SummerAt as tzrule
 use Rattle.office.proofs.Made as calls
 use Rattle.uskelzar.proofs.ReturnedSlip as printed
 use Rattle.uskelzar.proofs.ReturnedWhole as returned
+use Rattle.verdict.proofs.Stretch as stretch
 use Rattle.writer.proofs.OneVerdict as writer
 use Rattle.zones.proofs.WholeMeansWhole as zones
 
@@ -91,7 +94,15 @@ is-index-is-plain file words e location asked n room = index.is-index-is-plain f
 pub is-atlas-exactly : (file words : List ℕ) → (isAtlasOf file words ≡ given tt) ↔ ((used : ℕ) × (atlasMade file (length words) ≡ indexed (given used) words))
 is-atlas-exactly = atlas.is-atlas-exactly
 
--- and where it says 0 a lookup through them is the plain one.
+-- so that what `build_atlas` gave is one,
+pub built-is-atlas : (file : List ℕ) (n : ℕ) {used : ℕ} → atlasMade file n .reply ≡ given used → isAtlasOf file (atlasMade file n .words) ≡ given tt
+built-is-atlas = theorems.built-is-atlas
+
+-- and nothing else is;
+pub atlas-is-built : (file words : List ℕ) → isAtlasOf file words ≡ given tt → (used : ℕ) × (atlasMade file (length words) ≡ indexed (given used) words)
+atlas-is-built = theorems.atlas-is-built
+
+-- where it says 0 a lookup through them is the plain one.
 pub atlas-is-plain : (file words : List ℕ) → isAtlasOf file words ≡ given tt → (location : Location) (asked : Bool) (n room : ℕ)
     → lookedAtlas file words location asked n room ≡ lookedUp file location asked n room
 atlas-is-plain = atlas.atlas-is-plain
@@ -114,6 +125,22 @@ slip-atlas-is-plain = slip.slip-atlas-is-plain
 pub slip-at-atlas-is-plain : (fix : Fix) (map atlas zones : List ℕ) → isAtlasOf map atlas ≡ given tt → (n room size : ℕ)
     → slippedAt fix map atlas zones n room size ≡ slippedAt fix map [] zones n room size
 slip-at-atlas-is-plain = slip.slip-at-atlas-is-plain
+
+-- With any words at all a lookup through them has one reply, with all lent output; it takes them all, so that it ends and stays inside what it was lent.
+pub atlas-safe : (file words : List ℕ) (location : Location) (asked : Bool) (n room : ℕ) (r r′ : Looked) (hs hs′ ts ts′ : List ℕ)
+    → L.replied (toldLooked r) hs ts ≡ lookedAtlas file words location asked n room → L.replied (toldLooked r′) hs′ ts′ ≡ lookedAtlas file words location asked n room
+    → (r ≡ r′) × (hs ≡ hs′) × (ts ≡ ts′)
+atlas-safe = theorems.atlas-safe
+
+-- Where it is refused, all lent output is zero.
+pub atlas-refusal-zeroes : (file words : List ℕ) (location : Location) (asked : Bool) (n room : ℕ) (why : Refusal) → lookedAtlas file words location asked n room .reply ≡ refused why
+    → (lookedAtlas file words location asked n room .hits ≡ zeros n) × (lookedAtlas file words location asked n room .text ≡ zeros room)
+atlas-refusal-zeroes = theorems.atlas-refusal-zeroes
+
+-- What an atlas rests on: the turns of a stretch whose box does not hold the fix are those of the one edge between its ends.
+pub stretch-is-edge : (fix : Point) (box : Box) {from to : Point} {trace rest : Trace} (t : Tally) → holds box fix ≡ false → holds box from ≡ true → Stretch box from trace to rest
+    → mag (t .winding) < 2147483647 → judge fix false (after from) t trace ≡ judge fix false (after from) t (point to rest)
+stretch-is-edge = stretch.stretch-is-edge
 
 -- ---- When borders move from encoding version 0 to 1, what shows that a yard stays in its zone?
 -- One border, in whichever way it is written, gets one verdict and one distance at every fix.
