@@ -74,8 +74,8 @@ impl Index {
         let Index { file, words, lent, .. } = self;
         let (file, words) = (&*file.hold(&made.bytes, edge), &*words.hold(index, edge));
         let plain = lent.lookup(file, fix, slots, 64, edge);
-        let indexed = lent.lookup_indexed((file, words), fix, slots, 64, edge);
-        let through = lent.lookup_through((file, words), fix, slots, 64, edge);
+        let indexed = lent.lookup_by(raw::lookup_indexed, (file, words), fix, slots, 64, edge);
+        let through = lent.lookup_by(raw::lookup_through, (file, words), fix, slots, 64, edge);
         let Fix { lat, lon, asked } = fix;
         tally.met("plain and through an index", plain.number());
         tally.same(plain == indexed && plain == through, || format!("index: {lat} {lon} {asked} {slots} {file:02X?}: {plain:?}, {indexed:?}, {through:?}"));
@@ -92,12 +92,12 @@ impl Index {
             Edge::Front => Edge::Back,
             Edge::Back => Edge::Front,
         };
-        let beside = lent.lookup_through((file, words.hold(damaged, other)), fix, slots, 64, edge);
+        let beside = lent.lookup_by(raw::lookup_through, (file, words.hold(damaged, other)), fix, slots, 64, edge);
         let words = &*words.hold(damaged, edge);
         let said = raw::is_index(file, words);
         tally.same(said.is_ok() == built, || format!("is_index: {said:?}, built {built}: {file:02X?} {damaged:?}"));
-        let through = lent.lookup_through((file, words), fix, slots, 64, edge);
-        let indexed = lent.lookup_indexed((file, words), fix, slots, 64, edge);
+        let through = lent.lookup_by(raw::lookup_through, (file, words), fix, slots, 64, edge);
+        let indexed = lent.lookup_by(raw::lookup_indexed, (file, words), fix, slots, 64, edge);
         let Fix { lat, lon, asked } = fix;
         tally.met(if built { "damaged words that are the index" } else { "damaged words" }, through.number());
         let right = through == beside && is_tidy(&through) && (!built || through == lent.lookup(file, fix, slots, 64, edge));
