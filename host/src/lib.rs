@@ -61,7 +61,7 @@ mod words;
 #[cfg(feature = "std")]
 pub use answer::{zone_name, End, Error, Field, Header, Kind, Match, Simple, Table, Unknown, Zones};
 #[cfg(feature = "std")]
-pub use atlas::Atlas;
+pub use atlas::{Atlas, NotAtlas};
 #[cfg(feature = "std")]
 pub use builder::{Builder, NotBuilt, Place};
 #[cfg(feature = "std")]
