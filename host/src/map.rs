@@ -103,10 +103,10 @@ impl<B: AsRef<[u8]>> Map<B> {
         })
     }
 
-    /// Builds the map's atlas and holds it, as [`Map::open_with`] holds one that is there.
-    pub fn with_atlas(self) -> Result<Map<B>, Error> {
-        let atlas = Atlas::build(&self)?;
-        Ok(Map { atlas: Some(atlas), ..self })
+    /// Builds the map's atlas and holds it, as [`Map::open_with`] holds one that is there. Where none can be built the map stays as it is.
+    pub fn build_atlas(&mut self) -> Result<&Atlas, Error> {
+        let atlas = Atlas::build(self)?;
+        Ok(self.atlas.insert(atlas))
     }
 
     /// Lends other room; refusals 17 and 18 say that it was too little.
@@ -138,7 +138,7 @@ impl<B: AsRef<[u8]>> Map<B> {
         self.asked((lat, lon, true))
     }
 
-    /// The same without that distance, which is 0 then: what a slip is stamped by. Through an atlas it reads some kilobytes at most.
+    /// The same without that distance, which is 0 then: what a slip is stamped by.
     pub fn found(&self, lat: f32, lon: f32) -> Result<Zones, Error> {
         self.asked((lat, lon, false))
     }

@@ -162,6 +162,8 @@ fn why_it_is_none() {
     // of this map none can be built
     let unordered = Map::open_with(OUT_OF_ORDER, &bytes).err();
     assert!(matches!(&unordered, Some(Error::Refused(why)) if why.number == Number::IndexTable), "{unordered:?}");
+    let mut unordered = Map::open(OUT_OF_ORDER).unwrap();
+    assert!(unordered.build_atlas().is_err() && unordered.atlas().is_none());
     assert!(matches!(Map::read_with(WORLD, "/nonexistent"), Err(Error::File(_))));
     assert!(matches!(Map::open_with(vec![1, 2, 3], &bytes), Err(Error::Refused(why)) if why.number == Number::TooShort));
 }
@@ -170,7 +172,8 @@ fn why_it_is_none() {
 #[test]
 fn held_with_its_map() {
     let plain = Map::read(WORLD).unwrap();
-    let built = Map::read(WORLD).unwrap().with_atlas().unwrap();
+    let mut built = Map::read(WORLD).unwrap();
+    assert_eq!(built.build_atlas().unwrap(), &Atlas::build(&plain).unwrap());
     let path = std::env::temp_dir().join(format!("uskelzar-held-{}", std::process::id()));
     built.atlas().unwrap().write(&path).unwrap();
     let read = Map::read_with(WORLD, &path).unwrap();
@@ -211,7 +214,8 @@ fn what_is_not_read() {
     let middle = before.len() - before.len() / 2;
     after[middle..middle + 16].fill(0xFF);
     let file = Swapped { before, after, is_over: AtomicBool::new(false) };
-    let map = Map::open(&file).unwrap().with_atlas().unwrap();
+    let mut map = Map::open(&file).unwrap();
+    map.build_atlas().unwrap();
     let zones = map.found(0.0, 0.0).unwrap();
     assert_eq!((zones.matches.len(), zones.end), (1, End::Whole));
     file.is_over.store(true, Ordering::Relaxed);
