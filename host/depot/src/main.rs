@@ -132,8 +132,8 @@ enum Verb {
     },
     /// Build the atlas of a file, for lookups that read only the stretches of borders near a fix
     ///
-    /// An index with marks along the borders: some tenths of the file's size. It is of this file alone, and whoever opens both works each of its words out again. No lookup through it answers
-    /// other than without it.
+    /// An index with marks along the borders; of maps of the world it takes a quarter of their size. It is of this file alone, and whoever opens both works each of its words out again. No lookup
+    /// through it answers other than without it.
     #[command(after_help = "Examples:\n  depot atlas examples/world-9.plb -o world-9.atlas\n  depot atlas examples/world-9.plb --check world-9.atlas\n\nExit status 0 only if it was built, or the one that is checked is the file's.")]
     Atlas {
         file: PathBuf,

@@ -13,9 +13,9 @@ pub struct Rings {
     borders: Vec<Vec<Point>>,
 }
 
-/// A border has marks from 257 edges on, one for each 128; groups of them may be of eight.
-const COUNTS: [usize; 24] = [1, 2, 3, 4, 64, 127, 128, 129, 255, 256, 257, 258, 259, 384, 385, 512, 513, 640, 1023, 1024, 1025, 1152, 2047, 2048];
-const LONG: [usize; 5] = [4096, 8191, 8192, 8193, 9216];
+/// A border has marks from 257 edges on, one for each 128; groups of them may be of eight or sixteen.
+const COUNTS: [usize; 25] = [1, 2, 3, 4, 64, 127, 128, 129, 255, 256, 257, 258, 259, 384, 385, 512, 513, 640, 1023, 1024, 1025, 1152, 2047, 2048, 2049];
+const LONG: [usize; 6] = [4095, 4096, 4097, 8192, 8193, 9216];
 
 fn count(random: &mut Random) -> usize {
     match random.below(32) {
