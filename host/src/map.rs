@@ -138,7 +138,12 @@ impl<B: AsRef<[u8]>> Map<B> {
         self.asked((lat, lon, true))
     }
 
-    /// The same without that distance, which is 0 then: what a slip is stamped by.
+    /// The same for degrees that come as `f64`: each is rounded once, to the nearest `f32`, which is what the library asks by.
+    pub fn lookup_degrees(&self, lat: f64, lon: f64) -> Result<Zones, Error> {
+        self.lookup(lat as f32, lon as f32)
+    }
+
+    /// What [`Map::lookup`] gives without that distance, which is 0 then: what a slip is stamped by.
     pub fn found(&self, lat: f32, lon: f32) -> Result<Zones, Error> {
         self.asked((lat, lon, false))
     }
@@ -149,11 +154,6 @@ impl<B: AsRef<[u8]>> Map<B> {
             Some(atlas) => raw::lookup_atlas(self.bytes(), atlas.words(), (lat, lon, safezone), hits, text),
             None => raw::lookup(self.bytes(), lat, lon, safezone, hits, text),
         })
-    }
-
-    /// The same for degrees that come as `f64`: each is rounded once, to the nearest `f32`, which is what the library asks by.
-    pub fn lookup_degrees(&self, lat: f64, lon: f64) -> Result<Zones, Error> {
-        self.lookup(lat as f32, lon as f32)
     }
 
     /// What [`Map::lookup`] gives, but a number that the file's end cuts is refused where the search or a field meets it. It goes through no atlas.

@@ -59,8 +59,8 @@ impl Atlas {
         }
     }
 
-    /// What is said of words that may be none: `is_atlas` exactly where building leaves them in so many, and else 36; then lookups through them are plain. Of others a lookup is refused with 1 to 18 or
-    /// 36, or answered, with zeros behind what it wrote; at the other edge it is the same.
+    /// What is said of words that may be none: `is_atlas` exactly where building leaves them in so many, and else 36; then lookups through them are plain. Of others a lookup is refused with
+    /// 1 to 18 or 36, or answered, with zeros behind what it wrote; at the other edge it is the same.
     fn damaged(&mut self, random: &mut Random, tally: &mut Tally, rings: &Rings, damaged: &[u32], edge: Edge) {
         let (fix, slots) = (rings.fix(random), slots(random));
         let Atlas { file, words, lent, room } = self;

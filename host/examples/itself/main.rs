@@ -1,9 +1,9 @@
 //! itself SEED COUNT [MAP..]: holds the library against itself, on made files and calls, for compare/itself; with maps, that many fixes on each of them, for compare/atlas. The last line is
 //! "itself: seed N, M compared, W wrong", or that of "atlas".
 //!
-//! Lookups through an index against plain ones, and through damaged words (index.rs); the same of an atlas (atlas.rs); strict forms against plain ones (strict.rs); builders that hold yards against files built
-//! afresh, and with lists that grow (draft.rs). Files have extreme and inverted boxes (made.rs), those of an atlas long borders (rings.rs). Lent lists stand at pages that may not be touched: a call that
-//! reads or writes outside them ends the program.
+//! Lookups through an index against plain ones, and through damaged words (index.rs); the same of an atlas (atlas.rs, maps.rs); strict forms against plain ones (strict.rs); builders that hold
+//! yards against files built afresh, and with lists that grow (draft.rs). Files have extreme and inverted boxes (made.rs), those of an atlas long borders (rings.rs). Lent lists stand at pages
+//! that may not be touched: a call that reads or writes outside them ends the program.
 
 #[path = "../../tests/common/mod.rs"]
 mod common;
