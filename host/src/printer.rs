@@ -107,7 +107,7 @@ impl<B: AsRef<[u8]>> Printer<B> {
 
     /// The zones by which a slip at this fix is stamped or not: the map's own answer, which a refused slip does not carry.
     pub fn found(&self, lat: f32, lon: f32) -> Result<Zones, Error> {
-        self.map.found_by(|hits, text| raw::lookup(self.map.bytes(), lat, lon, false, hits, text))
+        self.map.found(lat, lon)
     }
 
     fn stamped(&self, call: impl FnOnce(&[u8], &[u8], Paper) -> Result<Reply, NotStamped>) -> Result<Stamped, NotStamped> {

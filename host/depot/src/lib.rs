@@ -1,5 +1,6 @@
 //! What the program `depot` does, verb by verb.
 
+pub mod atlas;
 pub mod build;
 pub mod bundle;
 pub mod check;
