@@ -137,7 +137,7 @@ fn names_of_zones() {
     said(&tried(&split, &["--zones", &folder.path("tz/Yard/North")]), 1, &["this is no bundle of zones"]);
     // a file that is there, and by which no slip can be stamped
     fs::write(folder.0.join("tz/Yard/South"), b"TZif").unwrap();
-    said(&tried(&[(r#""tzid": "Yard/South""#, a)], &["--zones", &folder.path("tz")]), 1, &["\"Yard/South\" of", "stamps nothing: refusal 40"]);
+    said(&tried(&[(r#""tzid": "Yard/South""#, a)], &["--zones", &folder.path("tz")]), 1, &["\"Yard/South\" of", "stamps nothing: refusal 41"]);
     // what is no fault is said
     let beside = [(r#""Name": "A", "tzid": "Asia/Tokyo", "TimezoneIdPrefix": "Etc/", "TimezoneId": "UTC""#, a), (r#""Name": "B""#, b)];
     said(&tried(&beside, &[]), 0, &["note: feature 2 (B) has no zone: nothing can be stamped in it", "note: feature 1 (A): slips are stamped by TimezoneIdPrefix and TimezoneId, \"Etc/UTC\"", "and says \"Asia/Tokyo\""]);
