@@ -7,6 +7,7 @@ pub mod check;
 pub mod day;
 pub mod draw;
 pub mod drawing;
+mod dropped;
 pub mod evidence;
 pub mod fault;
 pub mod fixes;

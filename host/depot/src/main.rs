@@ -67,8 +67,8 @@ enum Verb {
         /// Write the drawing with what can be mended without choice: rings wound the other way, points twice in a row, a ring's missing last point
         #[arg(long, value_name = "GEOJSON", conflicts_with = "dry_run")]
         mend: Option<PathBuf>,
-        /// Folder with the zones' TZif files, which names must be of; /usr/share/zoneinfo where it is there
-        #[arg(long, value_name = "TZDIR")]
+        /// Folder with the zones' TZif files, or a bundle of them (depot bundle), which names must be of; /usr/share/zoneinfo where it is there
+        #[arg(long)]
         zones: Option<PathBuf>,
         /// Build polygons and names with faults too, as they are drawn; each is said
         #[arg(long)]

@@ -2,11 +2,11 @@
 
 use crate::day::Asked;
 use crate::fault::Fault;
-use crate::{output, source};
+use crate::{bundle, output, source};
 use rayon::prelude::*;
 use std::fmt;
 use std::path::Path;
-use uskelzar::{zone_name, Bundle, Bundled, LeftOut, NotStamped, Number, Printer, Refusal, Request, Stamped};
+use uskelzar::{zone_name, LeftOut, NotStamped, Number, Printer, Request, Stamped};
 
 /// The files that slips rest on.
 #[derive(Clone, Copy)]
@@ -26,37 +26,14 @@ pub struct Opened {
 impl Files<'_> {
     /// Opens them. A folder of zones becomes a bundle in memory, the one that `depot bundle` writes of it.
     pub fn open(&self) -> Result<Opened, Fault> {
-        let (zones, left_out) = if self.zones.is_dir() { self.folder()? } else { (self.bundle()?, vec![]) };
+        let (zones, left_out) = bundle::opened(self.zones)?;
         Ok(Opened { printer: Printer::new(source::open(self.map, false)?, zones), left_out })
-    }
-
-    fn folder(&self) -> Result<(Bundle, Vec<LeftOut>), Fault> {
-        let Bundled { bundle, zones, left_out, .. } = Bundle::of_folder(self.zones).map_err(|error| Fault::file(self.zones, error))?;
-        if zones.is_empty() {
-            return Err(Fault::file(self.zones, format!("has no zone: {WANTED}")));
-        }
-        Ok((bundle, left_out))
-    }
-
-    fn bundle(&self) -> Result<Bundle, Fault> {
-        let bundle = Bundle::of_bytes(source::bytes(self.zones).map_err(|fault| Fault::NotRun(format!("{fault}: {WANTED}")))?);
-        match bundle.find("") {
-            // a fault of the head is met by every name
-            Err(why) if why.number == Number::Bundle && bundle.find("x") == Err(why) => Err(no_bundle(self.zones, why)),
-            _ => Ok(bundle),
-        }
     }
 
     /// Those of them that an output may not take the place of.
     pub fn inputs(&self) -> Vec<&Path> {
         vec![self.map, self.zones]
     }
-}
-
-const WANTED: &str = "give the folder with the zones' TZif files, such as /usr/share/zoneinfo, or what `depot bundle` made of one";
-
-fn no_bundle(path: &Path, why: Refusal) -> Fault {
-    Fault::No(format!("{}: {why}\n  this is no bundle of zones: {WANTED}", path.display()))
 }
 
 /// A line's slip.

@@ -2,8 +2,11 @@
 
 mod common;
 
-use common::{depot, depot_of, Folder, DAY, WORLD, ZONEINFO};
+use common::{call, depot, depot_of, Folder, DAY, WORLD, ZONEINFO};
 use std::fs;
+use std::process::Stdio;
+use std::thread::sleep;
+use std::time::Duration;
 
 const RMC: &str = "$GNRMC,115959.00,A,5231.200000,N,01324.000000,E,0.0,0.0,010726,,,A*41";
 
@@ -33,6 +36,23 @@ fn by_a_folder_or_by_its_bundle() {
     fs::create_dir(folder.path("empty")).unwrap();
     let ran = depot(&["stamp", DAY, "-o", &by_bundle, WORLD, &folder.path("empty")]);
     assert!(ran.status == 2 && ran.err.contains("has no zone"), "{ran:?}");
+}
+
+/// A day is stamped by as many threads as there are processors, here as they are asked for, and its slips stay in their order.
+#[test]
+fn on_all_processors() {
+    let folder = Folder::new("stamp-threads");
+    let day = folder.with("day.csv", (0..20_000).map(|i| format!("52.52,13.40,{i}\n")).collect::<String>());
+    let out = folder.path("slips.csv");
+    let mut running = call(&["stamp", &day, "-o", &out, WORLD, ZONEINFO]).env("RAYON_NUM_THREADS", "3").stdin(Stdio::null()).stdout(Stdio::null()).spawn().unwrap();
+    let (tasks, mut most) = (format!("/proc/{}/task", running.id()), 0);
+    while running.try_wait().unwrap().is_none() {
+        most = fs::read_dir(&tasks).map_or(0, Iterator::count).max(most);
+        sleep(Duration::from_millis(2));
+    }
+    assert!(most > 3, "{most} threads");
+    let slips = fs::read_to_string(&out).unwrap();
+    assert!(slips.lines().skip(1).enumerate().all(|(i, line)| line.starts_with(&format!("52.52,13.40,{i},"))), "{slips}");
 }
 
 /// A zone whose file is not in the folder, or is left out of its bundle, is not stamped; of the second it is said why.
