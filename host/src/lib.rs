@@ -11,7 +11,7 @@
 //! ```
 //!
 //! [`Printer`] has the whole question of a slip: the line that is printed for a receiver's sentence, or for a fix and an instant, or why there is none.
-//! An [`Atlas`] beside a map lets its lookups read a small part of it ([`Map::open_with`]). [`Builder`] writes a file from yards, and a [`Draft`] holds yards that may still change. [`raw`] has the twenty-nine functions as they are, over lent buffers, and needs no `std` (`default-features = false`); [`Map`] and [`TimeZone`] lend the buffers themselves.
+//! An [`Atlas`] beside a map lets its lookups read a small part of it ([`Map::open_with`]). [`Builder`] writes a file from yards, and a [`Draft`] holds yards that may still change. [`raw`] has the thirty-three functions as they are, over lent buffers, and needs no `std` (`default-features = false`); [`Map`] and [`TimeZone`] lend the buffers themselves.
 
 #![cfg_attr(not(feature = "std"), no_std)]
 #![deny(unsafe_op_in_unsafe_fn, missing_docs)]

@@ -74,7 +74,7 @@ impl<B: AsRef<[u8]>> Map<B> {
     }
 
     /// Opens a file's bytes with those of its atlas. Each word of it is worked out again, here and once; words that are not this file's say why ([`crate::NotAtlas`]).
-    /// [`Map::lookup`] and [`Map::found`] then go through it and read a small part of the file; no answer is another one.
+    /// Every lookup but the strict one, and a [`crate::Printer`]'s slips, then go through it and read a small part of the file; no answer is another one.
     ///
     /// ```
     /// use uskelzar::{Atlas, Error, Map, NotAtlas};
@@ -188,7 +188,10 @@ impl<B: AsRef<[u8]>> Map<B> {
     /// A description of the first zone that holds a fix, in degrees.
     pub fn simple_lookup(&self, lat: f32, lon: f32) -> Result<Simple, Error> {
         let (mut hits, mut text) = self.buffers(1);
-        let reply = raw::simple_lookup(self.bytes(), lat, lon, &mut hits, &mut text)?;
+        let reply = match self.atlas() {
+            Some(atlas) => raw::simple_atlas(self.bytes(), atlas.words(), (lat, lon), &mut hits, &mut text)?,
+            None => raw::simple_lookup(self.bytes(), lat, lon, &mut hits, &mut text)?,
+        };
         let [matches, mark, described, length, _] = reply;
         Ok(Simple {
             description: (described == 1).then(|| text_of(&text[..length as usize])),

@@ -58,6 +58,9 @@ fn through_it_in_every_room() {
                     for bytes in 0..=MOST {
                         let plain = lent.lookup(file, fix(asked), hits, bytes, edge);
                         assert_eq!(lent.lookup_by(raw::lookup_atlas, (file, kept), fix(asked), hits, bytes, edge), plain);
+                        let simple = lent.simple(file, fix(asked), hits, bytes, edge);
+                        assert_eq!(lent.simple_atlas((file, kept), fix(asked), hits, bytes, edge), simple);
+                        assert_eq!(lent.simple_atlas((file, &[]), fix(asked), hits, bytes, edge), simple);
                     }
                 }
             }
@@ -186,6 +189,7 @@ fn held_with_its_map() {
         for map in [&built, &read] {
             assert_eq!(map.lookup(lat, lon).unwrap(), plain.lookup(lat, lon).unwrap());
             assert_eq!(map.found(lat, lon).unwrap(), plain.found(lat, lon).unwrap());
+            assert_eq!(map.simple_lookup(lat, lon).unwrap(), plain.simple_lookup(lat, lon).unwrap());
         }
         assert_eq!(plain.found(lat, lon).unwrap().safezone, 0.0);
     }
@@ -220,6 +224,7 @@ fn what_is_not_read() {
     assert_eq!((zones.matches.len(), zones.end), (1, End::Whole));
     file.is_over.store(true, Ordering::Relaxed);
     assert_eq!(map.found(0.0, 0.0).unwrap(), zones);
+    assert_eq!(map.zone_for_slip(0.0, 0.0).unwrap().as_deref(), Some("A ring"));
     assert!(Map::open(&file).unwrap().found(0.0, 0.0).is_err());
 }
 

@@ -171,6 +171,9 @@ enum Verb {
         map: PathBuf,
         /// Folder with the zones' TZif files, or a bundle of them (depot bundle)
         zones: PathBuf,
+        /// The map's atlas (depot atlas); without it one is built where the lines pay for it. The slips are the same
+        #[arg(long, value_name = "ATLAS")]
+        atlas: Option<PathBuf>,
         /// Write what each slip rests on, for depot verify
         #[arg(long, value_name = "FILE")]
         evidence: Option<PathBuf>,
@@ -186,6 +189,9 @@ enum Verb {
         map: PathBuf,
         /// Folder with the zones' TZif files, or a bundle of them (depot bundle)
         zones: PathBuf,
+        /// The map's atlas (depot atlas); without it one is built where the slips pay for it
+        #[arg(long, value_name = "ATLAS")]
+        atlas: Option<PathBuf>,
     },
     /// Write the zones' TZif files into one file
     ///
@@ -293,8 +299,8 @@ fn run(verb: Verb) -> Result<Said, Fault> {
         Verb::Atlas { file, check, .. } => atlas::check(&file, &check.expect("one of the two is required")),
         Verb::Check { file } => check::run(&file),
         Verb::Salvage { file, output } => salvage::run(&file, &output),
-        Verb::Stamp { day, output, map, zones, evidence } => stamp::run(&day, &output, &Files { map: &map, zones: &zones }, evidence.as_deref()),
-        Verb::Verify { evidence, map, zones } => verify::run(&evidence, &Files { map: &map, zones: &zones }),
+        Verb::Stamp { day, output, map, zones, atlas, evidence } => stamp::run(&day, &output, &Files { map: &map, zones: &zones, atlas: atlas.as_deref() }, evidence.as_deref()),
+        Verb::Verify { evidence, map, zones, atlas } => verify::run(&evidence, &Files { map: &map, zones: &zones, atlas: atlas.as_deref() }),
         Verb::Bundle { folder, output, map } => bundle::run(&folder, &output, &map),
         Verb::Draw { file, output, columns, frame, plain } => draw::run(&file, &output, columns, frame, plain),
         Verb::Page { file, output, day, drawn, columns } => page::run(&file, &output, columns, day.as_deref(), drawn.as_deref()),

@@ -3,6 +3,7 @@
 mod common;
 
 use common::{call, depot, depot_of, Folder, DAY, WORLD, ZONEINFO};
+use depot::slips::PAID_BY;
 use std::fs;
 use std::process::Stdio;
 use std::thread::sleep;
@@ -53,6 +54,30 @@ fn on_all_processors() {
     assert!(most > 3, "{most} threads");
     let slips = fs::read_to_string(&out).unwrap();
     assert!(slips.lines().skip(1).enumerate().all(|(i, line)| line.starts_with(&format!("52.52,13.40,{i},"))), "{slips}");
+}
+
+/// A day whose lines pay for an atlas is stamped through one, which is said; through one that is given, or plainly, the slips are the same.
+#[test]
+fn by_an_atlas() {
+    let folder = Folder::new("stamp-atlas");
+    let (atlas, one, other) = (folder.path("world.atlas"), folder.path("one.csv"), folder.path("other.csv"));
+    assert_eq!(depot(&["atlas", WORLD, "-o", &atlas]).status, 0);
+    let lines: Vec<String> = (0..PAID_BY).map(|i| format!("{},{},1782907199\n", i as f64 % 179.0 - 88.7, (i * 7) as f64 % 359.0 - 178.6)).collect();
+    let (most, all) = (folder.with("most.csv", lines[1..].concat()), folder.with("all.csv", lines.concat()));
+    let ran = depot(&["stamp", &all, "-o", &one, WORLD, ZONEINFO]);
+    assert!(ran.out.contains("note: an atlas of the map was built for so many lines, ") && ran.out.contains(" words; depot atlas keeps one, and --atlas takes it\n"), "{ran:?}");
+    let ran = depot(&["stamp", &all, "-o", &other, WORLD, ZONEINFO, "--atlas", &atlas]);
+    assert!(!ran.out.contains("note: "), "{ran:?}");
+    assert_eq!(fs::read(&one).unwrap(), fs::read(&other).unwrap());
+    let ran = depot(&["stamp", &most, "-o", &other, WORLD, ZONEINFO]);
+    assert!(!ran.out.contains("note: "), "{ran:?}");
+    let without_first = |path: &str| fs::read_to_string(path).unwrap().lines().skip(1).map(str::to_string).collect::<Vec<_>>();
+    assert_eq!(without_first(&one)[1..], without_first(&other));
+    // an atlas is an input, and it is the map's or none
+    let ran = depot(&["stamp", DAY, "-o", &atlas, WORLD, ZONEINFO, "--atlas", &atlas]);
+    assert!(ran.status == 2 && ran.err.contains("which is read"), "{ran:?}");
+    let ran = depot(&["stamp", DAY, "-o", &other, WORLD, ZONEINFO, "--atlas", &all]);
+    assert!(ran.status == 1 && ran.err.contains("refusal 36: no atlas of this map"), "{ran:?}");
 }
 
 /// A zone whose file is not in the folder, or is left out of its bundle, is not stamped; of the second it is said why.
