@@ -387,8 +387,7 @@ uint8_t uskelzar_is_atlas(const uint8_t *file, size_t file_length, const uint32_
                           uint64_t reply[USKELZAR_REPLY_WORDS]);
 
 /* uskelzar_lookup through an atlas: it answers, writes and refuses what uskelzar_lookup does, where uskelzar_is_atlas said 0 of the words and this file. It does not
- * ask that: any words are taken, and of other words the answer is theirs, and may miss a zone under end mark 1; nothing outside them is touched. With the safezone
- * asked for, the borders of the tile's entries are read whole.
+ * ask that: any words are taken, and of other words the answer is theirs, and may miss a zone under end mark 1; nothing outside them is touched.
  * Refuses: what open refuses but for its 18; then 16; then 36 where the words do not go with the file or are cut; then as lookup, and 36 at a number or a place in
  *       the words that leads out of them. */
 uint8_t uskelzar_lookup_atlas(const uint8_t *file, size_t file_length, const uint32_t *atlas, size_t atlas_length, float lat,
