@@ -2,7 +2,7 @@
 -- definitions alone (`tools/floor` lists them); its proof is the law of the crate where it belongs.
 use Prim.Native.Nat.{ℕ, _+_, _*_, _-_, _<_, _≤_}
 use lib.{Ieee.{Float}, IntN.{ℤ}, ListN.{length, getD, take}, Signed.{mag, ltZ}}
-use mathlib.Core.{Bool.{Bool, true}, List.{List, [], _∷_}, Logic.{_↔_, _⊎_}, Path.{_≡_}}
+use mathlib.Core.{Bool.{Bool, true, false}, List.{List, [], _∷_}, Logic.{_↔_, _⊎_}, Path.{_≡_}}
 use mir.{Syntax.{w64}, Val.{SFits}}
 use Rattle.atlas.specs.{Atlas.{atlasMade, isAtlasOf}, Beside.{NoneOrAtlas, simplyBeside}, Looked.{lookedAtlas}}
 use Rattle.batch.specs.{Many.{isTaken, fixesOf, manyBeside, lookedUpMany}, OneByOne.{oneByOne}}
