@@ -131,6 +131,7 @@ ensure() (
     verb=$1
     shift
     command -v rt >/dev/null || die "the Rattle kit's rt is not on the PATH"
+    rt version >/dev/null || die "rt does not run here: it needs a kit for this machine, $(uname -m)"
     [ -n "$(stale "$@")" ] || exit 0
     lock
     # shellcheck disable=SC2046

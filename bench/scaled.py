@@ -5,6 +5,8 @@
   boxes    SIZE boxes that hold it, each with a border of 64 points that does not
   points   16 boxes that hold it, each with a border of SIZE points that does not
   matches  SIZE borders of 64 points about the location, each of another zone
+  ring     one border of SIZE points about the location
+  yards    SIZE yards of four points within a tenth of a degree about the location, one of which holds it
 """
 import math
 import sys
@@ -56,20 +58,41 @@ def plan(kind, size):
         "boxes": (size, HOLDING, 64, True),
         "points": (16, HOLDING, size, True),
         "matches": (size, HOLDING, 64, False),
+        "ring": (1, HOLDING, size, False),
     }[kind]
 
 
-def build(kind, size, version):
+def yards(size):
+    """Squares beside each other, the middle one about the location; a tenth of a degree is 1,165 steps of latitude and 582 of longitude."""
+    side = math.isqrt(size - 1) + 1
+    high, wide = 1165 // side, 582 // side
+    low = [(i - side // 2) * high - high // 2 + 1 for i in range(side)]
+    left = [(i - side // 2) * wide - wide // 2 + 1 for i in range(side)]
+    corners = [(south, west, south + high - 2, west + wide - 2) for south in low for west in left][:size]
+    return [(box, [(box[0], box[1]), (box[2], box[1]), (box[2], box[3]), (box[0], box[3])]) for box in corners]
+
+
+def shapes(kind, size):
+    """The boxes and the points of their borders, in order of lower latitude."""
+    if kind == "yards":
+        return yards(size)
     count, box, points, north = plan(kind, size)
-    one = border(ring(points, north), version)
-    names = [text("zone %05d" % i) for i in range(count)]
+    return [(box, ring(points, north))] * count
+
+
+def build(kind, size, version):
+    made = shapes(kind, size)
+    # many are one and the same
+    written = {id(points): border(points, version) for _, points in made}
+    borders = [written[id(points)] for _, points in made]
+    names = [text("zone %05d" % i) for i in range(len(made))]
     table = b"".join(
         b"".join(varint(zigzag(edge)) for edge in box)
         + varint(zigzag(len(names[0]) if i else 0))
-        + varint(len(one) if i else 0)
-        for i in range(count)
+        + varint(len(borders[i - 1]) if i else 0)
+        for i, (box, _) in enumerate(made)
     )
-    metadata, data = b"".join(names), one * count
+    metadata, data = b"".join(names), b"".join(borders)
     sizes = b"".join(varint(len(part)) for part in (table, metadata, data))
     return b"PLBC" + bytes([version, 21, 1]) + text("Name") + text("") + sizes + table + metadata + data
 

@@ -112,7 +112,13 @@ def between(rng):
 
 
 def by_rust(plb, slips):
-    """For each slip the mark, and the zones' names in the Rust's order, one for each match."""
+    """For each slip the mark, and the zones' names in the Rust's order, one for each match. The Rust's program holds all that it is given at once: 256 MB at a time."""
+    some = max(1, 2**28 // len(plb))
+    for at in range(0, len(slips), some):
+        yield from by_rust_at_once(plb, slips[at : at + some])
+
+
+def by_rust_at_once(plb, slips):
     run = subprocess.Popen([ORACLE], stdin=subprocess.PIPE, stdout=subprocess.PIPE)
 
     def feed():

@@ -49,13 +49,16 @@ need_count() {
     [ -f "$kit/count/insn.so" ] || stop "no $kit/count/insn.so: tools/kit bench builds it (--kit FOLDER: in another folder)"
 }
 
-# Needs $work, a folder. The time zones of the world, precision 21, with a line for each city: latitude, longitude, zone.
-make_map() {
-    [ ! -s "$work/world-21.plb" ] || [ ! -s "$work/cities" ] || return 0
+# make_map_of T1|T0|C1|C0 FILE CITIES: time zones or countries of the world, borders of version 1 or 0, precision 21, with a line for each city: latitude, longitude, zone.
+make_map_of() {
+    [ ! -s "$2" ] || [ ! -s "$3" ] || return 0
     [ -d "$kit/root" ] || stop "no map data in $kit/root: tools/kit host fetches it (--kit FOLDER: into another folder)"
-    printf 'making the map\n'
-    python3 "$root/tools/make-map" --data "$kit/root" --type T --version 1 --precision 21 -o "$work/world-21.plb" --points "$work/cities" >"$work/map.txt"
+    printf 'making the map %s\n' "${2##*/}"
+    python3 "$root/tools/make-map" --data "$kit/root" --type "${1%?}" --version "${1#?}" --precision 21 -o "$2" --points "$3" >"${2%.plb}.txt"
 }
+
+# Needs $work, a folder. The time zones of the world.
+make_map() { make_map_of T1 "$work/world-21.plb" "$work/cities"; }
 
 # Rust's crates come from Debian's packages.
 crates=/usr/share/cargo/registry

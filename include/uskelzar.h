@@ -5,7 +5,7 @@
  * first, or both. What their functions answer, write and touch, and that they end, is proved for every input; of the calls of
  * a builder what they answer and write is proved for a state, lists and notes as its calls have left them, and for numbers
  * that do not fit the lists, and for all others what they touch, and that they end. What the archives call is seen to by a
- * test of them. What holds for all twenty-nine:
+ * test of them. What holds for all thirty-three:
  *
  * You bring    pointers that are not null, aligned for their type and good for their length: to read from, or where the
  *              buffer is lent (no const), to write to. Lent buffers and `reply` do not overlap each other or an input, and
@@ -387,8 +387,7 @@ uint8_t uskelzar_is_atlas(const uint8_t *file, size_t file_length, const uint32_
                           uint64_t reply[USKELZAR_REPLY_WORDS]);
 
 /* uskelzar_lookup through an atlas: it answers, writes and refuses what uskelzar_lookup does, where uskelzar_is_atlas said 0 of the words and this file. It does not
- * ask that: any words are taken, and of other words the answer is theirs, and may miss a zone under end mark 1; nothing outside them is touched. With the safezone
- * asked for, the borders of the tile's entries are read whole.
+ * ask that: any words are taken, and of other words the answer is theirs, and may miss a zone under end mark 1; nothing outside them is touched.
  * Refuses: what open refuses but for its 18; then 16; then 36 where the words do not go with the file or are cut; then as lookup, and 36 at a number or a place in
  *       the words that leads out of them. */
 uint8_t uskelzar_lookup_atlas(const uint8_t *file, size_t file_length, const uint32_t *atlas, size_t atlas_length, float lat,
@@ -405,6 +404,17 @@ uint8_t uskelzar_lookup_atlas(const uint8_t *file, size_t file_length, const uin
 uint8_t uskelzar_simple_lookup(const uint8_t *file, size_t file_length, float lat, float lon, uint32_t *hits,
                                size_t hits_length, uint8_t *text, size_t text_length,
                                uint64_t reply[USKELZAR_REPLY_WORDS]);
+
+/* uskelzar_simple_lookup and uskelzar_lookup_many through an atlas, or without one where `atlas_length` is 0: each answers, writes and refuses what its plain one does, where there are no words or
+ * uskelzar_is_atlas said 0 of them and this file. It does not ask that: of other words what uskelzar_lookup_atlas says of them holds, and 36 is refused where it is there, of many fixes at the first
+ * that meets it. */
+uint8_t uskelzar_simple_atlas(const uint8_t *file, size_t file_length, const uint32_t *atlas, size_t atlas_length, float lat,
+                              float lon, uint32_t *hits, size_t hits_length, uint8_t *text, size_t text_length,
+                              uint64_t reply[USKELZAR_REPLY_WORDS]);
+uint8_t uskelzar_many_atlas(const uint8_t *file, size_t file_length, const uint32_t *atlas, size_t atlas_length,
+                            const float *lats, size_t lats_length, const float *lons, size_t lons_length, bool asked,
+                            uint32_t *hits, size_t hits_length, uint8_t *text, size_t text_length, uint32_t *answers,
+                            size_t answers_length, uint64_t reply[USKELZAR_REPLY_WORDS]);
 
 /* The bytes of a border, version 0 or 1, from its points on the file's grid: lats[i] and lons[i]; it closes by itself.
  * `earlier` is the data section up to the border's first byte. For version 1, `pieces` says which moves to borrow from it,
@@ -619,6 +629,17 @@ uint8_t uskelzar_slip_at(float lat, float lon, int64_t instant, const uint8_t *m
                          size_t zones_length, uint32_t *hits, size_t hits_length, uint8_t *text, size_t text_length,
                          uint8_t *out, size_t out_length, uint64_t reply[USKELZAR_REPLY_WORDS]);
 
+/* uskelzar_slip and uskelzar_slip_at through an atlas of the map, or without one where `atlas_length` is 0: each answers, writes and refuses what its plain one does, where there are no words or
+ * uskelzar_is_atlas said 0 of them and the map. It does not ask that: of other words what uskelzar_lookup_atlas says of them holds, and its 36 is among the refusals of the lookup. */
+uint8_t uskelzar_slip_atlas(const uint8_t *request, size_t request_length, const uint8_t *map, size_t map_length,
+                            const uint32_t *atlas, size_t atlas_length, const uint8_t *zones, size_t zones_length,
+                            uint32_t *hits, size_t hits_length, uint8_t *text, size_t text_length, uint8_t *out,
+                            size_t out_length, uint64_t reply[USKELZAR_REPLY_WORDS]);
+uint8_t uskelzar_slip_at_atlas(float lat, float lon, int64_t instant, const uint8_t *map, size_t map_length,
+                               const uint32_t *atlas, size_t atlas_length, const uint8_t *zones, size_t zones_length,
+                               uint32_t *hits, size_t hits_length, uint8_t *text, size_t text_length, uint8_t *out,
+                               size_t out_length, uint64_t reply[USKELZAR_REPLY_WORDS]);
+
 /* Whoever tells an hour by uskelzar_lookup, uskelzar_local_time and uskelzar_civil_time without a slip asks by himself what a slip asks: a fix on the globe, USKELZAR_END_WHOLE,
  * USKELZAR_SCALE_UNIX (a clock shown at an instant of another scale is wrong by the leap seconds between them), and one offset of all matches. */
 
@@ -723,6 +744,26 @@ static inline uint8_t uskelzar_file_simple_lookup(const struct uskelzar_file *ma
                                   found->text_length, reply);
 }
 
+/* uskelzar_simple_atlas: the same through an atlas. */
+static inline uint8_t uskelzar_file_simple_atlas(const struct uskelzar_file *map, const struct uskelzar_atlas *atlas, float lat,
+                                                 float lon, const struct uskelzar_matches *found,
+                                                 uint64_t reply[USKELZAR_REPLY_WORDS])
+{
+    return uskelzar_simple_atlas(map->file, map->file_length, atlas->atlas, atlas->atlas_length, lat, lon, found->hits,
+                                 found->hits_length, found->text, found->text_length, reply);
+}
+
+/* uskelzar_many_atlas: the zones that hold each of many fixes, through an atlas. */
+static inline uint8_t uskelzar_file_many_atlas(const struct uskelzar_file *map, const struct uskelzar_atlas *atlas,
+                                               const struct uskelzar_fixes *fixes, bool asked,
+                                               const struct uskelzar_matches *found, uint32_t *answers, size_t answers_length,
+                                               uint64_t reply[USKELZAR_REPLY_WORDS])
+{
+    return uskelzar_many_atlas(map->file, map->file_length, atlas->atlas, atlas->atlas_length, fixes->lats, fixes->lats_length,
+                               fixes->lons, fixes->lons_length, asked, found->hits, found->hits_length, found->text,
+                               found->text_length, answers, answers_length, reply);
+}
+
 /* What a printer goes by: a map of time zones, and the bundle of their TZif files. */
 struct uskelzar_printer {
     const uint8_t *map;
@@ -755,6 +796,29 @@ static inline uint8_t uskelzar_printer_slip_at(const struct uskelzar_printer *pr
     return uskelzar_slip_at(lat, lon, instant, printer->map, printer->map_length, printer->zones, printer->zones_length,
                             found->hits, found->hits_length, found->text, found->text_length, output->out, output->out_length,
                             reply);
+}
+
+/* uskelzar_slip_atlas: the line that a request asks for, through an atlas of the map. */
+static inline uint8_t uskelzar_printer_slip_atlas(const struct uskelzar_printer *printer, const struct uskelzar_atlas *atlas,
+                                                  const uint8_t *request, size_t request_length,
+                                                  const struct uskelzar_matches *found, const struct uskelzar_output *output,
+                                                  uint64_t reply[USKELZAR_REPLY_WORDS])
+{
+    return uskelzar_slip_atlas(request, request_length, printer->map, printer->map_length, atlas->atlas, atlas->atlas_length,
+                               printer->zones, printer->zones_length, found->hits, found->hits_length, found->text,
+                               found->text_length, output->out, output->out_length, reply);
+}
+
+/* uskelzar_slip_at_atlas: the line at a fix and an instant, through an atlas of the map. */
+static inline uint8_t uskelzar_printer_slip_at_atlas(const struct uskelzar_printer *printer, const struct uskelzar_atlas *atlas,
+                                                     float lat, float lon, int64_t instant,
+                                                     const struct uskelzar_matches *found,
+                                                     const struct uskelzar_output *output,
+                                                     uint64_t reply[USKELZAR_REPLY_WORDS])
+{
+    return uskelzar_slip_at_atlas(lat, lon, instant, printer->map, printer->map_length, atlas->atlas, atlas->atlas_length,
+                                  printer->zones, printer->zones_length, found->hits, found->hits_length, found->text,
+                                  found->text_length, output->out, output->out_length, reply);
 }
 
 /* A border: its points on the file's grid, and the words of its pieces. With none of these `pieces_length` is 0, and `pieces` still not null. */

@@ -57,7 +57,7 @@ fn watch_backward<L: Leaves>(bytes: usize) -> u64 {
     let leaves = L::of(file, &Map::default());
     // SAFETY: the bytes were handed on to `leaves`, which keeps them where they are.
     let file = unsafe { std::slice::from_raw_parts(place, bytes + 1) };
-    watched(file, || leaves.backward(bytes, 1))
+    watched(file, &[], || leaves.backward(bytes, 1))
 }
 
 fn run_leaf<L: Leaves>(leaf: &str, rounds: u32) -> u64 {
@@ -136,7 +136,7 @@ fn run_verdict<L: Leaves>(held: bool, asked: bool, map: &str, cities: &str, roun
         // SAFETY: the bytes were handed on to `leaves`, which keeps them where they are.
         let file = unsafe { std::slice::from_raw_parts(place, length) };
         for &(place, lat, lon) in &asked_of {
-            watched(file, || leaves.verdict(place, lat, lon, asked));
+            watched(file, &[], || leaves.verdict(place, lat, lon, asked));
         }
         return 0;
     }

@@ -12,8 +12,9 @@ pub enum Question {
     WithSafezone,
     WithoutSafezone,
     Simple,
-    /// No city: the map's index is built.
+    /// No city: the map's index or atlas is built, or held against the map.
     Build,
+    Check,
 }
 
 /// By which call, where a program has several.
@@ -29,8 +30,8 @@ pub enum Way {
     Atlas,
 }
 
-/// The words `MAP CITIES QUESTION ROUNDS`. A question may end in `:N`, so many fixes a call, in `:through` or in `:indexed`. In 0 rounds each city is
-/// looked up once, with what is read of the map watched.
+/// The words `MAP CITIES QUESTION ROUNDS`. A question may end in `:N`, so many fixes a call, in `:through`, in `:indexed` or in `:atlas`. In 0 rounds each city is
+/// looked up once, with what is read of the map, and of the words beside it, watched.
 pub struct Task {
     pub map: String,
     pub question: Question,
@@ -44,13 +45,14 @@ extern "C" {
     fn clock_gettime(clock: i32, time: *mut [i64; 2]) -> i32;
 }
 
-/// Makes a call and has `reads.so` count what it reads of a file; without that plugin it is a plain call.
-pub fn watched<T>(file: &[u8], call: impl FnOnce() -> T) -> T {
+/// Makes a call and has `reads.so` count what it reads of a file, and of words beside it; without that plugin it is a plain call.
+pub fn watched<T>(file: &[u8], beside: &[u32], call: impl FnOnce() -> T) -> T {
     // SAFETY: no file has these numbers, so that nothing is written.
-    let tell = |number| unsafe { write(number, file.as_ptr(), file.len()) };
-    tell(1000);
+    let tell = |number, start: *const u8, length| unsafe { write(number, start, length) };
+    tell(1000, file.as_ptr(), file.len());
+    tell(1002, beside.as_ptr().cast(), 4 * beside.len());
     let answer = call();
-    tell(1001);
+    tell(1001, file.as_ptr(), file.len());
     answer
 }
 
@@ -75,7 +77,7 @@ impl Task {
     pub fn from_args() -> Task {
         let words: Vec<String> = env::args().skip(1).collect();
         let [map, cities, question, rounds] = &words[..] else {
-            panic!("words: MAP CITIES with|without|simple|build[:N|:through|:indexed] ROUNDS");
+            panic!("words: MAP CITIES with|without|simple|build|check[:N|:through|:indexed|:atlas] ROUNDS");
         };
         let (question, way) = match question.split_once(':') {
             Some((question, "through")) => (question, Way::Through),
@@ -89,6 +91,7 @@ impl Task {
             "without" => Question::WithoutSafezone,
             "simple" => Question::Simple,
             "build" => Question::Build,
+            "check" => Question::Check,
             other => panic!("no such question: {other}"),
         };
         Task {
@@ -102,10 +105,10 @@ impl Task {
 
     /// Looks every city up in each round and prints the checksum. Only the first round has the answers folded into it: a count is
     /// taken of the others, so that no program's way of handing out its answer is in it.
-    pub fn run(&self, file: &[u8], mut ask: impl FnMut(f32, f32, Option<&mut Checksum>)) {
+    pub fn run(&self, file: &[u8], beside: &[u32], mut ask: impl FnMut(f32, f32, Option<&mut Checksum>)) {
         if self.rounds == 0 {
             for &(lat, lon) in &self.cities {
-                watched(file, || ask(lat, lon, None));
+                watched(file, beside, || ask(lat, lon, None));
             }
             return;
         }

@@ -1,5 +1,6 @@
 //! What a map answers: a file's header, the zones that hold a fix, how a search ended; and why there is no answer.
 
+use crate::atlas::NotAtlas;
 use crate::refusal::Refusal;
 use std::fmt;
 use std::io;
@@ -30,13 +31,15 @@ impl fmt::Display for Unknown {
 
 impl std::error::Error for Unknown {}
 
-/// A file could not be read, the library refused, or its answer is not known here.
+/// A file could not be read, the library refused, words are no atlas of their map, or the library's answer is not known here.
 #[derive(Debug)]
 pub enum Error {
     /// Reading failed.
     File(io::Error),
     /// The library refused.
     Refused(Refusal),
+    /// It refused words as a map's atlas.
+    NotAtlas(NotAtlas),
     /// The library answered with a number that is not known.
     Unknown(Unknown),
 }
@@ -46,6 +49,7 @@ impl fmt::Display for Error {
         match self {
             Error::File(error) => error.fmt(f),
             Error::Refused(refusal) => refusal.fmt(f),
+            Error::NotAtlas(not) => not.fmt(f),
             Error::Unknown(unknown) => unknown.fmt(f),
         }
     }
@@ -62,6 +66,12 @@ impl From<io::Error> for Error {
 impl From<Refusal> for Error {
     fn from(refusal: Refusal) -> Error {
         Error::Refused(refusal)
+    }
+}
+
+impl From<NotAtlas> for Error {
+    fn from(not: NotAtlas) -> Error {
+        Error::NotAtlas(not)
     }
 }
 
@@ -190,7 +200,7 @@ pub struct Zones {
     pub matches: Vec<Match>,
     /// How the search ended.
     pub end: End,
-    /// The distance to the nearest border looked at, in degrees.
+    /// The distance to the nearest border looked at, in degrees; 0 where it was not asked for.
     pub safezone: f32,
 }
 

@@ -4,6 +4,7 @@ use crate::answer::{Error, Zones};
 use crate::map::Map;
 use crate::raw;
 use crate::words;
+use std::io;
 use std::path::Path;
 
 /// The words of an index. It goes with every file that has the length, header and table of the one it was built for.
@@ -18,7 +19,7 @@ const LISTS: std::ops::Range<usize> = 3..3 + 32 * 64 + 1;
 impl Index {
     /// Builds the index of a map.
     pub fn build<B: AsRef<[u8]>>(map: &Map<B>) -> Result<Index, Error> {
-        Ok(Index { words: words::built(|room| raw::build_index(map.bytes(), room))? })
+        Ok(Index { words: words::built(0, |room| raw::build_index(map.bytes(), room))? })
     }
 
     /// An index of these words. Any are taken, and their records, starts and lists are believed: ask [`Index::is_of`] of words that another program wrote.
@@ -45,7 +46,11 @@ impl Index {
     /// What `to_bytes` gave for this map. Each word is worked out again: any other words are refused with 36, whoever wrote them; bytes that are not four a word
     /// are no index.
     pub fn of_bytes<B: AsRef<[u8]>>(bytes: &[u8], map: &Map<B>) -> Result<Index, Error> {
-        let words = words::of_bytes(bytes, "index")?;
+        if bytes.len() % 4 != 0 {
+            let said = format!("{} bytes are no whole number of words, so it is no index or a cut one: build it again", bytes.len());
+            return Err(io::Error::new(io::ErrorKind::InvalidData, said).into());
+        }
+        let words = words::of_bytes(bytes);
         raw::is_index(map.bytes(), &words)?;
         Ok(Index { words })
     }

@@ -10,7 +10,8 @@
 //! # }
 //! ```
 //!
-//! [`Printer`] has the whole question of a slip: the line that is printed for a receiver's sentence, or for a fix and an instant, or why there is none. [`Builder`] writes a file from yards, and a [`Draft`] holds yards that may still change. [`raw`] has the twenty-nine functions as they are, over lent buffers, and needs no `std` (`default-features = false`); [`Map`] and [`TimeZone`] lend the buffers themselves.
+//! [`Printer`] has the whole question of a slip: the line that is printed for a receiver's sentence, or for a fix and an instant, or why there is none.
+//! An [`Atlas`] beside a map lets its lookups read a small part of it ([`Map::open_with`]). [`Builder`] writes a file from yards, and a [`Draft`] holds yards that may still change. [`raw`] has the thirty-three functions as they are, over lent buffers, and needs no `std` (`default-features = false`); [`Map`] and [`TimeZone`] lend the buffers themselves.
 
 #![cfg_attr(not(feature = "std"), no_std)]
 #![deny(unsafe_op_in_unsafe_fn, missing_docs)]
@@ -61,7 +62,7 @@ mod words;
 #[cfg(feature = "std")]
 pub use answer::{zone_name, End, Error, Field, Header, Kind, Match, Simple, Table, Unknown, Zones};
 #[cfg(feature = "std")]
-pub use atlas::Atlas;
+pub use atlas::{Atlas, NotAtlas};
 #[cfg(feature = "std")]
 pub use builder::{Builder, NotBuilt, Place};
 #[cfg(feature = "std")]

@@ -1,4 +1,4 @@
-//! The library's twenty-nine functions, each declared once, in one line of the list below. It takes nothing of this crate, so that bench/ takes this file too.
+//! The library's thirty-three functions, each declared once, in one line of the list below. It takes nothing of this crate, so that bench/ takes this file too.
 
 /// What a type of a list or of a number is in C.
 macro_rules! in_c {
@@ -75,6 +75,8 @@ functions! {
     fn uskelzar_is_atlas(file: &[u8], atlas: &[u32], reply: &mut [u64; 5]);
     fn uskelzar_lookup_atlas(file: &[u8], atlas: &[u32], lat: f32, lon: f32, asked: bool, hits: &mut [u32], text: &mut [u8], reply: &mut [u64; 5]);
     fn uskelzar_simple_lookup(file: &[u8], lat: f32, lon: f32, hits: &mut [u32], text: &mut [u8], reply: &mut [u64; 5]);
+    fn uskelzar_simple_atlas(file: &[u8], atlas: &[u32], lat: f32, lon: f32, hits: &mut [u32], text: &mut [u8], reply: &mut [u64; 5]);
+    fn uskelzar_many_atlas(file: &[u8], atlas: &[u32], lats: &[f32], lons: &[f32], asked: bool, hits: &mut [u32], text: &mut [u8], answers: &mut [u32], reply: &mut [u64; 5]);
     fn uskelzar_write_border(version: u8, lats: &[i32], lons: &[i32], pieces: &[u32], earlier: &[u8], out: &mut [u8], reply: &mut [u64; 5]);
     fn uskelzar_build(
         r#type: u8, version: u8, precision: u8, names: u32, yards: &[u32], lats: &[i32], lons: &[i32], pieces: &[u32], lengths: &[u32], texts: &[u8],
@@ -118,4 +120,6 @@ functions! {
     fn uskelzar_bundle_find(bundle: &[u8], name: &[u8], reply: &mut [u64; 5]);
     fn uskelzar_slip(request: &[u8], map: &[u8], zones: &[u8], hits: &mut [u32], text: &mut [u8], out: &mut [u8], reply: &mut [u64; 5]);
     fn uskelzar_slip_at(lat: f32, lon: f32, instant: i64, map: &[u8], zones: &[u8], hits: &mut [u32], text: &mut [u8], out: &mut [u8], reply: &mut [u64; 5]);
+    fn uskelzar_slip_atlas(request: &[u8], map: &[u8], atlas: &[u32], zones: &[u8], hits: &mut [u32], text: &mut [u8], out: &mut [u8], reply: &mut [u64; 5]);
+    fn uskelzar_slip_at_atlas(lat: f32, lon: f32, instant: i64, map: &[u8], atlas: &[u32], zones: &[u8], hits: &mut [u32], text: &mut [u8], out: &mut [u8], reply: &mut [u64; 5]);
 }

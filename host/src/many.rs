@@ -40,7 +40,10 @@ impl<B: AsRef<[u8]>> Map<B> {
     fn ask_many(&self, lats: &[f32], lons: &[f32], rooms: usize) -> Result<Answers<'_, B>, Stop> {
         let (mut hits, mut text) = self.buffers(rooms);
         let mut answers = vec![0; ANSWER_WORDS * lats.len()];
-        raw::lookup_many(self.bytes(), lats, lons, true, &mut hits, &mut text, &mut answers)?;
+        match self.atlas() {
+            Some(atlas) => raw::many_atlas((self.bytes(), atlas.words()), lats, lons, true, &mut hits, &mut text, &mut answers)?,
+            None => raw::lookup_many(self.bytes(), lats, lons, true, &mut hits, &mut text, &mut answers)?,
+        };
         Ok(Answers {
             map: self,
             hits,

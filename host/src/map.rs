@@ -1,6 +1,7 @@
 //! A map: the bytes of a PLB file, opened, and what it answers.
 
 use crate::answer::{End, Error, Field, Header, Kind, Match, Simple, Table, Unknown, Zones};
+use crate::atlas::Atlas;
 use crate::entries::{text_of, Entries};
 use crate::raw::{self, Reply, HIT_WORDS};
 use crate::refusal::Refusal;
@@ -42,6 +43,8 @@ pub struct Map<B> {
     bytes: B,
     header: Header,
     room: Room,
+    /// It is this file's: it was built for it, or held against it.
+    atlas: Option<Atlas>,
 }
 
 /// Room for 255 names and a notice of up to 256 bytes each.
@@ -52,27 +55,58 @@ impl Map<Vec<u8>> {
     pub fn read(path: impl AsRef<Path>) -> Result<Map<Vec<u8>>, Error> {
         Map::open(std::fs::read(path)?)
     }
+
+    /// Reads a file and its atlas, which [`Atlas::write`] or `depot atlas` wrote, and opens it with that.
+    pub fn read_with(path: impl AsRef<Path>, atlas: impl AsRef<Path>) -> Result<Map<Vec<u8>>, Error> {
+        Map::open_with(std::fs::read(path)?, std::fs::read(atlas)?)
+    }
 }
 
 impl<B: AsRef<[u8]>> Map<B> {
     /// Opens a file's bytes.
     pub fn open(bytes: B) -> Result<Map<B>, Error> {
-        let header = header_by(raw::open, bytes.as_ref())?;
-        Ok(Map {
-            bytes,
-            header,
-            room: Room::default(),
-        })
+        Map::open_by(raw::open, bytes)
     }
 
     /// Opens a file's bytes, and refuses a number that their end cuts. Lookups in the map stay plain; [`Map::lookup_strict`] is the strict one.
     pub fn open_strict(bytes: B) -> Result<Map<B>, Error> {
-        let header = header_by(raw::open_strict, bytes.as_ref())?;
+        Map::open_by(raw::open_strict, bytes)
+    }
+
+    /// Opens a file's bytes with those of its atlas. Each word of it is worked out again, here and once; words that are not this file's say why ([`crate::NotAtlas`]).
+    /// Every lookup but the strict one, and a [`crate::Printer`]'s slips, then go through it and read a small part of the file; no answer is another one.
+    ///
+    /// ```
+    /// use uskelzar::{Atlas, Error, Map, NotAtlas};
+    ///
+    /// let map = Map::read("../examples/world-9.plb")?;
+    /// let atlas = Atlas::build(&map)?.to_bytes();
+    /// let quick = Map::open_with(map.bytes(), &atlas)?;
+    /// assert_eq!(quick.found(52.52, 13.40)?, map.found(52.52, 13.40)?);
+    /// let other = std::fs::read("../examples/world-15.plb")?;
+    /// assert!(matches!(Map::open_with(other, &atlas), Err(Error::NotAtlas(NotAtlas::OtherMap))));
+    /// # Ok::<(), uskelzar::Error>(())
+    /// ```
+    pub fn open_with(bytes: B, atlas: impl AsRef<[u8]>) -> Result<Map<B>, Error> {
+        let map = Map::open(bytes)?;
+        let atlas = Atlas::of_bytes(atlas.as_ref(), &map)?;
+        Ok(Map { atlas: Some(atlas), ..map })
+    }
+
+    fn open_by(call: Open, bytes: B) -> Result<Map<B>, Error> {
+        let header = header_by(call, bytes.as_ref())?;
         Ok(Map {
             bytes,
             header,
             room: Room::default(),
+            atlas: None,
         })
+    }
+
+    /// Builds the map's atlas and holds it, as [`Map::open_with`] holds one that is there. Where none can be built the map stays as it is.
+    pub fn build_atlas(&mut self) -> Result<&Atlas, Error> {
+        let atlas = Atlas::build(self)?;
+        Ok(self.atlas.insert(atlas))
     }
 
     /// Lends other room; refusals 17 and 18 say that it was too little.
@@ -90,13 +124,18 @@ impl<B: AsRef<[u8]>> Map<B> {
         self.bytes.as_ref()
     }
 
+    /// The atlas that it holds.
+    pub fn atlas(&self) -> Option<&Atlas> {
+        self.atlas.as_ref()
+    }
+
     pub(crate) fn room(&self) -> Room {
         self.room
     }
 
-    /// The zones that hold a fix, in degrees.
+    /// The zones that hold a fix, in degrees, with the distance to the nearest border.
     pub fn lookup(&self, lat: f32, lon: f32) -> Result<Zones, Error> {
-        self.lookup_by(raw::lookup, lat, lon)
+        self.asked((lat, lon, true))
     }
 
     /// The same for degrees that come as `f64`: each is rounded once, to the nearest `f32`, which is what the library asks by.
@@ -104,13 +143,22 @@ impl<B: AsRef<[u8]>> Map<B> {
         self.lookup(lat as f32, lon as f32)
     }
 
-    /// What [`Map::lookup`] gives, but a number that the file's end cuts is refused where the search or a field meets it.
-    pub fn lookup_strict(&self, lat: f32, lon: f32) -> Result<Zones, Error> {
-        self.lookup_by(raw::lookup_strict, lat, lon)
+    /// What [`Map::lookup`] gives without that distance, which is 0 then: what a slip is stamped by.
+    pub fn found(&self, lat: f32, lon: f32) -> Result<Zones, Error> {
+        self.asked((lat, lon, false))
     }
 
-    fn lookup_by(&self, call: Lookup, lat: f32, lon: f32) -> Result<Zones, Error> {
-        self.found_by(|hits, text| call(self.bytes(), lat, lon, true, hits, text))
+    /// Through the atlas, where there is one.
+    fn asked(&self, (lat, lon, safezone): (f32, f32, bool)) -> Result<Zones, Error> {
+        self.found_by(|hits, text| match &self.atlas {
+            Some(atlas) => raw::lookup_atlas(self.bytes(), atlas.words(), (lat, lon, safezone), hits, text),
+            None => raw::lookup(self.bytes(), lat, lon, safezone, hits, text),
+        })
+    }
+
+    /// What [`Map::lookup`] gives, but a number that the file's end cuts is refused where the search or a field meets it. It goes through no atlas.
+    pub fn lookup_strict(&self, lat: f32, lon: f32) -> Result<Zones, Error> {
+        self.found_by(|hits, text| raw::lookup_strict(self.bytes(), lat, lon, true, hits, text))
     }
 
     /// What a lookup answers that is given hits and text to write in.
@@ -140,7 +188,10 @@ impl<B: AsRef<[u8]>> Map<B> {
     /// A description of the first zone that holds a fix, in degrees.
     pub fn simple_lookup(&self, lat: f32, lon: f32) -> Result<Simple, Error> {
         let (mut hits, mut text) = self.buffers(1);
-        let reply = raw::simple_lookup(self.bytes(), lat, lon, &mut hits, &mut text)?;
+        let reply = match self.atlas() {
+            Some(atlas) => raw::simple_atlas(self.bytes(), atlas.words(), (lat, lon), &mut hits, &mut text)?,
+            None => raw::simple_lookup(self.bytes(), lat, lon, &mut hits, &mut text)?,
+        };
         let [matches, mark, described, length, _] = reply;
         Ok(Simple {
             description: (described == 1).then(|| text_of(&text[..length as usize])),
@@ -176,9 +227,8 @@ impl<B: AsRef<[u8]>> Map<B> {
     }
 }
 
-/// Opening and lookup over lent buffers, plain or strict.
+/// Opening over lent buffers, plain or strict.
 type Open = fn(&[u8], &mut [u8]) -> Result<Reply, Refusal>;
-type Lookup = fn(&[u8], f32, f32, bool, &mut [u32], &mut [u8]) -> Result<Reply, Refusal>;
 
 fn header_by(call: Open, file: &[u8]) -> Result<Header, Error> {
     let mut text = vec![0; HEADER_TEXT];

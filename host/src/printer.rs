@@ -75,7 +75,7 @@ impl fmt::Display for Stamped {
 }
 
 impl<B: AsRef<[u8]>> Printer<B> {
-    /// A printer with a map, and the files of its zones. The room that it lends is the map's ([`Map::with_room`]).
+    /// A printer with a map, and the files of its zones. The room that it lends is the map's ([`Map::with_room`]); where the map holds an atlas ([`Map::open_with`]), slips are stamped through it.
     pub fn new(map: Map<B>, zones: Bundle) -> Printer<B> {
         Printer { map, zones }
     }
@@ -92,7 +92,10 @@ impl<B: AsRef<[u8]>> Printer<B> {
 
     /// The slip at a fix, in degrees, and an instant, in seconds from 1970.
     pub fn stamp(&self, lat: f32, lon: f32, instant: i64) -> Result<Stamped, NotStamped> {
-        self.stamped(|map, zones, paper| raw::slip_at((lat, lon, instant), map, zones, paper))
+        self.stamped(|map, zones, paper| match self.map.atlas() {
+            Some(atlas) => raw::slip_at_atlas((lat, lon, instant), map, atlas.words(), zones, paper),
+            None => raw::slip_at((lat, lon, instant), map, zones, paper),
+        })
     }
 
     /// The same for degrees that come as `f64`: each is rounded once, to the nearest `f32`.
@@ -102,12 +105,15 @@ impl<B: AsRef<[u8]>> Printer<B> {
 
     /// The slip that a line asks for, as [`crate::Request::read`] reads it.
     pub fn stamp_request(&self, line: impl AsRef<[u8]>) -> Result<Stamped, NotStamped> {
-        self.stamped(|map, zones, paper| raw::slip(line.as_ref(), map, zones, paper))
+        self.stamped(|map, zones, paper| match self.map.atlas() {
+            Some(atlas) => raw::slip_atlas(line.as_ref(), map, atlas.words(), zones, paper),
+            None => raw::slip(line.as_ref(), map, zones, paper),
+        })
     }
 
     /// The zones by which a slip at this fix is stamped or not: the map's own answer, which a refused slip does not carry.
     pub fn found(&self, lat: f32, lon: f32) -> Result<Zones, Error> {
-        self.map.found_by(|hits, text| raw::lookup(self.map.bytes(), lat, lon, false, hits, text))
+        self.map.found(lat, lon)
     }
 
     fn stamped(&self, call: impl FnOnce(&[u8], &[u8], Paper) -> Result<Reply, NotStamped>) -> Result<Stamped, NotStamped> {

@@ -1,4 +1,4 @@
-//! The library's twenty-nine functions over lent buffers (include/uskelzar.h has their contracts). It asks nothing of `std`.
+//! The library's thirty-three functions over lent buffers (include/uskelzar.h has their contracts). It asks nothing of `std`.
 
 pub use crate::hit::HIT_WORDS;
 use crate::library;
@@ -114,7 +114,24 @@ pub fn lookup_many(
     text: &mut [u8],
     answers: &mut [u32],
 ) -> Result<Reply, Stop> {
-    let call = |reply: &mut Reply| library::uskelzar_lookup_many(file, lats, lons, asked, hits, text, answers, reply);
+    stopped(|reply| library::uskelzar_lookup_many(file, lats, lons, asked, hits, text, answers, reply))
+}
+
+/// As `lookup_many`, through an atlas that `is_atlas` answered for.
+pub fn many_atlas(
+    (file, atlas): (&[u8], &[u32]),
+    lats: &[f32],
+    lons: &[f32],
+    asked: bool,
+    hits: &mut [u32],
+    text: &mut [u8],
+    answers: &mut [u32],
+) -> Result<Reply, Stop> {
+    stopped(|reply| library::uskelzar_many_atlas(file, atlas, lats, lons, asked, hits, text, answers, reply))
+}
+
+/// Of many fixes, whose refusals have the index of a fix.
+fn stopped(call: impl FnOnce(&mut Reply) -> u8) -> Result<Reply, Stop> {
     replied(call, 3).map_err(|(number, reply)| Stop {
         index: reply[2] as usize,
         why: Refusal::of(number, reply),
@@ -130,6 +147,17 @@ pub fn simple_lookup(
     text: &mut [u8],
 ) -> Result<Reply, Refusal> {
     answered(|reply| library::uskelzar_simple_lookup(file, lat, lon, hits, text, reply))
+}
+
+/// As `simple_lookup`, through an atlas that `is_atlas` answered for.
+pub fn simple_atlas(
+    file: &[u8],
+    atlas: &[u32],
+    (lat, lon): (f32, f32),
+    hits: &mut [u32],
+    text: &mut [u8],
+) -> Result<Reply, Refusal> {
+    answered(|reply| library::uskelzar_simple_atlas(file, atlas, lat, lon, hits, text, reply))
 }
 
 /// The words used; the index in the words.
@@ -512,4 +540,14 @@ pub fn slip(request: &[u8], map: &[u8], zones: &[u8], paper: Paper) -> Result<Re
 /// The same at a fix and an instant.
 pub fn slip_at((lat, lon, instant): (f32, f32, i64), map: &[u8], zones: &[u8], paper: Paper) -> Result<Reply, NotStamped> {
     stamped(|reply| library::uskelzar_slip_at(lat, lon, instant, map, zones, paper.hits, paper.text, paper.out, reply))
+}
+
+/// As `slip`, through an atlas of the map that `is_atlas` answered for.
+pub fn slip_atlas(request: &[u8], map: &[u8], atlas: &[u32], zones: &[u8], paper: Paper) -> Result<Reply, NotStamped> {
+    stamped(|reply| library::uskelzar_slip_atlas(request, map, atlas, zones, paper.hits, paper.text, paper.out, reply))
+}
+
+/// As `slip_at`, through an atlas of the map that `is_atlas` answered for.
+pub fn slip_at_atlas((lat, lon, instant): (f32, f32, i64), map: &[u8], atlas: &[u32], zones: &[u8], paper: Paper) -> Result<Reply, NotStamped> {
+    stamped(|reply| library::uskelzar_slip_at_atlas(lat, lon, instant, map, atlas, zones, paper.hits, paper.text, paper.out, reply))
 }

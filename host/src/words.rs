@@ -3,14 +3,13 @@
 use crate::answer::Error;
 use crate::raw::Reply;
 use crate::refusal::{Number, Refusal};
-use std::io;
 
-/// The first room that is tried; it grows while the words do not fit.
-const FIRST_ROOM: usize = 1 << 16;
+/// The least room that is tried.
+const LEAST_ROOM: usize = 1 << 16;
 
-/// The words that a building gives.
-pub fn built(building: impl Fn(&mut [u32]) -> Result<Reply, Refusal>) -> Result<Vec<u32>, Error> {
-    let mut room = FIRST_ROOM;
+/// The words that a building gives, which is tried in a room of so many words at first; it grows while they do not fit.
+pub fn built(first: usize, building: impl Fn(&mut [u32]) -> Result<Reply, Refusal>) -> Result<Vec<u32>, Error> {
+    let mut room = first.max(LEAST_ROOM);
     loop {
         let mut words = vec![0; room];
         match building(&mut words) {
@@ -29,13 +28,7 @@ pub fn to_bytes(words: &[u32]) -> Vec<u8> {
     words.iter().flat_map(|word| word.to_le_bytes()).collect()
 }
 
-/// The words again.
-pub fn of_bytes(bytes: &[u8], what: &str) -> Result<Vec<u32>, Error> {
-    let words = bytes.chunks_exact(4);
-    if !words.remainder().is_empty() {
-        let length = bytes.len();
-        let said = format!("{length} bytes are no whole number of words, so it is no {what} or a cut one: build it again");
-        return Err(io::Error::new(io::ErrorKind::InvalidData, said).into());
-    }
-    Ok(words.map(|four| u32::from_le_bytes([four[0], four[1], four[2], four[3]])).collect())
+/// The words again, those that are whole.
+pub fn of_bytes(bytes: &[u8]) -> Vec<u32> {
+    bytes.chunks_exact(4).map(|four| u32::from_le_bytes([four[0], four[1], four[2], four[3]])).collect()
 }

@@ -4,9 +4,10 @@
 mod common;
 
 use common::fence::{Fence, EDGES};
-use common::files::{overlap, LAT_STEP, LON_STEP};
+use common::files::{overlap, LAT_STEP, LON_STEP, OUT_OF_ORDER};
 use common::{Buffers, Fix, WORLD};
-use uskelzar::{raw, Atlas, Error, Map, Number};
+use std::sync::atomic::{AtomicBool, Ordering};
+use uskelzar::{raw, Atlas, Builder, End, Error, Index, Map, NotAtlas, Number, Room, Table};
 
 const MOST: usize = 64;
 
@@ -57,6 +58,9 @@ fn through_it_in_every_room() {
                     for bytes in 0..=MOST {
                         let plain = lent.lookup(file, fix(asked), hits, bytes, edge);
                         assert_eq!(lent.lookup_by(raw::lookup_atlas, (file, kept), fix(asked), hits, bytes, edge), plain);
+                        let simple = lent.simple(file, fix(asked), hits, bytes, edge);
+                        assert_eq!(lent.simple_atlas((file, kept), fix(asked), hits, bytes, edge), simple);
+                        assert_eq!(lent.simple_atlas((file, &[]), fix(asked), hits, bytes, edge), simple);
                     }
                 }
             }
@@ -123,14 +127,105 @@ fn kept_in_a_file() {
         let (lat, lon) = (step as f32 * 0.37 % 180.0 - 90.0, step as f32 * 1.71 % 360.0 - 180.0);
         assert_eq!(map.lookup_atlas(&again, lat, lon).unwrap(), map.lookup(lat, lon).unwrap());
     }
-    let bytes = atlas.to_bytes();
-    let error = Atlas::of_bytes(&bytes[..bytes.len() - 1], &map).unwrap_err();
-    assert!(error.to_string().ends_with("it is no atlas or a cut one: build it again"), "{error}");
-    let other = overlap(1);
-    match Atlas::of_bytes(&bytes, &Map::open(other.as_slice()).unwrap()) {
-        Err(Error::Refused(refusal)) => assert_eq!(refusal.number, Number::OtherIndex),
-        other => panic!("{other:?}"),
+}
+
+fn not(bytes: &[u8], map: &Map<Vec<u8>>) -> NotAtlas {
+    match (Atlas::of_bytes(bytes, map), Map::open_with(map.bytes(), bytes).err()) {
+        (Err(Error::NotAtlas(not)), Some(Error::NotAtlas(again))) if not == again => not,
+        (one, other) => panic!("{one:?}, {other:?}"),
     }
+}
+
+/// What is no atlas of a map says why, and what to do.
+#[test]
+fn why_it_is_none() {
+    let map = Map::read(WORLD).unwrap();
+    let bytes = Atlas::build(&map).unwrap().to_bytes();
+    let of = bytes.len() / 4;
+    for cut in [1, 2, 3, 4, 4 * 1000, bytes.len() - 1, bytes.len()] {
+        assert_eq!(not(&bytes[..bytes.len() - cut], &map), NotAtlas::Cut { words: (bytes.len() - cut) / 4, of });
+    }
+    let index = Index::build(&map).unwrap().to_bytes();
+    assert_eq!(not(&index, &map), NotAtlas::Cut { words: index.len() / 4, of });
+    let changed = |word: usize| {
+        let mut bytes = bytes.clone();
+        bytes[4 * word] ^= 1;
+        bytes
+    };
+    // the file's length, a record, a mark
+    assert_eq!([0, 2052 + 3, of - 1].map(|word| not(&changed(word), &map)), [NotAtlas::OtherMap, NotAtlas::OtherWords, NotAtlas::OtherWords]);
+    assert_eq!(not(&[&bytes[..], &[0]].concat(), &map), NotAtlas::OtherWords);
+    assert_eq!(not(b"no atlas at all, but a text.", &map), NotAtlas::OtherMap);
+    assert_eq!(not(&bytes, &Map::open(overlap(1)).unwrap()), NotAtlas::OtherMap);
+    for not in [NotAtlas::Cut { words: 7, of }, NotAtlas::OtherMap, NotAtlas::OtherWords] {
+        let said = not.to_string();
+        assert!(said.starts_with("refusal 36: no atlas of this map: ") && said.ends_with("; build it again with `depot atlas`"), "{said}");
+        assert_eq!(Error::from(not).to_string(), said);
+    }
+    // of this map none can be built
+    let unordered = Map::open_with(OUT_OF_ORDER, &bytes).err();
+    assert!(matches!(&unordered, Some(Error::Refused(why)) if why.number == Number::IndexTable), "{unordered:?}");
+    let mut unordered = Map::open(OUT_OF_ORDER).unwrap();
+    assert!(unordered.build_atlas().is_err() && unordered.atlas().is_none());
+    assert!(matches!(Map::read_with(WORLD, "/nonexistent"), Err(Error::File(_))));
+    assert!(matches!(Map::open_with(vec![1, 2, 3], &bytes), Err(Error::Refused(why)) if why.number == Number::TooShort));
+}
+
+/// Held with its map it is kept, and nothing is answered otherwise, with the safezone and without.
+#[test]
+fn held_with_its_map() {
+    let plain = Map::read(WORLD).unwrap();
+    let mut built = Map::read(WORLD).unwrap();
+    assert_eq!(built.build_atlas().unwrap(), &Atlas::build(&plain).unwrap());
+    let path = std::env::temp_dir().join(format!("uskelzar-held-{}", std::process::id()));
+    built.atlas().unwrap().write(&path).unwrap();
+    let read = Map::read_with(WORLD, &path).unwrap();
+    std::fs::remove_file(&path).unwrap();
+    assert_eq!((plain.atlas(), read.atlas()), (None, built.atlas()));
+    let read = read.with_room(Room { hits: 8, ..Room::default() });
+    assert!(read.atlas().is_some());
+    for step in 0..500 {
+        let (lat, lon) = (step as f32 * 0.37 % 180.0 - 90.0, step as f32 * 1.71 % 360.0 - 180.0);
+        for map in [&built, &read] {
+            assert_eq!(map.lookup(lat, lon).unwrap(), plain.lookup(lat, lon).unwrap());
+            assert_eq!(map.found(lat, lon).unwrap(), plain.found(lat, lon).unwrap());
+            assert_eq!(map.simple_lookup(lat, lon).unwrap(), plain.simple_lookup(lat, lon).unwrap());
+        }
+        assert_eq!(plain.found(lat, lon).unwrap().safezone, 0.0);
+    }
+}
+
+/// Bytes that become others behind the map's back.
+struct Swapped {
+    before: Vec<u8>,
+    after: Vec<u8>,
+    is_over: AtomicBool,
+}
+
+impl AsRef<[u8]> for &Swapped {
+    fn as_ref(&self) -> &[u8] {
+        if self.is_over.load(Ordering::Relaxed) { &self.after } else { &self.before }
+    }
+}
+
+/// A lookup in a map that holds an atlas goes through it: it does not read a stretch of a border whose box does not hold the fix, not even where that stretch has become unreadable.
+#[test]
+fn what_is_not_read() {
+    let ring: Vec<(i32, i32)> = (0..1024).map(|i| f64::from(i) / 512.0 * std::f64::consts::PI).map(|turn| ((2e4 * turn.cos()) as i32 + 1, (2e4 * turn.sin()) as i32 + 1)).collect();
+    let before = Builder::new(Table::Countries, 20, &["Name"]).yard(&ring, &["A ring"]).build().unwrap();
+    let mut after = before.clone();
+    // 16 bytes in the ring's middle: a number without an end
+    let middle = before.len() - before.len() / 2;
+    after[middle..middle + 16].fill(0xFF);
+    let file = Swapped { before, after, is_over: AtomicBool::new(false) };
+    let mut map = Map::open(&file).unwrap();
+    map.build_atlas().unwrap();
+    let zones = map.found(0.0, 0.0).unwrap();
+    assert_eq!((zones.matches.len(), zones.end), (1, End::Whole));
+    file.is_over.store(true, Ordering::Relaxed);
+    assert_eq!(map.found(0.0, 0.0).unwrap(), zones);
+    assert_eq!(map.zone_for_slip(0.0, 0.0).unwrap().as_deref(), Some("A ring"));
+    assert!(Map::open(&file).unwrap().found(0.0, 0.0).is_err());
 }
 
 /// On the map of USKELZAR_MAP, at each city of USKELZAR_CITIES, with the safezone and without.

@@ -5,7 +5,7 @@ mod common;
 
 use common::fence::{Edge, Fence, EDGES};
 use common::files::{overlap, LAT_STEP, LON_STEP, SQUARE, SQUARE_LAT, SQUARE_LON, TABLE_CUT, TABLE_CUT_LAT, TABLE_CUT_LON};
-use common::WORLD;
+use common::{AtlasOf, WORLD};
 use uskelzar::raw::{self, Reply, ANSWER_WORDS, HIT_WORDS, MOST_FIXES};
 use uskelzar::{Map, Number, Refusal, Room, Stop};
 
@@ -75,6 +75,8 @@ struct Fenced {
     hits: Fence,
     text: Fence,
     answers: Fence,
+    words: Fence,
+    atlas: AtlasOf,
 }
 
 impl Fenced {
@@ -86,15 +88,29 @@ impl Fenced {
             hits: fence(),
             text: fence(),
             answers: fence(),
+            words: fence(),
+            atlas: AtlasOf::default(),
         }
     }
 
+    /// Through no atlas, through the file's own, where it has one, and plainly, which is the same.
     fn ask(&mut self, file: &[u8], lats: &[f32], lons: &[f32], asked: bool, lent: Lent, edge: Edge) -> Outcome {
+        let plain = self.ask_by(file, None, (lats, lons, asked), lent, edge);
+        for words in [vec![], self.atlas.of(file)] {
+            assert_eq!(self.ask_by(file, Some(&words), (lats, lons, asked), lent, edge), plain);
+        }
+        plain
+    }
+
+    fn ask_by(&mut self, file: &[u8], atlas: Option<&[u32]>, (lats, lons, asked): (&[f32], &[f32], bool), lent: Lent, edge: Edge) -> Outcome {
         let (lats, lons) = (self.lats.hold(lats, edge), self.lons.hold(lons, edge));
         let (hits, text) = (self.hits.lend(lent.words, edge), self.text.lend(lent.bytes, edge));
         let answers = self.answers.lend(lent.third, edge);
         let outcome = Outcome {
-            reply: raw::lookup_many(file, lats, lons, asked, hits, text, answers),
+            reply: match atlas {
+                None => raw::lookup_many(file, lats, lons, asked, hits, text, answers),
+                Some(words) => raw::many_atlas((file, self.words.hold(words, edge)), lats, lons, asked, hits, text, answers),
+            },
             hits: hits.to_vec(),
             text: text.to_vec(),
             answers: answers.to_vec(),

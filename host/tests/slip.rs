@@ -7,7 +7,7 @@ use common::fence::{Edge, Fence, EDGES};
 use common::files::{file, overlap, Zone, LAT_STEP, LON_STEP};
 use common::model::{self, Why};
 use common::tzif::{ended, fixed, leaping, small};
-use common::Dice;
+use common::{AtlasOf, Dice};
 use uskelzar::raw::{self, Paper, Reply, HIT_WORDS};
 use uskelzar::{Bundle, Cause, NotStamped, Refusal};
 
@@ -55,24 +55,39 @@ enum Ask<'a> {
 struct Desk {
     lent: [Fence; 3],
     read: [Fence; 3],
+    words: Fence,
+    atlas: AtlasOf,
     edge: Edge,
 }
 
 impl Desk {
     fn new(edge: Edge) -> Desk {
-        Desk { lent: [(); 3].map(|()| Fence::new(1024)), read: [1024, 1 << 16, 1 << 16].map(Fence::new), edge }
+        let (lent, read) = ([(); 3].map(|()| Fence::new(1024)), [1024, 1 << 16, 1 << 16].map(Fence::new));
+        Desk { lent, read, words: Fence::new(1 << 16), atlas: AtlasOf::default(), edge }
     }
 
-    fn slip(&mut self, ask: Ask, map: &[u8], zones: &[u8], [words, bytes, room]: [usize; 3]) -> Outcome {
+    /// Through no atlas, through the map's own, where it has one, and plainly, which is the same.
+    fn slip(&mut self, ask: Ask, map: &[u8], zones: &[u8], rooms: [usize; 3]) -> Outcome {
+        let plain = self.slip_by(ask, map, None, zones, rooms);
+        for words in [vec![], self.atlas.of(map)] {
+            assert_eq!(self.slip_by(ask, map, Some(&words), zones, rooms), plain);
+        }
+        plain
+    }
+
+    fn slip_by(&mut self, ask: Ask, map: &[u8], atlas: Option<&[u32]>, zones: &[u8], [words, bytes, room]: [usize; 3]) -> Outcome {
         let edge = self.edge;
+        let atlas = atlas.map(|words| &*self.words.hold(words, edge));
         let [request_fence, map_fence, zones_fence] = &mut self.read;
         let (held_map, held_zones) = (map_fence.hold(map, edge), zones_fence.hold(zones, edge));
         let [hits_fence, text_fence, out_fence] = &mut self.lent;
         let (hits, text, out) = (hits_fence.lend::<u32>(words, edge), text_fence.lend::<u8>(bytes, edge), out_fence.lend::<u8>(room, edge));
         let paper = Paper { hits: &mut *hits, text: &mut *text, out: &mut *out };
-        let reply = match ask {
-            Ask::At(lat, lon, instant) => raw::slip_at((lat, lon, instant), held_map, held_zones, paper),
-            Ask::Line(line) => raw::slip(request_fence.hold(line, edge), held_map, held_zones, paper),
+        let reply = match (ask, atlas) {
+            (Ask::At(lat, lon, instant), None) => raw::slip_at((lat, lon, instant), held_map, held_zones, paper),
+            (Ask::At(lat, lon, instant), Some(words)) => raw::slip_at_atlas((lat, lon, instant), held_map, words, held_zones, paper),
+            (Ask::Line(line), None) => raw::slip(request_fence.hold(line, edge), held_map, held_zones, paper),
+            (Ask::Line(line), Some(words)) => raw::slip_atlas(request_fence.hold(line, edge), held_map, words, held_zones, paper),
         };
         let outcome = Outcome { reply: reply.map_err(|why| numbers_of(&why)), hits: hits.to_vec(), text: text.to_vec(), out: out.to_vec() };
         assert!(held_map == map && held_zones == zones, "an input was written to");

@@ -34,22 +34,28 @@ impl Beside {
         reply[0] as usize
     }
 
-    /// No more words than it takes, held against their file.
+    /// No more words than it takes.
     fn of(self, file: &[u8]) -> Vec<u32> {
         let mut words = vec![0; 1 << 24];
         let used = self.build(file, &mut words);
         words.truncate(used);
-        assert_eq!((self.goes)(file, &words, &mut [0; 5]), 0, "the words do not go with their file");
         words
+    }
+
+    fn check(self, file: &[u8], words: &[u32]) {
+        assert_eq!((self.goes)(file, words, &mut [0; 5]), 0, "the words do not go with their file");
     }
 }
 
-/// Builds the index or the atlas so many times, and prints how many words it takes.
-fn run_build(task: &Task, file: &[u8]) {
+/// Builds the index or the atlas so many times, or holds it against its file, and prints how many words it takes.
+fn run_beside(task: &Task, file: &[u8]) {
     let beside = if matches!(task.way, Way::Atlas) { ATLAS } else { INDEX };
     let mut words = beside.of(file);
     for _ in 0..task.rounds {
-        beside.build(file, &mut words);
+        match task.question {
+            Question::Check => beside.check(file, &words),
+            _ => assert_eq!(beside.build(file, &mut words), words.len()),
+        }
     }
     println!("{}", words.len());
 }
@@ -177,7 +183,7 @@ fn main() {
     let task = Task::from_args();
     let file = fs::read(&task.map).expect("map");
     let index = match (task.question, task.way) {
-        (Question::Build, _) => return run_build(&task, &file),
+        (Question::Build | Question::Check, _) => return run_beside(&task, &file),
         (_, Way::Together(size)) => return run_together(&task, &file, size),
         (_, Way::Plain) => vec![],
         (_, Way::Through | Way::Indexed) => INDEX.of(&file),
@@ -192,7 +198,7 @@ fn main() {
         text: [0; BYTES],
         reply: [0; 5],
     };
-    task.run(&file, |lat, lon, sum| {
+    task.run(&file, &index, |lat, lon, sum| {
         ours.ask(lat, lon);
         if let Some(sum) = sum {
             ours.fold(sum);

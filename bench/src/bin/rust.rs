@@ -25,7 +25,7 @@ macro_rules! fold_matches {
 
 fn with_safezone(task: &Task) {
     let db = Database::open(&task.map).expect("map");
-    task.run(&[], |lat, lon, sum| {
+    task.run(&[], &[], |lat, lon, sum| {
         let found = black_box(db.lookup(Location::new(lat, lon)));
         if let Some(sum) = sum {
             fold_matches!(sum, db.field_names, &found.matches);
@@ -36,7 +36,7 @@ fn with_safezone(task: &Task) {
 
 fn without_safezone(task: &Task) {
     let db = plain::Database::open(&task.map).expect("map");
-    task.run(db.bytes(), |lat, lon, sum| {
+    task.run(db.bytes(), &[], |lat, lon, sum| {
         let matches = black_box(db.lookup_plain(plain::Location::new(lat, lon)));
         if let Some(sum) = sum {
             fold_matches!(sum, db.field_names, &matches);
@@ -46,7 +46,7 @@ fn without_safezone(task: &Task) {
 
 fn simple(task: &Task) {
     let db = Database::open(&task.map).expect("map");
-    task.run(&[], |lat, lon, sum| {
+    task.run(&[], &[], |lat, lon, sum| {
         let description = black_box(db.simple_lookup(Location::new(lat, lon)));
         if let Some(sum) = sum {
             sum.number(u64::from(description.is_some()));
@@ -61,6 +61,6 @@ fn main() {
         Question::WithSafezone => with_safezone(&task),
         Question::WithoutSafezone => without_safezone(&task),
         Question::Simple => simple(&task),
-        Question::Build => panic!("the Rust has no index"),
+        Question::Build | Question::Check => panic!("the Rust has no index"),
     }
 }

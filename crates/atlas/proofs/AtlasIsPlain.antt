@@ -12,30 +12,30 @@ use Rattle.index.specs.{Through.{startOf, placeOf, recordsIn, numbersIn}, Tied.
 use Rattle.marks.{proofs.{MarkedIsPlain.{marked-is-plain}, ReadBack.{At}}, specs.{Judging.{judgedBy}, Marks.{low}}}
 use Rattle.numbers.proofs.{Replies.{given-from, demanded, given-one, onward, met}, Tests.{both}}
 use Rattle.numbers.specs.{Answer.{if_then_else_}, Lists.{zeros, padded}, Reply.{Reply, given, refused, plain, demand, _>>=_, _>>_}}
-use Rattle.table.{proofs.MarkedAlike.{Right}, specs.{Find.{fixOf, isPrecision, Matched}, GivenRows.{recordWord}, Hits.{width}, MarkedRows.{encodingIn, markFor, judgeMarked, judgeNumbered}, Search.{judgeIn}}}
+use Rattle.table.{proofs.MarkedAlike.{Right, matched-alike}, specs.{Find.{fixOf, isPrecision, matchedWith}, GivenRows.{recordWord}, Hits.{width}, MarkedRows.{encodingIn, markFor, judgeMarked, judgeNumbered, matchedMarked}, Search.{judgeIn}}}
 use Rattle.table.specs.declared.{location.Location.{Location}, rows.Row.{Row}}
 use Rattle.verdict.specs.Verdict.{Judgement}
-use Rattle.zones.{proofs.MarkedRows.{zones-alike}, specs.{Lent.{Outcome, repliedOf}, Lookup.{zonesFrom, zonesWith, zonesIn, zonesListed, lookedUp}, Marked.{zonesMarked}, declared.lookup.Zones.{Zones}}}
+use Rattle.zones.specs.{Lent.{repliedOf}, Lookup.{zonesFrom, zonesWith, zonesIn, lookedUp}}
 use Rattle.atlas.proofs.Beside.{marks-stand, marks-inside, entry-there, marks-length, marks-of, index-ends}
 use Rattle.atlas.proofs.Beside as S
 use Rattle.atlas.specs.Atlas.{marksFor, marksIn, entryOf, besideOf, wholeOf, atlasOf, atlasWith, atlasIn, atlasMade, isMade, isAtlasOf}
-use Rattle.atlas.specs.{Looked.{isWhole, partsOf, partIn, zonesAtlas, lookedAtlas}, declared.parts.Parts.{Parts}}
+use Rattle.atlas.specs.{Looked.{isWhole, partsOf, partIn, matchedAtlas, zonesAtlas, lookedAtlas}, declared.parts.Parts.{Parts}}
 
 -- ---- each border is judged by its marks as it is without them
-module _ (file : List ℕ) (head : Head) (fix : Point) (marks : List ℕ) (polygon least : ℕ) where
+module _ (file : List ℕ) (head : Head) (fix : Point) (asked : Bool) (marks : List ℕ) (polygon least : ℕ) where
   abbrev plainly : Judgement
-  plainly = judgeIn file head fix false polygon least
+  plainly = judgeIn file head fix asked polygon least
 
   by-list : (at : ℕ) (list : List ℕ) (word : ℕ) → word ≡ entryOf at list → list ≡ marksFor file head polygon → At marks at list → at + length list ≤ length marks → 0 < at → at < 2 ^ 32
-      → (if eqb word 0 then plainly else judgedBy file (encodingIn head) marks word (fix .lat) (fix .lon) least) ≡ plainly
+      → (if eqb word 0 then plainly else judgedBy file (encodingIn head) marks word (fix .lat) (fix .lon) asked least) ≡ plainly
   unfolding entryOf
   by-list at [] word e is here fits some small = rw (eq-eqb word 0 e)
   by-list at (x ∷ xs) word e is here fits some small =
       let w : word ≡ at = e ∙ mod-eq-of-lt small in
       let long : 0 < length (x ∷ xs) = omega arith in
       rw (ne-eqb word 0 (λ z. omega (arith, w, z, some)))
-      (ap (λ (j : ℕ). judgedBy file (encodingIn head) marks j (fix .lat) (fix .lon) least) w
-      ∙ marked-is-plain file (encodingIn head) ((head .sections .«data» + polygon) % 2 ^ 32) marks at (fix .lat) (fix .lon) least
+      (ap (λ (j : ℕ). judgedBy file (encodingIn head) marks j (fix .lat) (fix .lon) asked least) w
+      ∙ marked-is-plain file (encodingIn head) ((head .sections .«data» + polygon) % 2 ^ 32) marks at (fix .lat) (fix .lon) asked least
       (subst (λ (l : List ℕ). 0 < length l) is long) (subst (At marks at) is here) (subst (λ (l : List ℕ). at + length l ≤ length marks) is fits))
 
 module _ (file : List ℕ) (head : Head) (rows : List Row) (tail : List ℕ) (few : length (besideOf (marksIn file head rows)) < 2 ^ 32) where
@@ -45,18 +45,14 @@ module _ (file : List ℕ) (head : Head) (rows : List Row) (tail : List ℕ) (fe
   abbrev marks : List ℕ
   marks = besideOf lists ++ tail
 
-  right-false : (fix : Point) (k : ℕ) → k < length rows → (least : ℕ)
-      → judgeMarked file head fix false marks k (recordWord (recordsOf rows) k 2) least ≡ judgeIn file head fix false (recordWord (recordsOf rows) k 2) least
-  unfolding judgeMarked
-  right-false fix k h least =
-      let l : k < length lists = omega (arith, h, marks-length file head rows) in
-      by-list file head fix marks (recordWord (recordsOf rows) k 2) least (S.placeOf lists tail k l) (getD lists k []) (getD marks k 0) (entry-there lists tail k l) (marks-of file head rows k h) (marks-stand lists tail k l) (marks-inside lists tail k l)
-      (omega (arith, l)) (omega (arith, few, marks-inside lists [] k l, ap length (append-nil (besideOf lists))))
-
   right : (asked : Bool) (fix : Point) → Right file head asked (recordsOf rows) marks fix
   unfolding judgeMarked
-  right true fix k h least = rw (eq-eqb 0 0 refl)
-  right false fix k h least = right-false fix k (omega (arith, h, records-length rows)) least
+  right asked fix k inside least =
+      let h : k < length rows = omega (arith, inside, records-length rows) in
+      let l : k < length lists = omega (arith, h, marks-length file head rows) in
+      by-list file head fix asked marks (recordWord (recordsOf rows) k 2) least (S.placeOf lists tail k l) (getD lists k []) (getD marks k 0)
+      (entry-there lists tail k l) (marks-of file head rows k h) (marks-stand lists tail k l) (marks-inside lists tail k l)
+      (omega (arith, l)) (omega (arith, few, marks-inside lists [] k l, ap length (append-nil (besideOf lists))))
 
 -- ---- a file, its header and rows, and the words of its atlas
 module _ (file : List ℕ) (head : Head) (rows : List Row) (tail : List ℕ) (opened : given head ≡ headOf file) (precise : isPrecision (head .preamble .precision) ≡ true) (listed : given rows ≡ tableOf file head)
@@ -120,23 +116,16 @@ module _ (file : List ℕ) (head : Head) (rows : List Row) (tail : List ℕ) (op
   abbrev numbers : List ℕ
   numbers = listOf (head .preamble .precision) rows tile
 
-  module _ (n room : ℕ) where
-    same-zones : zonesAtlas file head words location asked n room ≡ zonesWith file head location asked n room
-    unfolding zonesAtlas zonesListed zonesWith
-    same-zones =
-        sym (onward parts-stand (λ (p : Parts). zonesMarked file head location asked (partIn words recordsAt (p .behind)) (partIn words (p .from) (p .end)) (drop (p .beside) words) n room))
-        ∙ (λ i. zonesMarked file head location asked (records-part i) (list-of-tile file head rows rest location i) (marks-part i) n room)
-        ∙ zones-alike file head asked (recordsOf rows) (beside ++ tail) (right file head rows tail few asked) location numbers n room
-        ∙ ap (λ (reply : Reply Matched). zonesFrom file head asked room reply) (same-matched file head rows rest opened precise listed location asked (n / width))
-      where
-        few : length beside < 2 ^ 32
-        few = omega (arith, small, atlas-long)
-
-    pub atlas-plainly : lookedAtlas file words location asked n room ≡ lookedUp file location asked n room
-    unfolding lookedAtlas lookedUp zonesIn
-    atlas-plainly =
-        ap (repliedOf n room)
-        (sym (onward opened (λ (h : Head). zonesAtlas file h words location asked n room)) ∙ same-zones ∙ onward opened (λ (h : Head). zonesWith file h location asked n room))
+  same-found : (room : ℕ) → matchedAtlas file head words location asked room ≡ matchedWith file head location asked room
+  unfolding matchedAtlas
+  same-found room =
+      sym (onward parts-stand (λ (p : Parts). matchedMarked file head location asked (partIn words recordsAt (p .behind)) (partIn words (p .from) (p .end)) (drop (p .beside) words) room))
+      ∙ (λ i. matchedMarked file head location asked (records-part i) (list-of-tile file head rows rest location i) (marks-part i) room)
+      ∙ matched-alike file head asked (recordsOf rows) (beside ++ tail) (right file head rows tail few asked) location numbers room
+      ∙ same-matched file head rows rest opened precise listed location asked room
+    where
+      few : length beside < 2 ^ 32
+      few = omega (arith, small, atlas-long)
 
 -- ---- exactly the words that building leaves
 module _ (words : List ℕ) where
@@ -184,10 +173,11 @@ made-from file n {used} e = go (atlasIn file n) refl e
         record { head = h .it; opened = h .is; precise = p .0; rows = t .it; listed = t .is; room = r .0; whole = ap (padded n) (given-one (r .1)) }
     go (refused why) w e = let z : _≡_ {A = ℕ} 0 1 = cc in absurd (omega arith)
 
--- Where `is_atlas` says 0 of file and words, whoever wrote them, a lookup through them is the plain lookup: matches with their places, mark, safezone, refusals and all lent output.
-pub atlas-is-plain : (file words : List ℕ) → isAtlasOf file words ≡ given tt → (location : Location) (asked : Bool) (n room : ℕ) → lookedAtlas file words location asked n room ≡ lookedUp file location asked n room
+-- the search through them is the plain search, in the file's own header
+pub found-is-plain : (file words : List ℕ) → isAtlasOf file words ≡ given tt → {head : Head} → given head ≡ headOf file → (location : Location) (asked : Bool) (room : ℕ)
+    → matchedAtlas file head words location asked room ≡ matchedWith file head location asked room
 unfolding atlasOf
-atlas-is-plain file words e location asked n room =
+found-is-plain file words e opened location asked room =
     let built = is-atlas-exactly file words .0 e in
     let m = made-from file (length words) (ap (λ (i : Indexed). i .reply) (built .1)) in
     let small = both (leb (length (atlasOf file (m .head) (m .rows))) (length words)) (ltb (length (atlasOf file (m .head) (m .rows))) (2 ^ 32)) (m .room) .1 in
@@ -196,5 +186,17 @@ atlas-is-plain file words e location asked n room =
     let behind = zeros (length words - length (atlasOf file (m .head) (m .rows))) in
     let is : words ≡ index ++ (low (length index + 1 + length beside) ∷ (beside ++ behind)) =
     ap (λ (i : Indexed). i .words) (sym (built .1)) ∙ m .whole ∙ append-assoc index (low (length index + 1 + length beside) ∷ beside) behind in
-    ap (λ (w : List ℕ). lookedAtlas file w location asked n room) is
-    ∙ atlas-plainly file (m .head) (m .rows) behind (m .opened) (m .precise) (m .listed) (ltb-true (length (atlasOf file (m .head) (m .rows))) (2 ^ 32) small) location asked n room
+    subst (λ (h : Head). matchedAtlas file h words location asked room ≡ matchedWith file h location asked room) (given-one (m .opened ∙ sym opened))
+    (ap (λ (w : List ℕ). matchedAtlas file (m .head) w location asked room) is
+    ∙ same-found file (m .head) (m .rows) behind (m .opened) (m .precise) (m .listed) (ltb-true (length (atlasOf file (m .head) (m .rows))) (2 ^ 32) small) location asked room)
+
+-- what goes on alike after a reply
+pub alike-from : {A B : Type 0} (reply : Reply A) {next next′ : A → Reply B} → ((a : A) → given a ≡ reply → next a ≡ next′ a) → (reply >>= next) ≡ (reply >>= next′)
+alike-from (given a) alike = alike a refl
+alike-from (refused why) alike = refl
+
+-- Where `is_atlas` says 0 of file and words, whoever wrote them, a lookup through them is the plain lookup: matches with their places, mark, safezone, refusals and all lent output.
+pub atlas-is-plain : (file words : List ℕ) → isAtlasOf file words ≡ given tt → (location : Location) (asked : Bool) (n room : ℕ) → lookedAtlas file words location asked n room ≡ lookedUp file location asked n room
+unfolding lookedAtlas zonesAtlas lookedUp zonesIn zonesWith
+atlas-is-plain file words e location asked n room =
+    ap (repliedOf n room) (alike-from (headOf file) (λ head opened. ap (zonesFrom file head asked room) (found-is-plain file words e opened location asked (n / width))))

@@ -1,5 +1,5 @@
 -- What building puts behind the index: entry by entry, and as a whole. Assumes nothing.
-use Prim.Native.Nat.{ℕ, zero, suc, _+_, _-_, _*_, _%_, _^_, _<_, _≤_}
+use Prim.Native.Nat.{ℕ, zero, suc, _+_, _-_, _*_, _/_, _%_, _^_, _<_, _≤_}
 use borrow.Author.Tests.{eq-eqb, ne-eqb, le-leb, lt-leb, lt-ltb, le-ltb, leb-true, ltb-true}
 use lib.{Dec.{ltb, leb, eqb}, ListN.{length, set, take, drop, getD, length-append, length-replicate}, Seq.{sets, length-sets, sets-eq, getD-set-other, take-append-seam, drop-append-add}}
 use mathlib.Core.{Bool.{Bool, true, false, _&&_}, List.{List, [], _∷_, _++_, append-assoc}, Path.{_≡_, refl, sym, ap, subst, _∙_}}
@@ -10,7 +10,7 @@ use Rattle.index.{proofs.{Stores.{set-before, sets-before, read-below}, Sides.{
 use Rattle.index.specs.declared.build.Built.{Built}
 use Rattle.index.specs.declared.build.Built.the-variants as T
 use Rattle.index.specs.{Table.{tableOf}, Tied.{wordAt}}
-use Rattle.marks.specs.Marks.{low, marksAt, spanFrom, marksFrom, stretchEdges, counted}
+use Rattle.marks.{proofs.Marked.{marks-length}, specs.Marks.{low, marksAt, marksFrom, stretchEdges, groupEdges, groupsOf, levelsFrom, counted}}
 use Rattle.numbers.{proofs.{Lists.{zeros-drop}, Replies.{carried, onward, met, unmet, given-from, given-one, demanded}, Tests.{both}}, specs.Lists.{zeros, padded}}
 use Rattle.numbers.specs.{Answer.{if_then_else_}, Reply.{Reply, given, refused, plain, demand, _>>=_, _>>_}, declared.refusal.Refusal.{Refusal}}
 use Rattle.table.specs.{Find.{isPrecision}, MarkedRows.{encodingIn}, declared.rows.Row.{Row}}
@@ -26,25 +26,30 @@ entry-is at next first [] e h = rw (eq-eqb (at - first) (next - first) (omega (a
 entry-is at next first (x ∷ xs) e h = rw (ne-eqb (at - first) (next - first) (λ same. omega (arith, e, h, same)))
 
 -- how many words the marks have
-from-length : (file : List ℕ) (encoding : Encoding) (count : ℕ) (s : Reader) → length (marksFrom stretchEdges count file encoding s) ≡ 11 * count
-unfolding marksFrom
-from-length file encoding zero s = refl
-from-length file encoding (suc count) s = omega (arith, from-length file encoding count (spanFrom stretchEdges file encoding s .last))
+pub levels-length : (file : List ℕ) (encoding : Encoding) (count : ℕ) (s : Reader) → length (levelsFrom count file encoding s) ≡ 11 * count + 11 * groupsOf count
+levels-length file encoding count s =
+    let fine = marksFrom stretchEdges count file encoding s in
+    let coarse = marksFrom groupEdges (groupsOf count) file encoding s in
+    omega (arith, length-append fine coarse, marks-length stretchEdges count file encoding s, marks-length groupEdges (groupsOf count) file encoding s)
 
 pub marks-size : (file : List ℕ) (encoding : Encoding) (course : Course) → length (marksOf file encoding course) ≡ sizeOf (course .count)
 unfolding counted
-marks-size file encoding course = go (course .count) (marksFrom stretchEdges (course .count) file encoding (course .first)) (from-length file encoding (course .count) (course .first))
+marks-size file encoding course = go (course .count) (levelsFrom (course .count) file encoding (course .first)) (levels-length file encoding (course .count) (course .first))
   where
-    go : (count : ℕ) (xs : List ℕ) → length xs ≡ 11 * count → length (counted count xs) ≡ sizeOf count
+    go : (count : ℕ) (xs : List ℕ) → length xs ≡ 11 * count + 11 * groupsOf count → length (counted count xs) ≡ sizeOf count
     go zero xs e = refl
     go (suc count) xs e = rw (ne-eqb (suc count) 0 (λ z. omega (arith, z))) (omega (arith, e))
+
+pub groups-few : (count : ℕ) → groupsOf count ≤ count / 16 + 1
+unfolding groupsOf
+groups-few count = omega arith
 
 pub size-few : (count : ℕ) → count ≤ 2 ^ 18 → sizeOf count ≤ 2 ^ 22
 size-few count h = choose (eqb count 0)
   where
-    choose : (b : Bool) → (if b then 0 else (1 + 11 * count)) ≤ 2 ^ 22
+    choose : (b : Bool) → (if b then 0 else (1 + 11 * count + 11 * groupsOf count)) ≤ 2 ^ 22
     choose true = omega arith
-    choose false = omega (arith, h)
+    choose false = omega (arith, h, groups-few count)
 
 -- the border of a record
 pub course-there : (file : List ℕ) (head : Head) (words : List ℕ) (k : ℕ) (course : Course) {encoding : Encoding} {place : ℕ} → encoding ≡ encodingIn head

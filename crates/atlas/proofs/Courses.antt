@@ -6,7 +6,8 @@ use native.Mathlib.Omega.{arith}
 use types.Run.{OneOf}
 use denote.Enum.Declared.{tagOf}
 use Rattle.border.specs.{Trace.{Given, reaches, ended, nextPoint, borderAt}, declared.{place.Point.{Point}, reader.{Reader.{Reader}, Next.{Next}, Encoding.{Encoding}}}}
-use Rattle.marks.{specs.Marks.{nextOr, isMarkable, edgesThen, edgesFrom, mostPoints, fewEdges, stretchesOf, stretchesFrom, stretchesIn, marksFrom, stretchEdges, counted, marksAt}, proofs.judge.Turns.{none-next}}
+use Rattle.marks.specs.Marks.{nextOr, isMarkable, edgesThen, edgesFrom, mostPoints, fewEdges, stretchesOf, stretchesFrom, stretchesIn, levelsFrom, counted, marksAt}
+use Rattle.atlas.proofs.Nexts.{none-next}
 use Rattle.numbers.{proofs.Answers.{found-one}, specs.Answer.{Answer, if_then_else_}}
 use Rattle.verdict.specs.Edge.{samePoint}
 use Rattle.border.specs.inner.Told as R
@@ -51,14 +52,14 @@ stretches-few file encoding s = go (edgesFrom mostPoints file encoding (s .point
 
 module _ (file : List ℕ) (encoding : Encoding) (place : ℕ) {start : Reader} (opens : start ≡ borderAt place) where
   abbrev from : Reader → List ℕ
-  from s = counted (stretchesIn file encoding s) (marksFrom stretchEdges (stretchesIn file encoding s) file encoding s)
+  from s = counted (stretchesIn file encoding s) (levelsFrom (stretchesIn file encoding s) file encoding s)
 
   pub no-course : (next : Next) → R.told next ≡ nextPoint file encoding start → OneOf (1 ∷ 2 ∷ 3 ∷ []) (tagOf Next'.the-type next) → (xs : List ℕ) → counted 0 xs ≡ marksAt file encoding place
   unfolding marksAt counted
   no-course next e o xs = sym (none-next next [] from o) ∙ (λ i. nextOr (e i) [] from) ∙ (λ i. nextOr (nextPoint file encoding (opens i)) [] from)
 
   pub a-course : (first : Reader) → A.found (reaches first) ≡ nextPoint file encoding start → {count : ℕ} → count ≡ stretchesIn file encoding first
-      → counted count (marksFrom stretchEdges count file encoding first) ≡ marksAt file encoding place
+      → counted count (levelsFrom count file encoding first) ≡ marksAt file encoding place
   unfolding marksAt nextOr
   a-course first e c =
-      (λ i. counted (c i) (marksFrom stretchEdges (c i) file encoding first)) ∙ (λ i. nextOr (e i) [] from) ∙ (λ i. nextOr (nextPoint file encoding (opens i)) [] from)
+      (λ i. counted (c i) (levelsFrom (c i) file encoding first)) ∙ (λ i. nextOr (e i) [] from) ∙ (λ i. nextOr (nextPoint file encoding (opens i)) [] from)

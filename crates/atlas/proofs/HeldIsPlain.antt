@@ -20,8 +20,8 @@ fit words at (x ∷ xs) e h =
     let rest = at-inside words xs (at + 1) (w .1) (omega (arith, i)) in
     omega (arith, rest)
 
--- Where the marks of a border, at least one, stand at a place of the words, which is what `same_marks` tells, `judge_by` there judges as the whole border is judged without the distance.
+-- Where the marks of a border, at least one, stand at a place of the words, which is what `same_marks` tells, `judge_by` there judges as the whole border is judged.
 pub held-is-plain : (file : List ℕ) (encoding : Encoding) (border : ℕ) (words : List ℕ) (at : ℕ) → isAt words at (marksAt file encoding border) ≡ true → 0 < length (marksAt file encoding border)
-    → (lat : FixedLat) (lon : FixedLon) (least : ℕ) → judgedBy file encoding words at lat lon least ≡ judgedAt file encoding border lat lon false least
-held-is-plain file encoding border words at e some lat lon least =
-    marked-is-plain file encoding border words at lat lon least some (λ i l. at-read words (marksAt file encoding border) at i e l) (fit words at (marksAt file encoding border) e some)
+    → (lat : FixedLat) (lon : FixedLon) (asked : Bool) (least : ℕ) → judgedBy file encoding words at lat lon asked least ≡ judgedAt file encoding border lat lon asked least
+held-is-plain file encoding border words at e some lat lon asked least =
+    marked-is-plain file encoding border words at lat lon asked least some (λ i l. at-read words (marksAt file encoding border) at i e l) (fit words at (marksAt file encoding border) e some)

@@ -1,6 +1,7 @@
 -- Laws on plain values that the functions' proofs cite.
 pub mod Bits
 pub mod Counting
+pub mod Nexts
 pub mod Spanning
 pub mod Standing
 pub mod Writing
@@ -8,8 +9,11 @@ pub mod Courses
 pub mod HeldIsPlain
 pub mod Beside
 pub mod AtlasIsPlain
+pub mod BesideIsPlain
 pub mod Parting
+pub mod Choosing
 pub mod Behind
 pub mod Owned
+pub mod NumberedAtlas
 pub mod Theorems
 mod WorkedAtlas

@@ -1,16 +1,16 @@
 -- Where the parts of an atlas stand, by how far the code came. Assumes nothing.
-use Prim.Native.Nat.{ℕ, _+_, _-_, _*_, _≤_, _<_}
+use Prim.Native.Nat.{ℕ, _+_, _-_, _*_, _/_, _≤_, _<_}
 use borrow.Author.Tests.{ltb-true, lt-ltb, le-ltb}
 use lib.{Dec.{ltb, leb}, ListN.{length, take, drop, getD, length-drop}, Seq.{take-all}}
 use mathlib.Core.{Bool.{Bool, true, false, _&&_}, List.{List}, Path.{_≡_, sym, ap, _∙_}}
 use native.Mathlib.Omega.{arith}
 use Rattle.header.specs.{Header.{headOf}, declared.header.Head.{Head}}
-use Rattle.index.{proofs.{Sides.{and-first, and-rest}, Through.{place-inside, refused-zeros}}, specs.{Index.{tiles, recordsAt}, Through.{startOf, placeOf}, Tied.{wordAt}, declared.place.Place.{Place}}}
+use Rattle.index.{proofs.{Sides.{and-first, and-rest}, Through.{place-inside, refused-zeros}}, specs.{Index.{tiles, recordsAt}, Through.{startOf, isInside, placeOf}, Tied.{wordAt, isHeaded}, Tiles.{tileOf}, declared.place.Place.{Place}}}
 use Rattle.numbers.proofs.{Replies.{carried, onward, met, unmet, given-from, given-one, demanded}, Tests.{both}}
 use Rattle.numbers.specs.{Lists.{zeros}, Reply.{Reply, given, refused, plain}, declared.refusal.Refusal.{Refusal}}
-use Rattle.table.specs.declared.location.Location.{Location}
-use Rattle.zones.specs.{Lent.{replied, repliedOf}, Marked.{zonesMarked, lookedMarked}}
-use Rattle.atlas.specs.{Looked.{isWhole, partsOf, partIn, zonesAtlas, lookedAtlas}, declared.parts.Parts.{Parts}}
+use Rattle.table.specs.{Find.{Matched, fixOf, isPrecision}, Hits.{width}, MarkedRows.{matchedMarked}, declared.location.Location.{Location}}
+use Rattle.zones.specs.{Lent.{replied, repliedOf}, Lookup.{zonesFrom}, Marked.{zonesMarked, lookedMarked}}
+use Rattle.atlas.specs.{Looked.{isWhole, partsOf, partIn, matchedAtlas, zonesAtlas, lookedAtlas}, declared.parts.Parts.{Parts}}
 
 pub whole-inside : (words : List ℕ) → isWhole words ≡ true → startOf words tiles < length words
 whole-inside words e = ltb-true (startOf words tiles) (length words) (both (ltb (startOf words tiles) (length words)) (leb (wordAt words (startOf words tiles)) (length words)) e .0)
@@ -69,20 +69,34 @@ module _ (long : ℕ) (head : Head) (words : List ℕ) (location : Location) whe
         beside = omega (arith, beside, whole-inside words (w .0));
       }
 
+-- the list of a tile ends at a word
+pub list-end : (long : ℕ) (head : Head) (words : List ℕ) (location : Location) {parts : Parts} → given parts ≡ partsOf long head words location → (k : ℕ) × (parts .end ≡ getD words k 0)
+unfolding partsOf placeOf
+list-end long head words location {parts} e =
+    let precision = head .preamble .precision in
+    let tile = tileOf precision (fixOf location precision) in
+    let p = given-from (placeOf long head words location) _ e in
+    let a = demanded (isPrecision precision) (plain 16) (p .is) in
+    let b = demanded (isHeaded words (head .sections .metadata) long) (plain 36) (a .1) in
+    let c = demanded (isInside words tile) (plain 36) (b .1) in
+    let w = demanded (isWhole words) (plain 36) (p .onto) in
+    (3 + (tile + 1), ap (λ (x : Parts). x .end) (given-one (w .1)) ∙ ap (λ (x : Place). x .end) (given-one (c .1)))
+
 -- ---- replies
 module _ (n room : ℕ) (file words : List ℕ) (location : Location) (asked : Bool) where
   pub atlas-nowhere : (head : Head) {why : Refusal} {hs ts : List ℕ} → refused why ≡ partsOf (length file) head words location → hs ≡ zeros n → ts ≡ zeros room
       → replied (refused why) hs ts ≡ repliedOf n room (zonesAtlas file head words location asked n room)
-  unfolding zonesAtlas
-  atlas-nowhere head e zh zt = refused-zeros n room (carried e _) zh zt
+  unfolding zonesAtlas matchedAtlas
+  atlas-nowhere head e zh zt = refused-zeros n room (carried (carried e _) _) zh zt
 
   pub atlas-there : (head : Head) {parts : Parts} → given parts ≡ partsOf (length file) head words location → {records numbers marks : List ℕ}
       → records ≡ partIn words recordsAt (parts .behind) → numbers ≡ partIn words (parts .from) (parts .end) → marks ≡ drop (parts .beside) words
       → lookedMarked file head location asked records numbers marks n room ≡ repliedOf n room (zonesAtlas file head words location asked n room)
-  unfolding zonesAtlas lookedMarked
+  unfolding zonesAtlas matchedAtlas lookedMarked zonesMarked
   atlas-there head e r k m =
       (λ i. repliedOf n room (zonesMarked file head location asked (r i) (k i) (m i) n room))
-      ∙ ap (repliedOf n room) (onward e (λ (p : Parts). zonesMarked file head location asked (partIn words recordsAt (p .behind)) (partIn words (p .from) (p .end)) (drop (p .beside) words) n room))
+      ∙ ap (λ (matched : Reply Matched). repliedOf n room (zonesFrom file head asked room matched))
+      (onward e (λ (p : Parts). matchedMarked file head location asked (partIn words recordsAt (p .behind)) (partIn words (p .from) (p .end)) (drop (p .beside) words) (n / width)))
 
   pub atlas-unopened : {why : Refusal} {hs ts : List ℕ} → refused why ≡ headOf file → hs ≡ zeros n → ts ≡ zeros room → replied (refused why) hs ts ≡ lookedAtlas file words location asked n room
   unfolding lookedAtlas

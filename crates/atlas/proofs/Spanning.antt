@@ -5,27 +5,24 @@ use mathlib.Core.{Path.{_≡_, refl, sym, ap, _∙_}, List.{List, [], _∷_}}
 use types.Run.{OneOf}
 use denote.Enum.Declared.{tagOf}
 use Rattle.border.specs.{Box.{Box, grown}, Trace.{reaches, nextPoint}, declared.reader.{Reader.{Reader}, Next.{Next}, Encoding.{Encoding}}}
-use Rattle.marks.{specs.Marks.{nextOr, Span, spanned, spanOver, spanFrom, stretchEdges}, proofs.judge.Turns.{none-next}}
+use Rattle.marks.specs.Marks.{nextOr, Span, spanned, spanOver, spanFrom}
+use Rattle.atlas.proofs.Nexts.{none-next}
 use Rattle.border.specs.inner.Told as R
 use Rattle.numbers.specs.Answer as A
 use Rattle.border.proofs.reader.Next as Next'
 
-many : 0 + stretchEdges ≡ 128
-unfolding stretchEdges
-many = refl
-
-module _ (file : List ℕ) (encoding : Encoding) (start : Reader) where
+module _ (edges : ℕ) (file : List ℕ) (encoding : Encoding) (start : Reader) where
   abbrev all : Span
-  all = spanFrom stretchEdges file encoding start
+  all = spanFrom edges file encoding start
 
   -- after so many edges, with this box: the rest leads to where the whole stretch leads
   pub record Spanning (box : Box) (reader : Reader) (n : ℕ) : Type 0 where
     pub left : ℕ
-    pub sum : n + left ≡ 128
+    pub sum : n + left ≡ edges
     pub same : spanOver left file encoding reader box ≡ all
 
   pub spanning-starts : Spanning (record { low = start .point; high = start .point }) start 0
-  spanning-starts = record { left = stretchEdges; sum = many; same = refl }
+  spanning-starts = record { left = edges; sum = omega arith; same = refl }
 
   module _ {box : Box} {reader : Reader} {n : ℕ} (s : Spanning box reader n) where
     no-fuel : (left : ℕ) → left ≡ 0 → spanOver left file encoding reader box ≡ all → spanned box reader ≡ all
@@ -33,10 +30,10 @@ module _ (file : List ℕ) (encoding : Encoding) (start : Reader) where
     no-fuel zero e same = same
     no-fuel (suc k) e same = absurd (omega (arith, e))
 
-    pub spanning-full : 128 ≤ n → spanned box reader ≡ all
+    pub spanning-full : edges ≤ n → spanned box reader ≡ all
     spanning-full h = no-fuel (s .left) (omega (arith, h, s .sum)) (s .same)
 
-    module _ (more : n < 128) where
+    module _ (more : n < edges) where
       abbrev fuel : ℕ
       fuel = s .left - 1
 

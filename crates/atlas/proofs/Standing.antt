@@ -4,7 +4,7 @@ use native.Mathlib.Omega.{arith}
 use mathlib.Core.{Path.{_≡_, refl, sym, ap, _∙_}, Bool.{Bool, true, false, _&&_}, List.{List, [], _∷_, _++_}}
 use lib.ListN.{length}
 use Rattle.border.specs.{Box.{Box}, declared.reader.{Reader.{Reader}, Encoding.{Encoding}}}
-use Rattle.marks.specs.Marks.{Span, spanFrom, markOf, marksFrom, stretchEdges, counted}
+use Rattle.marks.specs.Marks.{Span, spanFrom, markOf, marksFrom, counted}
 use Rattle.index.{proofs.Standing.{at-append, and-end}, specs.inner.Own.{isWord, isAt}}
 
 -- by the answers on the parts
@@ -23,29 +23,29 @@ pub word-said : (words : List ℕ) (at : ℕ) {b : Bool} {x y : ℕ} → b ≡ i
 word-said words at {b} {x} {y} e g = e ∙ (λ i. isWord words at (g i)) ∙ word-at words at y
 
 -- the marks of one stretch more
-marks-more : (file : List ℕ) (encoding : Encoding) (reader : Reader) {span : Span} → span ≡ spanFrom stretchEdges file encoding reader → (left : ℕ) → 0 < left
-    → marksFrom stretchEdges left file encoding reader ≡ markOf reader (span .box) ++ marksFrom stretchEdges (left - 1) file encoding (span .last)
+marks-more : (edges : ℕ) (file : List ℕ) (encoding : Encoding) (reader : Reader) {span : Span} → span ≡ spanFrom edges file encoding reader → (left : ℕ) → 0 < left
+    → marksFrom edges left file encoding reader ≡ markOf reader (span .box) ++ marksFrom edges (left - 1) file encoding (span .last)
 unfolding marksFrom
-marks-more file encoding reader is zero h = absurd (omega (arith, h))
-marks-more file encoding reader is (suc k) h =
+marks-more edges file encoding reader is zero h = absurd (omega (arith, h))
+marks-more edges file encoding reader is (suc k) h =
     let e : suc k - 1 ≡ k = omega arith in
-    rw e (λ i. markOf reader (sym is i .box) ++ marksFrom stretchEdges k file encoding (sym is i .last))
+    rw e (λ i. markOf reader (sym is i .box) ++ marksFrom edges k file encoding (sym is i .last))
 
-module _ (file : List ℕ) (encoding : Encoding) (words : List ℕ) (reader : Reader) {span : Span} (is : span ≡ spanFrom stretchEdges file encoding reader) (left at : ℕ) (more : 0 < left) where
-  pub next-marks : marksFrom stretchEdges left file encoding reader ≡ markOf reader (span .box) ++ marksFrom stretchEdges (left - 1) file encoding (span .last)
-  next-marks = marks-more file encoding reader is left more
+module _ (edges : ℕ) (file : List ℕ) (encoding : Encoding) (words : List ℕ) (reader : Reader) {span : Span} (is : span ≡ spanFrom edges file encoding reader) (left at : ℕ) (more : 0 < left) where
+  pub next-marks : marksFrom edges left file encoding reader ≡ markOf reader (span .box) ++ marksFrom edges (left - 1) file encoding (span .last)
+  next-marks = marks-more edges file encoding reader is left more
 
-  pub mark-not : isAt words at (markOf reader (span .box)) ≡ false → false ≡ isAt words at (marksFrom stretchEdges left file encoding reader)
-  mark-not e = first-not words at (markOf reader (span .box)) (marksFrom stretchEdges (left - 1) file encoding (span .last)) e ∙ ap (isAt words at) (sym next-marks)
+  pub mark-not : isAt words at (markOf reader (span .box)) ≡ false → false ≡ isAt words at (marksFrom edges left file encoding reader)
+  mark-not e = first-not words at (markOf reader (span .box)) (marksFrom edges (left - 1) file encoding (span .last)) e ∙ ap (isAt words at) (sym next-marks)
 
   pub mark-so : isAt words at (markOf reader (span .box)) ≡ true
-      → isAt words (at + 11) (marksFrom stretchEdges (left - 1) file encoding (span .last)) ≡ isAt words at (marksFrom stretchEdges left file encoding reader)
-  mark-so e = first-so words at (markOf reader (span .box)) (marksFrom stretchEdges (left - 1) file encoding (span .last)) e refl ∙ ap (isAt words at) (sym next-marks)
+      → isAt words (at + 11) (marksFrom edges (left - 1) file encoding (span .last)) ≡ isAt words at (marksFrom edges left file encoding reader)
+  mark-so e = first-so words at (markOf reader (span .box)) (marksFrom edges (left - 1) file encoding (span .last)) e refl ∙ ap (isAt words at) (sym next-marks)
 
-pub no-marks : (file : List ℕ) (encoding : Encoding) (reader : Reader) (left : ℕ) → left ≡ 0 → marksFrom stretchEdges left file encoding reader ≡ []
+pub no-marks : (edges : ℕ) (file : List ℕ) (encoding : Encoding) (reader : Reader) (left : ℕ) → left ≡ 0 → marksFrom edges left file encoding reader ≡ []
 unfolding marksFrom
-no-marks file encoding reader zero e = refl
-no-marks file encoding reader (suc k) e = absurd (omega (arith, e))
+no-marks edges file encoding reader zero e = refl
+no-marks edges file encoding reader (suc k) e = absurd (omega (arith, e))
 
 pub counted-none : (count : ℕ) (xs : List ℕ) → count ≡ 0 → counted count xs ≡ []
 unfolding counted
@@ -56,3 +56,24 @@ pub counted-some : (count : ℕ) (xs : List ℕ) → (count ≡ 0 → ⊥) → c
 unfolding counted
 counted-some zero xs e = absurd (e refl)
 counted-some (suc k) xs e = refl
+
+-- how many stretches, then their marks and those of their groups
+module _ (words : List ℕ) (place count : ℕ) (fine coarse : List ℕ) (some : count ≡ 0 → ⊥) where
+  abbrev all : List ℕ
+  all = counted count (fine ++ coarse)
+
+  said : all ≡ (count ∷ []) ++ (fine ++ coarse)
+  said = counted-some count (fine ++ coarse) some
+
+  pub other-count : isAt words place (count ∷ []) ≡ false → false ≡ isAt words place all
+  other-count e = first-not words place (count ∷ []) (fine ++ coarse) e ∙ ap (isAt words place) (sym said)
+
+  module _ (here : isAt words place (count ∷ []) ≡ true) where
+    behind : isAt words (place + 1) (fine ++ coarse) ≡ isAt words place all
+    behind = first-so words place (count ∷ []) (fine ++ coarse) here refl ∙ ap (isAt words place) (sym said)
+
+    pub other-fine : isAt words (place + 1) fine ≡ false → false ≡ isAt words place all
+    other-fine e = first-not words (place + 1) fine coarse e ∙ behind
+
+    pub same-fine : isAt words (place + 1) fine ≡ true → {at : ℕ} → at ≡ place + 1 + length fine → {b : Bool} → b ≡ isAt words at coarse → b ≡ isAt words place all
+    same-fine e h g = first-so words (place + 1) fine coarse e (g ∙ ap (λ (k : ℕ). isAt words k coarse) h) ∙ behind

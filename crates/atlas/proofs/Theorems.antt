@@ -1,12 +1,12 @@
--- What document 04's A-3 asks, over what the functions write; `atlas-is-plain` stands in its own file. Assumes nothing.
+-- What document 04's A-3 asks, over what the functions write; `atlas-is-plain` and `atlas-refusals` stand in their own files. Assumes nothing.
 use Prim.Native.Nat.{ℕ, _-_}
 use borrow.Author.Tests.{leb-true}
 use lib.{Dec.{ltb, leb}, ListN.{length, length-append, length-replicate}}
 use mathlib.Core.{Bool.{Bool, true, false}, List.{List, [], _∷_, _++_}, Path.{_≡_, refl, sym, ap, _∙_}}
 use native.Mathlib.Omega.{arith}
 use Rattle.header.{proofs.Numbered.{headerNumbers, head-numbered}, specs.{Header.{headOf}, declared.header.Head.{Head}}}
-use Rattle.index.proofs.Refusing.{buildingNumbers, table-numbered, replied-numbered, no-words}
-use Rattle.index.specs.{Index.{hasRoom, indexed}, Table.{bottom, tableOf}}
+use Rattle.index.proofs.{Refusing.{buildingNumbers, table-numbered, replied-numbered, no-words}, Same.{same-built, same-tie}}
+use Rattle.index.specs.{Index.{hasRoom, indexed, toldBuilt}, Table.{bottom, tableOf}, Tied.{toldTied}, declared.{build.Built.{Built}, tied.Tied.{Tied}}}
 use Rattle.numbers.proofs.{Refusals.{Listed, still-listed}, Replies.{NumberedReply, answers, then-reply, and-then, demands, number-of}, Tests.{both, differ}}
 use Rattle.numbers.specs.{Lists.{zeros}, Reply.{Reply, given, refused, plain, demand, _>>=_}, declared.refusal.Refusal.{Refusal}}
 use Rattle.table.specs.{Find.{isPrecision}, Rows.{rowsIn}, declared.location.Location.{Location}}
@@ -71,11 +71,26 @@ module _ (file words : List ℕ) (location : Location) (asked : Bool) (n room : 
   unfolding lookedAtlas
   atlas-refusal-zeroes why = both-zero n room (headOf file >>= λ head. zonesAtlas file head words location asked n room) why
 
-  -- Through an atlas it is refused with the numbers of the plain lookup.
-  pub atlas-refusals : isAtlasOf file words ≡ given tt → (why : Refusal) → lookedAtlas file words location asked n room .reply ≡ refused why → Listed lookupNumbers (why .number)
-  atlas-refusals e why r = lookup-refusals file location asked n room why (ap (λ (x : Replied Zones). x .reply) (sym (atlas-is-plain file words e location asked n room)) ∙ r)
+  -- Through an atlas of the file it is refused with the numbers of the plain lookup alone.
+  pub own-atlas-refusals : isAtlasOf file words ≡ given tt → (why : Refusal) → lookedAtlas file words location asked n room .reply ≡ refused why → Listed lookupNumbers (why .number)
+  own-atlas-refusals e why r = lookup-refusals file location asked n room why (ap (λ (x : Replied Zones). x .reply) (sym (atlas-is-plain file words e location asked n room)) ∙ r)
 
   -- With any words at all the reply and all lent output are fixed; `lookup_atlas` has no `requires`, so that it ends and stays inside what it was lent.
   pub atlas-safe : (r r′ : Looked) (hs hs′ ts ts′ : List ℕ) → replied (toldLooked r) hs ts ≡ lookedAtlas file words location asked n room
       → replied (toldLooked r′) hs′ ts′ ≡ lookedAtlas file words location asked n room → (r ≡ r′) × (hs ≡ hs′) × (ts ≡ ts′)
   atlas-safe = same-looked {promised = lookedAtlas file words location asked n room}
+
+-- ---- what the promises fix
+-- Two replies that a promise permits are equal, with all lent output: of `lookup_atlas`,
+pub same-atlas : (file words : List ℕ) (location : Location) (asked : Bool) (n room : ℕ) (r r′ : Looked) (hs hs′ ts ts′ : List ℕ)
+    → replied (toldLooked r) hs ts ≡ lookedAtlas file words location asked n room
+    → replied (toldLooked r′) hs′ ts′ ≡ lookedAtlas file words location asked n room → (r ≡ r′) × (hs ≡ hs′) × (ts ≡ ts′)
+same-atlas = atlas-safe
+
+-- of `build_atlas`,
+pub same-atlas-built : (file : List ℕ) (n : ℕ) (r r′ : Built) (ws ws′ : List ℕ) → indexed (toldBuilt r) ws ≡ atlasMade file n → indexed (toldBuilt r′) ws′ ≡ atlasMade file n → (r ≡ r′) × (ws ≡ ws′)
+same-atlas-built file n = same-built {promised = atlasMade file n}
+
+-- and of `is_atlas`.
+pub same-atlas-held : (file words : List ℕ) (r r′ : Tied) → toldTied r ≡ isAtlasOf file words → toldTied r′ ≡ isAtlasOf file words → r ≡ r′
+same-atlas-held file words = same-tie {promised = isAtlasOf file words}

@@ -1,4 +1,4 @@
--- The atlas of a file, as document 04's A-1 has it without groups of stretches and boxes over lists: the words of the index, the length of all words, for each entry where its
+-- The atlas of a file, as document 04's A-1 has it with one level of groups and without boxes over lists: the words of the index, the length of all words, for each entry where its
 -- border's marks stand, and the marks.
 use Prim.Native.Nat.{ℕ, _+_, _%_, _^_}
 use lib.ListN.{length}

@@ -1,3 +1,4 @@
 pub mod Atlas
 pub mod Looked
+pub mod Beside
 pub mod inner

@@ -1,12 +1,12 @@
 -- Lookup through an atlas, as document 04 has it: among the rows in the list of the fix's tile, by the marks along their borders.
-use Prim.Native.Nat.{ℕ, _+_, _-_, _*_}
+use Prim.Native.Nat.{ℕ, _+_, _-_, _*_, _/_}
 use lib.{Dec.{ltb, leb}, ListN.{length, take, drop}}
 use mathlib.Core.{Bool.{Bool, _&&_}, List.{List}}
 use Rattle.header.specs.{Header.{headOf}, declared.header.Head.{Head}}
 use Rattle.index.specs.{Index.{tiles, recordsAt}, Tied.{wordAt}, Through.{startOf, placeOf}}
 use Rattle.numbers.specs.Reply.{Reply, given, refused, plain, demand, _>>=_, _>>_}
-use Rattle.table.specs.declared.location.Location.{Location}
-use Rattle.zones.specs.{Lent.{Outcome, Replied, repliedOf}, Marked.{zonesMarked}, declared.lookup.Zones.{Zones}}
+use Rattle.table.specs.{Find.{Matched}, Hits.{width}, MarkedRows.{matchedMarked}, declared.location.Location.{Location}}
+use Rattle.zones.specs.{Lent.{Outcome, Replied, repliedOf}, Lookup.{zonesFrom}, declared.lookup.Zones.{Zones}}
 use Rattle.atlas.specs.declared.parts.{Parts.{Parts}, Parting.{Parting}}
 use Rattle.atlas.specs.declared.parts.Parting.the-variants as P
 
@@ -25,11 +25,15 @@ partsOf long head words location = do
 abbrev pub partIn : List ℕ → ℕ → ℕ → List ℕ
 partIn words from end = take (end - from) (drop from words)
 
--- the lookup in them, in a file with this header
-unfoldable pub zonesAtlas : List ℕ → Head → List ℕ → Location → Bool → ℕ → ℕ → Reply (Outcome Zones)
-zonesAtlas file head words location asked n room = do
+-- the matches by them, in a file with this header, with room for so many hits before merging
+unfoldable pub matchedAtlas : List ℕ → Head → List ℕ → Location → Bool → ℕ → Reply Matched
+matchedAtlas file head words location asked room = do
   parts ← partsOf (length file) head words location
-  zonesMarked file head location asked (partIn words recordsAt (parts .behind)) (partIn words (parts .from) (parts .end)) (drop (parts .beside) words) n room
+  matchedMarked file head location asked (partIn words recordsAt (parts .behind)) (partIn words (parts .from) (parts .end)) (drop (parts .beside) words) room
+
+-- the lookup, with so many words for hits and so many bytes for text
+unfoldable pub zonesAtlas : List ℕ → Head → List ℕ → Location → Bool → ℕ → ℕ → Reply (Outcome Zones)
+zonesAtlas file head words location asked n room = zonesFrom file head asked room (matchedAtlas file head words location asked (n / width))
 
 -- the reply and both lent buffers
 unfoldable pub lookedAtlas : List ℕ → List ℕ → Location → Bool → ℕ → ℕ → Replied Zones

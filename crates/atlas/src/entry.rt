@@ -15,6 +15,8 @@ use crate::words::put;
 use header::header::Head;
 use index::build::RECORDS_AT;
 use index::own::Next;
+use marks::words::MARK;
+use marks::words::groups_of;
 use std::num::wrapping_add_u32;
 use table::marked::encoding_of;
 
@@ -38,7 +40,8 @@ fn size_of(count: usize) -> usize
     if count == 0 {
         return 0;
     }
-    1 + 11 * count
+    let groups = groups_of(count);
+    1 + MARK * count + MARK * groups
 }
 
 // An entry's word, with marks from one place to another.

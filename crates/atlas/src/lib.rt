@@ -7,5 +7,7 @@ pub mod own;
 pub mod parts;
 pub mod put;
 pub mod same;
+pub mod search;
+pub mod simple;
 pub mod span;
 mod words;

@@ -1,7 +1,7 @@
-// Lookup through an atlas: among the rows in the list of the fix's tile, by the marks along their borders.
+// Lookup through an atlas: among the rows in the list of the fix's tile, by the marks along their borders; and through an atlas or none.
 ghost use mathlib.Core.Path.{_≡_};
 ghost use lib.ListN.{length};
-ghost use Rattle.atlas.specs.Looked.{zonesAtlas, lookedAtlas};
+ghost use Rattle.atlas.specs.{Beside.{zonesBeside}, Looked.{zonesAtlas, lookedAtlas}};
 ghost use Rattle.zones.specs.{Lent.{replied, repliedOf}, Lookup.{toldLooked}};
 use crate::parts::Parting;
 use crate::parts::parts_of;
@@ -12,6 +12,7 @@ use header::zero::zero_both;
 use index::build::RECORDS_AT;
 use table::location::Location;
 use zones::lookup::Looked;
+use zones::lookup::lookup_in;
 use zones::marked::lookup_marked;
 
 // In a file whose header was read; any header is taken.
@@ -52,8 +53,28 @@ fn atlas_in(
     )
 }
 
-// The plain lookup, for words of which `is_atlas` says 0. With the safezone asked for the borders are read whole. Any words are taken: of them only what keeps the
-// lookup inside is asked. Refused: opening's numbers, 16, 36, and what a lookup is refused with.
+// In a file whose header was read, through an atlas, or without one where there are no words; any header and any words are taken.
+pub fn lookup_beside(
+    file: &[u8],
+    head: Head,
+    words: &[u32],
+    location: Location,
+    asked: bool,
+    hits: &mut [u32],
+    text: &mut [u8],
+) -> Looked
+    ensures { λ r. ⌜ replied (toldLooked r) (now (hits .exit)) (now (text .exit))
+        ≡ repliedOf (length (now (hits .entry))) (length (now (text .entry)))
+        (zonesBeside (now (file .entry)) head (now (words .entry)) location asked (length (now (hits .entry))) (length (now (text .entry)))) ⌝ }
+{
+    if words.len() == 0 {
+        return lookup_in(file, head, location, asked, hits, text);
+    }
+    atlas_in(file, head, words, location, asked, hits, text)
+}
+
+// The plain lookup, for words of which `is_atlas` says 0. Any words are taken: of them only what keeps the lookup inside is asked. Refused: opening's numbers, 16,
+// 36, and what a lookup is refused with.
 pub fn lookup_atlas(
     file: &[u8],
     words: &[u32],

@@ -2,7 +2,7 @@
 ghost use mathlib.Core.{Path.{_≡_}, List.{[], _∷_}};
 ghost use Prim.Native.Nat.{_^_, _<_};
 ghost use Rattle.writer.specs.inner.Stored.{Stored};
-ghost use Rattle.marks.specs.Marks.{wordOf, low, kindOf, nextOf, endOf, markOf};
+ghost use Rattle.marks.specs.Marks.{wordOf, low, kindOf, nextOf, endOf, markOf, marksFrom};
 ghost use Rattle.atlas.specs.inner.Marking.{boxed, marksOf};
 use crate::course::Course;
 use crate::span::Frame;
@@ -18,6 +18,9 @@ use border::place::Point;
 use border::reader::Encoding;
 use border::reader::Reader;
 use border::reader::Run;
+use marks::words::GROUP;
+use marks::words::STRETCH;
+use marks::words::groups_of;
 
 fn put_point(words: &mut [u32], at: usize, point: Point) -> usize
     requires { ⌜ at < 2 ^ 59 ⌝ }
@@ -49,7 +52,32 @@ pub(crate) fn put_mark(words: &mut [u32], at: usize, reader: Reader, frame: Fram
     put_run(words, sixth, run)
 }
 
-// All marks of a border; nothing for one that has none.
+// The marks of so many stretches from a state on, each of so many edges.
+fn put_level(
+    file: &[u8],
+    encoding: Encoding,
+    start: Reader,
+    edges: usize,
+    count: usize,
+    words: &mut [u32],
+    place: usize,
+) -> usize
+    requires { ⌜ (place < 2 ^ 57) × (count < 2 ^ 32) ⌝ }
+    ensures { λ r. ⌜ Stored (now (words .entry)) place (marksFrom edges count (now (file .entry)) encoding start) (now (words .exit)) r ⌝ }
+{
+    let mut left = count;
+    let mut at = place;
+    let mut reader = start;
+    while left > 0 {
+        left -= 1;
+        let reach = span_from(file, encoding, reader, edges);
+        at = put_mark(words, at, reader, reach.frame);
+        reader = reach.last;
+    }
+    at
+}
+
+// All marks of a border, those of the groups last; nothing for one that has none.
 pub(crate) fn put_marks(
     file: &[u8],
     encoding: Encoding,
@@ -60,17 +88,13 @@ pub(crate) fn put_marks(
     requires { ⌜ (place < 2 ^ 56) × (course .count < 2 ^ 32) ⌝ }
     ensures { λ r. ⌜ Stored (now (words .entry)) place (marksOf (now (file .entry)) encoding course) (now (words .exit)) r ⌝ }
 {
-    let mut left = course.count;
-    if left == 0 {
+    let first = course.first;
+    let count = course.count;
+    if count == 0 {
         return place;
     }
-    let mut at = put(words, place, low_of(left));
-    let mut reader = course.first;
-    while left > 0 {
-        left -= 1;
-        let reach = span_from(file, encoding, reader);
-        at = put_mark(words, at, reader, reach.frame);
-        reader = reach.last;
-    }
-    at
+    let second = put(words, place, low_of(count));
+    let third = put_level(file, encoding, first, STRETCH, count, words, second);
+    let groups = groups_of(count);
+    put_level(file, encoding, first, GROUP, groups, words, third)
 }

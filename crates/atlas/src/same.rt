@@ -1,7 +1,7 @@
 // Marks held against words.
 ghost use mathlib.Core.{Bool.{_&&_}, Path.{_≡_}, List.{[], _∷_}};
 ghost use Prim.Native.Nat.{_+_, _^_, _<_};
-ghost use Rattle.marks.specs.Marks.{wordOf, low, kindOf, nextOf, endOf, markOf};
+ghost use Rattle.marks.specs.Marks.{wordOf, low, kindOf, nextOf, endOf, markOf, marksFrom};
 ghost use Rattle.index.specs.inner.Own.{isAt};
 ghost use Rattle.atlas.specs.inner.Marking.{boxed, stateWords, marksOf};
 use crate::course::Course;
@@ -18,6 +18,10 @@ use border::place::Point;
 use border::reader::Encoding;
 use border::reader::Reader;
 use border::reader::Run;
+use marks::words::GROUP;
+use marks::words::MARK;
+use marks::words::STRETCH;
+use marks::words::groups_of;
 
 fn same_spot(words: &[u32], at: usize, point: Point) -> bool
     requires { ⌜ at < 2 ^ 59 ⌝ }
@@ -76,6 +80,34 @@ fn same_mark(words: &[u32], at: usize, reader: Reader, frame: Frame) -> bool
     same_state(words, second + 2, reader)
 }
 
+// Whether the marks of so many stretches from a state on, each of so many edges, stand from a place on.
+fn same_level(
+    file: &[u8],
+    encoding: Encoding,
+    start: Reader,
+    edges: usize,
+    count: usize,
+    words: &[u32],
+    place: usize,
+) -> bool
+    requires { ⌜ (place < 2 ^ 57) × (count < 2 ^ 32) ⌝ }
+    ensures { λ r. ⌜ r ≡ isAt (now (words .entry)) place (marksFrom edges count (now (file .entry)) encoding start) ⌝ }
+{
+    let mut left = count;
+    let mut at = place;
+    let mut reader = start;
+    while left > 0 {
+        left -= 1;
+        let reach = span_from(file, encoding, reader, edges);
+        if !same_mark(words, at, reader, reach.frame) {
+            return false;
+        }
+        at += MARK;
+        reader = reach.last;
+    }
+    true
+}
+
 // Whether all marks of a border stand from a place on; nothing of one that has none.
 pub(crate) fn same_marks(
     file: &[u8],
@@ -87,23 +119,26 @@ pub(crate) fn same_marks(
     requires { ⌜ (place < 2 ^ 56) × (course .count < 2 ^ 32) ⌝ }
     ensures { λ r. ⌜ r ≡ isAt (now (words .entry)) place (marksOf (now (file .entry)) encoding course) ⌝ }
 {
-    let mut left = course.count;
-    if left == 0 {
+    let first = course.first;
+    let count = course.count;
+    if count == 0 {
         return true;
     }
-    if !is_word(words, place, low_of(left)) {
+    if !is_word(words, place, low_of(count)) {
         return false;
     }
-    let mut at = place + 1;
-    let mut reader = course.first;
-    while left > 0 {
-        left -= 1;
-        let reach = span_from(file, encoding, reader);
-        if !same_mark(words, at, reader, reach.frame) {
-            return false;
-        }
-        at += 11;
-        reader = reach.last;
+    let second = place + 1;
+    if !same_level(file, encoding, first, STRETCH, count, words, second) {
+        return false;
     }
-    true
+    let groups = groups_of(count);
+    same_level(
+        file,
+        encoding,
+        first,
+        GROUP,
+        groups,
+        words,
+        second + MARK * count,
+    )
 }

@@ -2,7 +2,7 @@
 ghost use mathlib.Core.Path.{_≡_};
 ghost use lib.Signed.{leZ};
 ghost use Rattle.border.specs.Box.{minZ, maxZ, grown};
-ghost use Rattle.marks.specs.Marks.{spanFrom, stretchEdges};
+ghost use Rattle.marks.specs.Marks.{spanFrom};
 ghost use Rattle.atlas.specs.inner.Marking.{boxed, toldReach};
 use border::place::FixedLat;
 use border::place::FixedLon;
@@ -93,9 +93,9 @@ fn grow(frame: Frame, point: Point) -> Frame
     }
 }
 
-// Over the edges of a stretch from a state on, or up to the border's end.
-pub(crate) fn span_from(file: &[u8], encoding: Encoding, start: Reader) -> Reach
-    ensures { λ r. ⌜ toldReach r ≡ spanFrom stretchEdges (now (file .entry)) encoding start ⌝ }
+// Over so many edges from a state on, or up to the border's end.
+pub(crate) fn span_from(file: &[u8], encoding: Encoding, start: Reader, edges: usize) -> Reach
+    ensures { λ r. ⌜ toldReach r ≡ spanFrom edges (now (file .entry)) encoding start ⌝ }
 {
     let corner = start.point;
     let mut last = start;
@@ -104,7 +104,7 @@ pub(crate) fn span_from(file: &[u8], encoding: Encoding, start: Reader) -> Reach
         high: corner,
     };
     let mut n: usize = 0;
-    while n < 128 {
+    while n < edges {
         let next = next_point(file, encoding, last);
         let Next::Point(later) = next else {
             return Reach { frame, last };

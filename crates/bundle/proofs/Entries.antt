@@ -1,5 +1,5 @@
 -- Bytes, names and entries of a bundle, as the code meets them. Assumes nothing.
-use mathlib.Core.{Path.{_≡_, refl, ap, sym, subst, _∙_}, Bool.{Bool, true, false, _&&_}, List.{List, [], _∷_, _++_, map}}
+use mathlib.Core.{Path.{_≡_, refl, ap, sym, subst, _∙_}, Bool.{Bool, true, false, _&&_, and-false}, List.{List, [], _∷_, _++_, map}}
 use Prim.Native.Nat.{ℕ, zero, suc, _+_, _-_, _*_, _/_, _%_, _≤_, _<_}
 use borrow.Author.Tests.{le-leb, lt-leb, leb-true, eq-eqb, ne-eqb, eqb-true}
 use lib.{Bits.{bitXor}, Dec.{leb, eqb}, ListN.{length, getD, drop, length-append, length-map, List·getD-append, List·getD-eq-default}, Seq.{getD-drop, drop-drop, getD-append-add}}
@@ -57,10 +57,6 @@ unfolding agrees
 agree-end left xs ys e = rw e refl
 
 -- one byte that differs is enough
-and-false : (a : Bool) → (a && false) ≡ false
-and-false true = refl
-and-false false = refl
-
 agree-differ : (n k : ℕ) (xs ys : List ℕ) → k < n → (getD xs k 0 ≡ getD ys k 0 → ⊥) → agrees n xs ys ≡ false
 unfolding agrees
 agree-differ zero k xs ys h d = absurd (omega arith)

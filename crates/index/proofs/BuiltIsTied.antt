@@ -10,7 +10,8 @@ use Rattle.header.specs.{Header.{preambleOf, contentsBy, headBy, headOf}, decla
 use Rattle.index.proofs.{Keeping.{packed-length}, Sides.{and-rest}, Tabling.{records-length}, Tying.{end-decides, tied-so, tied-not}}
 use Rattle.numbers.proofs.Replies.{given-one}
 use Rattle.index.proofs.Whole.{lists-length, starts-length}
-use Rattle.index.specs.Index.{recordsOf, fourAt, packedFrom, wordsFor, keptOf, listsFrom, joined, startsFrom, tiles, recordsAt, listsAt, indexOf, hasRoom, indexWith, indexIn, indexedBy, indexedOf}
+use Rattle.index.specs.Index.{recordsOf, fourAt, packedFrom, wordsFor, keptOf, listsFrom, joined, startsFrom, tiles, recordsAt, listsAt, indexOf, hasRoom, indexWith, indexIn}
+use Rattle.index.specs.Index.{indexedBy, indexedOf}
 use Rattle.index.specs.{Table.{tableOf}, Tied.{wordAt, isHeaded, keepsFrom, isTied, tiedOf}}
 
 -- ---- kept bytes

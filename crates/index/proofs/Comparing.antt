@@ -157,7 +157,11 @@ module _ (strict : Bool) (file : List ℕ) (end : ℕ) (start : Cursor) (bottom 
   pub matching-starts : Matching start bottom true 0
   unfolding isAt recordsOf
   matching-starts =
-      record { tabling = tabling-starts strict file end start bottom []; compared = ap (λ (rows : List Row). isAt words recordsAt (recordsOf rows)) (sym (starts-done strict file end start bottom [])) }
+      record {
+        tabling = tabling-starts strict file end start bottom [];
+        compared = ap (λ (rows : List Row). isAt words recordsAt (recordsOf rows))
+            (sym (starts-done strict file end start bottom []));
+      }
 
   pub matching-next : {at : Cursor} {floor : ℤ} {same : Bool} {n : ℕ} (g : Matching at floor same n) (more : at .place < end) {r : Row} (e : found r ≡ rowBy (readingOf strict file) at)
       {next : Cursor} → isNext end floor r ≡ true → next ≡ after r → {same′ : Bool} → same′ ≡ (same && isAt words (recordsAt + 7 * n) (recordOf r)) → Matching next (lowest r) same′ (n + 1)
@@ -176,5 +180,6 @@ module _ (strict : Bool) (file : List ℕ) (end : ℕ) (start : Cursor) (bottom 
       }
 
 -- a tile by another name
-pub by-tile : {tile tile′ : Tile} {reply : Reply ℕ} (words : List ℕ) (at n : ℕ) → tile ≡ tile′ → reply ≡ standsFrom words at (listIn words tile n 0) → reply ≡ standsFrom words at (listIn words tile′ n 0)
+pub by-tile : {tile tile′ : Tile} {reply : Reply ℕ} (words : List ℕ) (at n : ℕ) → tile ≡ tile′ → reply ≡ standsFrom words at (listIn words tile n 0) →
+    reply ≡ standsFrom words at (listIn words tile′ n 0)
 by-tile words at n e f = f ∙ ap (λ (tile : Tile). standsFrom words at (listIn words tile n 0)) e

@@ -23,7 +23,12 @@ module _ (power precision : ℕ) (low z high : ℤ) (a : SFits w32 low) (b : SFi
       let up = lifted-order low z a b (parts .0) in
       let down = lifted-order z high b c (parts .1) in
       let tile = in-its-tile power precision x small in
-      rw (le-leb (lift (wordOf low)) (lift (wordOf high)) (omega (arith, up, down)), lt-ltb (lift (wordOf low)) (spanOf power precision (tileAlong power precision x) .end) (omega (arith, up, tile .1)), le-leb (spanOf power precision (tileAlong power precision x) .from) (lift (wordOf high)) (omega (arith, down, tile .0)))
+      rw (
+        le-leb (lift (wordOf low)) (lift (wordOf high)) (omega (arith, up, down)),
+        lt-ltb (lift (wordOf low)) (spanOf power precision (tileAlong power precision x) .end) (omega (arith, up, tile .1)),
+        le-leb
+            (spanOf power precision (tileAlong power precision x) .from) (lift (wordOf high)) (omega (arith, down, tile .0)),
+      )
 
 -- ---- row and column of a tile
 row-of : (a b : ℕ) → b < 64 → (64 * a + b) / 64 ≡ a

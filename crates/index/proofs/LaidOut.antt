@@ -119,7 +119,11 @@ module _ (file : List ℕ) (head : Head) (rows : List Row) (rest : List ℕ) whe
         let step = joined-step lists t (omega (arith, few, many)) in
         let upto = joined-upto lists (t + 1) in
         let all = all-lists in
-        rw (le-leb (startOf words 0) (startOf words t) (omega (arith, first, this, none)), le-leb (startOf words t) (startOf words (t + 1)) (omega (arith, this, next, step)), le-leb (startOf words (t + 1)) (startOf words tiles) (omega (arith, next, last, upto, all)))
+        rw (
+          le-leb (startOf words 0) (startOf words t) (omega (arith, first, this, none)),
+          le-leb (startOf words t) (startOf words (t + 1)) (omega (arith, this, next, step)),
+          le-leb (startOf words (t + 1)) (startOf words tiles) (omega (arith, next, last, upto, all)),
+        )
       where
         all-lists : length (joined (take tiles lists)) ≡ length (joined lists)
         all-lists = ap (λ (ls : List (List ℕ)). length (joined ls)) (ap (λ (k : ℕ). take k lists) (sym many) ∙ take-length lists)
@@ -132,11 +136,20 @@ module _ (file : List ℕ) (head : Head) (rows : List Row) (rest : List ℕ) whe
         let step = joined-step lists t (omega (arith, few, many)) in
         let front = three ++ (starts ++ (recordsOf rows ++ kept)) in
         let long : length front ≡ begin =
-        omega (arith, length-append starts (recordsOf rows ++ kept), length-append (recordsOf rows) kept, starts-length begin lists, many, records-length rows, packed-length (take (head .sections .metadata) file) (wordsFor (head .sections .metadata)) 0) in
+        omega (
+          arith,
+          length-append starts (recordsOf rows ++ kept),
+          length-append (recordsOf rows) kept,
+          starts-length begin lists,
+          many,
+          records-length rows,
+          packed-length (take (head .sections .metadata) file) (wordsFor (head .sections .metadata)) 0,
+        ) in
         let shape : words ≡ front ++ (joined lists ++ rest) = B.flat file head rows rest ∙ regroup three starts (recordsOf rows) kept (joined lists ++ rest) in
         let split : joined lists ≡ joined (take t lists) ++ (getD lists t [] ++ joined (drop (suc t) lists)) = joined-split lists t (omega (arith, few, many)) in
         ap (λ (w : List ℕ). take (startOf words (t + 1) - startOf words t) (drop (startOf words t) w)) (shape ∙ ap (λ (j : List ℕ). front ++ (j ++ rest)) split)
-        ∙ slice-there front (joined (take t lists)) (getD lists t []) (joined (drop (suc t) lists)) rest (startOf words t) (startOf words (t + 1) - startOf words t) (omega (arith, long, this)) (omega (arith, this, next, step))
+        ∙ slice-there front (joined (take t lists)) (getD lists t []) (joined (drop (suc t) lists)) rest (startOf words t) (startOf words (t + 1) - startOf words t)
+        (omega (arith, long, this)) (omega (arith, this, next, step))
         ∙ lists-at (head .preamble .precision) rows tiles 0 t few
         ∙ ap (listOf (head .preamble .precision) rows) from-none
       where

@@ -16,7 +16,12 @@ Same end a b = (i : ℕ) → recordsAt ≤ i → i < end → getD a i 0 ≡ getD
 module _ (end : ℕ) (a b : List ℕ) (same : Same end a b) (tile : Tile) where
   pub met-same : (k : ℕ) → recordsAt + 7 * k + 7 ≤ end → isMetIn a tile k ≡ isMetIn b tile k
   met-same k h =
-      rw (same (recordsAt + 7 * k + 3) (omega arith) (omega arith), same (recordsAt + 7 * k + 4) (omega arith) (omega arith), same (recordsAt + 7 * k + 5) (omega arith) (omega arith), same (recordsAt + 7 * k + 6) (omega arith) (omega arith))
+      rw (
+        same (recordsAt + 7 * k + 3) (omega arith) (omega arith),
+        same (recordsAt + 7 * k + 4) (omega arith) (omega arith),
+        same (recordsAt + 7 * k + 5) (omega arith) (omega arith),
+        same (recordsAt + 7 * k + 6) (omega arith) (omega arith),
+      )
 
   pub list-same : (more k : ℕ) → recordsAt + 7 * (k + more) ≤ end → listIn a tile more k ≡ listIn b tile more k
   unfolding listIn
@@ -182,5 +187,6 @@ module _ (before : List ℕ) (precision n from : ℕ) where
       record { place-after = omega (arith, place); stored = p .stored ∙ sym (ap (λ (k : ℕ). set now k (low at)) last) ∙ was }
 
 -- a tile by another name
-pub same-tile : {tile tile′ : Tile} {before after : List ℕ} {at next : ℕ} (n : ℕ) → tile ≡ tile′ → Stored before at (listIn before tile n 0) after next → Stored before at (listIn before tile′ n 0) after next
+pub same-tile : {tile tile′ : Tile} {before after : List ℕ} {at next : ℕ} (n : ℕ) → tile ≡ tile′ → Stored before at (listIn before tile n 0) after next →
+    Stored before at (listIn before tile′ n 0) after next
 same-tile {tile} {tile′} {before} {after} {at} {next} n e s = subst (λ (x : Tile). Stored before at (listIn before x n 0) after next) e s

@@ -9,7 +9,7 @@ use Rattle.numbers.proofs.{Refusals.{Listed, still-listed, either}, Replies.{Nu
 use Rattle.numbers.specs.{Reply.{Reply, given, refused, plain, _>>=_}, declared.refusal.Refusal.{Refusal}}
 use Rattle.header.proofs.{Numbered.{headerNumbers, text-numbered, head-numbered}, StrictHead.{head-strict}}
 use Rattle.header.specs.{Field.{field, fieldAt}, Header.{headOf}, Text.{bytesOf}, declared.header.Head.{Head}}
-use Rattle.table.specs.{Find.{fixOf, isPrecision}, GivenRows.{rowAt, rowsBy, rowsListed, searchedListed, matchedListed}, Hits.{width}, Rows.{Rows, row}}
+use Rattle.table.specs.{Find.{fixOf, isPrecision}, GivenRows.{rowAt, rowsBy, searchedListed, matchedListed}, Hits.{width}, Rows.{Rows, row}}
 use Rattle.table.specs.{Search.{kindOf, judgedTurn, rowTurn, Found, afterTurn, judgeIn, farthest}, Table.{holds}, Unstopped.{seekAll}}
 use Rattle.table.specs.declared.{hits.Hit.{Hit}, location.Location.{Location}, rows.Row.{Row}, search.Turn.{the-variants.{On, Met, Stopped, Refused}, Turn}}
 use Rattle.zones.proofs.NumberedLookup.{lookupNumbers}
@@ -21,10 +21,10 @@ use Rattle.table.specs.Rows as T
 abbrev pub throughNumbers : List ℕ
 throughNumbers = lookupNumbers ++ (36 ∷ [])
 
-abbrev Known : ℕ → Type 0
+abbrev pub Known : ℕ → Type 0
 Known = Listed throughNumbers
 
-abbrev Numbered : {A : Type 0} → Reply A → Type 0
+abbrev pub Numbered : {A : Type 0} → Reply A → Type 0
 Numbered = NumberedReply Known
 
 known : (n : ℕ) → Listed headerNumbers n → Known n
@@ -35,7 +35,7 @@ module _ (file : List ℕ) (head : Head) (words : List ℕ) where
   tie-numbered : Numbered (tiedWith file head words)
   tie-numbered = and-then (demands (isPrecision (head .preamble .precision)) (plain 16) refl) (demands (isTied file head words) (plain 36) refl)
 
-  place-numbered : (location : Location) → Numbered (placeOf (length file) head words location)
+  pub place-numbered : (location : Location) → Numbered (placeOf (length file) head words location)
   unfolding placeOf
   place-numbered location =
       let precision = head .preamble .precision in
@@ -72,17 +72,18 @@ module _ (judge : ℕ → ℕ → Judgement) (fix : Point) (judges : (place leas
   abbrev Sought : ℕ → Rows → Type 0
   Sought room rows = (least : ℕ) (hits : List Hit) → Numbered (seekAll judge fix room rows least hits)
 
-  seeks : (room : ℕ) (records numbers : List ℕ) → Sought room (rowsListed records numbers)
+  -- of rows that are read from records, in whichever form
+  pub seeks : (rowOf : List ℕ → ℕ → Row) (room : ℕ) (records numbers : List ℕ) → Sought room (rowsBy rowOf records numbers)
   unfolding rowsBy seekAll
-  seeks room records [] = λ least hits. answers
-  seeks room records (k ∷ numbers) =
-      either (Sought room) (ltb k (length records / 7)) {a = row (rowAt records k) (rowsListed records numbers)} {b = T.refused 36}
-      (λ least hits. after-turn hits room (row-turn (rowAt records k) least) (seeks room records numbers))
+  seeks rowOf room records [] = λ least hits. answers
+  seeks rowOf room records (k ∷ numbers) =
+      either (Sought room) (ltb k (length records / 7)) {a = row (rowOf records k) (rowsBy rowOf records numbers)} {b = T.refused 36}
+      (λ least hits. after-turn hits room (row-turn (rowOf records k) least) (seeks rowOf room records numbers))
       (λ least hits. refuses refl)
 
 -- ---- a file that was read plainly: no number of it is 31
 module _ (file : List ℕ) (head : Head) (plainly : head .strict ≡ false) where
-  cut : head .strict ≡ true → Known 31
+  pub cut : head .strict ≡ true → Known 31
   cut e = differ (sym plainly ∙ e)
 
   matches : (location : Location) (asked : Bool) (records numbers : List ℕ) (room : ℕ) → Numbered (matchedListed file head location asked records numbers room)
@@ -90,7 +91,7 @@ module _ (file : List ℕ) (head : Head) (plainly : head .strict ≡ false) wher
   matches location asked records numbers room =
       let fix = fixOf location (head .preamble .precision) in
       and-then (demands (isPrecision (head .preamble .precision)) (plain 16) refl)
-      (then-reply (seeks (judgeIn file head fix asked) fix (λ place least. judged-numbered refl refl file _ cut _ _ _ asked least) room records numbers farthest []) (λ found. answers))
+      (then-reply (seeks (judgeIn file head fix asked) fix (λ place least. judged-numbered refl refl file _ cut _ _ _ asked least) rowAt room records numbers farthest []) (λ found. answers))
 
   field-numbered : (metadata place tag room : ℕ) → Numbered (fieldAt (head .strict) file metadata place tag room)
   unfolding fieldAt
@@ -104,7 +105,7 @@ module _ (file : List ℕ) (head : Head) (plainly : head .strict ≡ false) wher
   fields-from room (suc more) tag place text =
       then-reply (field-numbered (head .sections .metadata) place tag (room - length text)) (λ field. fields-from room more (tag + 1) (field .next) (text ++ field .bytes))
 
-  fields : (room : ℕ) (matches : List Hit) (text : List ℕ) → Numbered (fieldsOf file head room matches text)
+  pub fields : (room : ℕ) (matches : List Hit) (text : List ℕ) → Numbered (fieldsOf file head room matches text)
   unfolding fieldsOf
   fields room [] text = answers
   fields room (match ∷ matches) text = then-reply (fields-from room (head .preamble .count) 0 (fieldsPlace head (match .metadata)) text) (fields room matches)
@@ -119,7 +120,7 @@ module _ (file : List ℕ) (head : Head) (plainly : head .strict ≡ false) wher
   zones-numbered words location asked n room = then-reply (place-numbered file head words location) (λ place. listed location asked _ _ n room)
 
 -- ---- the lookups
-replied-numbered : {A : Type 0} (n room : ℕ) {reply : Reply (Outcome A)} → Numbered reply → Numbered (repliedOf n room reply .reply)
+pub replied-numbered : {A : Type 0} (n room : ℕ) {reply : Reply (Outcome A)} → Numbered reply → Numbered (repliedOf n room reply .reply)
 unfolding repliedOf
 replied-numbered n room answers = answers
 replied-numbered n room (refuses h) = refuses h
@@ -129,7 +130,7 @@ then-with answers k = k _ refl
 then-with (refuses h) k = refuses h
 
 -- the file is opened first, plainly
-opened : {B : Type 0} (file : List ℕ) (next : Head → Reply B) → ((head : Head) → head .strict ≡ false → Numbered (next head)) → Numbered (headOf file >>= next)
+pub opened : {B : Type 0} (file : List ℕ) (next : Head → Reply B) → ((head : Head) → head .strict ≡ false → Numbered (next head)) → Numbered (headOf file >>= next)
 opened file next k = then-with (head-numbered known false differ file) (λ head e. k head (head-strict false file e))
 
 module _ (file words : List ℕ) (location : Location) (asked : Bool) (n room : ℕ) (why : Refusal) where

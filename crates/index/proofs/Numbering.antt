@@ -109,4 +109,5 @@ module _ (read : ℕ → Answer Numeral) (grows : Grows read) (end : ℕ) where
 pub table-sound : (file : List ℕ) (head : Head) {rows : List Row} → head .sections .metadata < 2 ^ 32 → given rows ≡ tableOf file head → Sound 0 rows
 unfolding tableOf rowsIn rowsFrom
 table-sound file head {rows} small e =
-    all-sound (readingOf (head .strict) file) (reading-grows (head .strict) file) (head .sections .metadata) (suc (head .sections .metadata - head .sections .table)) (startAt (head .sections .table)) bottom rows (omega (arith, small)) e
+    all-sound (readingOf (head .strict) file) (reading-grows (head .strict) file) (head .sections .metadata) (suc (head .sections .metadata - head .sections .table))
+    (startAt (head .sections .table)) bottom rows (omega (arith, small)) e

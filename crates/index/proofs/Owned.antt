@@ -14,7 +14,8 @@ use Rattle.numbers.proofs.Tests.{both}
 use Rattle.index.proofs.{Owning.{Only, own-opened, own-unopened, rest-only}, SameIndex.{Settled, settled}, Standing.{same-words, same-self}, ThroughIsPlain.{own-through, own-indexed}}
 use Rattle.index.proofs.Owning as O
 use Rattle.index.proofs.SameIndex as SI
-use Rattle.index.specs.{Index.{recordsOf, recordsAt, indexOf, hasRoom, indexWith, indexIn, Indexed, indexed, indexedBy, indexedOf}, Own.{isSame, heldAgainst, isIndexOf}, inner.Own.{isAt, comparedOf, ownWith}}
+use Rattle.index.specs.{Index.{recordsOf, recordsAt, indexOf, hasRoom, indexWith, indexIn, Indexed, indexed, indexedBy, indexedOf}, Own.{isSame, heldAgainst, isIndexOf}}
+use Rattle.index.specs.inner.Own.{isAt, comparedOf, ownWith}
 use Rattle.index.specs.{Table.{bottom, tableOf}, Through.{lookedThrough, lookedIndexed}}
 use Rattle.numbers.proofs.Replies.{given-one}
 

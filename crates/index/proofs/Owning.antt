@@ -15,7 +15,8 @@ use Rattle.index.proofs.Standing.{so-both, at-append, at-read, at-insid
 use Rattle.index.proofs.{Tabling.{records-length}, Whole.{Holds, lists-of-rows, starts-length, lists-length, bad-precision, bad-table, index-length, with-room, without, has-room}}
 use Rattle.index.proofs.SameIndex as SI
 use Rattle.index.specs.inner.Building.{listsIn}
-use Rattle.index.specs.Index.{fourAt, packedFrom, wordsFor, keptOf, recordsOf, listsFrom, joined, startsFrom, tiles, recordsAt, listsAt, indexOf, hasRoom, indexWith, indexIn, indexedBy, indexedOf}
+use Rattle.index.specs.Index.{fourAt, packedFrom, wordsFor, keptOf, recordsOf, listsFrom, joined, startsFrom, tiles, recordsAt, listsAt, indexOf, hasRoom, indexWith, indexIn}
+use Rattle.index.specs.Index.{indexedBy, indexedOf}
 use Rattle.index.specs.{Own.{isSame, heldAgainst, isIndexOf}, inner.Own.{isWord, isAt, standsFrom, listsStand, isEmptyFrom, comparedOf, restOf, ownWith}}
 use Rattle.index.specs.{Table.{bottom, tableOf}, Tied.{wordAt, keepsFrom}}
 use Rattle.numbers.proofs.Replies.{given-one}
@@ -222,7 +223,8 @@ module _ (file : List ℕ) (head : Head) (words : List ℕ) where
         let d1 = demanded (leb begin n) (plain 36) (b .is) in
         let d2 = demanded (isAt words 0 front) (plain 36) (d1 .1) in
         let d3 = demanded (isAt words (recordsAt + 7 * length rows) (keptOf file size)) (plain 36) (d2 .1) in
-        let l = given-from (listsStand words 3 begin (listsIn words precision (length rows) tiles 0)) (λ k. demand (ltb k (2 ^ 32)) (plain 36) >> (demand (isEmptyFrom words k) (plain 36) >> given k)) (d3 .1) in
+        let l = given-from (listsStand words 3 begin (listsIn words precision (length rows) tiles 0))
+        (λ k. demand (ltb k (2 ^ 32)) (plain 36) >> (demand (isEmptyFrom words k) (plain 36) >> given k)) (d3 .1) in
         let g = lists-given words 3 begin tileLists (l .is ∙ ap (listsStand words 3 begin) lists) in
         let d4 = demanded (ltb (l .it) (2 ^ 32)) (plain 36) (l .onto) in
         let d5 = demanded (isEmptyFrom words (l .it)) (plain 36) (d4 .1) in
@@ -248,7 +250,8 @@ module _ (file : List ℕ) (head : Head) (words : List ℕ) where
         let fits : begin ≤ n = omega (arith, leb-true (length whole) n (room .0), used-is) in
         let small : ltb used (2 ^ 32) ≡ true = ap (λ (k : ℕ). ltb k (2 ^ 32)) (sym used-is) ∙ room .1 in
         let rest : isEmptyFrom words used ≡ true = ap (isEmptyFrom words) (sym used-is) ∙ there .1 in
-        let stand : given used ≡ listsStand words 3 begin (listsIn words precision (length rows) tiles 0) = lists-stand words 3 begin tileLists (p2 .0) (p4 .1) ∙ ap (listsStand words 3 begin) (sym (same-lists (p3 .0))) in (
+        let stand : given used ≡ listsStand words 3 begin (listsIn words precision (length rows) tiles 0) =
+        lists-stand words 3 begin tileLists (p2 .0) (p4 .1) ∙ ap (listsStand words 3 begin) (sym (same-lists (p3 .0))) in (
           p3 .0,
           onward
               (met rest (plain 36) (given used)

@@ -38,7 +38,8 @@ module _ (length : ℕ) (head : Head) (words : List ℕ) (location : Location) w
         unfolding placeOf
         outside i = unmet (ap (isInside words) (sym same) ∙ i) (plain 36) _ ∙ met h (plain 36) _ ∙ met p (plain 16) _
 
-        pub stands : isInside words t ≡ true → {from end : ℕ} → from ≡ wordAt words (3 + t) → end ≡ wordAt words (3 + (t + 1)) → given (record { from = from; end = end }) ≡ placeOf length head words location
+        pub stands : isInside words t ≡ true → {from end : ℕ} → from ≡ wordAt words (3 + t) → end ≡ wordAt words (3 + (t + 1)) →
+            given (record { from = from; end = end }) ≡ placeOf length head words location
         stands i {from} {end} f e =
             let first : from ≡ startOf words tile = f ∙ ap (startOf words) same in
             let last : end ≡ startOf words (tile + 1) = e ∙ ap (λ (k : ℕ). startOf words (k + 1)) same in

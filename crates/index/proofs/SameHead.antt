@@ -28,7 +28,9 @@ inside-next : (file : List ℕ) (text : Text) {t : Text} → found t ≡ within 
 unfolding within
 inside-next file text {t} e = empty (eqb (text .size) 0) e
   where
-    empty : (test : Bool) → found t ≡ (if test then found (record { start = 0; size = 0; next = text .next }) else (if leb (text .start + text .size) (length file) then found text else A.refused 14)) → t .next ≡ text .next
+    empty : (test : Bool) → found t ≡
+        (if test then found (record { start = 0; size = 0; next = text .next }) else (if leb (text .start + text .size) (length file) then found text else A.refused 14)) →
+        t .next ≡ text .next
     empty true e = ap (λ (x : Text). x .next) (found-one e)
     empty false e = ap (λ (x : Text). x .next) (found-one (whole (leb (text .start + text .size) (length file)) e))
       where
@@ -131,7 +133,8 @@ sized strict file place e =
     }
 
 -- the table begins behind the third, and the metadata not before it
-sections-form : (length end metadata start rest : ℕ) {s : Sections} → given s ≡ sectionsFrom length end metadata start rest → s ≡ record { table = end; metadata = end + metadata; «data» = end + start }
+sections-form : (length end metadata start rest : ℕ) {s : Sections} → given s ≡ sectionsFrom length end metadata start rest →
+    s ≡ record { table = end; metadata = end + metadata; «data» = end + start }
 unfolding sectionsFrom
 sections-form length end metadata start rest e =
     let a = demanded (ltb (end + start) (2 ^ 32)) (plain 13) e in
@@ -143,7 +146,13 @@ sections-begin : (strict : Bool) (file : List ℕ) (place : ℕ) {s : Sections} 
 sections-begin strict file place {s} e =
     let a = sized strict file place e in
     let form = sections-form (length file) (a .third .place) (a .first .value % 2 ^ 32) (a .first .value % 2 ^ 32 + a .second .value % 2 ^ 32) (a .third .value) (a .gives) in
-    omega (arith, ap (λ (x : Sections). x .metadata) form, past strict file place (a .first-read), past strict file (a .first .place) (a .second-read), past strict file (a .second .place) (a .third-read))
+    omega (
+      arith,
+      ap (λ (x : Sections). x .metadata) form,
+      past strict file place (a .first-read),
+      past strict file (a .first .place) (a .second-read),
+      past strict file (a .second .place) (a .third-read),
+    )
 
 -- offsets fit 32 bits
 sections-small : (length end metadata more rest : ℕ) {s : Sections} → given s ≡ sectionsFrom length end metadata (metadata + more) rest → s .metadata < 2 ^ 32

@@ -49,7 +49,8 @@ module _ (file file′ : List ℕ) (head : Head) (long : length file ≡ length 
   same-table : tableOf file head ≡ tableOf file′ head
   unfolding tableOf
   same-table =
-      agree (settled (head .sections .metadata) bottom (rowsIn file head)) (settled (head .sections .metadata) bottom (rowsIn file′ head)) (table-given file file′ head long bytes) (table-given file′ file head (sym long) (sym bytes))
+      agree (settled (head .sections .metadata) bottom (rowsIn file head)) (settled (head .sections .metadata) bottom (rowsIn file′ head)) (table-given file file′ head long bytes)
+      (table-given file′ file head (sym long) (sym bytes))
 
   same-words : (rows : List Row) → indexOf file head rows ≡ indexOf file′ head rows
   unfolding indexOf

@@ -87,8 +87,10 @@ module _ (strict : Bool) (file : List ℕ) (end : ℕ) (start : Cursor) (bottom 
 
     pub tabling-ends : end ≤ at .place → end < 2 ^ 32 → (given (g .done) ≡ whole) × Recorded before now (g .done) n
     unfolding tableFrom
-    tabling-ends h small =
-        (sym (onto (at-end (readingOf strict file) (reading-grows strict file) at h) ∙ ap given (append-nil (g .done))), record { counted = g .counted; few = omega (arith, g .few, small); stored = g .stored })
+    tabling-ends h small = (
+      sym (onto (at-end (readingOf strict file) (reading-grows strict file) at h) ∙ ap given (append-nil (g .done))),
+      record { counted = g .counted; few = omega (arith, g .few, small); stored = g .stored },
+    )
 
     module _ (more : at .place < end) where
       pub tabling-unreadable : A.failed ≡ rowBy (readingOf strict file) at → refused (plain 34) ≡ whole
@@ -100,7 +102,8 @@ module _ (strict : Bool) (file : List ℕ) (end : ℕ) (start : Cursor) (bottom 
       tabling-refused e = sym (onto (at-refused (readingOf strict file) (reading-grows strict file) at more e))
 
       module _ {r : Row} (e : found r ≡ rowBy (readingOf strict file) at) where
-        turned : (next : Cursor) → next ≡ after r → whole ≡ ((demand (isNext end floor r) (plain 34) >> (tableFrom end (lowest r) (rowsAt next) >>= λ rest. given (r ∷ rest))) >>= λ rest. given (g .done ++ rest))
+        turned : (next : Cursor) → next ≡ after r →
+            whole ≡ ((demand (isNext end floor r) (plain 34) >> (tableFrom end (lowest r) (rowsAt next) >>= λ rest. given (r ∷ rest))) >>= λ rest. given (g .done ++ rest))
         unfolding tableFrom
         turned next n = onto (at-row (readingOf strict file) (reading-grows strict file) at more e n)
 
@@ -110,7 +113,8 @@ module _ (strict : Bool) (file : List ℕ) (end : ℕ) (start : Cursor) (bottom 
         pub tabling-less : {next : Cursor} → next ≡ after r → end - next .place < end - at .place
         tabling-less m = row-less (readingOf strict file) (reading-grows strict file) at more e m
 
-        pub tabling-next : {next : Cursor} {after′ : List ℕ} {place′ : ℕ} → isNext end floor r ≡ true → next ≡ after r → Stored now place (recordOf r) after′ place′ → Tabling after′ next (lowest r) place′ (n + 1)
+        pub tabling-next : {next : Cursor} {after′ : List ℕ} {place′ : ℕ} → isNext end floor r ≡ true → next ≡ after r → Stored now place (recordOf r) after′ place′ →
+            Tabling after′ next (lowest r) place′ (n + 1)
         tabling-next {next} {after′} {place′} is m s =
             let long = records-length (g .done) in
             let at-place : place ≡ recordsAt + length (recordsOf (g .done)) = omega (arith, g .here, g .counted, long) in
@@ -134,6 +138,7 @@ module _ (strict : Bool) (file : List ℕ) (end : ℕ) (start : Cursor) (bottom 
         next-done is m s = refl
 
 -- the rows from the table's first place are the file's
-pub same-table : (file : List ℕ) (head : Head) {start : Cursor} → start ≡ startAt (head .sections .table) → tableFrom (head .sections .metadata) bottom (rowsFrom (readingOf (head .strict) file) (head .sections .metadata) start) ≡ tableOf file head
+pub same-table : (file : List ℕ) (head : Head) {start : Cursor} → start ≡ startAt (head .sections .table) →
+    tableFrom (head .sections .metadata) bottom (rowsFrom (readingOf (head .strict) file) (head .sections .metadata) start) ≡ tableOf file head
 unfolding tableOf rowsIn
 same-table file head e = ap (λ (s : Cursor). tableFrom (head .sections .metadata) bottom (rowsFrom (readingOf (head .strict) file) (head .sections .metadata) s)) e

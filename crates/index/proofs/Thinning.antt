@@ -80,4 +80,5 @@ module _ (precision : ℕ) (fix : Point) (flat : SFits w32 (fix .lat .0)) (flon 
 pub thinned : (precision : ℕ) (fix : Point) → SFits w32 (fix .lat .0) → SFits w32 (fix .lon .0) → {rows : List Row} → Sound 0 rows
     → Thinned fix (asRows rows) (rowsListed (recordsOf rows) (listOf precision rows (tileOf precision fix)))
 thinned precision fix flat flon {rows} sound =
-    thinned-from precision fix flat flon (recordsOf rows) 0 sound (record { there = λ i l. (let e : 7 * 0 + i ≡ i = omega arith in ap (λ (j : ℕ). getD (recordsOf rows) j 0) e); room = omega (arith, records-length rows) })
+    thinned-from precision fix flat flon (recordsOf rows) 0 sound
+    (record { there = λ i l. (let e : 7 * 0 + i ≡ i = omega arith in ap (λ (j : ℕ). getD (recordsOf rows) j 0) e); room = omega (arith, records-length rows) })

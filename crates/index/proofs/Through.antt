@@ -30,8 +30,12 @@ place-inside long head words location {place} e =
     let second = both (leb (startOf words tile) (startOf words (tile + 1))) (leb (startOf words (tile + 1)) (startOf words tiles)) (first .1) in
     let form = given-one (c .1) in
     let from : place .from ≡ startOf words tile = ap (λ (p : Place). p .from) form in
-    let to : place .end ≡ startOf words (tile + 1) = ap (λ (p : Place). p .end) form in
-    (begin .0, omega (arith, begin .1), omega (arith, from, to, leb-true (startOf words tile) (startOf words (tile + 1)) (second .0)), omega (arith, to, leb-true (startOf words (tile + 1)) (startOf words tiles) (second .1), end))
+    let to : place .end ≡ startOf words (tile + 1) = ap (λ (p : Place). p .end) form in (
+      begin .0,
+      omega (arith, begin .1),
+      omega (arith, from, to, leb-true (startOf words tile) (startOf words (tile + 1)) (second .0)),
+      omega (arith, to, leb-true (startOf words (tile + 1)) (startOf words tiles) (second .1), end),
+    )
 
 -- ---- replies
 module _ (n room : ℕ) where
@@ -51,7 +55,8 @@ module _ (n room : ℕ) where
     pub listed-there : (head : Head) {place : Place} {records numbers : List ℕ} → given place ≡ placeOf (length file) head words location → records ≡ recordsIn words → numbers ≡ numbersIn words place
         → lookedListed file head location asked records numbers n room ≡ repliedOf n room (within head)
     unfolding zonesThrough lookedListed
-    listed-there head e r k = (λ i. repliedOf n room (zonesListed file head location asked (r i) (k i) n room)) ∙ ap (repliedOf n room) (onward e (λ (place : Place). zonesListed file head location asked (recordsIn words) (numbersIn words place) n room))
+    listed-there head e r k = (λ i. repliedOf n room (zonesListed file head location asked (r i) (k i) n room)) ∙
+        ap (repliedOf n room) (onward e (λ (place : Place). zonesListed file head location asked (recordsIn words) (numbersIn words place) n room))
 
     -- the file is opened first
     pub through-unopened : {why : Refusal} {hs ts : List ℕ} → refused why ≡ headOf file → hs ≡ zeros n → ts ≡ zeros room → replied (refused why) hs ts ≡ lookedThrough file words location asked n room
@@ -70,7 +75,8 @@ module _ (n room : ℕ) where
     indexed-unopened e zh zt = refused-zeros (carried e after) zh zt
 
     module _ {head : Head} (e : given head ≡ headOf file) where
-      pub indexed-untied : {why : Refusal} {hs ts : List ℕ} → refused why ≡ tiedWith file head words → hs ≡ zeros n → ts ≡ zeros room → replied (refused why) hs ts ≡ lookedIndexed file words location asked n room
+      pub indexed-untied : {why : Refusal} {hs ts : List ℕ} → refused why ≡ tiedWith file head words → hs ≡ zeros n → ts ≡ zeros room →
+          replied (refused why) hs ts ≡ lookedIndexed file words location asked n room
       unfolding lookedIndexed
       indexed-untied t zh zt = refused-zeros (ap (λ (r : Reply (Unit {0})). r >> within head) t ∙ onward e after) zh zt
 

@@ -27,7 +27,8 @@ unfolding fixOf fixedPoint
 lon-fits location precision = cut32-fits _
 
 -- ---- a file, its header and rows, and the words of its index
-module _ (file : List ℕ) (head : Head) (rows : List Row) (rest : List ℕ) (opened : given head ≡ headOf file) (precise : isPrecision (head .preamble .precision) ≡ true) (listed : given rows ≡ tableOf file head) (location : Location) (asked : Bool) where
+module _ (file : List ℕ) (head : Head) (rows : List Row) (rest : List ℕ) (opened : given head ≡ headOf file) (precise : isPrecision (head .preamble .precision) ≡ true)
+    (listed : given rows ≡ tableOf file head) (location : Location) (asked : Bool) where
   abbrev precision : ℕ
   precision = head .preamble .precision
 
@@ -55,13 +56,15 @@ module _ (file : List ℕ) (head : Head) (rows : List Row) (rest : List ℕ) (op
   pub same-matched : (room : ℕ) → matchedListed file head location asked (recordsOf rows) numbers room ≡ matchedWith file head location asked room
   unfolding matchedListed matchedWith
   same-matched room =
-      ap (λ (reply : Reply Found). demand (isPrecision precision) (plain 16) >> (reply >>= λ found. given (record { matches = merged (found .hits); mark = found .mark; least = found .least }))) (same-search room)
+      ap (λ (reply : Reply Found). demand (isPrecision precision) (plain 16) >>
+      (reply >>= λ found. given (record { matches = merged (found .hits); mark = found .mark; least = found .least }))) (same-search room)
 
   module _ (n room : ℕ) where
     same-zones : zonesThrough file head words location asked n room ≡ zonesWith file head location asked n room
     unfolding zonesThrough zonesListed zonesWith
     same-zones =
-        sym (onward (list-stands file head rows rest location precise) (λ (place : Place). zonesFrom file head asked room (matchedListed file head location asked (recordsIn words) (numbersIn words place) (n / width))))
+        sym (onward (list-stands file head rows rest location precise)
+        (λ (place : Place). zonesFrom file head asked room (matchedListed file head location asked (recordsIn words) (numbersIn words place) (n / width))))
         ∙ (λ i. zonesFrom file head asked room (matchedListed file head location asked (records-there file head rows rest i) (list-of-tile file head rows rest location i) (n / width)))
         ∙ ap (λ (reply : Reply Matched). zonesFrom file head asked room reply) (same-matched (n / width))
 
@@ -83,12 +86,14 @@ module _ (file : List ℕ) (lent : ℕ) {used : ℕ} (e : indexedOf file lent .r
   pub own-through : lookedThrough file given-words location asked n room ≡ lookedUp file location asked n room
   own-through =
       let b = built-from file lent e in
-      ap (λ (w : List ℕ). lookedThrough file w location asked n room) (b .whole) ∙ through-plainly file (b .head) (b .rows) (zeros (lent - length (indexOf file (b .head) (b .rows)))) (b .opened) (b .precise) (b .listed) location asked n room
+      ap (λ (w : List ℕ). lookedThrough file w location asked n room) (b .whole) ∙
+      through-plainly file (b .head) (b .rows) (zeros (lent - length (indexOf file (b .head) (b .rows)))) (b .opened) (b .precise) (b .listed) location asked n room
 
   pub own-indexed : lookedIndexed file given-words location asked n room ≡ lookedUp file location asked n room
   own-indexed =
       let b = built-from file lent e in
-      ap (λ (w : List ℕ). lookedIndexed file w location asked n room) (b .whole) ∙ indexed-plainly file (b .head) (b .rows) (zeros (lent - length (indexOf file (b .head) (b .rows)))) (b .opened) (b .precise) (b .listed) location asked n room
+      ap (λ (w : List ℕ). lookedIndexed file w location asked n room) (b .whole) ∙
+      indexed-plainly file (b .head) (b .rows) (zeros (lent - length (indexOf file (b .head) (b .rows)))) (b .opened) (b .precise) (b .listed) location asked n room
 
 -- ---- words that building gave for a file with the same length, header and table
 module _ (file file′ : List ℕ) (lent : ℕ) {used : ℕ} (e : indexedOf file lent .reply ≡ given used) {head head′ : Head} (opened : given head ≡ headOf file) (opened′ : given head′ ≡ headOf file′)

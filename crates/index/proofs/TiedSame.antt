@@ -69,7 +69,8 @@ module _ (words p q : List ℕ) (bp : Bytes p) (bq : Bytes q) where
       (bp i) (bp (i + 1)) (bp (i + 2)) (bq i) (bq (i + 1)) (bq (i + 2)) e in
       choose (j - i) (omega arith) known
     where
-      choose : (k : ℕ) → j ≡ i + k → (getD p i 0 ≡ getD q i 0) × (getD p (i + 1) 0 ≡ getD q (i + 1) 0) × (getD p (i + 2) 0 ≡ getD q (i + 2) 0) × (getD p (i + 3) 0 ≡ getD q (i + 3) 0) → getD p j 0 ≡ getD q j 0
+      choose : (k : ℕ) → j ≡ i + k → (getD p i 0 ≡ getD q i 0) × (getD p (i + 1) 0 ≡ getD q (i + 1) 0) × (getD p (i + 2) 0 ≡ getD q (i + 2) 0) × (getD p (i + 3) 0 ≡ getD q (i + 3) 0) →
+          getD p j 0 ≡ getD q j 0
       choose zero s known = let z : j ≡ i = omega (arith, s) in rw z (known .0)
       choose (suc zero) s known = rw s (known .1)
       choose (suc (suc zero)) s known = rw s (known .2)
@@ -127,7 +128,8 @@ module _ (file file′ : List ℕ) (head head′ : Head) (words : List ℕ) (byt
       let sizes : size′ ≡ size = sym (eqb-true _ _ (b .1)) ∙ eqb-true _ _ (a .1) in
       let kept = subst (λ (s : ℕ). keepsFrom words (recordsAt + 7 * wordAt words 2) (take s file′) (wordsFor s) 0 ≡ true) sizes (b .2) in
       let same : (i : ℕ) → i < length (take size file) → getD (take size file) i 0 ≡ getD (take size file′) i 0 =
-      λ i l. keeps-alike words (take size file) (take size file′) (first-bytes size file bytes) (first-bytes size file′ bytes′) (wordsFor size) (recordsAt + 7 * wordAt words 2) 0 i (a .2) kept (omega arith)
+      λ i l. keeps-alike words (take size file) (take size file′) (first-bytes size file bytes) (first-bytes size file′ bytes′) (wordsFor size) (recordsAt + 7 * wordAt words 2) 0 i (a .2)
+      kept (omega arith)
       (omega (arith, l, length-take size file)) in
       record { long = long; bytes = same-list (take size file) (take size file′) (omega (arith, length-take size file, length-take size file′, long)) same }
 

@@ -29,10 +29,22 @@ module _ (words : List ℕ) (size n : ℕ) where
 
         module _ (d : wordAt words 3 ≡ beginOf words size) where
           pub begin-outside : length words < beginOf words size → false ≡ isHeaded words size n
-          begin-outside h = rw (le-leb recordsAt (length words) a, eq-eqb (wordAt words 0) n b, eq-eqb (wordAt words 1) size c, eq-eqb (wordAt words 3) (beginOf words size) d, lt-leb (beginOf words size) (length words) h)
+          begin-outside h = rw (
+            le-leb recordsAt (length words) a,
+            eq-eqb (wordAt words 0) n b,
+            eq-eqb (wordAt words 1) size c,
+            eq-eqb (wordAt words 3) (beginOf words size) d,
+            lt-leb (beginOf words size) (length words) h,
+          )
 
           pub end-decides : beginOf words size ≤ length words → leb (wordAt words 2051) (length words) ≡ isHeaded words size n
-          end-decides h = rw (le-leb recordsAt (length words) a, eq-eqb (wordAt words 0) n b, eq-eqb (wordAt words 1) size c, eq-eqb (wordAt words 3) (beginOf words size) d, le-leb (beginOf words size) (length words) h)
+          end-decides h = rw (
+            le-leb recordsAt (length words) a,
+            eq-eqb (wordAt words 0) n b,
+            eq-eqb (wordAt words 1) size c,
+            eq-eqb (wordAt words 3) (beginOf words size) d,
+            le-leb (beginOf words size) (length words) h,
+          )
 
 first-and-fifth : (a b c d e f : Bool) → (a && (b && (c && (d && (e && f))))) ≡ true → (a ≡ true) × (e ≡ true)
 first-and-fifth a b c d e f h =

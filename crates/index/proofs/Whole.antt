@@ -91,7 +91,8 @@ laid z a b c d e k l la lb lk ll =
     let joint : sets (sets z recordsAt c) k d ≡ sets z recordsAt cd = ap (λ (n : ℕ). sets (sets z recordsAt c) n d) lk ∙ sym (sets-append c d z recordsAt) in
     let first : sets (sets z recordsAt cd) 0 a ≡ sets (sets z 0 a) recordsAt cd = sets-before a cd z 0 recordsAt (omega (arith, la)) in
     let end : l ≡ recordsAt + length cd = omega (arith, ll, lk, length-append c d) in
-    let last : sets (sets (sets z 0 a) recordsAt cd) l e ≡ sets (sets z 0 a) recordsAt (cd ++ e) = ap (λ (n : ℕ). sets (sets (sets z 0 a) recordsAt cd) n e) end ∙ sym (sets-append cd e (sets z 0 a) recordsAt) in
+    let last : sets (sets (sets z 0 a) recordsAt cd) l e ≡ sets (sets z 0 a) recordsAt (cd ++ e) =
+    ap (λ (n : ℕ). sets (sets (sets z 0 a) recordsAt cd) n e) end ∙ sym (sets-append cd e (sets z 0 a) recordsAt) in
     let places : sets (sets (sets z 0 a) recordsAt (cd ++ e)) 3 b ≡ sets (sets (sets z 0 a) 3 b) recordsAt (cd ++ e) = sets-before b (cd ++ e) (sets z 0 a) 3 recordsAt (omega (arith, lb)) in
     let three : 3 ≡ 0 + length a = omega (arith, la) in
     let ab : sets (sets z 0 a) 3 b ≡ sets z 0 (a ++ b) = ap (λ (n : ℕ). sets (sets z 0 a) n b) three ∙ sym (sets-append a b z 0) in

@@ -32,7 +32,8 @@ only = record {
 }
 
 pub printed-opens : given head ≡ headOf printed
-unfolding readingOf forwardAt valueOf sizeOf tooLong signedOf preambleOf textsFrom sectionsFrom sectionsAt contentsBy headBy within remoteAt stringAt bytesOf textAt characters startedBy begunBy followed goesOn isUtf8
+unfolding readingOf forwardAt valueOf sizeOf tooLong signedOf preambleOf textsFrom sectionsFrom sectionsAt contentsBy headBy within remoteAt stringAt bytesOf textAt characters startedBy
+    begunBy followed goesOn isUtf8
 printed-opens = refl
 
 pub printed-table : given (only ∷ []) ≡ tableOf printed head
@@ -53,7 +54,9 @@ printed-lists = refl
 
 -- the index has 2,066 words
 pub printed-index : indexedOf printed 2066 .reply ≡ given 2066
-unfolding readingOf forwardAt valueOf sizeOf tooLong signedOf preambleOf textsFrom sectionsFrom sectionsAt contentsBy headBy within remoteAt stringAt bytesOf textAt characters startedBy begunBy followed goesOn isUtf8 stepsBy entryBy rowsThen rowBy rowsWithin rowsFrom rowsIn tableFrom tableOf listsFrom listFrom joined meets spanOf recordsOf packedFrom startsFrom indexOf indexWith indexIn indexedBy indexedOf
+unfolding readingOf forwardAt valueOf sizeOf tooLong signedOf preambleOf textsFrom sectionsFrom sectionsAt contentsBy headBy within remoteAt stringAt bytesOf textAt characters startedBy
+    begunBy followed goesOn isUtf8 stepsBy entryBy rowsThen rowBy rowsWithin rowsFrom rowsIn tableFrom tableOf listsFrom listFrom joined meets spanOf recordsOf packedFrom startsFrom indexOf
+    indexWith indexIn indexedBy indexedOf
 printed-index = refl
 
 -- so `is_index` says 0 of them,

@@ -7,7 +7,7 @@ use Rattle.numbers.specs.Answer.{if_then_else_}
 use Rattle.border.specs.{Box.{Box, minZ, maxZ, grown, holds}, declared.place.{FixedLat.{FixedLat}, FixedLon.{FixedLon}, Point.{Point}}}
 use Rattle.numbers.proofs.Tests.{both, differ}
 use Rattle.verdict.specs.Edge.{between, inBox, sameZ, samePoint}
-use Rattle.verdict.proofs.{OutsideBox.{leZ-trans, leZ-total, unless}, Stretch.{holds-parts}}
+use Rattle.verdict.proofs.{OutsideBox.{leZ-trans, leZ-total, unless}, AfarBox.{holds-parts}}
 
 leZ-refl : (a : ℤ) → leZ a a ≡ true
 leZ-refl (pos a) = le-leb a a (omega arith)

@@ -1,4 +1,4 @@
--- A border that is judged by its marks is judged as by all its points, at every location, without the distance. Assumes nothing.
+-- A border that is judged by its marks is judged as by all its points, at every location, with the distance too. Assumes nothing.
 use Prim.Native.Nat.{ℕ, zero, suc, _+_, _-_, _*_, _/_, _≤_, _<_}
 use native.Mathlib.{Nat.{suc-mul, zero-mul}, Omega.{arith}}
 use borrow.Author.Tests.{ltb-true, lt-ltb, le-leb}
@@ -8,12 +8,16 @@ use Rattle.numbers.specs.Answer.{Answer, found, if_then_else_}
 use Rattle.border.specs.Trace.{Trace, Given, point, reaches, ended, nextPoint, traceOf, borderAt}
 use Rattle.border.specs.declared.{place.{FixedLat.{FixedLat}, FixedLon.{FixedLon}, Point.{Point}}, reader.{Reader.{Reader}, Encoding.{Encoding}}}
 use Rattle.border.proofs.Trace.{point-trace}
-use Rattle.verdict.specs.{Step.{Step, meets}, Edge.{samePoint}, Verdict.{Judgement, none, after, along, passing, thenOn, judge, judgedAt}}
+use Rattle.verdict.specs.{Step.{Step, meets, _>>=_}, Edge.{samePoint}, Verdict.{Judgement, none, after, along, passing, closedAt, thenOn, judge, judgedAt}}
 use Rattle.verdict.specs.declared.step.{Tally.{Tally}, Verdict.the-variants.{OnBorderVertex}}
-use Rattle.marks.specs.Marks.{nextOr, spanFrom, markOf, marksFrom, isNarrow, edgesFrom, stretchEdges, stretchesOf, fewEdges, mostPoints, stretchesFrom, stretchesIn, counted, marksAt}
-use Rattle.marks.specs.{Judging.{stretchesBy, isInside, judgedBy}, Words.{wordAt, startIn}}
-use Rattle.marks.proofs.{Marked.{marked-so, marked-judge}, ReadBack.{At, at-left, at-right, start-back}, Rounds.{Round, counts}, Stretches.{then-same, states-judge}}
+use Rattle.marks.specs.Marks.{nextOr, spanFrom, markOf, marksFrom, isNarrow, edgesFrom, stretchEdges, stretchesOf, groupEdges, groupsOf}
+use Rattle.marks.specs.Marks.{fewEdges, mostPoints, stretchesFrom, stretchesIn, levelsFrom, counted, marksAt}
+use Rattle.marks.specs.{Judging.{groupsBy, isInside, judgedFrom, nearIn, isBelow, judgedBy}, Words.{wordAt, markWide, startIn}}
+use Rattle.marks.proofs.{Marked.{marks-length, marked-so, coarse-judges}, Nearest.{near-less}, Parts.{then-through, judges-all}, ReadBack.{At, at-left, at-right, start-back}, Rounds.{Round, counts}}
+use Rattle.verdict.proofs.NearerStart.{Below, nearer-start}
+use Rattle.numbers.proofs.Tests.{differ}
 use Rattle.numbers.specs.Answer as A
+use Rattle.verdict.specs.Verdict as J
 use Rattle.verdict.specs.Step as S
 
 -- ---- the numbers
@@ -22,33 +26,23 @@ record Numbers (m : ℕ) : Type 0 where
   count : 0 < stretchesOf m
   few : m ≤ stretchesOf m * stretchEdges
   full : stretchesOf m * stretchEdges < m + stretchEdges
-  room : 2 * (stretchesOf m * stretchEdges) < 2147483647
+  all : m ≤ groupsOf (stretchesOf m) * groupEdges
+  room : 2 * (groupsOf (stretchesOf m) * groupEdges) < 2147483647
 
 numbers : (m : ℕ) → m < mostPoints → ltb fewEdges m ≡ true → Numbers m
-unfolding stretchesOf stretchEdges fewEdges mostPoints
+unfolding stretchesOf stretchEdges groupsOf groupEdges fewEdges mostPoints
 numbers m h g =
     let big = ltb-true 256 m g in
-    record { edges = omega (arith, big); count = omega (arith, big); few = omega (arith, big); full = omega (arith, big); room = omega (arith, h) }
+    record { edges = omega (arith, big); count = omega (arith, big); few = omega (arith, big); full = omega (arith, big); all = omega arith; room = omega (arith, h) }
 
-some-edges : 0 < stretchEdges
-unfolding stretchEdges
-some-edges = omega arith
-
-marks-length : (edges more : ℕ) (file : List ℕ) (encoding : Encoding) (s : Reader) → length (marksFrom edges more file encoding s) ≡ more * 11
-unfolding marksFrom
-marks-length edges zero file encoding s = sym (zero-mul 11)
-marks-length edges (suc more) file encoding s =
-    let span = spanFrom edges file encoding s in
-    omega (arith, marks-length edges more file encoding (span .last), length-append (markOf s (span .box)) (marksFrom edges more file encoding (span .last)), suc-mul more 11)
-
-module _ (file : List ℕ) (encoding : Encoding) (border : ℕ) (words : List ℕ) (at : ℕ) (lat : FixedLat) (lon : FixedLon) (least : ℕ) where
+module _ (file : List ℕ) (encoding : Encoding) (border : ℕ) (words : List ℕ) (at : ℕ) (lat : FixedLat) (lon : FixedLon) (asked : Bool) (least : ℕ) where
   abbrev fix : Point
   fix = record { lat = lat; lon = lon }
 
   abbrev start : Tally
   start = record { winding = pos 0; least = least }
 
-  begun : (p : Point) (t u : Tally) → passing fix false none p t ≡ S.found u → u ≡ t
+  begun : (p : Point) (t u : Tally) → passing fix asked none p t ≡ S.found u → u ≡ t
   unfolding passing along
   begun p t u e = go (samePoint p fix) e
     where
@@ -58,27 +52,43 @@ module _ (file : List ℕ) (encoding : Encoding) (border : ℕ) (words : List �
 
   -- the whole border, from its first point on
   whole : (s : Reader) → nextPoint file encoding (borderAt border) ≡ found (reaches s)
-      → thenOn false least (passing fix false none (s .point) start) (λ u. judge fix false (after (s .point)) u (traceOf file encoding s)) ≡ judgedAt file encoding border lat lon false least
+      → thenOn asked least (passing fix asked none (s .point) start) (λ u. judge fix asked (after (s .point)) u (traceOf file encoding s)) ≡ judgedAt file encoding border lat lon asked least
   unfolding judgedAt judge
-  whole s e = ap (judge fix false none start) (point-trace file encoding (borderAt border) s (sym e))
+  whole s e = ap (judge fix asked none start) (point-trace file encoding (borderAt border) s (sym e))
 
   module _ (s : Reader) (is : nextPoint file encoding (borderAt border) ≡ found (reaches s)) (m : ℕ) (n : Numbers m) (round : Round file encoding (s .point) s m) where
     abbrev marks : List ℕ
     marks = marksFrom stretchEdges (stretchesOf m) file encoding s
 
-    module _ (here : At words at (stretchesOf m ∷ marks)) (fits : at + suc (length marks) ≤ length words) where
-      first-word : wordAt words at ≡ stretchesOf m
+    abbrev groups : List ℕ
+    groups = marksFrom groupEdges (groupsOf (stretchesOf m)) file encoding s
+
+    module _ (here : At words at (stretchesOf m ∷ (marks ++ groups))) (fits : at + suc (length (marks ++ groups)) ≤ length words) where
+      abbrev count : ℕ
+      count = stretchesOf m
+
+      abbrev behind : ℕ
+      behind = at + 1 + count * markWide
+
+      first-word : wordAt words at ≡ count
       first-word = let e : at ≡ at + 0 = omega arith in ap (λ (k : ℕ). wordAt words k) e ∙ here 0 (omega arith)
 
-      later : At words (at + 1) marks
-      later = at-right words at (stretchesOf m ∷ []) marks here
+      later : At words (at + 1) (marks ++ groups)
+      later = at-right words at (count ∷ []) (marks ++ groups) here
+
+      fine : At words (at + 1) marks
+      fine = at-left words (at + 1) marks groups later
+
+      coarse : At words behind groups
+      coarse = subst (λ (k : ℕ). At words (at + 1 + k) groups) (marks-length stretchEdges count file encoding s) (at-right words (at + 1) marks groups later)
 
       inside : isInside words at ≡ true
       inside =
-          let long = marks-length stretchEdges (stretchesOf m) file encoding s in
+          let long = marks-length stretchEdges count file encoding s in
+          let wide = marks-length groupEdges (groupsOf count) file encoding s in
           let more : at < length words = omega (arith, fits) in
-          let few : stretchesOf m ≤ (length words - (at + 1)) / 11 = omega (arith, fits, long) in
-          rw (first-word, lt-ltb at (length words) more, lt-ltb 0 (stretchesOf m) (n .count), le-leb (stretchesOf m) ((length words - (at + 1)) / 11) few)
+          let few : count + groupsOf count ≤ (length words - (at + 1)) / 11 = omega (arith, fits, long, wide, length-append marks groups) in
+          rw (first-word, lt-ltb at (length words) more, lt-ltb 0 count (n .count), le-leb (count + groupsOf count) ((length words - (at + 1)) / 11) few)
 
       own-narrow : isNarrow (s .point) ≡ true
       own-narrow = marked-so file encoding (s .point) s m round (n .edges) .narrow
@@ -90,26 +100,27 @@ module _ (file : List ℕ) (encoding : Encoding) (border : ℕ) (words : List �
           let box = spanFrom stretchEdges file encoding s .box in
           start-back words (at + 1) s box (at-left words (at + 1) (markOf s box) (marksFrom stretchEdges more file encoding (spanFrom stretchEdges file encoding s .last)) there) own-narrow
 
-      by-parts : judgedBy file encoding words at lat lon least ≡ thenOn false least (passing fix false none (s .point) start) (stretchesBy file encoding fix words (s .point) (stretchesOf m) (at + 1))
-      unfolding judgedBy
-      by-parts = rw (inside, first-so (stretchesOf m) (n .count) later, first-word)
-
       -- what the marks come to behind the first point, and what the points do
-      abbrev byMarks : Tally → Judgement
-      byMarks = stretchesBy file encoding fix words (s .point) (stretchesOf m) (at + 1)
+      abbrev byMarks : Tally → Step Tally
+      byMarks = groupsBy file encoding fix asked words (s .point) (groupsOf count) behind count (at + 1)
 
       abbrev byPoints : Tally → Judgement
-      byPoints u = judge fix false (after (s .point)) u (traceOf file encoding s)
+      byPoints u = judge fix asked (after (s .point)) u (traceOf file encoding s)
 
-      from-start : byMarks start ≡ byPoints start
+      by-parts : judgedFrom file encoding words at fix asked least ≡ thenOn asked least (passing fix asked none (s .point) start >>= byMarks) (closedAt asked)
+      unfolding judgedFrom
+      by-parts = rw (inside, first-so count (n .count) fine, first-word)
+
+      from-start : thenOn asked least (byMarks start) (closedAt asked) ≡ byPoints start
       from-start =
-          marked-judge file encoding (s .point) own-narrow fix words some-edges (stretchesOf m) s m (at + 1) start round (n .few) (n .full) later
-          ∙ states-judge file encoding fix (s .point) stretchEdges some-edges (stretchesOf m) s m start round (n .few) (omega (arith, n .room))
+          judges-all file encoding fix asked (s .point) (groupsOf count * groupEdges) s m byMarks round (n .all)
+          (coarse-judges file encoding (s .point) own-narrow fix asked words (groupsOf count) count s m behind (at + 1) refl round (n .few) (n .full) coarse fine) start (omega (arith, n .room))
 
-      by-marks : judgedBy file encoding words at lat lon least ≡ judgedAt file encoding border lat lon false least
+      by-marks : judgedFrom file encoding words at fix asked least ≡ judgedAt file encoding border lat lon asked least
       by-marks =
           by-parts
-          ∙ then-same least (passing fix false none (s .point) start) byMarks byPoints (λ u e. subst (λ (t : Tally). byMarks t ≡ byPoints t) (sym (begun (s .point) start u e)) from-start)
+          ∙ then-through asked least (passing fix asked none (s .point) start) byMarks (closedAt asked) byPoints
+          (λ u e. subst (λ (t : Tally). thenOn asked least (byMarks t) (closedAt asked) ≡ byPoints t) (sym (begun (s .point) start u e)) from-start)
           ∙ whole s is
 
   nothing : {C : Type 0} → 0 < length {A = ℕ} [] → C
@@ -125,34 +136,69 @@ module _ (file : List ℕ) (encoding : Encoding) (border : ℕ) (words : List �
   counted-none xs h = nothing h
 
   abbrev Goal : List ℕ → Type 0
-  Goal marks = 0 < length marks → At words at marks → at + length marks ≤ length words → judgedBy file encoding words at lat lon least ≡ judgedAt file encoding border lat lon false least
+  Goal marks = 0 < length marks → At words at marks → at + length marks ≤ length words → judgedFrom file encoding words at fix asked least ≡ judgedAt file encoding border lat lon asked least
 
   module _ (s : Reader) (is : nextPoint file encoding (borderAt border) ≡ found (reaches s)) where
-    by-count : (a : Answer ℕ) → edgesFrom mostPoints file encoding (s .point) s 0 ≡ a → Goal (counted (stretchesFrom a) (marksFrom stretchEdges (stretchesFrom a) file encoding s))
+    by-count : (a : Answer ℕ) → edgesFrom mostPoints file encoding (s .point) s 0 ≡ a → Goal (counted (stretchesFrom a) (levelsFrom (stretchesFrom a) file encoding s))
     unfolding stretchesFrom
     by-count (found m) e = by-test (ltb fewEdges m) refl
       where
-        by-test : (b : Bool) → ltb fewEdges m ≡ b → Goal (counted (if b then stretchesOf m else 0) (marksFrom stretchEdges (if b then stretchesOf m else 0) file encoding s))
+        by-test : (b : Bool) → ltb fewEdges m ≡ b → Goal (counted (if b then stretchesOf m else 0) (levelsFrom (if b then stretchesOf m else 0) file encoding s))
         by-test true g some here fits =
             let c = counts file encoding (s .point) mostPoints s 0 m e in
             let same : c .edges ≡ m = omega (arith, c .sum) in
             let n = numbers m (subst (λ (k : ℕ). k < mostPoints) same (c .few)) g in
-            let list = counted-some (stretchesOf m) (marksFrom stretchEdges (stretchesOf m) file encoding s) (n .count) in
+            let list = counted-some (stretchesOf m) (levelsFrom (stretchesOf m) file encoding s) (n .count) in
             by-marks s is m n (subst (Round file encoding (s .point) s) same (c .round)) (subst (At words at) list here) (subst (λ (xs : List ℕ). at + length xs ≤ length words) list fits)
-        by-test false g some here fits = counted-none (marksFrom stretchEdges 0 file encoding s) some
-    by-count A.failed e = λ some here fits. counted-none (marksFrom stretchEdges 0 file encoding s) some
-    by-count (A.refused k) e = λ some here fits. counted-none (marksFrom stretchEdges 0 file encoding s) some
+        by-test false g some here fits = counted-none (levelsFrom 0 file encoding s) some
+    by-count A.failed e = λ some here fits. counted-none (levelsFrom 0 file encoding s) some
+    by-count (A.refused k) e = λ some here fits. counted-none (levelsFrom 0 file encoding s) some
 
   by-first : (a : Answer Given) → nextPoint file encoding (borderAt border) ≡ a
-      → Goal (nextOr a [] (λ s. counted (stretchesIn file encoding s) (marksFrom stretchEdges (stretchesIn file encoding s) file encoding s)))
+      → Goal (nextOr a [] (λ s. counted (stretchesIn file encoding s) (levelsFrom (stretchesIn file encoding s) file encoding s)))
   unfolding nextOr
   by-first (found (reaches s)) e = by-count s e (edgesFrom mostPoints file encoding (s .point) s 0) refl
   by-first (found ended) e = λ some here fits. nothing some
   by-first A.failed e = λ some here fits. nothing some
   by-first (A.refused k) e = λ some here fits. nothing some
 
-  -- Where the marks of a border stand in the words, the judgement by them is the border's own.
-  pub marked-is-plain : 0 < length (marksAt file encoding border) → At words at (marksAt file encoding border) → at + length (marksAt file encoding border) ≤ length words
-      → judgedBy file encoding words at lat lon least ≡ judgedAt file encoding border lat lon false least
+  -- Where the marks of a border stand in the words, the judgement by them from any least distance is the border's own.
+  from-is-plain : 0 < length (marksAt file encoding border) → At words at (marksAt file encoding border) → at + length (marksAt file encoding border) ≤ length words
+      → judgedFrom file encoding words at fix asked least ≡ judgedAt file encoding border lat lon asked least
   unfolding marksAt
-  marked-is-plain = by-first (nextPoint file encoding (borderAt border)) refl
+  from-is-plain = by-first (nextPoint file encoding (borderAt border)) refl
+
+-- a verdict that is below
+below-so : (near : ℕ) (j : Judgement) → isBelow near j ≡ true → Below near j
+unfolding isBelow
+below-so near (J.reached v d) e = ltb-true d near e
+below-so near (J.failed d) e = differ e
+below-so near (J.refused n) e = differ e
+
+-- Where the marks of a border stand in the words, the judgement by them is the border's own, with the distance and without it.
+pub marked-is-plain : (file : List ℕ) (encoding : Encoding) (border : ℕ) (words : List ℕ) (at : ℕ) (lat : FixedLat) (lon : FixedLon) (asked : Bool) (least : ℕ)
+    → 0 < length (marksAt file encoding border) → At words at (marksAt file encoding border) → at + length (marksAt file encoding border) ≤ length words
+    → judgedBy file encoding words at lat lon asked least ≡ judgedAt file encoding border lat lon asked least
+unfolding judgedBy
+marked-is-plain file encoding border words at lat lon asked least some here fits = by-test (isBelow near (judged near)) refl
+  where
+    fix : Point
+    fix = record { lat = lat; lon = lon }
+
+    near : ℕ
+    near = nearIn words at fix asked least
+
+    judged : ℕ → Judgement
+    judged = judgedFrom file encoding words at fix asked
+
+    plain : (d : ℕ) → judged d ≡ judgedAt file encoding border lat lon asked d
+    plain d = from-is-plain file encoding border words at lat lon asked d some here fits
+
+    starts : (asked : Bool) → Below (nearIn words at fix asked least) (judgedAt file encoding border lat lon asked (nearIn words at fix asked least))
+        → judgedAt file encoding border lat lon asked (nearIn words at fix asked least) ≡ judgedAt file encoding border lat lon asked least
+    starts true low = sym (nearer-start file encoding border lat lon (nearIn words at fix true least) least (near-less words at fix true least) low)
+    starts false low = refl
+
+    by-test : (b : Bool) → isBelow near (judged near) ≡ b → (if b then judged near else judged least) ≡ judgedAt file encoding border lat lon asked least
+    by-test true e = plain near ∙ starts asked (subst (Below near) (plain near) (below-so near (judged near) e))
+    by-test false e = plain least

@@ -1,133 +1,139 @@
--- A border that comes round, judged stretch by stretch from its states, is judged as by all its points. Assumes nothing.
-use Prim.Native.Nat.{ℕ, zero, suc, _+_, _-_, _*_, _≤_, _<_}
-use native.Mathlib.{Nat.{suc-mul, zero-mul}, Omega.{arith}}
-use mathlib.Core.{Path.{_≡_, refl, sym, ap, _∙_, subst}, Bool.{Bool, true, false}, List.{List}}
-use lib.{IntN.{ℤ, pos, negsuc, natAbs}}
-use Rattle.numbers.specs.Answer.{Answer, if_then_else_}
-use Rattle.border.specs.{Box.{Box, grown, holds}, Trace.{Trace, Given, point, reaches, ended, nextPoint, traceOf}, declared.{place.Point.{Point}, reader.{Reader.{Reader}, Encoding.{Encoding}}}}
+-- A stretch of a border that comes round, by its points or, where it may be passed so, by a leap. Assumes nothing.
+use Prim.Native.Nat.{ℕ, zero, suc, _+_, _-_, _*_, _%_, _≤_, _<_}
+use native.Mathlib.Omega.{arith}
+use mathlib.Core.{Path.{_≡_, refl, sym, ap, _∙_}, Bool.{Bool, true, false, not, _&&_}, List.{List}}
+use lib.{Dec.{eqb}, IntN.{ℤ, pos, negsuc, natAbs, _+ℤ_}}
+use borrow.Author.Tests.{not-true}
+use Rattle.numbers.{proofs.Tests.{both}, specs.Answer.{if_then_else_}}
+use Rattle.border.specs.{Box.{Box, grown, holds}, Trace.{Trace, point, traceOf}, declared.{place.Point.{Point}, reader.{Reader.{Reader}, Encoding.{Encoding}}}}
 use Rattle.border.proofs.Trace.{point-trace}
-use Rattle.verdict.specs.{Step.{Step, found, meets, refused, _>>=_}, Edge.{inBox}, Verdict.{Judgement, after, passing, closedAt, thenOn, judge}, declared.step.Tally.{Tally}}
-use Rattle.verdict.proofs.{Stretch.{Roomy, stretch-is-edge}, Unasked.{passing-least}, Winds.{Winds, bound-winds, passing-winds}}
-use Rattle.marks.specs.{Judging.{readOn}, Marks.{nextOr, Span, spanOver, spanFrom}}
-use Rattle.marks.proofs.{Boxes.{own-holds, out-of-box}, Rounds.{Round, closes, goes}, Spans.{Spans, spans, ended-trace}}
-use Rattle.numbers.specs.Answer as A
+use Rattle.verdict.specs.{Step.{Step, found, meets, refused, _>>=_, checked}, Edge.{inBox, quadrantOf}, Far.{isAfar}, Winding.{turned, quarterBy}, Stretch.{Stretch, leapt, passingFirst}}
+use Rattle.verdict.specs.{Verdict.{Judgement, after, passing, thenOn, judge}, declared.step.Tally.{Tally}}
+use Rattle.verdict.proofs.{Stretch.{Roomy, stretch-is-leap, afar-is-leap}, Unasked.{passing-least}, Winds.{Winds, bound-winds, passing-winds, leapt-winds}}
+use Rattle.marks.specs.{Judging.{canPass}, Marks.{nextOr, Span, spanOver, spanFrom}}
+use Rattle.marks.proofs.{Boxes.{own-holds, out-of-box}, Groups.{lastOver}, Rounds.{Round, closes, goes}, Spans.{Spans, spans, ended-trace}}
+use Rattle.marks.proofs.Parts.{then-through, least-same, weaker, Keeps, keeps-here, keeps-both, JudgesAt, Judges, judges-either}
+use Rattle.border.specs.Trace as T
 
 roomy : (z : ℤ) → natAbs z < 2147483647 → Roomy z
 roomy (pos n) h = h
 roomy (negsuc n) h = omega (arith, h)
 
-if-winds : (n : ℕ) (b : Bool) (x y : Step Tally) → Winds n x → Winds n y → Winds n (if b then x else y)
-if-winds n true x y h g = h
-if-winds n false x y h g = g
+module _ (fix : Point) (asked : Bool) where
+  edge-keeps : (p to : Point) (t : Tally) → Keeps asked t (passing fix asked (after p) to t)
+  edge-keeps p to t = go asked
+    where
+      go : (b : Bool) → Keeps b t (passing fix b (after p) to t)
+      go true = record { least = λ plainly u e. let z : _≡_ {A = ℕ} 0 1 = cc in absurd (omega arith) }
+      go false = record { least = λ plainly u e. passing-least fix p to t u e }
 
-weaker : (n m : ℕ) (x : Step Tally) → n ≤ m → Winds n x → Winds m x
-weaker n m (found t) h g = omega (arith, h, g)
-weaker n m (meets v) h g = tt
-weaker n m (refused k) h g = tt
+  first-winds : (edges : ℕ) (p : Point) (trace : Trace) (t : Tally) → Winds (natAbs (t .winding) + 2 * edges) (passingFirst fix asked edges (after p) trace t)
+  unfolding passingFirst
+  first-winds zero p trace t = omega arith
+  first-winds (suc more) p (point to trace) t =
+      bound-winds (natAbs (t .winding) + 2) (natAbs (t .winding) + 2 * suc more) (passing fix asked (after p) to t) (passingFirst fix asked more (after to) trace)
+      (passing-winds fix asked p to t)
+      (λ u g. weaker (natAbs (u .winding) + 2 * more) (natAbs (t .winding) + 2 * suc more) (passingFirst fix asked more (after to) trace u) (omega (arith, g)) (first-winds more to trace u))
+  first-winds (suc more) p T.closed t = omega arith
+  first-winds (suc more) p T.failed t = omega arith
+  first-winds (suc more) p (T.refused n) t = omega arith
 
-module _ (least : ℕ) where
-  -- what follows a step may be told another way
-  pub then-same : (m : Step Tally) (k l : Tally → Judgement) → ((u : Tally) → m ≡ found u → k u ≡ l u) → thenOn false least m k ≡ thenOn false least m l
-  unfolding thenOn
-  then-same (found u) k l h = h u refl
-  then-same (meets v) k l h = refl
-  then-same (refused n) k l h = refl
+  first-keeps : (edges : ℕ) (p : Point) (trace : Trace) (t : Tally) → Keeps asked t (passingFirst fix asked edges (after p) trace t)
+  unfolding passingFirst
+  first-keeps zero p trace t = keeps-here asked t
+  first-keeps (suc more) p (point to trace) t =
+      keeps-both asked t (passing fix asked (after p) to t) (passingFirst fix asked more (after to) trace) (edge-keeps p to t) (λ u. first-keeps more to trace u)
+  first-keeps (suc more) p T.closed t = keeps-here asked t
+  first-keeps (suc more) p T.failed t = keeps-here asked t
+  first-keeps (suc more) p (T.refused n) t = keeps-here asked t
 
-  -- two steps are one after the other
-  then-through : (m : Step Tally) (g : Tally → Step Tally) (k l : Tally → Judgement) → ((u : Tally) → m ≡ found u → thenOn false least (g u) k ≡ l u)
-      → thenOn false least (m >>= g) k ≡ thenOn false least m l
-  unfolding thenOn
-  then-through (found u) g k l h = h u refl
-  then-through (meets v) g k l h = refl
-  then-through (refused n) g k l h = refl
-
-module _ (file : List ℕ) (encoding : Encoding) (fix : Point) where
+module _ (file : List ℕ) (encoding : Encoding) (fix : Point) (asked : Bool) (first : Point) where
   abbrev rest : Reader → Trace
   rest = traceOf file encoding
 
   -- ---- a stretch that is read
-  read-winds-then : (more : ℕ) (s : Reader) (t : Tally) → ((s : Reader) (t : Tally) → Winds (natAbs (t .winding) + 2 * more) (readOn file encoding fix more s t)) → (a : Answer Given)
-      → Winds (natAbs (t .winding) + 2 * suc more) (nextOr a (found t) (λ later. passing fix false (after (s .point)) (later .point) t >>= readOn file encoding fix more later))
-  unfolding nextOr
-  read-winds-then more s t h (A.found (reaches later)) =
-      bound-winds (natAbs (t .winding) + 2) (natAbs (t .winding) + 2 * suc more) (passing fix false (after (s .point)) (later .point) t) (readOn file encoding fix more later)
-      (passing-winds fix false (s .point) (later .point) t)
-      (λ u g. weaker (natAbs (u .winding) + 2 * more) (natAbs (t .winding) + 2 * suc more) (readOn file encoding fix more later u) (omega (arith, g)) (h later u))
-  read-winds-then more s t h (A.found ended) = omega arith
-  read-winds-then more s t h A.failed = omega arith
-  read-winds-then more s t h (A.refused n) = omega arith
+  read-all : (edges : ℕ) (s : Reader) (n : ℕ) (box : Box) (t : Tally) → Round file encoding first s n
+      → thenOn asked (t .least) (passingFirst fix asked edges (after (s .point)) (rest s) t)
+      (λ u. judge fix asked (after (spanOver edges file encoding s box .last .point)) u (rest (spanOver edges file encoding s box .last)))
+      ≡ judge fix asked (after (s .point)) t (rest s)
+  unfolding passingFirst spanOver nextOr thenOn judge
+  read-all zero s n box t r = refl
+  read-all (suc more) s zero box t (closes e p) = rw (e, ended-trace file encoding first s e)
+  read-all (suc more) s (suc n) box t (goes {t = later} e m r) =
+      rw (e, ← point-trace file encoding s later (sym e))
+      (then-through asked (t .least) (passing fix asked (after (s .point)) (later .point) t) (passingFirst fix asked more (after (later .point)) (rest later)) _ _
+      (λ u g. least-same asked (t .least) (u .least) (λ plainly. edge-keeps fix asked (s .point) (later .point) t .least plainly u g) (passingFirst fix asked more (after (later .point)) (rest later) u)
+      (λ v. judge fix asked (after (spanOver more file encoding later (grown box (later .point)) .last .point)) v (rest (spanOver more file encoding later (grown box (later .point)) .last)))
+      ∙ read-all more later n (grown box (later .point)) u r))
 
-  read-winds : (edges : ℕ) (s : Reader) (t : Tally) → Winds (natAbs (t .winding) + 2 * edges) (readOn file encoding fix edges s t)
-  unfolding readOn
-  read-winds zero s t = omega arith
-  read-winds (suc more) s t = read-winds-then more s t (read-winds more) (nextPoint file encoding s)
+  pub points-judge : (edges : ℕ) (s : Reader) (n : ℕ) → Round file encoding first s n → Judges file encoding fix asked edges s (passingFirst fix asked edges (after (s .point)) (rest s))
+  points-judge edges s n r t = record {
+    winds = first-winds fix asked edges (s .point) (rest s) t;
+    keeps = first-keeps fix asked edges (s .point) (rest s) t;
+    same = λ room. read-all edges s n (record { low = s .point; high = s .point }) t r;
+  }
 
-  read-next : (s later : Reader) (more : ℕ) (t : Tally) (k : Tally → Judgement) → nextPoint file encoding s ≡ A.found (reaches later)
-      → ((u : Tally) → thenOn false (u .least) (readOn file encoding fix more later u) k ≡ judge fix false (after (later .point)) u (rest later))
-      → thenOn false (t .least) (passing fix false (after (s .point)) (later .point) t >>= readOn file encoding fix more later) k ≡ judge fix false (after (s .point)) t (rest s)
-  unfolding judge
-  read-next s later more t k e h =
-      then-through (t .least) (passing fix false (after (s .point)) (later .point) t) (readOn file encoding fix more later) k (λ u. judge fix false (after (later .point)) u (rest later))
-      (λ u g. subst (λ (d : ℕ). thenOn false d (readOn file encoding fix more later u) k ≡ judge fix false (after (later .point)) u (rest later))
-      (passing-least fix (s .point) (later .point) t u g) (h u))
-      ∙ ap (judge fix false (after (s .point)) t) (point-trace file encoding s later (sym e))
+-- ---- a stretch that is passed by a leap
+-- a leap leaves the least distance so far
+abbrev leastOf : Step Tally → ℕ
+leastOf (found t) = t .least
+leastOf (meets v) = 0
+leastOf (refused n) = 0
 
-  read-all : (first : Point) (edges : ℕ) (s : Reader) (n : ℕ) (box : Box) (t : Tally) → Round file encoding first s n
-      → thenOn false (t .least) (readOn file encoding fix edges s t)
-      (λ u. judge fix false (after (spanOver edges file encoding s box .last .point)) u (rest (spanOver edges file encoding s box .last)))
-      ≡ judge fix false (after (s .point)) t (rest s)
-  unfolding readOn spanOver nextOr thenOn
-  read-all first zero s n box t r = refl
-  read-all first (suc more) s zero box t (closes e p) = rw e
-  read-all first (suc more) s (suc n) box t (goes {t = later} e m r) = rw e (read-next s later more t _ e (λ u. read-all first more later n (grown box (later .point)) u r))
+turned-least : (by : ℤ) (t u : Tally) → turned by t ≡ found u → u .least ≡ t .least
+unfolding turned
+turned-least by t u = go (checked 31 (t .winding +ℤ by))
+  where
+    go : (m : Step ℤ) → (m >>= λ w. found (record { winding = w; least = t .least })) ≡ found u → u .least ≡ t .least
+    go (found w) e = sym (ap leastOf e)
+    go (meets v) e = let z : _≡_ {A = ℕ} 0 1 = cc in absurd (omega arith)
+    go (refused n) e = let z : _≡_ {A = ℕ} 0 1 = cc in absurd (omega arith)
 
-  -- ---- stretch by stretch
-  module _ (first : Point) (edges : ℕ) (some : 0 < edges) where
-    abbrev lastOf : Reader → Reader
-    lastOf s = spanFrom edges file encoding s .last
+leapt-least : (fix from to : Point) (t u : Tally) → leapt fix from to t ≡ found u → u .least ≡ t .least
+unfolding leapt quarterBy
+leapt-least fix from to t u = go (eqb quarters 1) (eqb quarters 3)
+  where
+    quarters : ℕ
+    quarters = (quadrantOf fix to + 4 - quadrantOf fix from) % 4
 
-    abbrev boxFrom : Reader → Box
-    boxFrom s = spanFrom edges file encoding s .box
+    go : (a b : Bool) → (if a then turned (pos 1) t else (if b then turned (negsuc 0) t else found t)) ≡ found u → u .least ≡ t .least
+    go true b e = turned-least (pos 1) t u e
+    go false true e = turned-least (negsuc 0) t u e
+    go false false e = sym (ap leastOf e)
 
-    -- by its points where its box holds the location, else by its one edge
-    abbrev pub stepBy : Reader → Tally → Step Tally
-    stepBy s t = if inBox (boxFrom s .low) fix (boxFrom s .high) then readOn file encoding fix edges s t else passing fix false (after (s .point)) (lastOf s .point) t
+-- a stretch that may be passed so does what the leap to its end does
+passed-is-leap : (asked : Bool) (fix : Point) (box : Box) {from to : Point} {trace left : Trace} (t : Tally) → canPass fix asked (t .least) (box .low) (box .high) ≡ true → holds box from ≡ true
+    → Stretch box from trace to left → Roomy (t .winding)
+    → judge fix asked (after from) t trace ≡ thenOn asked (t .least) (leapt fix from to t) (λ u. judge fix asked (after to) u left)
+unfolding canPass judge
+passed-is-leap true fix box t e start stretch room =
+    let h = both (not (inBox (box .low) fix (box .high))) (isAfar fix (t .least) (box .low) (box .high)) e in
+    afar-is-leap fix box t (out-of-box box fix (not-true _ (h .0))) (h .1) start stretch room
+passed-is-leap false fix box t e start stretch room =
+    let h = both (not (inBox (box .low) fix (box .high))) true e in
+    stretch-is-leap fix box t (out-of-box box fix (not-true _ (h .0))) start stretch room
 
-    unfoldable pub byStates : ℕ → Reader → Tally → Judgement
-    byStates zero s t = closedAt false t
-    byStates (suc more) s t = thenOn false (t .least) (stepBy s t) (byStates more (lastOf s))
+module _ (file : List ℕ) (encoding : Encoding) (fix : Point) (asked : Bool) (first : Point) (edges : ℕ) (some : 0 < edges) (s : Reader) (n : ℕ) (r : Round file encoding first s n) where
+  abbrev last : Reader
+  last = lastOver file encoding edges s
 
-    step-winds : (s : Reader) (t : Tally) → Winds (natAbs (t .winding) + 2 * edges) (stepBy s t)
-    step-winds s t =
-        if-winds (natAbs (t .winding) + 2 * edges) (inBox (boxFrom s .low) fix (boxFrom s .high)) (readOn file encoding fix edges s t) (passing fix false (after (s .point)) (lastOf s .point) t)
-        (read-winds edges s t)
-        (weaker (natAbs (t .winding) + 2) (natAbs (t .winding) + 2 * edges) (passing fix false (after (s .point)) (lastOf s .point) t) (omega (arith, some))
-        (passing-winds fix false (s .point) (lastOf s .point) t))
+  abbrev box : Box
+  box = spanFrom edges file encoding s .box
 
-    stretch-judge : (s : Reader) (n : ℕ) (t : Tally) → Round file encoding first s n → Roomy (t .winding)
-        → thenOn false (t .least) (stepBy s t) (λ u. judge fix false (after (lastOf s .point)) u (rest (lastOf s))) ≡ judge fix false (after (s .point)) t (rest s)
-    unfolding judge
-    stretch-judge s n t r room = go (inBox (boxFrom s .low) fix (boxFrom s .high)) refl
-      where
-        over : Spans file encoding first (record { low = s .point; high = s .point }) s (n - edges) (spanFrom edges file encoding s)
-        over = spans file encoding first edges s n (record { low = s .point; high = s .point }) r
+  over : Spans file encoding first (record { low = s .point; high = s .point }) s (n - edges) (spanFrom edges file encoding s)
+  over = spans file encoding first edges s n (record { low = s .point; high = s .point }) r
 
-        go : (b : Bool) → inBox (boxFrom s .low) fix (boxFrom s .high) ≡ b
-            → thenOn false (t .least) (if b then readOn file encoding fix edges s t else passing fix false (after (s .point)) (lastOf s .point) t)
-            (λ u. judge fix false (after (lastOf s .point)) u (rest (lastOf s))) ≡ judge fix false (after (s .point)) t (rest s)
-        go true e = read-all first edges s n (record { low = s .point; high = s .point }) t r
-        go false e = sym (stretch-is-edge fix (boxFrom s) t (out-of-box (boxFrom s) fix e) (over .wider (s .point) (own-holds (s .point))) (over .stretch) room)
+  abbrev byLeap : Tally → Step Tally
+  byLeap t = leapt fix (s .point) (last .point) t
 
-    -- A border that comes round within so many stretches.
-    pub states-judge : (more : ℕ) (s : Reader) (n : ℕ) (t : Tally) → Round file encoding first s n → n ≤ more * edges → natAbs (t .winding) + 2 * (more * edges) < 2147483647
-        → byStates more s t ≡ judge fix false (after (s .point)) t (rest s)
-    unfolding byStates judge
-    states-judge zero s zero t (closes e p) few room = rw (ended-trace file encoding first s e)
-    states-judge zero s (suc n) t r few room = absurd (omega (arith, few, zero-mul edges))
-    states-judge (suc more) s n t r few room =
-        then-same (t .least) (stepBy s t) (byStates more (lastOf s)) (λ u. judge fix false (after (lastOf s .point)) u (rest (lastOf s)))
-        (λ u e.
-        let w = subst (Winds (natAbs (t .winding) + 2 * edges)) e (step-winds s t) in
-        states-judge more (lastOf s) (n - edges) u (spans file encoding first edges s n (record { low = s .point; high = s .point }) r .behind)
-        (omega (arith, few, suc-mul more edges)) (omega (arith, room, w, suc-mul more edges)))
-        ∙ stretch-judge s n t r (roomy (t .winding) (omega (arith, room)))
+  edge-judges : (t : Tally) → canPass fix asked (t .least) (box .low) (box .high) ≡ true → JudgesAt file encoding fix asked edges s t (byLeap t)
+  edge-judges t can = record {
+    winds = weaker (natAbs (t .winding) + 2) (natAbs (t .winding) + 2 * edges) (byLeap t) (omega (arith, some)) (leapt-winds fix (s .point) (last .point) t);
+    keeps = record { least = λ plainly u e. leapt-least fix (s .point) (last .point) t u e };
+    same = λ room. sym (passed-is-leap asked fix box t can (over .wider (s .point) (own-holds (s .point))) (over .stretch) (roomy (t .winding) (omega (arith, room))));
+  }
+
+  -- By a leap where it may be passed so, else by what is inside.
+  pub stretch-judges : (inside : Tally → Step Tally) → Judges file encoding fix asked edges s inside
+      → Judges file encoding fix asked edges s (λ t. if canPass fix asked (t .least) (box .low) (box .high) then byLeap t else inside t)
+  stretch-judges inside j t = judges-either file encoding fix asked edges s t (canPass fix asked (t .least) (box .low) (box .high)) (byLeap t) (inside t) (edge-judges t) (j t)

@@ -1,11 +1,12 @@
--- A location inside four stretches, none of whose boxes holds it: it is judged by their marks alone, and no byte of the file is read.
+-- A location inside four stretches, none of whose boxes holds it, though that of their group does: it is judged by their marks alone, and no byte of the file is read. With the distance,
+-- if they are far. And a location outside the group's box: it is judged by that mark alone.
 use Prim.Native.Nat.{ℕ}
 use mathlib.Core.{Path.{_≡_, refl}, Bool.{true, false}, List.{List, [], _∷_}}
 use lib.IntN.{pos}
 use Rattle.border.specs.{Encoding.{encodedIn}, declared.{place.{FixedLat.{FixedLat}, FixedLon.{FixedLon}}, reader.Version.the-variants.{Packed}}}
-use Rattle.verdict.specs.{Step.{checked}, Edge.{samePoint, straight, between, inBox, quadrantOf}, Winding.{turned, quarterBy, clearOf, woundBy}, Distance.{measured}}
-use Rattle.verdict.specs.{Verdict.{reached, refused, along, passing, closedAt, thenOn}, declared.step.Verdict.the-variants.{InExcludedZone}}
-use Rattle.marks.specs.Judging.{endIn, stretchBy, stretchesBy, judgedBy}
+use Rattle.verdict.specs.{Step.{checked}, Edge.{samePoint, between, inBox, quadrantOf}, Winding.{turned, quarterBy}, Stretch.{leapt}, Distance.{squared, toVertex}, Far.{small, isSmall, raised, gapOf, isAfar}}
+use Rattle.verdict.specs.{Verdict.{reached, refused, along, passing, closedAt, thenOn}, declared.step.Verdict.the-variants.{NotInZone, InExcludedZone}}
+use Rattle.marks.specs.{Judging.{canPass, endIn, stretchBy, stretchesBy, groupsBy, countIn, judgedFrom, nearerBy, nearestOf, isBelow, judgedBy}, Marks.{groupWide, groupsOf}}
 
 -- the words of -3, -4 and -9
 abbrev m3 : ℕ
@@ -17,7 +18,7 @@ m4 = 4294967292
 abbrev m9 : ℕ
 m9 = 4294967287
 
--- westward in the north, southward in the west, eastward in the south, northward in the east; each with its box, its first point, and a state that is not asked
+-- westward in the north, southward in the west, eastward in the south, northward in the east; each with its box, its first point, and a state that is not asked; then their group
 abbrev four : List ℕ
 four =
     4
@@ -25,6 +26,7 @@ four =
     ∷ m4 ∷ m9 ∷ 4 ∷ m3 ∷ 4 ∷ m4 ∷ 0 ∷ 0 ∷ 0 ∷ 0 ∷ 0
     ∷ m9 ∷ m4 ∷ m3 ∷ 4 ∷ m4 ∷ m4 ∷ 0 ∷ 0 ∷ 0 ∷ 0 ∷ 0
     ∷ m4 ∷ 3 ∷ 4 ∷ 9 ∷ m4 ∷ 4 ∷ 0 ∷ 0 ∷ 0 ∷ 0 ∷ 0
+    ∷ m9 ∷ m9 ∷ 9 ∷ 9 ∷ 4 ∷ 4 ∷ 0 ∷ 0 ∷ 0 ∷ 0 ∷ 0
     ∷ []
 
 abbrev here : FixedLat
@@ -33,11 +35,24 @@ here = record { 0 = pos 0 }
 abbrev there : FixedLon
 there = record { 0 = pos 0 }
 
-pub unread : judgedBy [] (encodedIn Packed 0) four 0 here there 7 ≡ reached InExcludedZone 7
-unfolding judgedBy stretchesBy stretchBy endIn thenOn passing along measured samePoint woundBy quadrantOf quarterBy turned checked clearOf straight between inBox closedAt
+pub unread : judgedBy [] (encodedIn Packed 0) four 0 here there false 7 ≡ reached InExcludedZone 7
+unfolding judgedBy judgedFrom isBelow groupsBy groupsOf groupWide stretchesBy stretchBy canPass endIn thenOn passing along samePoint leapt quadrantOf quarterBy turned checked between inBox closedAt
 unread = refl
 
+-- two numbers lie between the location and each box, so that none is nearer than 4
+pub unread-afar : judgedBy [] (encodedIn Packed 0) four 0 here there true 4 ≡ reached InExcludedZone 4
+unfolding judgedBy judgedFrom isBelow countIn nearestOf nearerBy groupsBy groupsOf groupWide stretchesBy stretchBy canPass isAfar isSmall small gapOf raised toVertex squared endIn thenOn passing along samePoint leapt quadrantOf quarterBy turned checked between inBox closedAt
+unread-afar = refl
+
+-- what the stretches say is not unfolded here: they are not looked at
+abbrev away : FixedLon
+away = record { 0 = pos 20 }
+
+pub untouched : judgedBy [] (encodedIn Packed 0) four 0 here away false 7 ≡ reached NotInZone 7
+unfolding judgedBy judgedFrom isBelow groupsBy groupsOf groupWide stretchBy canPass endIn thenOn passing along samePoint leapt quadrantOf quarterBy turned checked between inBox closedAt
+untouched = refl
+
 -- the same words one short
-pub cut-short : judgedBy [] (encodedIn Packed 0) (5 ∷ 3 ∷ m4 ∷ []) 0 here there 7 ≡ refused 36
-unfolding judgedBy
+pub cut-short : judgedBy [] (encodedIn Packed 0) (5 ∷ 3 ∷ m4 ∷ []) 0 here there false 7 ≡ refused 36
+unfolding judgedBy judgedFrom isBelow groupsOf
 cut-short = refl

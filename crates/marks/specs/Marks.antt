@@ -1,4 +1,5 @@
--- Marks along a border, as document 04 has them: for each 128 edges the box of the stretch's points, its first point, and what a reader needs to go on from there.
+-- Marks along a border, as document 04 has them: for each 128 edges the box of the stretch's points, its first point, and what a reader needs to go on from there; behind them the same for each
+-- sixteen of these stretches.
 use Prim.Native.Nat.{ℕ, zero, suc, _+_, _/_, _%_, _^_}
 use lib.{Dec.{ltb}, IntN.{ℤ}, Signed.{mag}}
 use mathlib.Core.{Bool.{Bool, true, not, _&&_}, List.{List, [], _∷_, _++_}}
@@ -109,6 +110,16 @@ stretchEdges = 128
 unfoldable pub stretchesOf : ℕ → ℕ
 stretchesOf edges = (edges + 127) / 128
 
+-- how many stretches a group has, and how many edges; the last one may have fewer
+unfoldable pub groupWide : ℕ
+groupWide = 16
+
+unfoldable pub groupEdges : ℕ
+groupEdges = 2048
+
+unfoldable pub groupsOf : ℕ → ℕ
+groupsOf stretches = (stretches + 15) / 16
+
 -- a border has marks with more edges than this, and at most so many points
 unfoldable pub fewEdges : ℕ
 fewEdges = 256
@@ -125,7 +136,11 @@ stretchesFrom (A.refused k) = 0
 abbrev pub stretchesIn : List ℕ → Encoding → Reader → ℕ
 stretchesIn file encoding s = stretchesFrom (edgesFrom mostPoints file encoding (s .point) s 0)
 
--- how many stretches, and the mark of each; nothing for none
+-- the marks of so many stretches, and behind them those of their groups
+abbrev pub levelsFrom : ℕ → List ℕ → Encoding → Reader → List ℕ
+levelsFrom n file encoding s = marksFrom stretchEdges n file encoding s ++ marksFrom groupEdges (groupsOf n) file encoding s
+
+-- how many stretches, and all marks; nothing for none
 unfoldable pub counted : ℕ → List ℕ → List ℕ
 counted zero marks = []
 counted (suc n) marks = suc n ∷ marks
@@ -133,4 +148,4 @@ counted (suc n) marks = suc n ∷ marks
 -- The marks of the border at a place.
 unfoldable pub marksAt : List ℕ → Encoding → ℕ → List ℕ
 marksAt file encoding place =
-    nextOr (nextPoint file encoding (borderAt place)) [] (λ s. counted (stretchesIn file encoding s) (marksFrom stretchEdges (stretchesIn file encoding s) file encoding s))
+    nextOr (nextPoint file encoding (borderAt place)) [] (λ s. counted (stretchesIn file encoding s) (levelsFrom (stretchesIn file encoding s) file encoding s))

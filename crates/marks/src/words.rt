@@ -3,7 +3,7 @@ ghost use mathlib.Core.Path.{_≡_};
 ghost use Prim.Native.Nat.{_+_, _*_, _^_, _≤_, _<_};
 ghost use lib.ListN.{length};
 ghost use Rattle.numbers.specs.Point.{readI32};
-ghost use Rattle.marks.specs.Words.{pointIn, runOf, stateIn};
+ghost use Rattle.marks.specs.{Marks.{groupsOf}, Words.{pointIn, runOf, stateIn}};
 use border::place::FixedLat;
 use border::place::FixedLon;
 use border::place::Point;
@@ -13,6 +13,18 @@ use numbers::point::signed;
 
 // How many words a mark has.
 pub const MARK: usize = 11;
+
+// How many edges a stretch has, and a group of sixteen stretches.
+pub const STRETCH: usize = 128;
+
+pub const GROUP: usize = 2048;
+
+// How many groups so many stretches have.
+pub fn groups_of(stretches: usize) -> usize
+    ensures { λ r. ⌜ r ≡ groupsOf stretches ⌝ }
+{
+    stretches / 16 + (stretches % 16 + 15) / 16
+}
 
 pub(crate) fn wide(word: u32) -> usize
     ensures { λ r. ⌜ (r ≡ word) × (r < 2 ^ 32) ⌝ }

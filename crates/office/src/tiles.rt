@@ -1,12 +1,11 @@
-// The tile index and the atlas, for C.
+// The tile index, and what builds and holds an atlas, for C.
 ghost use mathlib.Core.{Path.{_≡_}, List.{[], _∷_}};
 ghost use lib.ListN.{length};
-ghost use Rattle.atlas.specs.{Atlas.{atlasMade, isAtlasOf}, Looked.{lookedAtlas}};
+ghost use Rattle.atlas.specs.Atlas.{atlasMade, isAtlasOf};
 ghost use Rattle.index.specs.{Index.{indexedOf, toldBuilt}, Own.{isIndexOf}, Through.{lookedThrough, lookedIndexed}, Tied.{tiedOf, toldTied}};
 ghost use Rattle.uskelzar.specs.Spoken.{saidOf, zonesValues, spoken, foundSpoken};
 ghost use Rattle.office.specs.Written.{lengthValue, noValues, indexSpoken};
 use atlas::build::build_atlas;
-use atlas::lookup::lookup_atlas;
 use atlas::own::is_atlas;
 use index::build::Built;
 use index::build::build_index;
@@ -123,27 +122,6 @@ pub extern "C" fn uskelzar_lookup_indexed(
 {
     speak(
         say_looked(lookup_indexed(file, index, Location { lat, lon }, asked, hits, text)),
-        reply,
-    )
-}
-
-// Looks a location up through an atlas. Values as for `uskelzar_lookup`.
-#[no_mangle]
-pub extern "C" fn uskelzar_lookup_atlas(
-    file: &[u8],
-    atlas: &[u32],
-    lat: f32,
-    lon: f32,
-    asked: bool,
-    hits: &mut [u32],
-    text: &mut [u8],
-    reply: &mut [u64; 5],
-) -> u8
-    ensures { λ r. ⌜ spoken r (now (reply .exit)) (now (hits .exit) ∷ now (text .exit) ∷ [])
-        ≡ foundSpoken zonesValues (lookedAtlas (now (file .entry)) (now (atlas .entry)) (record { lat = lat; lon = lon }) asked (length (now (hits .entry))) (length (now (text .entry)))) ⌝ }
-{
-    speak(
-        say_looked(lookup_atlas(file, atlas, Location { lat, lon }, asked, hits, text)),
         reply,
     )
 }

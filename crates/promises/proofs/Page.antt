@@ -1,11 +1,12 @@
 -- The page of promises: the questions of README in its order, each with the theorem that answers it, over what the entry points promise. A statement stands here in full, so that a reader looks up
 -- definitions alone (`tools/floor` lists them); its proof is the law of the crate where it belongs.
 use Prim.Native.Nat.{ℕ, _+_, _*_, _-_, _<_, _≤_}
-use lib.{Ieee.{Float}, IntN.{ℤ}, ListN.{length, getD, take}, Signed.{ltZ}}
-use mathlib.Core.{Bool.{Bool, true}, List.{List, [], _∷_}, Logic.{_↔_, _⊎_}, Path.{_≡_}}
+use lib.{Ieee.{Float}, IntN.{ℤ}, ListN.{length, getD, take}, Signed.{mag, ltZ}}
+use mathlib.Core.{Bool.{Bool, true, false}, List.{List, [], _∷_}, Logic.{_↔_, _⊎_}, Path.{_≡_}}
 use mir.{Syntax.{w64}, Val.{SFits}}
-use Rattle.atlas.specs.{Atlas.{atlasMade, isAtlasOf}, Looked.{lookedAtlas}}
-use Rattle.border.specs.{Encoding.{encodingOf}, declared.place.{FixedLat.{FixedLat}, FixedLon.{FixedLon}}}
+use Rattle.atlas.specs.{Atlas.{atlasMade, isAtlasOf}, Beside.{NoneOrAtlas, simplyBeside}, Looked.{lookedAtlas}}
+use Rattle.batch.specs.{Many.{isTaken, fixesOf, manyBeside, lookedUpMany}, OneByOne.{oneByOne}}
+use Rattle.border.specs.{Box.{Box, holds}, Encoding.{encodingOf}, Trace.{Trace, point}, declared.place.{FixedLat.{FixedLat}, FixedLon.{FixedLon}, Point.{Point}}}
 use Rattle.builder.specs.{File.{Room, builtOf}, Yards.{Lent, Plan, Yard, planOf}}
 use Rattle.bundle.specs.{Bundle.{findOf}, First.{FoundAt}, declared.find.File.{File}}
 use Rattle.bundle.specs.Told as B
@@ -32,10 +33,15 @@ use Rattle.tzif.specs.Reply as T
 use Rattle.tzrule.specs.{Ask.{corrected, inYears, clockAt}, Summer.{isSummer, IsSummer, IsRule}, declared.rule.{Rule.{Rule}, Tz.{Tz}}}
 use Rattle.office.specs.Calls.{Shelf, Called, Made, TotalsIn}
 use Rattle.uskelzar.specs.{Slips.{Printed, slipSpoken}, Spoken.{zonesValues, spoken, foundSpoken}}
-use Rattle.verdict.specs.Verdict.{judgedAt}
+use Rattle.verdict.specs.{Stretch.{Stretch}, Verdict.{after, judge, judgedAt}, declared.step.Tally.{Tally}}
 use Rattle.writer.specs.WrittenAt.{WrittenAt}
-use Rattle.zones.specs.{Batch.{Many.{isTaken, fixesOf, lookedUpMany}, OneByOne.{oneByOne}}, Lookup.{lookedUp}, Unstopped.{lookedThroughAll}, declared.lookup.Zones.{Zones}}
+use Rattle.zones.specs.{Lookup.{lookedUp, toldLooked}, Simple.{simplyLooked}, Unstopped.{lookedThroughAll}, declared.lookup.{Looked.{Looked}, Zones.{Zones}}}
+use Rattle.zones.specs.Lent as L
 use Rattle.atlas.proofs.AtlasIsPlain as atlas
+use Rattle.atlas.proofs.BesideIsPlain as beside
+use Rattle.atlas.proofs.Theorems as theorems
+use Rattle.batch.proofs.ManyIsOneByOne as batch
+use Rattle.batch.proofs.ManyIsPlain as many
 use Rattle.bundle.proofs.Theorems as bundle
 use Rattle.calendar.proofs.Epoch as epoch
 use Rattle.calendar.proofs.SameCivil as calendar
@@ -51,9 +57,9 @@ use Rattle.tzrule.proofs.SummerAt as tzrule
 use Rattle.office.proofs.Made as calls
 use Rattle.uskelzar.proofs.ReturnedSlip as printed
 use Rattle.uskelzar.proofs.ReturnedWhole as returned
+use Rattle.verdict.proofs.Stretch as stretch
 use Rattle.writer.proofs.OneVerdict as writer
 use Rattle.zones.proofs.WholeMeansWhole as zones
-use Rattle.zones.proofs.batch.ManyIsOneByOne as batch
 
 -- ---- Can a slip carry a zone from a search that stopped halfway?
 -- Under mark 1 reply, hit list and text are those of a search that never stops early.
@@ -88,10 +94,53 @@ is-index-is-plain file words e location asked n room = index.is-index-is-plain f
 pub is-atlas-exactly : (file words : List ℕ) → (isAtlasOf file words ≡ given tt) ↔ ((used : ℕ) × (atlasMade file (length words) ≡ indexed (given used) words))
 is-atlas-exactly = atlas.is-atlas-exactly
 
--- and where it says 0 a lookup through them is the plain one.
+-- so that what `build_atlas` gave is one,
+pub built-is-atlas : (file : List ℕ) (n : ℕ) {used : ℕ} → atlasMade file n .reply ≡ given used → isAtlasOf file (atlasMade file n .words) ≡ given tt
+built-is-atlas = theorems.built-is-atlas
+
+-- and nothing else is;
+pub atlas-is-built : (file words : List ℕ) → isAtlasOf file words ≡ given tt → (used : ℕ) × (atlasMade file (length words) ≡ indexed (given used) words)
+atlas-is-built = theorems.atlas-is-built
+
+-- where it says 0 a lookup through them is the plain one.
 pub atlas-is-plain : (file words : List ℕ) → isAtlasOf file words ≡ given tt → (location : Location) (asked : Bool) (n room : ℕ)
     → lookedAtlas file words location asked n room ≡ lookedUp file location asked n room
 atlas-is-plain = atlas.atlas-is-plain
+
+-- So is a simple lookup,
+pub simple-atlas-is-plain : (file words : List ℕ) → isAtlasOf file words ≡ given tt → (location : Location) (n room : ℕ) → simplyBeside file words location n room ≡ simplyLooked file location n room
+simple-atlas-is-plain = beside.simple-atlas-is-plain
+
+-- so are many fixes,
+pub many-atlas-is-plain : (file words : List ℕ) → isAtlasOf file words ≡ given tt → (lats lons : List Float) (asked : Bool) (n room third : ℕ)
+    → manyBeside file words lats lons asked n room third ≡ lookedUpMany file lats lons asked n room third
+many-atlas-is-plain = many.many-atlas-is-plain
+
+-- and a slip through the map's atlas is the slip without one,
+pub slip-atlas-is-plain : (request map atlas zones : List ℕ) → isAtlasOf map atlas ≡ given tt → (n room size : ℕ)
+    → slipped request map atlas zones n room size ≡ slipped request map [] zones n room size
+slip-atlas-is-plain = slip.slip-atlas-is-plain
+
+-- at a fix too.
+pub slip-at-atlas-is-plain : (fix : Fix) (map atlas zones : List ℕ) → isAtlasOf map atlas ≡ given tt → (n room size : ℕ)
+    → slippedAt fix map atlas zones n room size ≡ slippedAt fix map [] zones n room size
+slip-at-atlas-is-plain = slip.slip-at-atlas-is-plain
+
+-- With any words at all a lookup through them has one reply, with all lent output; it takes them all, so that it ends and stays inside what it was lent.
+pub atlas-safe : (file words : List ℕ) (location : Location) (asked : Bool) (n room : ℕ) (r r′ : Looked) (hs hs′ ts ts′ : List ℕ)
+    → L.replied (toldLooked r) hs ts ≡ lookedAtlas file words location asked n room → L.replied (toldLooked r′) hs′ ts′ ≡ lookedAtlas file words location asked n room
+    → (r ≡ r′) × (hs ≡ hs′) × (ts ≡ ts′)
+atlas-safe = theorems.atlas-safe
+
+-- Where it is refused, all lent output is zero.
+pub atlas-refusal-zeroes : (file words : List ℕ) (location : Location) (asked : Bool) (n room : ℕ) (why : Refusal) → lookedAtlas file words location asked n room .reply ≡ refused why
+    → (lookedAtlas file words location asked n room .hits ≡ zeros n) × (lookedAtlas file words location asked n room .text ≡ zeros room)
+atlas-refusal-zeroes = theorems.atlas-refusal-zeroes
+
+-- What an atlas rests on: the turns of a stretch whose box does not hold the fix are those of the one edge between its ends.
+pub stretch-is-edge : (fix : Point) (box : Box) {from to : Point} {trace rest : Trace} (t : Tally) → holds box fix ≡ false → holds box from ≡ true → Stretch box from trace to rest
+    → mag (t .winding) < 2147483647 → judge fix false (after from) t trace ≡ judge fix false (after from) t (point to rest)
+stretch-is-edge = stretch.stretch-is-edge
 
 -- ---- When borders move from encoding version 0 to 1, what shows that a yard stays in its zone?
 -- One border, in whichever way it is written, gets one verdict and one distance at every fix.
@@ -176,78 +225,78 @@ pub found-first : (bundle name : List ℕ) {file : File} → B.told (F.At file) 
 found-first = bundle.found-first
 
 -- ---- Is the line right for this sentence, this map and these zones?
--- Two replies of the slip that are permitted for a request, a map and zones are one, with all lent output;
-pub one-slip : (request map zones : List ℕ) (n room size : ℕ) (r r′ : Slipped) (hs hs′ ts ts′ os os′ : List ℕ)
-    → Z.replied (K.told r) hs ts os ≡ slipped request map zones n room size → Z.replied (K.told r′) hs′ ts′ os′ ≡ slipped request map zones n room size
+-- Two replies of the slip that are permitted for a request, a map, an atlas or none, and zones are one, with all lent output;
+pub one-slip : (request map atlas zones : List ℕ) (n room size : ℕ) (r r′ : Slipped) (hs hs′ ts ts′ os os′ : List ℕ)
+    → Z.replied (K.told r) hs ts os ≡ slipped request map atlas zones n room size → Z.replied (K.told r′) hs′ ts′ os′ ≡ slipped request map atlas zones n room size
     → (r ≡ r′) × (hs ≡ hs′) × (ts ≡ ts′) × (os ≡ os′)
 one-slip = slip.one-slip
 
 -- and so of the slip at a fix.
-pub one-slip-at : (fix : Fix) (map zones : List ℕ) (n room size : ℕ) (r r′ : Slipped) (hs hs′ ts ts′ os os′ : List ℕ)
-    → Z.replied (K.told r) hs ts os ≡ slippedAt fix map zones n room size → Z.replied (K.told r′) hs′ ts′ os′ ≡ slippedAt fix map zones n room size
+pub one-slip-at : (fix : Fix) (map atlas zones : List ℕ) (n room size : ℕ) (r r′ : Slipped) (hs hs′ ts ts′ os os′ : List ℕ)
+    → Z.replied (K.told r) hs ts os ≡ slippedAt fix map atlas zones n room size → Z.replied (K.told r′) hs′ ts′ os′ ≡ slippedAt fix map atlas zones n room size
     → (r ≡ r′) × (hs ≡ hs′) × (ts ≡ ts′) × (os ≡ os′)
 one-slip-at = slip.one-slip-at
 
--- Where it is stamped, hits and text are those of a lookup with mark 1 at what the request means, and so of a search that never stops early;
-pub slip-whole : (request map zones : List ℕ) (n room size : ℕ) (stamped : Stamped) (hs ts os : List ℕ)
-    → Z.replied (given stamped) hs ts os ≡ slipped request map zones n room size → Meant request (λ fix. Whole fix map n room hs ts)
+-- Where it is stamped, without an atlas or through the map's own, hits and text are those of a lookup with mark 1 at what the request means, and so of a search that never stops early;
+pub slip-whole : (request map atlas zones : List ℕ) → NoneOrAtlas map atlas → (n room size : ℕ) (stamped : Stamped) (hs ts os : List ℕ)
+    → Z.replied (given stamped) hs ts os ≡ slipped request map atlas zones n room size → Meant request (λ fix. Whole fix map n room hs ts)
 slip-whole = slip.slip-whole
 
-pub slip-at-whole : (fix : Fix) (map zones : List ℕ) (n room size : ℕ) (stamped : Stamped) (hs ts os : List ℕ)
-    → Z.replied (given stamped) hs ts os ≡ slippedAt fix map zones n room size → Whole fix map n room hs ts
+pub slip-at-whole : (fix : Fix) (map atlas zones : List ℕ) → NoneOrAtlas map atlas → (n room size : ℕ) (stamped : Stamped) (hs ts os : List ℕ)
+    → Z.replied (given stamped) hs ts os ≡ slippedAt fix map atlas zones n room size → Whole fix map n room hs ts
 slip-at-whole = slip.slip-at-whole
 
 -- each match's zone has a TZif file under its joined name, whose local time at the instant has the printed offset, and the line begins with the one civil reading of instant and offset;
-pub slip-agrees : (request map zones : List ℕ) (n room size : ℕ) (stamped : Stamped) (hs ts os : List ℕ)
-    → Z.replied (given stamped) hs ts os ≡ slipped request map zones n room size → Meant request (λ fix. Agreed fix map zones n size stamped hs os)
+pub slip-agrees : (request map atlas zones : List ℕ) (n room size : ℕ) (stamped : Stamped) (hs ts os : List ℕ)
+    → Z.replied (given stamped) hs ts os ≡ slipped request map atlas zones n room size → Meant request (λ fix. Agreed fix map zones n size stamped hs os)
 slip-agrees = slip.slip-agrees
 
-pub slip-at-agrees : (fix : Fix) (map zones : List ℕ) (n room size : ℕ) (stamped : Stamped) (hs ts os : List ℕ)
-    → Z.replied (given stamped) hs ts os ≡ slippedAt fix map zones n room size → Agreed fix map zones n size stamped hs os
+pub slip-at-agrees : (fix : Fix) (map atlas zones : List ℕ) (n room size : ℕ) (stamped : Stamped) (hs ts os : List ℕ)
+    → Z.replied (given stamped) hs ts os ≡ slippedAt fix map atlas zones n room size → Agreed fix map zones n size stamped hs os
 slip-at-agrees = slip.slip-at-agrees
 
 -- the printed bytes, read back as weekday, date, time and offset, are that reading and the offset of the reply;
-pub slip-clock : (request map zones : List ℕ) (n room size : ℕ) (stamped : Stamped) (hs ts os : List ℕ)
-    → Z.replied (given stamped) hs ts os ≡ slipped request map zones n room size → Meant request (λ fix. Clocked fix stamped os)
+pub slip-clock : (request map atlas zones : List ℕ) (n room size : ℕ) (stamped : Stamped) (hs ts os : List ℕ)
+    → Z.replied (given stamped) hs ts os ≡ slipped request map atlas zones n room size → Meant request (λ fix. Clocked fix stamped os)
 slip-clock = slip.slip-clock
 
-pub slip-at-clock : (fix : Fix) (map zones : List ℕ) (n room size : ℕ) (stamped : Stamped) (hs ts os : List ℕ)
-    → Z.replied (given stamped) hs ts os ≡ slippedAt fix map zones n room size → Clocked fix stamped os
+pub slip-at-clock : (fix : Fix) (map atlas zones : List ℕ) (n room size : ℕ) (stamped : Stamped) (hs ts os : List ℕ)
+    → Z.replied (given stamped) hs ts os ≡ slippedAt fix map atlas zones n room size → Clocked fix stamped os
 slip-at-clock = slip.slip-at-clock
 
 -- and the line has at most 36 bytes, and for each different zone 43 and its abbreviation.
-pub slip-short : (request map zones : List ℕ) (n room size : ℕ) (stamped : Stamped) (hs ts os : List ℕ)
-    → Z.replied (given stamped) hs ts os ≡ slipped request map zones n room size → Meant request (λ fix. Short fix map zones n stamped hs)
+pub slip-short : (request map atlas zones : List ℕ) (n room size : ℕ) (stamped : Stamped) (hs ts os : List ℕ)
+    → Z.replied (given stamped) hs ts os ≡ slipped request map atlas zones n room size → Meant request (λ fix. Short fix map zones n stamped hs)
 slip-short = slip.slip-short
 
-pub slip-at-short : (fix : Fix) (map zones : List ℕ) (n room size : ℕ) (stamped : Stamped) (hs ts os : List ℕ)
-    → Z.replied (given stamped) hs ts os ≡ slippedAt fix map zones n room size → Short fix map zones n stamped hs
+pub slip-at-short : (fix : Fix) (map atlas zones : List ℕ) (n room size : ℕ) (stamped : Stamped) (hs ts os : List ℕ)
+    → Z.replied (given stamped) hs ts os ≡ slippedAt fix map atlas zones n room size → Short fix map zones n stamped hs
 slip-at-short = slip.slip-at-short
 
--- In C: what a call of `uskelzar_slip` left which returned 0 is such a slip, and its length, matches and offset are the reply's words;
-pub returned-slip : (request map zones : List ℕ) (n room size : ℕ) {number : ℕ} {words hits text out : List ℕ}
-    → spoken number words (hits ∷ text ∷ out ∷ []) ≡ slipSpoken (slipped request map zones n room size) → number ≡ 0 → Printed (slipped request map zones n room size) words hits text out
+-- In C: what a call of `uskelzar_slip`, or of `uskelzar_slip_atlas` with the map's atlas, left which returned 0 is such a slip, and its length, matches and offset are the reply's words;
+pub returned-slip : (request map atlas zones : List ℕ) → NoneOrAtlas map atlas → (n room size : ℕ) {number : ℕ} {words hits text out : List ℕ}
+    → spoken number words (hits ∷ text ∷ out ∷ []) ≡ slipSpoken (slipped request map atlas zones n room size) → number ≡ 0 → Printed (slipped request map atlas zones n room size) words hits text out
 returned-slip = printed.returned-slip
 
--- and so of `uskelzar_slip_at`.
-pub returned-slip-at : (fix : Fix) (map zones : List ℕ) (n room size : ℕ) {number : ℕ} {words hits text out : List ℕ}
-    → spoken number words (hits ∷ text ∷ out ∷ []) ≡ slipSpoken (slippedAt fix map zones n room size) → number ≡ 0 → Printed (slippedAt fix map zones n room size) words hits text out
+-- and so of `uskelzar_slip_at` and `uskelzar_slip_at_atlas`.
+pub returned-slip-at : (fix : Fix) (map atlas zones : List ℕ) → NoneOrAtlas map atlas → (n room size : ℕ) {number : ℕ} {words hits text out : List ℕ}
+    → spoken number words (hits ∷ text ∷ out ∷ []) ≡ slipSpoken (slippedAt fix map atlas zones n room size) → number ≡ 0 → Printed (slippedAt fix map atlas zones n room size) words hits text out
 returned-slip-at = printed.returned-slip-at
 
--- Where it is not stamped, the number is one of 1 to 18, 40 to 61, 80 to 92, at a fix none of 80 to 83;
-pub slip-refusals : (request map zones : List ℕ) (n room size : ℕ) (why : Refusal) (hs ts os : List ℕ)
-    → Z.replied (refused why) hs ts os ≡ slipped request map zones n room size → isSlipNumber (why .number) ≡ true
+-- Where it is not stamped, without an atlas or through the map's own, the number is one of 1 to 18, 40 to 61, 80 to 92, at a fix none of 80 to 83;
+pub slip-refusals : (request map atlas zones : List ℕ) → NoneOrAtlas map atlas → (n room size : ℕ) (why : Refusal) (hs ts os : List ℕ)
+    → Z.replied (refused why) hs ts os ≡ slipped request map atlas zones n room size → isSlipNumber (why .number) ≡ true
 slip-refusals = slip.slip-refusals
 
-pub slip-at-refusals : (fix : Fix) (map zones : List ℕ) (n room size : ℕ) (why : Refusal) (hs ts os : List ℕ)
-    → Z.replied (refused why) hs ts os ≡ slippedAt fix map zones n room size → isAtNumber (why .number) ≡ true
+pub slip-at-refusals : (fix : Fix) (map atlas zones : List ℕ) → NoneOrAtlas map atlas → (n room size : ℕ) (why : Refusal) (hs ts os : List ℕ)
+    → Z.replied (refused why) hs ts os ≡ slippedAt fix map atlas zones n room size → isAtNumber (why .number) ≡ true
 slip-at-refusals = slip.slip-at-refusals
 
 -- and all that was lent is zero.
-pub slip-refusal-zeroes : (request map zones : List ℕ) (n room size : ℕ) (why : Refusal) (hs ts os : List ℕ)
-    → Z.replied (refused why) hs ts os ≡ slipped request map zones n room size → (hs ≡ zeros n) × (ts ≡ zeros room) × (os ≡ zeros size)
+pub slip-refusal-zeroes : (request map atlas zones : List ℕ) (n room size : ℕ) (why : Refusal) (hs ts os : List ℕ)
+    → Z.replied (refused why) hs ts os ≡ slipped request map atlas zones n room size → (hs ≡ zeros n) × (ts ≡ zeros room) × (os ≡ zeros size)
 slip-refusal-zeroes = slip.slip-refusal-zeroes
 
-pub slip-at-refusal-zeroes : (fix : Fix) (map zones : List ℕ) (n room size : ℕ) (why : Refusal) (hs ts os : List ℕ)
-    → Z.replied (refused why) hs ts os ≡ slippedAt fix map zones n room size → (hs ≡ zeros n) × (ts ≡ zeros room) × (os ≡ zeros size)
+pub slip-at-refusal-zeroes : (fix : Fix) (map atlas zones : List ℕ) (n room size : ℕ) (why : Refusal) (hs ts os : List ℕ)
+    → Z.replied (refused why) hs ts os ≡ slippedAt fix map atlas zones n room size → (hs ≡ zeros n) × (ts ≡ zeros room) × (os ≡ zeros size)
 slip-at-refusal-zeroes = slip.slip-at-refusal-zeroes

@@ -9,8 +9,11 @@ use Rattle.numbers.specs.{Answer.{Answer, found, failed, if_then_else_, _>>=_},
 use Rattle.numbers.specs.Answer as A
 use Rattle.request.proofs.Numerals.{ten-some, small-size}
 use Rattle.numbers.proofs.Tests.{both}
-use Rattle.request.specs.{Text.{formed, until, count, field, word, pastWord, nextWord}, Number.{Size, Fraction, spelled, partOf, angleOf, sideOf, decimalOf, unsigned, isMinus, degreesOf}, Clock.{Date, Time, When, utc, since, isDate, isTime, timeOf, dateOf, momentForm, momentDate, momentTime, momentOf, secondsOf, whenOf}}
-use Rattle.request.specs.Request.{Spelt, at, starOf, bodyOf, isSealed, isAddress, isRmc, isMode, placeOf, placeIn, inField, inWord, turned, fixOf, fieldsOf, sentenceOf, plainOf, speltOf, meaning, requestOf}
+use Rattle.request.specs.Text.{formed, until, count, field, word, pastWord, nextWord}
+use Rattle.request.specs.Number.{Size, Fraction, spelled, partOf, angleOf, sideOf, decimalOf, unsigned, isMinus, degreesOf}
+use Rattle.request.specs.Clock.{Date, Time, When, utc, since, isDate, isTime, timeOf, dateOf, momentForm, momentDate, momentTime, momentOf, secondsOf, whenOf}
+use Rattle.request.specs.Request.{Spelt, at, starOf, bodyOf, isSealed, isAddress, isRmc, isMode, placeOf, placeIn, inField, inWord, turned, fixOf, fieldsOf, sentenceOf, plainOf}
+use Rattle.request.specs.Request.{speltOf, meaning, requestOf}
 
 -- what was given was found
 pub at-found : {A : Type 0} {a : A} (place : ℕ) (answer : Answer A) → given a ≡ at place answer → found a ≡ answer

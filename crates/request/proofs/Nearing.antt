@@ -1,11 +1,13 @@
 -- `nearestTo` gives the f32 nearest to a fraction, ties to even (`nearest-to`). Assumes nothing.
 use mathlib.Core.{Path.{_≡_, refl, sym, ap, _∙_, subst}, Logic.{_⊎_, inl, inr}, Bool.{Bool, true, false, Bool·beq}}
 use Prim.Native.Nat.{ℕ, zero, suc, _+_, _-_, _*_, _/_, _%_, _^_, _≤_, _<_, compare, Ordering, Ordering·lt, Ordering·eq, Ordering·gt}
-use native.Mathlib.Nat.{le-trans, le-of-eq, lt-of-lt-of-le, lt-of-le-of-lt, le-of-lt, eq-or-lt-of-le, mul-assoc, mul-comm, mul-right-comm, mul-one, one-mul, add-mul, mul-le-mul-right, mul-lt-mul-of-pos-right, mul-pos, mod-lt, div-add-mod', div-div-eq-div-mul, div-lt-iff-lt-mul, mul-div-cancel, div-one, zero-mul}
+use native.Mathlib.Nat.{le-trans, le-of-eq, lt-of-lt-of-le, lt-of-le-of-lt, le-of-lt, eq-or-lt-of-le, mul-assoc, mul-comm, mul-right-comm, mul-one, one-mul, add-mul, mul-le-mul-right}
+use native.Mathlib.Nat.{mul-lt-mul-of-pos-right, mul-pos, mod-lt, div-add-mod', div-div-eq-div-mul, div-lt-iff-lt-mul, mul-div-cancel, div-one, zero-mul}
 use native.Mathlib.Omega.{arith}
 use borrow.Author.Tests.{eqb-true}
 use lib.{Dec.{T, eqb}, IntN.{pos}, Pow.{pow-add, pow-pos, pow-mono, shl-lt}}
-use lib.Ieee.{Float, nan, inf, fin, odd, Scale.{finite}, binary32, size, nearest, units, round, fits, Digits.{size-le, back}, Fits.{round-is, round-fits, nearest-le, kept-lt}, Nearest.{closest, nearest-ge}, Exact.{HasValue, units-val}}
+use lib.Ieee.{Float, nan, inf, fin, odd, Scale.{finite}, binary32, size, nearest, units, round, fits, Digits.{size-le, back}, Fits.{round-is, round-fits, nearest-le, kept-lt}}
+use lib.Ieee.{Nearest.{closest, nearest-ge}, Exact.{HasValue, units-val}}
 use Rattle.numbers.proofs.float.{Rounding.{Cmp, order-is, size-is, no-overflow, reaches-size, kept-least}, Squares.{le-or-lt}, Smallest.{value-units, shape}}
 use Rattle.numbers.specs.{Answer.{if_then_else_}, Float.Root.{unitsOf}}
 use Rattle.request.specs.{Nearest.{gap, isNegative, away, Nearest}, Number.{Fraction, nearestTo}}

@@ -6,7 +6,8 @@ use lib.{Dec.{leb, eqb}, Ieee.{Float}, ListN.{length, getD, take, drop, length-d
 use native.Mathlib.{Nat.{pow-le-pow-right, pow-suc, one-le-pow, zero-lt-suc, mul-comm, mul-assoc, le-trans, div-lt-iff-lt-mul, mul-le-mul-left, mul-le-mul-right}, Omega.{arith}}
 use Rattle.numbers.specs.{Answer.{Answer, found, failed, if_then_else_, _>>=_}, Reply.{given, refused, refusal}, declared.refusal.Refusal.{Refusal}}
 use Rattle.request.proofs.Texts.{here, ended}
-use Rattle.request.specs.{Text.{isDigit, digits, formed, until}, Number.{Size, Fraction, spelled, digitOf, valueFrom, valueOf, partOf, isTail, hasForm, angleOf, sideOf, decimalOf, unsigned, isMinus, degreesOf, nearestTo}}
+use Rattle.request.specs.Text.{isDigit, digits, formed, until}
+use Rattle.request.specs.Number.{Size, Fraction, spelled, digitOf, valueFrom, valueOf, partOf, isTail, hasForm, angleOf, sideOf, decimalOf, unsigned, isMinus, degreesOf, nearestTo}
 use Rattle.request.specs.{Request.{at}, Told.{shown, limitedTo, toldSize, IsSize}, declared.{number.Digits.{Digits}, degrees.Sized.{Sized}}}
 use Rattle.request.specs.declared.degrees.Sized.the-variants as S
 use Rattle.numbers.specs.Answer as A

@@ -8,7 +8,8 @@ use borrow.Author.Tests.{eq-eqb, ne-eqb}
 use lib.Ieee.{Float, Format, binary32, ofBits, ofFields, odd, neg, prec, low, size, nearest, units, round, Fits.{round-is, two, two-le-pos}, Nearest.{closest, closest-same}}
 use lib.{Arith.{digits-div, digits-mod}, Pow.{pow-add, pow-pos, pow-mono}}
 use mathlib.Core.{Bool.{Bool, true, false}, Path.{_≡_, refl, sym, ap, _∙_, subst}}
-use native.Mathlib.Nat.{mul-assoc, mul-right-comm, mul-one, mul-pos, one-mul, add-mul, pow-suc, mod-lt, lt-of-not-le, not-le-of-lt, mul-le-mul-right, div-add-mod', div-div-eq-div-mul, mul-div-mul-right, le-div-iff-mul-le, div-lt-iff-lt-mul}
+use native.Mathlib.Nat.{mul-assoc, mul-right-comm, mul-one, mul-pos, one-mul, add-mul, pow-suc, mod-lt, lt-of-not-le, not-le-of-lt, mul-le-mul-right, div-add-mod', div-div-eq-div-mul}
+use native.Mathlib.Nat.{mul-div-mul-right, le-div-iff-mul-le, div-lt-iff-lt-mul}
 use native.Mathlib.Omega.{arith}
 
 -- a number that keeps p digits when K are dropped has that many in all

@@ -5,7 +5,8 @@ use lib.{Dec.{leb, eqb}, ListN.{length, getD}}
 use Rattle.numbers.proofs.{Refusals.{Listed, Numbered, as-found, as-failed, as-refused, either, then-numbered}, Replies.{NumberedReply, answers, refuses, then-reply, and-then, demands}}
 use Rattle.numbers.specs.{Answer.{Answer, found, failed}, Reply.{Reply, given, refusal, plain}}
 use Rattle.numbers.specs.Answer as A
-use Rattle.request.specs.{Text.{formed, count, field, pastWord, nextWord, lineOf}, Number.{spelled, angleOf, sideOf, decimalOf, degreesOf, unsigned}, Clock.{timeOf, dateOf, momentForm, momentOf, secondsOf, whenOf}}
+use Rattle.request.specs.{Text.{formed, count, field, pastWord, nextWord, lineOf}, Number.{spelled, angleOf, sideOf, decimalOf, degreesOf, unsigned}}
+use Rattle.request.specs.Clock.{timeOf, dateOf, momentForm, momentOf, secondsOf, whenOf}
 use Rattle.request.specs.Request.{at, starOf, bodyOf, placeOf, placeIn, isSealed, isAddress, isRmc, isMode, turned, fixOf, fieldsOf, sentenceOf, plainOf, speltOf, meaning, requestOf}
 
 abbrev pub fiveNumbers : List ℕ

@@ -9,8 +9,11 @@ use Rattle.numbers.specs.{Answer.{Answer, if_then_else_}, Reply.{Reply, given, 
 use Rattle.calendar.specs.Moments.{instantOf}
 use lib.{ListN.{length-drop}, Seq.{drop-drop, take-length}}
 use Rattle.request.proofs.Texts.{form-length, behind-on, behind-end, until-take, part-is, place-is}
-use Rattle.request.specs.{Text.{every, formed, count, xors, until, behind, field, toComma, word, unblanked, pastWord, nextWord, unended, lineOf}, Number.{Size, Fraction, angleOf, sideOf, degreesOf, nearestTo}}
-use Rattle.request.specs.{Clock.{Date, Time, When, utc, timeOf, dateOf, whenOf, dayOf, secondOf, instantAt}, Request.{Spelt, at, starOf, bodyOf, isHex, isSealed, isAddress, isRmc, isMode, placeOf, inField, turned, fixOf, fieldsOf, sentenceOf, placeIn, inWord, plainOf, speltOf, meaning, requestOf}}
+use Rattle.request.specs.Text.{every, formed, count, xors, until, behind, field, toComma, word, unblanked, pastWord, nextWord, unended, lineOf}
+use Rattle.request.specs.Number.{Size, Fraction, angleOf, sideOf, degreesOf, nearestTo}
+use Rattle.request.specs.Clock.{Date, Time, When, utc, timeOf, dateOf, whenOf, dayOf, secondOf, instantAt}
+use Rattle.request.specs.Request.{Spelt, at, starOf, bodyOf, isHex, isSealed, isAddress, isRmc, isMode, placeOf, inField, turned, fixOf, fieldsOf, sentenceOf, placeIn, inWord, plainOf}
+use Rattle.request.specs.Request.{speltOf, meaning, requestOf}
 use Rattle.request.specs.{Told.{shown, Below}, declared.{read.Fix.{Fix}, clock.Whole.{Whole}}}
 use Rattle.request.specs.declared.clock.Whole.the-variants as W
 

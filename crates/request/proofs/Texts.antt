@@ -95,15 +95,6 @@ xors-on text at h = rw (here text at h)
 
 -- ---- what stands before a byte
 module _ (a b : ℕ) where
-  pub until-le : (text : List ℕ) → length (until a b text) ≤ length text
-  unfolding until
-  until-le [] = omega arith
-  until-le (x ∷ xs) = go (eqb x a || eqb x b) (until-le xs)
-    where
-      go : (t : Bool) → length (until a b xs) ≤ length xs → length (if t then [] else (x ∷ until a b xs)) ≤ length (x ∷ xs)
-      go true h = omega arith
-      go false h = omega arith
-
   pub until-take : (text : List ℕ) → take (length (until a b text)) text ≡ until a b text
   unfolding until
   until-take [] = refl

@@ -6,7 +6,8 @@ use Rattle.calendar.specs.{Calendar.{weekdayOf, dayNumber}, Civil.{Shows, Civil
 use Rattle.numbers.proofs.{Refusals.{Listed}, Replies.{number-of}}
 use Rattle.numbers.specs.{Reply.{Reply, given, refused}, declared.refusal.Refusal.{Refusal}}
 use Rattle.request.proofs.{Meanings.{Civilly, Ranged, spelt-meant}, Nearing.{nearest-to}, Refusing.{fiveNumbers, request-told}, Replied.{shown-from}, Times.{in-date, in-time}}
-use Rattle.request.specs.{Only.{readingOf, OnlyAt}, Nearest.{Nearest}, Text.{lineOf}, Clock.{Date, Time, When, utc, instantAt}, Request.{Spelt, speltOf, meaning, requestOf}, Told.{told}, declared.read.{Fix.{Fix}, Asked.{Asked}}}
+use Rattle.request.specs.{Only.{readingOf, OnlyAt}, Nearest.{Nearest}, Text.{lineOf}, Clock.{Date, Time, When, utc, instantAt}, Request.{Spelt, speltOf, meaning, requestOf}}
+use Rattle.request.specs.{Told.{told}, declared.read.{Fix.{Fix}, Asked.{Asked}}}
 use Rattle.request.specs.declared.read.Asked.the-variants as R
 
 -- ---- same-request

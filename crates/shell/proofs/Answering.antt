@@ -86,9 +86,9 @@ abbrev pub lined : Reply Slip → Reply (List ℕ)
 lined s = s >>= λ slip. given (slip .line)
 
 module _ (request map zones : List ℕ) {n room size : ℕ} (en : n ≡ hitWords) (er : room ≡ textRoom) (es : size ≡ lineRoom) where
-  in-rooms : lined (slipOf request map zones n room size) ≡ slipFor request map zones
+  in-rooms : lined (slipOf request map [] zones n room size) ≡ slipFor request map zones
   unfolding slipFor
-  in-rooms = λ i. lined (slipOf request map zones (en i) (er i) (es i))
+  in-rooms = λ i. lined (slipOf request map [] zones (en i) (er i) (es i))
 
 by-refused : (n room size : ℕ) {reply : Reply Stamped} {hits text out : List ℕ} (why : Refusal) (s : Reply Slip) → replied reply hits text out ≡ repliedOf n room size s → reply ≡ refused why
     → refused why ≡ lined s
@@ -97,7 +97,7 @@ by-refused n room size why (given slip) e r = let said = sym r ∙ ap (λ (x : R
 by-refused n room size why (refused other) e r = let said = sym r ∙ ap (λ (x : Replied). x .reply) e in let same : why ≡ other = cc in ap refused same
 
 pub slip-refused : (request map zones : List ℕ) {n room size : ℕ} {answer : Slipped} {hits text out : List ℕ} {why : Refusal}
-    → n ≡ hitWords → room ≡ textRoom → size ≡ lineRoom → answer ≡ S.Refused why → replied (told answer) hits text out ≡ slipped request map zones n room size
+    → n ≡ hitWords → room ≡ textRoom → size ≡ lineRoom → answer ≡ S.Refused why → replied (told answer) hits text out ≡ slipped request map [] zones n room size
     → refused why ≡ slipFor request map zones
 unfolding slipped
 slip-refused request map zones {n} {room} {size} {why = why} en er es is e = by-refused n room size why _ e (ap told is) ∙ in-rooms request map zones en er es
@@ -126,10 +126,10 @@ by-given n room size stamped (given slip) e r law =
 by-given n room size stamped (refused why) e r law = let said = sym r ∙ ap (λ (x : Replied). x .reply) e in let z : _≡_ {A = ℕ} 0 1 = cc in absurd (omega arith)
 
 pub stood : (request map zones : List ℕ) (n room size : ℕ) {answer : Slipped} {hits text out : List ℕ} {stamped : Stamped}
-    → answer ≡ S.Stamped stamped → replied (told answer) hits text out ≡ slipped request map zones n room size
-    → Stood (slipOf request map zones n room size) size stamped out
+    → answer ≡ S.Stamped stamped → replied (told answer) hits text out ≡ slipped request map [] zones n room size
+    → Stood (slipOf request map [] zones n room size) size stamped out
 unfolding slipped
-stood request map zones n room size {stamped = stamped} is e = by-given n room size stamped _ e (ap told is) (λ slip given. slip-length request map zones n room size given)
+stood request map zones n room size {stamped = stamped} is e = by-given n room size stamped _ e (ap told is) (λ slip given. slip-length request map [] zones n room size given)
 
 -- it is no longer than its room
 pub stood-fits : {s : Reply Slip} {size : ℕ} {stamped : Stamped} {out : List ℕ} → Stood s size stamped out → length out ≡ size → stamped .length ≤ size
@@ -157,7 +157,7 @@ stood-in {out = out} st before eb eo es = omega (arith, stood-fits st eo, es, ba
 
 pub stamped-line : (request map zones before : List ℕ) {n room size : ℕ} {after hits text out : List ℕ} {stamped : Stamped}
     → n ≡ hitWords → room ≡ textRoom → size ≡ lineRoom → length hits ≡ n → length text ≡ room → length before ≡ lineRoom + 1 → length out ≡ size
-    → Stood (slipOf request map zones n room size) size stamped out → after ≡ set (out ++ drop lineRoom before) (stamped .length) 10
+    → Stood (slipOf request map [] zones n room size) size stamped out → after ≡ set (out ++ drop lineRoom before) (stamped .length) 10
     → Answers (slipFor request map zones) hits text after (record { size = stamped .length + 1; fault = 0 })
 stamped-line request map zones before {n} {room} {size} {after} {hits} {text} {out} {stamped} en er es eh et eb eo st ea =
     let k = stamped .length in

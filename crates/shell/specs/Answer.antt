@@ -17,10 +17,10 @@ textRoom = 16384
 abbrev pub lineRoom : ℕ
 lineRoom = 4096
 
--- the line of the slip that a request asks for
+-- the line of the slip that a request asks for; the program has no atlas
 unfoldable pub slipFor : List ℕ → List ℕ → List ℕ → Reply (List ℕ)
 slipFor request map zones = do
-  slip ← slipOf request map zones hitWords textRoom lineRoom
+  slip ← slipOf request map [] zones hitWords textRoom lineRoom
   given (slip .line)
 
 -- "not stamped: 86 0 0 no zone holds the fix": number, cause, detail, words

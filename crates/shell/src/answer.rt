@@ -54,7 +54,8 @@ pub(crate) fn answer(
     requires { ⌜ Rooms (now hits) (now text) (now out) ⌝ }
     ensures { λ r. ⌜ Answers (slipFor (now (request .entry)) (now (map .entry)) (now (zones .entry))) (now (hits .exit)) (now (text .exit)) (now (out .exit)) r ⌝ }
 {
-    let stamped = match slip(request, map, zones, hits, text, &mut out[..4096]) {
+    let atlas = [0u32; 0];
+    let stamped = match slip(request, map, &atlas, zones, hits, text, &mut out[..4096]) {
         Slipped::Stamped(stamped) => stamped,
         Slipped::Refused(why) => return refuse(hits, text, out, why),
     };

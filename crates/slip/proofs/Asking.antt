@@ -2,7 +2,7 @@
 use Prim.Native.Nat.{ℕ, _+_, _≤_, _<_}
 use borrow.Author.Tests.{le-leb}
 use lib.{IntN.{ℤ, pos, negsuc}, ListN.{length, getD, drop, length-append, drop-of-length-le}, Seq.{drop-cons}}
-use mathlib.Core.{Bool.{Bool, true, false, _&&_}, List.{List, [], _∷_, _++_}, Path.{_≡_, refl, sym, ap, _∙_, subst}}
+use mathlib.Core.{Bool.{Bool, true, false, _&&_, and-true, and-assoc}, List.{List, [], _∷_, _++_, append-nil, append-assoc}, Path.{_≡_, refl, sym, ap, _∙_, subst}}
 use native.Mathlib.{Nat.{le-refl}, Numerals.{add-one}, Omega.{arith}}
 use Rattle.header.specs.declared.header.Head.{Head}
 use Rattle.numbers.specs.{Reply.{Reply, given, refused, _>>=_}, declared.refusal.Refusal.{Refusal}}
@@ -10,14 +10,6 @@ use Rattle.slip.specs.{Hour.{Hour, hourOf, hoursFrom}, Slip.{haveOffset}
 use Rattle.table.{proofs.Agreeing.{agree-given}, specs.inner.Agreeing.{Agrees}}
 use Rattle.verdict.specs.Edge.{sameZ}
 use Rattle.table.specs.{Hits.{noHit}, declared.hits.Hit.{Hit}}
-
-pub append-nil : {A : Type 0} (xs : List A) → xs ++ [] ≡ xs
-append-nil [] = refl
-append-nil (x ∷ xs) = ap (λ (l : List _). x ∷ l) (append-nil xs)
-
-pub append-append : {A : Type 0} (xs ys zs : List A) → (xs ++ ys) ++ zs ≡ xs ++ (ys ++ zs)
-append-append [] ys zs = refl
-append-append (x ∷ xs) ys zs = ap (λ (l : List _). x ∷ l) (append-append xs ys zs)
 
 -- those that came before the rest
 abbrev behind : List Hour → Reply (List Hour) → Reply (List Hour)
@@ -29,7 +21,7 @@ behind-none (refused why) = refl
 
 -- one more came
 behind-one : (done : List Hour) (hour : Hour) (rest : Reply (List Hour)) → behind done (rest >>= λ hours. given (hour ∷ hours)) ≡ behind (done ++ (hour ∷ [])) rest
-behind-one done hour (given hours) = ap given (sym (append-append done (hour ∷ []) hours))
+behind-one done hour (given hours) = ap given (sym (append-assoc done (hour ∷ []) hours))
 behind-one done hour (refused why) = refl
 
 module _ (map : List ℕ) (head : Head) (zones : List ℕ) (instant : ℤ) where
@@ -78,19 +70,11 @@ module _ (map : List ℕ) (head : Head) (zones : List ℕ) (instant : ℤ) where
         ap given (sym (append-nil done)) ∙ ap (λ (rest : List Hit). behind done (hours-from (i + 1) rest)) (sym none) ∙ so-far .whole
 
 -- ---- offsets
-and-true : (a : Bool) → (a && true) ≡ a
-and-true true = refl
-and-true false = refl
-
-and-and : (a b c : Bool) → ((a && b) && c) ≡ (a && (b && c))
-and-and true b c = refl
-and-and false b c = refl
-
 -- one more is held against the first
 pub offset-one : (offset : ℤ) (done : List Hour) (hour : Hour) → haveOffset offset (done ++ (hour ∷ [])) ≡ (haveOffset offset done && sameZ (hour .offset) offset)
 unfolding haveOffset
 offset-one offset [] hour = and-true (sameZ (hour .offset) offset)
-offset-one offset (one ∷ done) hour = ap (λ (t : Bool). sameZ (one .offset) offset && t) (offset-one offset done hour) ∙ sym (and-and (sameZ (one .offset) offset) (haveOffset offset done) (sameZ (hour .offset) offset))
+offset-one offset (one ∷ done) hour = ap (λ (t : Bool). sameZ (one .offset) offset && t) (offset-one offset done hour) ∙ sym (and-assoc (sameZ (one .offset) offset) (haveOffset offset done) (sameZ (hour .offset) offset))
 
 -- ---- the first match, and whether the others agree with it
 module _ (map : List ℕ) (head : Head) (zones : List ℕ) (instant : ℤ) where

@@ -5,6 +5,7 @@ use lib.{Dec.{eqb, leb}, IntN.{ℤ, pos, negsuc, _+ℤ_}, ListN.{length}}
 use mathlib.Core.{Bool.{true, false, not}, List.{List, [], _∷_}, Path.{_≡_, refl, sym, ap, subst, _∙_}}
 use mir.{Syntax.{w32}, Val.{SFits}}
 use native.Mathlib.Omega.{arith}
+use Rattle.atlas.specs.Beside.{zonesBeside}
 use Rattle.bundle.proofs.Theorems.{found-first, entry-bytes}
 use Rattle.bundle.specs.{Bundle.{findOf}, declared.find.File.{File}}
 use Rattle.calendar.proofs.CivilAt.{civil-at}
@@ -14,10 +15,10 @@ use Rattle.header.specs.{Header.{headOf}, declared.header.Head.{Head}}
 use Rattle.line.specs.Put.{far}
 use Rattle.localtime.proofs.Offsets.{offset-fits}
 use Rattle.localtime.specs.Local.{answerAt, scaleAt}
-use Rattle.numbers.proofs.{Replies.{given-from, demanded}, Tests.{both}}
-use Rattle.numbers.specs.{Lists.{padded}, Reply.{Reply, given, refused, refusal, plain, _>>=_}}
+use Rattle.numbers.proofs.{Replies.{given-from, given-one, demanded}, Tests.{both}}
+use Rattle.numbers.specs.{Lists.{padded}, Reply.{Reply, given, refused, refusal, plain, demand, _>>=_, _>>_}}
 use Rattle.request.specs.{Request.{requestOf}, declared.read.Fix.{Fix}}
-use Rattle.slip.proofs.Zones.{same-given, same-match}
+use Rattle.slip.proofs.Zones.{same-match}
 use Rattle.slip.specs.{Hour.{Hour, nameOf, plainly, known, localIn, shown, hourIn, hourOf, hoursFrom}, Line.{lineOf}, Says.{Meant, Says, EachSays}}
 use Rattle.slip.specs.Slip.{Slip, placeOf, onGlobe, haveOffset, agreed, fitted, slipAt, slipOf, Replied, replied, repliedOf, slippedAt, slipped}
 use Rattle.slip.specs.declared.slip.Stamped.{Stamped}
@@ -26,18 +27,27 @@ use Rattle.tzif.specs.{Header.{rfc9636}, Text.{slice}, declared.local.{Answer.{
 use Rattle.tzif.specs.declared.local.Answer.the-variants as A
 use Rattle.tzif.specs.Reply as Z
 use Rattle.verdict.specs.Edge.{sameZ}
-use Rattle.zones.specs.{Lent.{Outcome}, Lookup.{zonesWith}, declared.lookup.Zones.{Zones}}
+use Rattle.zones.specs.{Lent.{Outcome}, declared.lookup.Zones.{Zones}}
 
 -- ---- stamped: what it was made of
 abbrev slipWith : Outcome Zones → List Hour → Hour → List ℕ → Slip
 slipWith looked hours hour line =
     record { stamped = record { length = length line; matches = length hours; offset = hour .offset }; line = line; matches = looked .matches; text = looked .text }
 
-pub record Made (fix : Fix) (map zones : List ℕ) (n room size : ℕ) (slip : Slip) : Type 0 where
+-- what follows the lookup
+abbrev pub afterLookup : Fix → List ℕ → Head → List ℕ → ℕ → Outcome Zones → Reply Slip
+afterLookup fix map head zones size looked = do
+  demand (eqb (looked .answer .mark) 1) (refusal 85 0 (looked .answer .mark))
+  hours ← hoursFrom map head zones (fix .instant) 1 (looked .matches)
+  hour ← agreed hours
+  line ← fitted size (lineOf hour hours)
+  given (slipWith looked hours hour line)
+
+pub record Made (fix : Fix) (map atlas zones : List ℕ) (n room size : ℕ) (slip : Slip) : Type 0 where
   pub head : Head
   pub opened : given head ≡ headOf map
   pub looked : Outcome Zones
-  pub found : given looked ≡ zonesWith map head (placeOf fix) false n room
+  pub found : given looked ≡ zonesBeside map head atlas (placeOf fix) false n room
   pub mark : looked .answer .mark ≡ 1
   pub hours : List Hour
   pub said : given hours ≡ hoursFrom map head zones (fix .instant) 1 (looked .matches)
@@ -47,14 +57,14 @@ pub record Made (fix : Fix) (map zones : List ℕ) (n room size : ℕ) (slip : S
 
 fits-so : (size : ℕ) (text : List ℕ) {line : List ℕ} → given line ≡ fitted size text → line ≡ text
 unfolding fitted
-fits-so size text e = same-given (demanded (leb (length text) size) (refusal 18 0 (min (length text) far)) e .1)
+fits-so size text e = given-one (demanded (leb (length text) size) (refusal 18 0 (min (length text) far)) e .1)
 
-pub made : (fix : Fix) (map zones : List ℕ) (n room size : ℕ) {slip : Slip} → given slip ≡ slipAt fix map zones n room size → Made fix map zones n room size slip
+pub made : (fix : Fix) (map atlas zones : List ℕ) (n room size : ℕ) {slip : Slip} → given slip ≡ slipAt fix map atlas zones n room size → Made fix map atlas zones n room size slip
 unfolding slipAt
-made fix map zones n room size e =
+made fix map atlas zones n room size e =
     let globe = demanded (onGlobe fix) (plain 84) e in
     let head = given-from (headOf map) _ (globe .1) in
-    let looked = given-from (zonesWith map (head .it) (placeOf fix) false n room) _ (head .onto) in
+    let looked = given-from (zonesBeside map (head .it) atlas (placeOf fix) false n room) _ (head .onto) in
     let mark = demanded (eqb (looked .it .answer .mark) 1) (refusal 85 0 (looked .it .answer .mark)) (looked .onto) in
     let hours = given-from (hoursFrom map (head .it) zones (fix .instant) 1 (looked .it .matches)) _ (mark .1) in
     let hour = given-from (agreed (hours .it)) _ (hours .onto) in
@@ -70,7 +80,7 @@ made fix map zones n room size e =
       hour = hour .it;
       agree = hour .is;
       is =
-          same-given (line .onto) ∙ ap (slipWith (looked .it) (hours .it) (hour .it)) (fits-so size (lineOf (hour .it) (hours .it)) (line .is));
+          given-one (line .onto) ∙ ap (slipWith (looked .it) (hours .it) (hour .it)) (fits-so size (lineOf (hour .it) (hours .it)) (line .is));
     }
 
 -- the slip behind a stamped reply
@@ -89,7 +99,7 @@ behind n room size (given slip) stamped hs ts os e =
     let hits = ap (λ (x : Replied). x .hits) e in
     let text = ap (λ (x : Replied). x .text) e in
     let out = ap (λ (x : Replied). x .out) e in
-    record { slip = slip; is = refl; said = same-given (ap (λ (x : Replied). x .reply) e); hits = hits; text = text; out = out }
+    record { slip = slip; is = refl; said = given-one (ap (λ (x : Replied). x .reply) e); hits = hits; text = text; out = out }
 behind n room size (refused why) stamped hs ts os e = let said = ap (λ (x : Replied). x .reply) e in let z : _≡_ {A = ℕ} 0 1 = cc in absurd (omega arith)
 
 -- a stamped slip of a request is the slip at what the request means
@@ -101,12 +111,12 @@ asked-by n room size (refused why) at {stamped} {hs} {ts} {os} e = absurd (nothi
     nothing : {slip : Slip} → given slip ≡ refused why → ⊥
     nothing e = let z : _≡_ {A = ℕ} 0 1 = cc in omega arith
 
-pub meant : (request map zones : List ℕ) (n room size : ℕ) {stamped : Stamped} {hs ts os : List ℕ} {Holds : Fix → Type 0}
-    → replied (given stamped) hs ts os ≡ slipped request map zones n room size
-    → ((fix : Fix) → replied (given stamped) hs ts os ≡ slippedAt fix map zones n room size → Holds fix) → Meant request Holds
+pub meant : (request map atlas zones : List ℕ) (n room size : ℕ) {stamped : Stamped} {hs ts os : List ℕ} {Holds : Fix → Type 0}
+    → replied (given stamped) hs ts os ≡ slipped request map atlas zones n room size
+    → ((fix : Fix) → replied (given stamped) hs ts os ≡ slippedAt fix map atlas zones n room size → Holds fix) → Meant request Holds
 unfolding slipped slipOf slippedAt
-meant request map zones n room size e k =
-    let a = asked-by n room size (requestOf request) (λ fix. slipAt fix map zones n room size) e in
+meant request map atlas zones n room size e k =
+    let a = asked-by n room size (requestOf request) (λ fix. slipAt fix map atlas zones n room size) e in
     record { fix = a .0; asked = a .1; holds = k (a .0) (a .2) }
 
 -- ---- the matches
@@ -125,18 +135,18 @@ pub record Hourly (map : List ℕ) (head : Head) (zones : List ℕ) (instant : �
 
 was-shown : (instant offset : ℤ) (civil : Civil) {reading : Reading} → CivilOf instant offset civil → given reading ≡ shown civil → Shows (instant +ℤ offset) reading
 unfolding CivilOf shown
-was-shown instant offset (C.Shown r) c e = subst (λ (x : Reading). Shows (instant +ℤ offset) x) (sym (same-given e)) c
+was-shown instant offset (C.Shown r) c e = subst (λ (x : Reading). Shows (instant +ℤ offset) x) (sym (given-one e)) c
 was-shown instant offset C.Outside c e = let z : _≡_ {A = ℕ} 0 1 = cc in absurd (omega arith)
 
 -- its offset fits 32 bits
 found-known : (answer : Answer) {found : Found} → given found ≡ known answer → A.Found found ≡ answer
 unfolding known
-found-known (A.Found found) e = ap A.Found (same-given e)
+found-known (A.Found found) e = ap A.Found (given-one e)
 found-known A.Unknown e = let z : _≡_ {A = ℕ} 0 1 = cc in absurd (omega arith)
 
 said-plainly : (reply : Z.Reply Answer) {answer : Answer} → given answer ≡ plainly reply → Z.given answer ≡ reply
 unfolding plainly
-said-plainly (Z.given a) e = ap Z.given (same-given e)
+said-plainly (Z.given a) e = ap Z.given (given-one e)
 said-plainly (Z.refused why) e = let z : _≡_ {A = ℕ} 0 1 = cc in absurd (omega arith)
 
 local-fits : (file : List ℕ) (instant : ℤ) {found : Found} → given found ≡ localIn file instant → SFits w32 (found .offset)
@@ -158,7 +168,7 @@ hourly map head zones instant number match {hour} e =
     let file = given-from (findOf zones (name .it)) _ (same-match number _ (name .onto)) in
     let found = given-from (localIn (slice zones (file .it .start) (file .it .length)) instant) _ (file .onto) in
     let reading = given-from (shown (civilAt instant (found .it .offset))) _ (found .onto) in
-    let is = same-given (reading .onto) in
+    let is = given-one (reading .onto) in
     let offset = ap (λ (h : Hour). h .offset) is in
     record {
       says = record { name = name .it; named = sym (name .is); file = file .it; held = sym (file .is); found = found .it; local = sym (found .is); same = sym offset };
@@ -177,7 +187,7 @@ each-says map head zones instant number [] hours offset e h = tt
 each-says map head zones instant number (match ∷ matches) hours offset e h =
     let hour = given-from (hourOf map head zones instant number match) _ e in
     let rest = given-from (hoursFrom map head zones instant (number + 1) matches) _ (hour .onto) in
-    let test = both (sameZ (hour .it .offset) offset) (haveOffset offset (rest .it)) (subst (λ (hs : List Hour). haveOffset offset hs ≡ true) (same-given (rest .onto)) h) in (
+    let test = both (sameZ (hour .it .offset) offset) (haveOffset offset (rest .it)) (subst (λ (hs : List Hour). haveOffset offset hs ≡ true) (given-one (rest .onto)) h) in (
       subst (λ (z : ℤ). Says map head zones instant z match) (same-eq (hour .it .offset) offset (test .0)) (hourly map head zones instant number match (hour .is) .says),
       each-says map head zones instant (number + 1) matches (rest .it) offset (rest .is) (test .1),
     )
@@ -193,7 +203,7 @@ unfolding agreed
 first [] e = let z : _≡_ {A = ℕ} 0 1 = cc in absurd (omega arith)
 first (h ∷ hs) {hour} e =
     let d = demanded (haveOffset (h .offset) (h ∷ hs)) (plain 92) e in
-    let same : h ≡ hour = sym (same-given (d .1)) in
+    let same : h ≡ hour = sym (given-one (d .1)) in
     record { rest = hs; are = ap (λ (x : Hour). x ∷ hs) same; all = subst (λ (x : Hour). haveOffset (x .offset) (h ∷ hs) ≡ true) same (d .0) }
 
 -- the first one is a match's
@@ -201,9 +211,9 @@ pub first-hourly : (map : List ℕ) (head : Head) (zones : List ℕ) (instant : 
     → given hours ≡ hoursFrom map head zones instant 1 matches → First hours hour
     → (match : Hit) × Hourly map head zones instant match hour
 unfolding hoursFrom
-first-hourly map head zones instant [] hours e f = let no : [] ≡ _ = same-given (sym e) ∙ f .are in let z : _≡_ {A = ℕ} 0 1 = cc in absurd (omega arith)
+first-hourly map head zones instant [] hours e f = let no : [] ≡ _ = given-one (sym e) ∙ f .are in let z : _≡_ {A = ℕ} 0 1 = cc in absurd (omega arith)
 first-hourly map head zones instant (match ∷ matches) hours {hour} e f =
     let one = given-from (hourOf map head zones instant 1 match) _ e in
     let rest = given-from (hoursFrom map head zones instant 2 matches) _ (one .onto) in
-    let same : one .it ≡ hour = (let list : one .it ∷ rest .it ≡ hour ∷ f .rest = sym (same-given (rest .onto)) ∙ f .are in cc) in
+    let same : one .it ≡ hour = (let list : one .it ∷ rest .it ≡ hour ∷ f .rest = sym (given-one (rest .onto)) ∙ f .are in cc) in
     (match, subst (Hourly map head zones instant match) same (hourly map head zones instant 1 match (one .is)))

@@ -4,6 +4,7 @@ use borrow.Author.Tests.{eqb-true, leb-true, le-leb}
 use lib.{Dec.{eqb, leb}, IntN.{ℤ}, ListN.{length}}
 use mathlib.Core.{Bool.{Bool, true, false, not, _&&_, _||_}, List.{List, [], _∷_}, Option.{Option, none, some}, Path.{_≡_, refl, sym, ap, subst, _∙_}}
 use native.Mathlib.Omega.{arith}
+use Rattle.atlas.{proofs.BesideIsPlain.{zones-beside-is-plain}, specs.Beside.{NoneOrAtlas}}
 use Rattle.bundle.proofs.Theorems.{found-refusals}
 use Rattle.bundle.specs.Bundle.{findOf}
 use Rattle.calendar.specs.{Civil.{civilAt}, declared.civil.Civil.{Civil}}
@@ -132,12 +133,12 @@ fitted-told : (size : ℕ) (line : List ℕ) → Told (fitted size line)
 unfolding fitted isAtNumber
 fitted-told size line = and-then (demands (leb (length line) size) (refusal 18 0 (min (length line) far)) refl) answers
 
-pub slip-at-told : (fix : Fix) (map zones : List ℕ) (n room size : ℕ) → Told (slipAt fix map zones n room size)
+pub slip-at-told : (fix : Fix) (map atlas zones : List ℕ) → NoneOrAtlas map atlas → (n room size : ℕ) → Told (slipAt fix map atlas zones n room size)
 unfolding slipAt isAtNumber
-slip-at-told fix map zones n room size =
+slip-at-told fix map atlas zones so n room size =
     and-then (demands (onGlobe fix) (plain 84) refl)
     (then-with (head-told map (placeOf fix) n room)
-    (λ head o. then-reply (zones-told map (placeOf fix) n room head o)
+    (λ head o. then-reply (subst (λ (l : Reply (L.Outcome Zones)). Told l) (sym (zones-beside-is-plain map atlas so (sym o) (placeOf fix) false n room)) (zones-told map (placeOf fix) n room head o))
     (λ looked. and-then (demands (eqb (looked .answer .mark) 1) (refusal 85 0 (looked .answer .mark)) refl)
     (then-reply (hours-told map head zones (fix .instant) 1 (looked .matches) o)
     (λ hours. then-reply (agreed-told hours) (λ hour. then-reply (fitted-told size (lineOf hour hours)) (λ line. answers)))))))
@@ -156,7 +157,7 @@ at-slip n h = go (from 1 18 n) (from 40 61 n) (from 84 92 n) refl h
     go false false true e h = late e
     go false false false e h = differ h
 
-pub slip-told : (request map zones : List ℕ) (n room size : ℕ) → NumberedReply (λ (n : ℕ). isSlipNumber n ≡ true) (slipOf request map zones n room size)
+pub slip-told : (request map atlas zones : List ℕ) → NoneOrAtlas map atlas → (n room size : ℕ) → NumberedReply (λ (n : ℕ). isSlipNumber n ≡ true) (slipOf request map atlas zones n room size)
 unfolding slipOf isSlipNumber
-slip-told request map zones n room size =
-    then-reply (wider (λ n h. listed-so isSlipNumber fiveNumbers n refl h) (request-told request)) (λ fix. wider at-slip (slip-at-told fix map zones n room size))
+slip-told request map atlas zones so n room size =
+    then-reply (wider (λ n h. listed-so isSlipNumber fiveNumbers n refl h) (request-told request)) (λ fix. wider at-slip (slip-at-told fix map atlas zones so n room size))

@@ -7,9 +7,9 @@ use native.Mathlib.{Nat.{pow-suc}, Omega.{arith}}
 use Rattle.calendar.specs.declared.civil.Reading.{Reading}
 use Rattle.header.specs.declared.header.Head.{Head}
 use Rattle.line.specs.{Clock.{weekdayText, dateText, timeText, hoursText, secondsText, spanText, offsetText, shown}, Put.{digit, decimalOf, decimal, twoDigits}}
-use Rattle.numbers.proofs.Replies.{given-from}
+use Rattle.numbers.proofs.Replies.{given-from, given-one}
 use Rattle.numbers.specs.{Answer.{if_then_else_}, Reply.{given}}
-use Rattle.slip.proofs.{Clocks.{letters}, Making.{hourly}, Zones.{same-given}}
+use Rattle.slip.proofs.{Clocks.{letters}, Making.{hourly}}
 use Rattle.slip.specs.{Hour.{Hour, hourOf, hoursFrom}, Line.{clockText, isAmong, between, shownText, zoneText, added, zonesFrom}, Says.{zonesMost}}
 use Rattle.table.specs.declared.hits.Hit.{Hit}
 
@@ -67,11 +67,11 @@ Named (hour ∷ hours) = (length (hour .name) ≤ 40) × Named hours
 pub names-short : (map : List ℕ) (head : Head) (zones : List ℕ) (instant : ℤ) (number : ℕ) (matches : List Hit) (hours : List Hour)
     → given hours ≡ hoursFrom map head zones instant number matches → Named hours
 unfolding Named hoursFrom
-names-short map head zones instant number [] hours e = subst Named (sym (same-given e)) tt
+names-short map head zones instant number [] hours e = subst Named (sym (given-one e)) tt
 names-short map head zones instant number (match ∷ matches) hours e =
     let hour = given-from (hourOf map head zones instant number match) _ e in
     let rest = given-from (hoursFrom map head zones instant (number + 1) matches) _ (hour .onto) in
-    subst Named (sym (same-given (rest .onto))) (hourly map head zones instant number match (hour .is) .short, names-short map head zones instant (number + 1) matches (rest .it) (rest .is))
+    subst Named (sym (given-one (rest .onto))) (hourly map head zones instant number match (hour .is) .short, names-short map head zones instant (number + 1) matches (rest .it) (rest .is))
 
 zone-long : (hour : Hour) → length (zoneText hour) ≡ length (hour .abbreviation) + 1 + length (hour .name)
 unfolding zoneText

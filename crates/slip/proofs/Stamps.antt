@@ -4,16 +4,16 @@ use borrow.Author.Tests.{le-leb, lt-leb, eq-eqb, ne-eqb}
 use lib.{Dec.{leb, eqb}, IntN.{ℤ}, ListN.{length, take, drop}}
 use mathlib.Core.{Bool.{Bool, true, false, not}, List.{List, [], _∷_, _++_}, Path.{_≡_, refl, sym, ap, _∙_, subst}}
 use native.Mathlib.Omega.{arith}
+use Rattle.atlas.specs.Beside.{zonesBeside}
 use Rattle.header.specs.{Header.{headOf}, declared.header.Head.{Head}}
 use Rattle.line.{proofs.Puts.{put-size, put-whole}, specs.Put.{far}}
-use Rattle.numbers.proofs.{Lists.{zeros-drop}, Replies.{carried, onward, met, unmet, given-from}}
+use Rattle.numbers.proofs.{Lists.{zeros-drop}, Replies.{carried, onward, met, unmet, given-from, given-one}}
 use Rattle.numbers.specs.{Lists.{zeros, padded}, Reply.{Reply, given, refused, refusal, plain, demand, _>>=_, _>>_}, declared.refusal.Refusal.{Refusal}}
 use Rattle.request.specs.{Request.{requestOf}, declared.read.Fix.{Fix}}
-use Rattle.slip.proofs.Zones.{same-given}
 use Rattle.slip.specs.{Hour.{Hour, hourOf, hoursFrom}, Line.{lineOf}, Slip.{Slip, placeOf, onGlobe, haveOffset, agreed, fitted, slipAt, slipOf, Replied, replied, repliedOf, slippedAt, slipped}}
 use Rattle.slip.specs.{Told.{hourAt, Seen, Inked, Ink, inkOf, slipWith, Wrote, Filled}, declared.{hour.Spot.{Spot}, hours.All.{All}, slip.Stamped.{Stamped}}}
 use Rattle.table.{proofs.Agreeing.{agree-given, agree-refused, gave, refused-so}, specs.{inner.Agreeing.{Agrees}, Hits.{words, slots}, declared.hits.Hit.{Hit}}}
-use Rattle.zones.{proofs.Lent.{Lent}, specs.{Lent.{Outcome}, Lookup.{zonesWith}, declared.lookup.Zones.{Zones}}}
+use Rattle.zones.{proofs.Lent.{Lent}, specs.{Lent.{Outcome}, declared.lookup.Zones.{Zones}}}
 
 -- a test that was turned round
 pub true-of : (test : Bool) → not test ≡ false → test ≡ true
@@ -27,11 +27,11 @@ false-of false e = refl
 -- an hour for each match
 pub as-many : (map : List ℕ) (head : Head) (zones : List ℕ) (instant : ℤ) (number : ℕ) (matches : List Hit) {hs : List Hour} → given hs ≡ hoursFrom map head zones instant number matches → length hs ≡ length matches
 unfolding hoursFrom
-as-many map head zones instant number [] e = ap length (same-given e)
+as-many map head zones instant number [] e = ap length (given-one e)
 as-many map head zones instant number (match ∷ matches) {hs} e =
     let hour = given-from (hourOf map head zones instant number match) _ e in
     let rest = given-from (hoursFrom map head zones instant (number + 1) matches) _ (hour .onto) in
-    ap length (same-given (rest .onto)) ∙ ap suc (as-many map head zones instant (number + 1) matches (rest .is))
+    ap length (given-one (rest .onto)) ∙ ap suc (as-many map head zones instant (number + 1) matches (rest .is))
 
 -- ---- steps 5 to 8
 module _ (fix : Fix) (map : List ℕ) (head : Head) (zones : List ℕ) (size : ℕ) (matches : List Hit) where
@@ -97,14 +97,14 @@ ink-from hour hours line = given (ink-with hour hours line)
 abbrev slip-from : Outcome Zones → Ink → Reply Slip
 slip-from outcome ink = given (record { stamped = ink .stamped; line = ink .line; matches = outcome .matches; text = outcome .text })
 
-module _ (fix : Fix) (map : List ℕ) (head : Head) (zones : List ℕ) (n room size : ℕ) where
+module _ (fix : Fix) (map : List ℕ) (head : Head) (atlas zones : List ℕ) (n room size : ℕ) where
   abbrev With : List ℕ → List ℕ → List ℕ → Reply Stamped → Type 0
-  With hits text out reply = Agrees (Filled n room size hits text out) (slipWith fix map head zones n room size) reply
+  With hits text out reply = Agrees (Filled n room size hits text out) (slipWith fix map head atlas zones n room size) reply
 
-  pub not-looked : {why : Refusal} (hits text out : List ℕ) → refused why ≡ zonesWith map head (placeOf fix) false n room → With hits text out (refused why)
+  pub not-looked : {why : Refusal} (hits text out : List ℕ) → refused why ≡ zonesBeside map head atlas (placeOf fix) false n room → With hits text out (refused why)
   not-looked hits text out e = agree-refused (Filled n room size hits text out) (carried e _)
 
-  module _ {found : Zones} {hits text : List ℕ} (l : Lent map head (placeOf fix) false n room found hits text) where
+  module _ {found : Zones} {hits text : List ℕ} (l : Lent n room (zonesBeside map head atlas (placeOf fix) false n room) found hits text) where
     mark-is : found .mark ≡ l .outcome .answer .mark
     mark-is = ap (λ (z : Zones). z .mark) (l .answered)
 
@@ -118,7 +118,7 @@ module _ (fix : Fix) (map : List ℕ) (head : Head) (zones : List ℕ) (n room s
       goes rest = met (eq-eqb (l .outcome .answer .mark) 1 (sym mark-is ∙ one)) (refusal 85 0 (l .outcome .answer .mark)) rest
 
       -- what was inked is the slip, with the lookup's matches and text
-      whole : (ink : Reply Ink) → ink ≡ inkOf fix map head zones size (l .outcome .matches) → (ink >>= slip-from (l .outcome)) ≡ slipWith fix map head zones n room size
+      whole : (ink : Reply Ink) → ink ≡ inkOf fix map head zones size (l .outcome .matches) → (ink >>= slip-from (l .outcome)) ≡ slipWith fix map head atlas zones n room size
       whole ink e = ap (λ (x : Reply Ink). x >>= slip-from (l .outcome)) e ∙ joined (hoursFrom map head zones (fix .instant) 1 (l .outcome .matches)) ∙ goes _ ∙ onward (l .is) _
         where
           last : (hour : Hour) (hours : List Hour) (line : Reply (List ℕ)) → (line >>= ink-from hour hours >>= slip-from (l .outcome)) ≡ (line >>= λ line. slip-from (l .outcome) (ink-with hour hours line))
@@ -146,9 +146,9 @@ module _ (fix : Fix) (map : List ℕ) (head : Head) (zones : List ℕ) (n room s
           agree-refused (Filled n room size hits text out) (whole (refused why) (refused-so (Wrote size out) _ a refl ∙ ap (inkOf fix map head zones size) (l .held)))
 
 -- ---- all of it
-module _ (fix : Fix) (map zones : List ℕ) (n room size : ℕ) where
+module _ (fix : Fix) (map atlas zones : List ℕ) (n room size : ℕ) where
   abbrev At : List ℕ → List ℕ → List ℕ → Reply Stamped → Type 0
-  At hits text out reply = Agrees (Filled n room size hits text out) (slipAt fix map zones n room size) reply
+  At hits text out reply = Agrees (Filled n room size hits text out) (slipAt fix map atlas zones n room size) reply
 
   pub not-placed : {why : Refusal} (hits text out : List ℕ) → onGlobe fix ≡ false → why ≡ plain 84 → At hits text out (refused why)
   unfolding slipAt
@@ -159,7 +159,7 @@ module _ (fix : Fix) (map zones : List ℕ) (n room size : ℕ) where
     unfolding slipAt
     not-opened hits text out e = agree-refused (Filled n room size hits text out) (carried e _ ∙ met placed (plain 84) _)
 
-    pub opened : {head : Head} (hits text out : List ℕ) (reply : Reply Stamped) → given head ≡ headOf map → Agrees (Filled n room size hits text out) (slipWith fix map head zones n room size) reply → At hits text out reply
+    pub opened : {head : Head} (hits text out : List ℕ) (reply : Reply Stamped) → given head ≡ headOf map → Agrees (Filled n room size hits text out) (slipWith fix map head atlas zones n room size) reply → At hits text out reply
     unfolding slipAt
     opened hits text out reply e a = subst (λ (w : Reply Slip). Agrees (Filled n room size hits text out) w reply) (onward e _ ∙ met placed (plain 84) _) a
 
@@ -180,11 +180,11 @@ module _ (whole : ℕ → ℕ → ℕ → Reply Slip) (reply : Reply Stamped) (h
   refused-reply {why} e zh zt zo = (λ i. replied (refused why) (zh i) (zt i) (zo i)) ∙ ap (repliedOf n room size) (refused-so (Filled n room size hs ts os) (whole n room size) settled e)
 
 -- a request that is none, and what one means
-module _ (request map zones : List ℕ) (n room size : ℕ) where
-  pub no-request : {why : Refusal} {hs ts os : List ℕ} → refused why ≡ requestOf request → hs ≡ zeros n → ts ≡ zeros room → os ≡ zeros size → replied (refused why) hs ts os ≡ slipped request map zones n room size
+module _ (request map atlas zones : List ℕ) (n room size : ℕ) where
+  pub no-request : {why : Refusal} {hs ts os : List ℕ} → refused why ≡ requestOf request → hs ≡ zeros n → ts ≡ zeros room → os ≡ zeros size → replied (refused why) hs ts os ≡ slipped request map atlas zones n room size
   unfolding slipped slipOf repliedOf
   no-request {why} e zh zt zo = (λ i. replied (refused why) (zh i) (zt i) (zo i)) ∙ ap (repliedOf n room size) (carried e _)
 
-  pub asked-so : {fix : Fix} → given fix ≡ requestOf request → slippedAt fix map zones n room size ≡ slipped request map zones n room size
+  pub asked-so : {fix : Fix} → given fix ≡ requestOf request → slippedAt fix map atlas zones n room size ≡ slipped request map atlas zones n room size
   unfolding slipped slipOf slippedAt
   asked-so e = ap (repliedOf n room size) (onward e _)

@@ -3,6 +3,7 @@ use Prim.Native.Nat.{ℕ, _+_, _*_, _≤_}
 use lib.{Ieee.{fin, nan, round, ofInt, add, sub, mul, div, toSigned, le, neg}, IntN.{ℤ, pos, negsuc, _+ℤ_}, ListN.{length}}
 use mathlib.Core.{Bool.{false, true}, List.{List, [], _∷_}, Path.{_≡_, refl, ap, sym, _∙_}}
 use native.Mathlib.Omega.{arith}
+use Rattle.atlas.specs.Beside.{matchedBeside, zonesBeside}
 use Rattle.border.specs.{Place.{movedBy}, Reader.{advanced, marker, packedTurn, turnOf}, Trace.{roundAgain, nextWithin, nextPoint, traceThen, traceWithin, traceOf}}
 use Rattle.bundle.specs.{Bundle.{findOf}, declared.find.File.{File}}
 use Rattle.bundle.specs.Bundle as B
@@ -42,11 +43,11 @@ use Rattle.verdict.specs.{Winding.{turned, quarterBy, halfTurn, turnAt, crossin
 use Rattle.verdict.specs.Edge as E
 use Rattle.verdict.specs.Step as S
 use Rattle.zones.proofs.WorkedEnding.{printed, inTheZone}
-use Rattle.zones.specs.{Fields.{fieldsFrom, fieldsOf}, Lent.{Outcome}, Lookup.{safezoneBits, zonesWith}, Simple.{same, pickedFrom}, declared.lookup.Zones.{Zones}}
+use Rattle.zones.specs.{Fields.{fieldsFrom, fieldsOf}, Lent.{Outcome}, Lookup.{safezoneBits}, Simple.{same, pickedFrom}, declared.lookup.Zones.{Zones}}
 
 -- ---- what is asked about
 -- $GNRMC,115959.00,A,5231.200000,N,01324.000000,E,0.0,0.0,010726,,,A*41
-abbrev sentence : List ℕ
+abbrev pub sentence : List ℕ
 sentence =
     36 ∷ 71 ∷ 78 ∷ 82 ∷ 77 ∷ 67 ∷ 44 ∷ 49 ∷ 49 ∷ 53 ∷ 57 ∷ 53 ∷ 57 ∷ 46 ∷ 48 ∷ 48 ∷ 44 ∷ 65 ∷ 44 ∷ 53 ∷ 50 ∷ 51 ∷ 49 ∷ 46 ∷ 50 ∷ 48 ∷ 48 ∷ 48 ∷ 48 ∷ 48 ∷ 44 ∷ 78 ∷
     44 ∷ 48 ∷ 49 ∷ 51 ∷ 50 ∷ 52 ∷ 46 ∷ 48 ∷ 48 ∷ 48 ∷ 48 ∷ 48 ∷ 48 ∷ 44 ∷ 69 ∷ 44 ∷ 48 ∷ 46 ∷ 48 ∷ 44 ∷ 48 ∷ 46 ∷ 48 ∷ 44 ∷ 48 ∷ 49 ∷ 48 ∷ 55 ∷ 50 ∷ 54 ∷ 44 ∷ 44 ∷
@@ -68,7 +69,7 @@ unfolding onGlobe within le neg
 placed instant = refl
 
 -- ---- the map: one square, from 58 degrees south to 56 north, whose prefix is `Europe/` and whose id is `Berlin`
-abbrev square : List ℕ
+abbrev pub square : List ℕ
 square =
     80 ∷ 76 ∷ 66 ∷ 84 ∷ 1 ∷ 7 ∷ 2 ∷ 16 ∷ 212 ∷ 233 ∷ 237 ∷ 229 ∷ 250 ∷ 239 ∷ 238 ∷ 229 ∷ 201 ∷ 228 ∷ 208 ∷ 242 ∷ 229 ∷ 230 ∷ 233 ∷ 248 ∷ 10 ∷ 212 ∷ 233 ∷ 237 ∷ 229 ∷ 250 ∷ 239 ∷ 238 ∷
     229 ∷ 201 ∷ 228 ∷ 0 ∷ 6 ∷ 15 ∷ 14 ∷ 81 ∷ 81 ∷ 80 ∷ 80 ∷ 0 ∷ 1 ∷ 7 ∷ 197 ∷ 245 ∷ 242 ∷ 239 ∷ 240 ∷ 229 ∷ 175 ∷ 6 ∷ 194 ∷ 229 ∷ 242 ∷ 236 ∷ 233 ∷ 238 ∷ 0 ∷ 131 ∷ 102 ∷ 128 ∷
@@ -78,20 +79,20 @@ abbrev head : Head
 head = record { preamble = record { kind = 84; version = 1; precision = 7; count = 2 }; sections = record { table = 39; metadata = 45; «data» = 60 }; strict = false }
 
 opened : given head ≡ headOf square
-unfolding readingOf forwardAt valueOf sizeOf tooLong signedOf evenBits pointOf fixedPoint oneShifted checked movedBy advanced marker packedTurn turnOf roundAgain nextWithin nextPoint traceThen traceWithin traceOf along passing closedAt thenOn judge judgedAt fieldAt fieldsFrom fieldsOf fixOf matchedWith preambleOf textsFrom sectionsFrom sectionsAt contentsBy headBy safezoneBits zonesWith summary seen mergedAfter merged rowsThen rowBy rowsWithin rowsFrom rowsIn judgedTurn rowTurn seek searched stepsBy entryBy H.within remoteAt stringAt bytesOf textAt characters startedBy begunBy followed goesOn isUtf8 samePoint E.between inBox quadrantOf slopeOf edgeOf straight closestOn turned quarterBy halfTurn turnAt crossingOf acrossBy clearOf woundBy measured S.checked restMark ofInt add sub mul div toSigned
+unfolding readingOf forwardAt valueOf sizeOf tooLong signedOf evenBits pointOf fixedPoint oneShifted checked movedBy advanced marker packedTurn turnOf roundAgain nextWithin nextPoint traceThen traceWithin traceOf along passing closedAt thenOn judge judgedAt fieldAt fieldsFrom fieldsOf fixOf matchedWith preambleOf textsFrom sectionsFrom sectionsAt contentsBy headBy safezoneBits zonesBeside matchedBeside summary seen mergedAfter merged rowsThen rowBy rowsWithin rowsFrom rowsIn judgedTurn rowTurn seek searched stepsBy entryBy H.within remoteAt stringAt bytesOf textAt characters startedBy begunBy followed goesOn isUtf8 samePoint E.between inBox quadrantOf slopeOf edgeOf straight closestOn turned quarterBy halfTurn turnAt crossingOf acrossBy clearOf woundBy measured S.checked restMark ofInt add sub mul div toSigned
 opened = refl
 
 abbrev match : Hit
 match = hitOf 0 0 1 39
 
-abbrev texts : List ℕ
+abbrev pub texts : List ℕ
 texts = 0 ∷ 0 ∷ 7 ∷ 69 ∷ 117 ∷ 114 ∷ 111 ∷ 112 ∷ 101 ∷ 47 ∷ 1 ∷ 0 ∷ 6 ∷ 66 ∷ 101 ∷ 114 ∷ 108 ∷ 105 ∷ 110 ∷ []
 
 abbrev outcome : Outcome Zones
 outcome = record { answer = record { matches = 1; mark = 1; safezone = 0; used = 19 }; matches = match ∷ []; text = texts }
 
-looked : given outcome ≡ zonesWith square head (placeOf fix) false 4 19
-unfolding readingOf forwardAt valueOf sizeOf tooLong signedOf evenBits pointOf fixedPoint oneShifted checked movedBy advanced marker packedTurn turnOf roundAgain nextWithin nextPoint traceThen traceWithin traceOf along passing closedAt thenOn judge judgedAt fieldAt fieldsFrom fieldsOf fixOf matchedWith preambleOf textsFrom sectionsFrom sectionsAt contentsBy headBy safezoneBits zonesWith summary seen mergedAfter merged rowsThen rowBy rowsWithin rowsFrom rowsIn judgedTurn rowTurn seek searched stepsBy entryBy H.within remoteAt stringAt bytesOf textAt characters startedBy begunBy followed goesOn isUtf8 samePoint E.between inBox quadrantOf slopeOf edgeOf straight closestOn turned quarterBy halfTurn turnAt crossingOf acrossBy clearOf woundBy measured S.checked restMark ofInt add sub mul div toSigned
+looked : given outcome ≡ zonesBeside square head [] (placeOf fix) false 4 19
+unfolding readingOf forwardAt valueOf sizeOf tooLong signedOf evenBits pointOf fixedPoint oneShifted checked movedBy advanced marker packedTurn turnOf roundAgain nextWithin nextPoint traceThen traceWithin traceOf along passing closedAt thenOn judge judgedAt fieldAt fieldsFrom fieldsOf fixOf matchedWith preambleOf textsFrom sectionsFrom sectionsAt contentsBy headBy safezoneBits zonesBeside matchedBeside summary seen mergedAfter merged rowsThen rowBy rowsWithin rowsFrom rowsIn judgedTurn rowTurn seek searched stepsBy entryBy H.within remoteAt stringAt bytesOf textAt characters startedBy begunBy followed goesOn isUtf8 samePoint E.between inBox quadrantOf slopeOf edgeOf straight closestOn turned quarterBy halfTurn turnAt crossingOf acrossBy clearOf woundBy measured S.checked restMark ofInt add sub mul div toSigned
 looked = refl
 
 -- Europe/Berlin
@@ -103,7 +104,7 @@ unfolding readingOf forwardAt valueOf sizeOf tooLong pickedFrom H.within remoteA
 name-is = refl
 
 -- ---- the zones: a bundle with one file of version 1, whose one type is `CEST`, two hours east
-abbrev berlin : List ℕ
+abbrev pub berlin : List ℕ
 berlin =
     116 ∷ 122 ∷ 100 ∷ 97 ∷ 116 ∷ 97 ∷ 50 ∷ 48 ∷ 50 ∷ 54 ∷ 97 ∷ 0 ∷ 0 ∷ 0 ∷ 0 ∷ 24 ∷ 0 ∷ 0 ∷ 0 ∷ 76 ∷ 0 ∷ 0 ∷ 0 ∷ 131 ∷ 69 ∷ 117 ∷ 114 ∷ 111 ∷ 112 ∷ 101 ∷ 47 ∷ 66 ∷
     101 ∷ 114 ∷ 108 ∷ 105 ∷ 110 ∷ 0 ∷ 0 ∷ 0 ∷ 0 ∷ 0 ∷ 0 ∷ 0 ∷ 0 ∷ 0 ∷ 0 ∷ 0 ∷ 0 ∷ 0 ∷ 0 ∷ 0 ∷ 0 ∷ 0 ∷ 0 ∷ 0 ∷ 0 ∷ 0 ∷ 0 ∷ 0 ∷ 0 ∷ 0 ∷ 0 ∷ 0 ∷
@@ -169,7 +170,7 @@ hour-is : given hour ≡ hourIn berlin (pos 1782907199) name
 hour-is = hour-by berlin name file local reading held local-is shown-so
 
 -- ---- the line: Wed 2026-07-01 13:59:59 +02:00 CEST Europe/Berlin
-abbrev line : List ℕ
+abbrev pub line : List ℕ
 line =
     87 ∷ 101 ∷ 100 ∷ 32 ∷ 50 ∷ 48 ∷ 50 ∷ 54 ∷ 45 ∷ 48 ∷ 55 ∷ 45 ∷ 48 ∷ 49 ∷ 32 ∷ 49 ∷ 51 ∷ 58 ∷ 53 ∷ 57 ∷ 58 ∷ 53 ∷ 57 ∷ 32 ∷ 43 ∷ 48 ∷ 50 ∷ 58 ∷ 48 ∷ 48 ∷ 32 ∷ 67 ∷
     69 ∷ 83 ∷ 84 ∷ 32 ∷ 69 ∷ 117 ∷ 114 ∷ 111 ∷ 112 ∷ 101 ∷ 47 ∷ 66 ∷ 101 ∷ 114 ∷ 108 ∷ 105 ∷ 110 ∷ []
@@ -193,7 +194,7 @@ rest size said = do
 
 -- in any zones, by what the match says
 by-match : (zones : List ℕ) (instant : ℤ) (size : ℕ) {said : Reply Hour} → said ≡ hourIn zones instant name
-    → rest size (ofMatch 1 said >>= λ hour. given (hour ∷ [])) ≡ slipAt (fixAt instant) square zones 4 19 size
+    → rest size (ofMatch 1 said >>= λ hour. given (hour ∷ [])) ≡ slipAt (fixAt instant) square [] zones 4 19 size
 unfolding slipAt hoursFrom hourOf
 by-match zones instant size e =
     ap (λ (s : Reply Hour). rest size (ofMatch 1 s >>= λ hour. given (hour ∷ []))) e
@@ -203,23 +204,23 @@ by-match zones instant size e =
     ∙ met (placed instant) (plain 84) _
 
 -- The example sentence, stamped: one match, two hours east, and the line fills its room.
-pub stamped : slipped sentence square berlin 4 19 49 ≡ replied (given (record { length = 49; matches = 1; offset = pos 7200 })) (0 ∷ 0 ∷ 1 ∷ 39 ∷ []) texts line
+pub stamped : slipped sentence square [] berlin 4 19 49 ≡ replied (given (record { length = 49; matches = 1; offset = pos 7200 })) (0 ∷ 0 ∷ 1 ∷ 39 ∷ []) texts line
 unfolding slippedAt repliedOf ofMatch agreed haveOffset fitted words lineOf clockText weekdayText dateText timeText hoursText secondsText spanText offsetText zonesFrom added isAmong between zoneText L.shown
-stamped = sym (asked-so sentence square berlin 4 19 49 asked) ∙ ap (repliedOf 4 19 49) (sym (by-match berlin (pos 1782907199) 49 hour-is))
+stamped = sym (asked-so sentence square [] berlin 4 19 49 asked) ∙ ap (repliedOf 4 19 49) (sym (by-match berlin (pos 1782907199) 49 hour-is))
 
 -- with a byte less of room: 18, and the line's length
-pub no-room : slipped sentence square berlin 4 19 48 ≡ replied (refused (refusal 18 0 49)) (zeros 4) (zeros 19) (zeros 48)
+pub no-room : slipped sentence square [] berlin 4 19 48 ≡ replied (refused (refusal 18 0 49)) (zeros 4) (zeros 19) (zeros 48)
 unfolding slippedAt repliedOf ofMatch agreed haveOffset fitted lineOf clockText weekdayText dateText timeText hoursText secondsText spanText offsetText zonesFrom added isAmong between zoneText L.shown
-no-room = sym (asked-so sentence square berlin 4 19 48 asked) ∙ ap (repliedOf 4 19 48) (sym (by-match berlin (pos 1782907199) 48 hour-is))
+no-room = sym (asked-so sentence square [] berlin 4 19 48 asked) ∙ ap (repliedOf 4 19 48) (sym (by-match berlin (pos 1782907199) 48 hour-is))
 
 -- ---- not stamped: the zones
 by-zones : (zones : List ℕ) (instant : ℤ) {why : Refusal} → refused why ≡ hourIn zones instant name
-    → slippedAt (fixAt instant) square zones 4 19 49 ≡ replied (refused (blamed 1 why)) (zeros 4) (zeros 19) (zeros 49)
+    → slippedAt (fixAt instant) square [] zones 4 19 49 ≡ replied (refused (blamed 1 why)) (zeros 4) (zeros 19) (zeros 49)
 unfolding slippedAt repliedOf ofMatch
 by-zones zones instant e = ap (repliedOf 4 19 49) (sym (by-match zones instant 49 e))
 
 -- no bundle: 89 at 0, of the first match
-pub no-bundle : slippedAt fix square [] 4 19 49 ≡ replied (refused (refusal 89 1 0)) (zeros 4) (zeros 19) (zeros 49)
+pub no-bundle : slippedAt fix square [] [] 4 19 49 ≡ replied (refused (refusal 89 1 0)) (zeros 4) (zeros 19) (zeros 49)
 unfolding blamed hourIn B.wordAt B.agrees B.isBundle B.isIndex B.isData B.isEnd B.headOf B.isEntry B.seekOf B.findOf
 no-bundle = by-zones [] (pos 1782907199) refl
 
@@ -227,7 +228,7 @@ no-bundle = by-zones [] (pos 1782907199) refl
 abbrev empty : List ℕ
 empty = 116 ∷ 122 ∷ 100 ∷ 97 ∷ 116 ∷ 97 ∷ 50 ∷ 48 ∷ 50 ∷ 54 ∷ 97 ∷ 0 ∷ 0 ∷ 0 ∷ 0 ∷ 24 ∷ 0 ∷ 0 ∷ 0 ∷ 24 ∷ 0 ∷ 0 ∷ 0 ∷ 24 ∷ []
 
-pub no-zone : slippedAt fix square empty 4 19 49 ≡ replied (refused (refusal 88 1 0)) (zeros 4) (zeros 19) (zeros 49)
+pub no-zone : slippedAt fix square [] empty 4 19 49 ≡ replied (refused (refusal 88 1 0)) (zeros 4) (zeros 19) (zeros 49)
 unfolding blamed hourIn B.wordAt B.agrees B.isBundle B.isIndex B.isData B.isEnd B.headOf B.isEntry B.seekOf B.findOf
 no-zone = by-zones empty (pos 1782907199) refl
 
@@ -240,7 +241,7 @@ unknown =
     0 ∷ 0 ∷ 0 ∷ 0 ∷ 0 ∷ 0 ∷ 0 ∷ 0 ∷ 0 ∷ 0 ∷ 0 ∷ 0 ∷ 0 ∷ 0 ∷ 0 ∷ 1 ∷ 0 ∷ 0 ∷ 0 ∷ 1 ∷ 0 ∷ 0 ∷ 0 ∷ 5 ∷ 0 ∷ 0 ∷ 0 ∷ 0 ∷ 0 ∷ 0 ∷ 0 ∷ 28 ∷
     32 ∷ 1 ∷ 0 ∷ 67 ∷ 69 ∷ 83 ∷ 84 ∷ 0 ∷ []
 
-pub not-known : slippedAt fix square unknown 4 19 49 ≡ replied (refused (refusal 90 1 0)) (zeros 4) (zeros 19) (zeros 49)
+pub not-known : slippedAt fix square [] unknown 4 19 49 ≡ replied (refused (refusal 90 1 0)) (zeros 4) (zeros 19) (zeros 49)
 unfolding blamed hourIn B.wordAt B.agrees B.isBundle B.isIndex B.isData B.isEnd B.headOf B.isEntry B.seekOf B.findOf readZoneBy readShort readBlock begins isVersion isFourth versionFits checkHeader blockAt noneOrAll checkCounts checkBlock checkPart countOf checkOf checkTime checkIndex checkType checkLeap checkLeaps checkStandard isStandard checkUt nulEnd oneApart occursLater correctionBefore correctionOf correctionAt isExpiry typeIn typeBehind isAfterLast byTable octets be32 raised timeAt lift T.demand T.each T._>>=_ T._>>_ firstWith isStop runTo timeIn lastWith lastNotAfter scaleBy scaleOr scaleIn rulesIn answerAt answerBy localIn plainly known
 not-known = by-zones unknown (pos 1782907199) refl
 
@@ -253,12 +254,12 @@ leaping =
     0 ∷ 0 ∷ 0 ∷ 0 ∷ 0 ∷ 0 ∷ 0 ∷ 0 ∷ 0 ∷ 0 ∷ 0 ∷ 1 ∷ 0 ∷ 0 ∷ 0 ∷ 0 ∷ 0 ∷ 0 ∷ 0 ∷ 1 ∷ 0 ∷ 0 ∷ 0 ∷ 5 ∷ 0 ∷ 0 ∷ 28 ∷ 32 ∷ 1 ∷ 0 ∷ 67 ∷ 69 ∷
     83 ∷ 84 ∷ 0 ∷ 4 ∷ 178 ∷ 88 ∷ 0 ∷ 0 ∷ 0 ∷ 0 ∷ 1 ∷ []
 
-pub not-unix : slippedAt fix square leaping 4 19 49 ≡ replied (refused (refusal 91 1 0)) (zeros 4) (zeros 19) (zeros 49)
+pub not-unix : slippedAt fix square [] leaping 4 19 49 ≡ replied (refused (refusal 91 1 0)) (zeros 4) (zeros 19) (zeros 49)
 unfolding blamed hourIn B.wordAt B.agrees B.isBundle B.isIndex B.isData B.isEnd B.headOf B.isEntry B.seekOf B.findOf readZoneBy readShort readBlock begins isVersion isFourth versionFits checkHeader blockAt noneOrAll checkCounts checkBlock checkPart countOf checkOf checkTime checkIndex checkType checkLeap checkLeaps checkStandard isStandard checkUt nulEnd oneApart occursLater correctionBefore correctionOf correctionAt isExpiry typeIn typeBehind isAfterLast byTable octets be32 raised timeAt lift T.demand T.each T._>>=_ T._>>_ firstWith isStop runTo timeIn lastWith lastNotAfter scaleBy scaleOr scaleIn rulesIn answerAt answerBy localIn plainly known
 not-unix = by-zones leaping (pos 1782907199) refl
 
 -- a clock behind the year 9999: 61
-pub too-late : slippedAt (fixAt (pos 9223372036854775807)) square berlin 4 19 49 ≡ replied (refused (refusal 61 1 0)) (zeros 4) (zeros 19) (zeros 49)
+pub too-late : slippedAt (fixAt (pos 9223372036854775807)) square [] berlin 4 19 49 ≡ replied (refused (refusal 61 1 0)) (zeros 4) (zeros 19) (zeros 49)
 unfolding blamed hourIn shown civilAt readingAt secondsTo daysOfYears yearLength isLeap B.wordAt B.agrees B.isBundle B.isIndex B.isData B.isEnd B.headOf B.isEntry B.seekOf B.findOf readZoneBy readShort readBlock begins isVersion isFourth versionFits checkHeader blockAt noneOrAll checkCounts checkBlock checkPart countOf checkOf checkTime checkIndex checkType checkLeap checkLeaps checkStandard isStandard checkUt nulEnd oneApart occursLater correctionBefore correctionOf correctionAt isExpiry typeIn typeBehind isAfterLast byTable octets be32 raised timeAt lift T.demand T.each T._>>=_ T._>>_ firstWith isStop runTo timeIn lastWith lastNotAfter scaleBy scaleOr scaleIn rulesIn answerAt answerBy localIn plainly known
 too-late = by-zones berlin (pos 9223372036854775807) refl
 
@@ -275,7 +276,7 @@ abbrev pairHead : Head
 pairHead = record { preamble = record { kind = 84; version = 1; precision = 7; count = 3 }; sections = record { table = 44; metadata = 56; «data» = 89 }; strict = false }
 
 pair-opened : given pairHead ≡ headOf pair
-unfolding readingOf forwardAt valueOf sizeOf tooLong signedOf evenBits pointOf fixedPoint oneShifted checked movedBy advanced marker packedTurn turnOf roundAgain nextWithin nextPoint traceThen traceWithin traceOf along passing closedAt thenOn judge judgedAt fieldAt fieldsFrom fieldsOf fixOf matchedWith preambleOf textsFrom sectionsFrom sectionsAt contentsBy headBy safezoneBits zonesWith summary seen mergedAfter merged rowsThen rowBy rowsWithin rowsFrom rowsIn judgedTurn rowTurn seek searched stepsBy entryBy H.within remoteAt stringAt bytesOf textAt characters startedBy begunBy followed goesOn isUtf8 samePoint E.between inBox quadrantOf slopeOf edgeOf straight closestOn turned quarterBy halfTurn turnAt crossingOf acrossBy clearOf woundBy measured S.checked restMark ofInt add sub mul div toSigned
+unfolding readingOf forwardAt valueOf sizeOf tooLong signedOf evenBits pointOf fixedPoint oneShifted checked movedBy advanced marker packedTurn turnOf roundAgain nextWithin nextPoint traceThen traceWithin traceOf along passing closedAt thenOn judge judgedAt fieldAt fieldsFrom fieldsOf fixOf matchedWith preambleOf textsFrom sectionsFrom sectionsAt contentsBy headBy safezoneBits zonesBeside matchedBeside summary seen mergedAfter merged rowsThen rowBy rowsWithin rowsFrom rowsIn judgedTurn rowTurn seek searched stepsBy entryBy H.within remoteAt stringAt bytesOf textAt characters startedBy begunBy followed goesOn isUtf8 samePoint E.between inBox quadrantOf slopeOf edgeOf straight closestOn turned quarterBy halfTurn turnAt crossingOf acrossBy clearOf woundBy measured S.checked restMark ofInt add sub mul div toSigned
 pair-opened = refl
 
 abbrev matches : List Hit
@@ -289,8 +290,8 @@ pairTexts =
 abbrev pairOutcome : Outcome Zones
 pairOutcome = record { answer = record { matches = 2; mark = 1; safezone = 0; used = 45 }; matches = matches; text = pairTexts }
 
-pair-looked : given pairOutcome ≡ zonesWith pair pairHead (placeOf fix) false 8 45
-unfolding readingOf forwardAt valueOf sizeOf tooLong signedOf evenBits pointOf fixedPoint oneShifted checked movedBy advanced marker packedTurn turnOf roundAgain nextWithin nextPoint traceThen traceWithin traceOf along passing closedAt thenOn judge judgedAt fieldAt fieldsFrom fieldsOf fixOf matchedWith preambleOf textsFrom sectionsFrom sectionsAt contentsBy headBy safezoneBits zonesWith summary seen mergedAfter merged rowsThen rowBy rowsWithin rowsFrom rowsIn judgedTurn rowTurn seek searched stepsBy entryBy H.within remoteAt stringAt bytesOf textAt characters startedBy begunBy followed goesOn isUtf8 samePoint E.between inBox quadrantOf slopeOf edgeOf straight closestOn turned quarterBy halfTurn turnAt crossingOf acrossBy clearOf woundBy measured S.checked restMark ofInt add sub mul div toSigned
+pair-looked : given pairOutcome ≡ zonesBeside pair pairHead [] (placeOf fix) false 8 45
+unfolding readingOf forwardAt valueOf sizeOf tooLong signedOf evenBits pointOf fixedPoint oneShifted checked movedBy advanced marker packedTurn turnOf roundAgain nextWithin nextPoint traceThen traceWithin traceOf along passing closedAt thenOn judge judgedAt fieldAt fieldsFrom fieldsOf fixOf matchedWith preambleOf textsFrom sectionsFrom sectionsAt contentsBy headBy safezoneBits zonesBeside matchedBeside summary seen mergedAfter merged rowsThen rowBy rowsWithin rowsFrom rowsIn judgedTurn rowTurn seek searched stepsBy entryBy H.within remoteAt stringAt bytesOf textAt characters startedBy begunBy followed goesOn isUtf8 samePoint E.between inBox quadrantOf slopeOf edgeOf straight closestOn turned quarterBy halfTurn turnAt crossingOf acrossBy clearOf woundBy measured S.checked restMark ofInt add sub mul div toSigned
 pair-looked = refl
 
 -- Asia/Kolkata
@@ -346,7 +347,7 @@ both-hours =
     joined (refused why) b = refl
 
 -- their offsets differ: 92
-pub differing : slippedAt fix pair two 8 45 0 ≡ replied (refused (plain 92)) (zeros 8) (zeros 45) []
+pub differing : slippedAt fix pair [] two 8 45 0 ≡ replied (refused (plain 92)) (zeros 8) (zeros 45) []
 unfolding slippedAt repliedOf slipAt agreed haveOffset
 differing = ap (repliedOf 8 45 0) (sym (ap (restOf 0) both-hours ∙ onward pair-looked _ ∙ onward pair-opened _ ∙ met (placed (pos 1782907199)) (plain 84) _))
   where
@@ -365,33 +366,33 @@ outOfOrder =
 abbrev inside : Fix
 inside = record { lat = inTheZone .lat; lon = inTheZone .lon; instant = pos 0 }
 
-pub not-whole : slippedAt inside outOfOrder [] 4 4 0 ≡ replied (refused (refusal 85 0 4)) (zeros 4) (zeros 4) []
-unfolding slippedAt repliedOf slipAt onGlobe within le neg readingOf forwardAt valueOf sizeOf tooLong signedOf evenBits pointOf fixedPoint oneShifted checked movedBy advanced marker packedTurn turnOf roundAgain nextWithin nextPoint traceThen traceWithin traceOf along passing closedAt thenOn judge judgedAt fieldAt fieldsFrom fieldsOf fixOf matchedWith preambleOf textsFrom sectionsFrom sectionsAt contentsBy headBy safezoneBits zonesWith summary seen mergedAfter merged rowsThen rowBy rowsWithin rowsFrom rowsIn judgedTurn rowTurn seek searched stepsBy entryBy H.within remoteAt stringAt bytesOf textAt characters startedBy begunBy followed goesOn isUtf8 samePoint E.between inBox quadrantOf slopeOf edgeOf straight closestOn turned quarterBy halfTurn turnAt crossingOf acrossBy clearOf woundBy measured S.checked restMark ofInt add sub mul div toSigned
+pub not-whole : slippedAt inside outOfOrder [] [] 4 4 0 ≡ replied (refused (refusal 85 0 4)) (zeros 4) (zeros 4) []
+unfolding slippedAt repliedOf slipAt onGlobe within le neg readingOf forwardAt valueOf sizeOf tooLong signedOf evenBits pointOf fixedPoint oneShifted checked movedBy advanced marker packedTurn turnOf roundAgain nextWithin nextPoint traceThen traceWithin traceOf along passing closedAt thenOn judge judgedAt fieldAt fieldsFrom fieldsOf fixOf matchedWith preambleOf textsFrom sectionsFrom sectionsAt contentsBy headBy safezoneBits zonesBeside matchedBeside summary seen mergedAfter merged rowsThen rowBy rowsWithin rowsFrom rowsIn judgedTurn rowTurn seek searched stepsBy entryBy H.within remoteAt stringAt bytesOf textAt characters startedBy begunBy followed goesOn isUtf8 samePoint E.between inBox quadrantOf slopeOf edgeOf straight closestOn turned quarterBy halfTurn turnAt crossingOf acrossBy clearOf woundBy measured S.checked restMark ofInt add sub mul div toSigned
 not-whole = refl
 
 -- no match, at 80 degrees south: 86
-pub at-sea : slippedAt (record { lat = fin true 5 (pos 4); lon = fin false 0 (pos 0); instant = pos 0 }) square [] 4 19 0 ≡ replied (refused (plain 86)) (zeros 4) (zeros 19) []
-unfolding slippedAt repliedOf slipAt hoursFrom agreed onGlobe within le neg readingOf forwardAt valueOf sizeOf tooLong signedOf evenBits pointOf fixedPoint oneShifted checked movedBy advanced marker packedTurn turnOf roundAgain nextWithin nextPoint traceThen traceWithin traceOf along passing closedAt thenOn judge judgedAt fieldAt fieldsFrom fieldsOf fixOf matchedWith preambleOf textsFrom sectionsFrom sectionsAt contentsBy headBy safezoneBits zonesWith summary seen mergedAfter merged rowsThen rowBy rowsWithin rowsFrom rowsIn judgedTurn rowTurn seek searched stepsBy entryBy H.within remoteAt stringAt bytesOf textAt characters startedBy begunBy followed goesOn isUtf8 samePoint E.between inBox quadrantOf slopeOf edgeOf straight closestOn turned quarterBy halfTurn turnAt crossingOf acrossBy clearOf woundBy measured S.checked restMark ofInt add sub mul div toSigned
+pub at-sea : slippedAt (record { lat = fin true 5 (pos 4); lon = fin false 0 (pos 0); instant = pos 0 }) square [] [] 4 19 0 ≡ replied (refused (plain 86)) (zeros 4) (zeros 19) []
+unfolding slippedAt repliedOf slipAt hoursFrom agreed onGlobe within le neg readingOf forwardAt valueOf sizeOf tooLong signedOf evenBits pointOf fixedPoint oneShifted checked movedBy advanced marker packedTurn turnOf roundAgain nextWithin nextPoint traceThen traceWithin traceOf along passing closedAt thenOn judge judgedAt fieldAt fieldsFrom fieldsOf fixOf matchedWith preambleOf textsFrom sectionsFrom sectionsAt contentsBy headBy safezoneBits zonesBeside matchedBeside summary seen mergedAfter merged rowsThen rowBy rowsWithin rowsFrom rowsIn judgedTurn rowTurn seek searched stepsBy entryBy H.within remoteAt stringAt bytesOf textAt characters startedBy begunBy followed goesOn isUtf8 samePoint E.between inBox quadrantOf slopeOf edgeOf straight closestOn turned quarterBy halfTurn turnAt crossingOf acrossBy clearOf woundBy measured S.checked restMark ofInt add sub mul div toSigned
 at-sea = refl
 
 -- a map of countries: 87
-pub of-countries : slippedAt inside printed [] 4 4 0 ≡ replied (refused (plain 87)) (zeros 4) (zeros 4) []
-unfolding slippedAt repliedOf slipAt hoursFrom hourOf nameOf onGlobe within le neg readingOf forwardAt valueOf sizeOf tooLong signedOf evenBits pointOf fixedPoint oneShifted checked movedBy advanced marker packedTurn turnOf roundAgain nextWithin nextPoint traceThen traceWithin traceOf along passing closedAt thenOn judge judgedAt fieldAt fieldsFrom fieldsOf fixOf matchedWith preambleOf textsFrom sectionsFrom sectionsAt contentsBy headBy safezoneBits zonesWith summary seen mergedAfter merged rowsThen rowBy rowsWithin rowsFrom rowsIn judgedTurn rowTurn seek searched stepsBy entryBy H.within remoteAt stringAt bytesOf textAt characters startedBy begunBy followed goesOn isUtf8 samePoint E.between inBox quadrantOf slopeOf edgeOf straight closestOn turned quarterBy halfTurn turnAt crossingOf acrossBy clearOf woundBy measured S.checked restMark ofInt add sub mul div toSigned
+pub of-countries : slippedAt inside printed [] [] 4 4 0 ≡ replied (refused (plain 87)) (zeros 4) (zeros 4) []
+unfolding slippedAt repliedOf slipAt hoursFrom hourOf nameOf onGlobe within le neg readingOf forwardAt valueOf sizeOf tooLong signedOf evenBits pointOf fixedPoint oneShifted checked movedBy advanced marker packedTurn turnOf roundAgain nextWithin nextPoint traceThen traceWithin traceOf along passing closedAt thenOn judge judgedAt fieldAt fieldsFrom fieldsOf fixOf matchedWith preambleOf textsFrom sectionsFrom sectionsAt contentsBy headBy safezoneBits zonesBeside matchedBeside summary seen mergedAfter merged rowsThen rowBy rowsWithin rowsFrom rowsIn judgedTurn rowTurn seek searched stepsBy entryBy H.within remoteAt stringAt bytesOf textAt characters startedBy begunBy followed goesOn isUtf8 samePoint E.between inBox quadrantOf slopeOf edgeOf straight closestOn turned quarterBy halfTurn turnAt crossingOf acrossBy clearOf woundBy measured S.checked restMark ofInt add sub mul div toSigned
 of-countries = refl
 
 -- no map: 2
-pub no-map : slippedAt fix [] [] 0 0 0 ≡ replied (refused (plain 2)) [] [] []
+pub no-map : slippedAt fix [] [] [] 0 0 0 ≡ replied (refused (plain 2)) [] [] []
 unfolding slippedAt repliedOf slipAt onGlobe within le neg headBy contentsBy preambleOf
 no-map = refl
 
 -- ---- not stamped: the request
 -- no place on the globe: 84
-pub no-place : slippedAt (record { lat = nan; lon = nan; instant = pos 0 }) [] [] 0 0 0 ≡ replied (refused (plain 84)) [] [] []
+pub no-place : slippedAt (record { lat = nan; lon = nan; instant = pos 0 }) [] [] [] 0 0 0 ≡ replied (refused (plain 84)) [] [] []
 unfolding slippedAt repliedOf slipAt onGlobe within le neg
 no-place = refl
 
-by-request : (text : List ℕ) {why : Refusal} → refused why ≡ requestOf text → slipped text [] [] 0 0 0 ≡ replied (refused why) [] [] []
-by-request text e = sym (no-request text [] [] 0 0 0 e refl refl refl)
+by-request : (text : List ℕ) {why : Refusal} → refused why ≡ requestOf text → slipped text [] [] [] 0 0 0 ≡ replied (refused why) [] [] []
+by-request text e = sym (no-request text [] [] [] 0 0 0 e refl refl refl)
 
 -- without a fix, with a wrong checksum, another sentence, a leap second
 abbrev fixless : List ℕ
@@ -411,11 +412,11 @@ leap =
 
 -- no text: 80; status V: 81; a wrong checksum: 82; another sentence: 83; a leap second: 84, at its place
 pub record Unread : Type 0 where
-  pub form : slipped [] [] [] 0 0 0 ≡ replied (refused (plain 80)) [] [] []
-  pub no-fix : slipped fixless [] [] 0 0 0 ≡ replied (refused (plain 81)) [] [] []
-  pub sum : slipped garbled [] [] 0 0 0 ≡ replied (refused (refusal 82 0 13)) [] [] []
-  pub another : slipped other [] [] 0 0 0 ≡ replied (refused (plain 83)) [] [] []
-  pub late : slipped leap [] [] 0 0 0 ≡ replied (refused (refusal 84 0 7)) [] [] []
+  pub form : slipped [] [] [] [] 0 0 0 ≡ replied (refused (plain 80)) [] [] []
+  pub no-fix : slipped fixless [] [] [] 0 0 0 ≡ replied (refused (plain 81)) [] [] []
+  pub sum : slipped garbled [] [] [] 0 0 0 ≡ replied (refused (refusal 82 0 13)) [] [] []
+  pub another : slipped other [] [] [] 0 0 0 ≡ replied (refused (plain 83)) [] [] []
+  pub late : slipped leap [] [] [] 0 0 0 ≡ replied (refused (refusal 84 0 7)) [] [] []
 
 pub unread : Unread
 unfolding QT.every QT.formed QT.count QT.xors QT.until QT.behind QT.unblanked QN.spelled QN.valueFrom QN.partOf QN.isTail QN.hasForm QN.angleOf QN.sideOf QN.decimalOf QN.degreesOf QN.nearestTo QC.isDate QC.isTime QC.timeOf QC.fullYear QC.dateOf QC.momentOf QC.secondsOf QC.whenOf QC.instantAt QR.isSealed QR.isAddress QR.isMode QR.turned QR.fixOf QR.fieldsOf QR.sentenceOf QR.plainOf QR.speltOf QR.meaning QR.requestOf isLeap yearLength daysOfYears monthLength daysOfMonths dayNumber secondsTo instantOf round

@@ -1,23 +1,20 @@
 -- The zones of a line, one match after another. Assumes nothing.
 use Prim.Native.Nat.{ℕ, zero, suc, _+_, _≤_, _<_}
 use lib.{IntN.{ℤ}, ListN.{length, getD, take, drop, drop-of-length-le}, Seq.{drop-cons, take-suc}}
-use mathlib.Core.{Bool.{Bool, true, false, _||_}, List.{List, [], _∷_, _++_}, Path.{_≡_, refl, sym, ap, _∙_, subst}}
+use mathlib.Core.{Bool.{Bool, true, false, _||_}, List.{List, [], _∷_, _++_, append-nil, append-assoc}, Path.{_≡_, refl, sym, ap, _∙_, subst}}
 use native.Mathlib.{Numerals.{add-one}, Omega.{arith}}
 use Rattle.header.specs.declared.header.Head.{Head}
 use Rattle.bundle.specs.Bundle.{findOf}
 use Rattle.calendar.specs.Civil.{civilAt}
 use Rattle.line.{proofs.Puts.{put-none, put-as, put-then, put-length}, specs.Put.{Put}}
-use Rattle.numbers.{proofs.Replies.{given-from}, specs.{Reply.{Reply, given, refused}, declared.refusal.Refusal.{Refusal}}}
-use Rattle.slip.proofs.Asking.{append-nil, append-append, Asked, asked-none, asked-one, asked-stop, asked-all}
+use Rattle.numbers.{proofs.Replies.{given-from, given-one}, specs.{Reply.{Reply, given, refused}, declared.refusal.Refusal.{Refusal}}}
+use Rattle.slip.proofs.Asking.{Asked, asked-none, asked-one, asked-stop, asked-all}
 use Rattle.slip.specs.{Hour.{Hour, nameOf, localIn, shown, hourIn, ofMatch, hourOf, hoursFrom}, Line.{clockText, isAmong, between, zoneText, added, zonesFrom, lineOf}}
 use Rattle.slip.specs.{Told.{nameIn, toldZone, isNamed, isNamedIn, addedBy, Lined, Inked, Seen, FirstAt}, declared.{hours.All.{All}, name.Zone.{Zone}}}
 use Rattle.tzif.specs.Text.{slice}
 use Rattle.slip.specs.declared.name.Zone.the-variants as Z
 use Rattle.table.specs.{Hits.{noHit}, declared.hits.Hit.{Hit}}
 use Rattle.zones.specs.{Simple.{same}, declared.simple.Parts.{Parts}}
-
-pub same-given : {A : Type 0} {a b : A} → given a ≡ given b → a ≡ b
-same-given e = cc
 
 first-same : {A : Type 0} {a b : A} {xs ys : List A} → a ∷ xs ≡ b ∷ ys → a ≡ b
 first-same e = cc
@@ -38,8 +35,8 @@ unfolding zonesFrom
 zones-more before [] hour = append-nil (added before hour) ∙ ap (λ (b : List Hour). added b hour) (sym (append-nil before))
 zones-more before (one ∷ done) hour =
     ap (λ (text : List ℕ). added before one ++ text) (zones-more (before ++ (one ∷ [])) done hour)
-    ∙ sym (append-append (added before one) (zonesFrom (before ++ (one ∷ [])) done) (added ((before ++ (one ∷ [])) ++ done) hour))
-    ∙ ap (λ (b : List Hour). (added before one ++ zonesFrom (before ++ (one ∷ [])) done) ++ added b hour) (append-append before (one ∷ []) done)
+    ∙ sym (append-assoc (added before one) (zonesFrom (before ++ (one ∷ [])) done) (added ((before ++ (one ∷ [])) ++ done) hour))
+    ∙ ap (λ (b : List Hour). (added before one ++ zonesFrom (before ++ (one ∷ [])) done) ++ added b hour) (append-assoc before (one ∷ []) done)
 
 pub zones-one : (done : List Hour) (hour : Hour) → zonesFrom [] (done ++ (hour ∷ [])) ≡ zonesFrom [] done ++ added done hour
 zones-one done hour = zones-more [] done hour
@@ -116,7 +113,7 @@ hour-name zones instant name {hour} e =
     let file = given-from (findOf zones name) _ e in
     let found = given-from (localIn (slice zones (file .it .start) (file .it .length)) instant) _ (file .onto) in
     let reading = given-from (shown (civilAt instant (found .it .offset))) _ (found .onto) in
-    ap (λ (h : Hour). h .name) (same-given (reading .onto))
+    ap (λ (h : Hour). h .name) (given-one (reading .onto))
 
 -- ---- the zones so far
 module _ (file : List ℕ) (head : Head) (zones : List ℕ) (instant : ℤ) where
@@ -165,7 +162,7 @@ module _ (file : List ℕ) (head : Head) (zones : List ℕ) (instant : ℤ) wher
 
     pub lining-all : length matches ≤ i → Lined (hoursFrom file head zones instant 1 matches) before at now next
     lining-all h = record {
-      zones = λ e. put-as (ap (zonesFrom []) (same-given (asked-all file head zones instant matches i (l .done) (l .asked) h ∙ e))) (l .put);
+      zones = λ e. put-as (ap (zonesFrom []) (given-one (asked-all file head zones instant matches i (l .done) (l .asked) h ∙ e))) (l .put);
       kept = lining-kept;
     }
 
@@ -173,12 +170,12 @@ module _ (file : List ℕ) (head : Head) (zones : List ℕ) (instant : ℤ) wher
 pub first-at : (file : List ℕ) (head : Head) (zones : List ℕ) (instant : ℤ) (matches : List Hit) {hs : List Hour} {all : All} {first : Hit} → given hs ≡ hoursFrom file head zones instant 1 matches
     → Seen file zones hs all → first ≡ getD matches 0 noHit → FirstAt file head zones instant first (all .first)
 unfolding hoursFrom
-first-at file head zones instant [] e seen is = let z : _≡_ {A = List Hour} [] (_ ∷ _) = same-given (sym e) ∙ seen .are in let n : _≡_ {A = ℕ} 0 1 = cc in absurd (omega arith)
+first-at file head zones instant [] e seen is = let z : _≡_ {A = List Hour} [] (_ ∷ _) = given-one (sym e) ∙ seen .are in let n : _≡_ {A = ℕ} 0 1 = cc in absurd (omega arith)
 first-at file head zones instant (match ∷ matches) e seen is =
     let hour = given-from (hourOf file head zones instant 1 match) _ e in
     let rest = given-from (hoursFrom file head zones instant 2 matches) _ (hour .onto) in
     record {
-      says = ap (hourOf file head zones instant 1) is ∙ sym (hour .is) ∙ ap given (first-same (sym (same-given (rest .onto)) ∙ seen .are));
+      says = ap (hourOf file head zones instant 1) is ∙ sym (hour .is) ∙ ap given (first-same (sym (given-one (rest .onto)) ∙ seen .are));
       stands = seen .stands;
     }
 

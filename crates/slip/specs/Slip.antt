@@ -2,6 +2,7 @@
 use Prim.Native.Nat.{ℕ, min}
 use lib.{Dec.{eqb, leb}, Ieee.{Float, le, neg}, IntN.{ℤ}, ListN.{length}}
 use mathlib.Core.{Bool.{Bool, true, false, _&&_}, List.{List, [], _∷_}}
+use Rattle.atlas.specs.Beside.{zonesBeside}
 use Rattle.header.specs.{Header.{headOf}, declared.header.Head.{Head}}
 use Rattle.line.specs.Put.{far}
 use Rattle.numbers.specs.{Lists.{zeros, padded}, Reply.{Reply, given, refused, refusal, plain, demand, _>>=_, _>>_}}
@@ -9,7 +10,7 @@ use Rattle.request.specs.{Request.{requestOf}, declared.read.Fix.{Fix}}
 use Rattle.slip.specs.{Hour.{Hour, hoursFrom}, Line.{lineOf}, declared.slip.Stamped.{Stamped}}
 use Rattle.table.specs.{Find.{ninety, halfTurn}, Hits.{words}, declared.{hits.Hit.{Hit}, location.Location.{Location}}}
 use Rattle.verdict.specs.Edge.{sameZ}
-use Rattle.zones.specs.{Lent.{Outcome}, Lookup.{zonesWith}, declared.lookup.Zones.{Zones}}
+use Rattle.zones.specs.{Lent.{Outcome}, declared.lookup.Zones.{Zones}}
 
 -- ---- what is asked about
 abbrev pub placeOf : Fix → Location
@@ -50,12 +51,12 @@ pub record Slip : Type 0 where
   pub matches : List Hit
   pub text : List ℕ
 
--- with so many words for hits and so many bytes for texts and the line
-unfoldable pub slipAt : Fix → List ℕ → List ℕ → ℕ → ℕ → ℕ → Reply Slip
-slipAt fix map zones n room size = do
+-- in a map with the words of its atlas, where none is no atlas, with so many words for hits and so many bytes for texts and the line
+unfoldable pub slipAt : Fix → List ℕ → List ℕ → List ℕ → ℕ → ℕ → ℕ → Reply Slip
+slipAt fix map atlas zones n room size = do
   demand (onGlobe fix) (plain 84)
   head ← headOf map
-  looked ← zonesWith map head (placeOf fix) false n room
+  looked ← zonesBeside map head atlas (placeOf fix) false n room
   demand (eqb (looked .answer .mark) 1) (refusal 85 0 (looked .answer .mark))
   hours ← hoursFrom map head zones (fix .instant) 1 (looked .matches)
   hour ← agreed hours
@@ -63,10 +64,10 @@ slipAt fix map zones n room size = do
   given (record { stamped = record { length = length line; matches = length hours; offset = hour .offset }; line = line; matches = looked .matches; text = looked .text })
 
 -- of what a request means
-unfoldable pub slipOf : List ℕ → List ℕ → List ℕ → ℕ → ℕ → ℕ → Reply Slip
-slipOf request map zones n room size = do
+unfoldable pub slipOf : List ℕ → List ℕ → List ℕ → List ℕ → ℕ → ℕ → ℕ → Reply Slip
+slipOf request map atlas zones n room size = do
   fix ← requestOf request
-  slipAt fix map zones n room size
+  slipAt fix map atlas zones n room size
 
 -- ---- the reply, with all that was lent
 pub record Replied : Type 0 where
@@ -83,8 +84,8 @@ unfoldable pub repliedOf : ℕ → ℕ → ℕ → Reply Slip → Replied
 repliedOf n room size (given slip) = replied (given (slip .stamped)) (padded n (words (slip .matches))) (padded room (slip .text)) (padded size (slip .line))
 repliedOf n room size (refused why) = replied (refused why) (zeros n) (zeros room) (zeros size)
 
-unfoldable pub slippedAt : Fix → List ℕ → List ℕ → ℕ → ℕ → ℕ → Replied
-slippedAt fix map zones n room size = repliedOf n room size (slipAt fix map zones n room size)
+unfoldable pub slippedAt : Fix → List ℕ → List ℕ → List ℕ → ℕ → ℕ → ℕ → Replied
+slippedAt fix map atlas zones n room size = repliedOf n room size (slipAt fix map atlas zones n room size)
 
-unfoldable pub slipped : List ℕ → List ℕ → List ℕ → ℕ → ℕ → ℕ → Replied
-slipped request map zones n room size = repliedOf n room size (slipOf request map zones n room size)
+unfoldable pub slipped : List ℕ → List ℕ → List ℕ → List ℕ → ℕ → ℕ → ℕ → Replied
+slipped request map atlas zones n room size = repliedOf n room size (slipOf request map atlas zones n room size)

@@ -2,6 +2,7 @@
 use Prim.Native.Nat.{ℕ, _+_, _≤_}
 use lib.{Dec.{eqb}, IntN.{ℤ}, ListN.{length}}
 use mathlib.Core.{Bool.{Bool, true, false, _||_}, List.{List, [], _∷_, _++_}, Path.{_≡_}}
+use Rattle.atlas.specs.Beside.{zonesBeside}
 use Rattle.header.specs.{Text.{bytesOf}, declared.header.Head.{Head}}
 use Rattle.calendar.specs.declared.civil.Reading.{Reading}
 use Rattle.line.specs.Put.{Put}
@@ -17,7 +18,7 @@ use Rattle.slip.specs.declared.name.Zone.the-variants as Z
 use Rattle.slip.specs.declared.slip.Slipped.the-variants as S
 use Rattle.table.specs.declared.hits.Hit.{Hit}
 use Rattle.tzif.specs.{Local.{Held}, Text.{slice}, declared.local.Found.{Found}}
-use Rattle.zones.specs.{Lookup.{zonesWith}, Simple.{same, LiesParts}, declared.simple.Parts.{Parts}}
+use Rattle.zones.specs.{Simple.{same, LiesParts}, declared.simple.Parts.{Parts}}
 
 -- ---- a name in the map
 abbrev pub nameIn : List ℕ → Parts → List ℕ
@@ -115,9 +116,9 @@ inkOf fix map head zones size matches = do
   given (record { stamped = record { length = length line; matches = length hours; offset = hour .offset }; line = line })
 
 -- steps 2 to 8, of a map with this header
-abbrev pub slipWith : Fix → List ℕ → Head → List ℕ → ℕ → ℕ → ℕ → Reply Slip
-slipWith fix map head zones n room size = do
-  looked ← zonesWith map head (placeOf fix) false n room
+abbrev pub slipWith : Fix → List ℕ → Head → List ℕ → List ℕ → ℕ → ℕ → ℕ → Reply Slip
+slipWith fix map head atlas zones n room size = do
+  looked ← zonesBeside map head atlas (placeOf fix) false n room
   demand (eqb (looked .answer .mark) 1) (refusal 85 0 (looked .answer .mark))
   hours ← hoursFrom map head zones (fix .instant) 1 (looked .matches)
   hour ← agreed hours

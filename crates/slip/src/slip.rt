@@ -8,6 +8,7 @@ ghost use Rattle.table.specs.{inner.Agreeing.{Agrees}, Hits.{width, slots}};
 use crate::hours::Hours;
 use crate::hours::hours_of;
 use crate::lines::put_line;
+use atlas::lookup::lookup_beside;
 use header::field::zero;
 use header::header::Head;
 use header::header::Headed;
@@ -21,7 +22,6 @@ use request::read::Fix;
 use request::read::read_request;
 use table::location::Location;
 use zones::lookup::Looked;
-use zones::lookup::lookup_in;
 
 // Length of the line, how many matches, seconds east of UT.
 pub struct Stamped {
@@ -95,6 +95,7 @@ fn slip_in(
     fix: Fix,
     map: &[u8],
     head: Head,
+    atlas: &[u32],
     zones: &[u8],
     hits: &mut [u32],
     text: &mut [u8],
@@ -102,13 +103,13 @@ fn slip_in(
 ) -> Slipped
     requires { ⌜ now out ≡ zeros (length (now out)) ⌝ }
     ensures { λ r. ⌜ Agrees (Filled (length (now (hits .entry))) (length (now (text .entry))) (length (now (out .entry))) (now (hits .exit)) (now (text .exit)) (now (out .exit)))
-        (slipWith fix (now (map .entry)) head (now (zones .entry)) (length (now (hits .entry))) (length (now (text .entry))) (length (now (out .entry)))) (told r) ⌝ }
+        (slipWith fix (now (map .entry)) head (now (atlas .entry)) (now (zones .entry)) (length (now (hits .entry))) (length (now (text .entry))) (length (now (out .entry)))) (told r) ⌝ }
 {
     let location = Location {
         lat: fix.lat,
         lon: fix.lon,
     };
-    let found = match lookup_in(map, head, location, false, hits, text) {
+    let found = match lookup_beside(map, head, atlas, location, false, hits, text) {
         Looked::Zones(found) => found,
         Looked::Refused(why) => return Slipped::Refused(why),
     };
@@ -122,6 +123,7 @@ fn slip_in(
 fn fill(
     fix: Fix,
     map: &[u8],
+    atlas: &[u32],
     zones: &[u8],
     hits: &mut [u32],
     text: &mut [u8],
@@ -129,7 +131,7 @@ fn fill(
 ) -> Slipped
     requires { ⌜ now out ≡ zeros (length (now out)) ⌝ }
     ensures { λ r. ⌜ Agrees (Filled (length (now (hits .entry))) (length (now (text .entry))) (length (now (out .entry))) (now (hits .exit)) (now (text .exit)) (now (out .exit)))
-        (slipAt fix (now (map .entry)) (now (zones .entry)) (length (now (hits .entry))) (length (now (text .entry))) (length (now (out .entry)))) (told r) ⌝ }
+        (slipAt fix (now (map .entry)) (now (atlas .entry)) (now (zones .entry)) (length (now (hits .entry))) (length (now (text .entry))) (length (now (out .entry)))) (told r) ⌝ }
 {
     if !is_on_globe(fix) {
         return Slipped::Refused(plain(84));
@@ -138,23 +140,24 @@ fn fill(
         Headed::Head(head) => head,
         Headed::Refused(why) => return Slipped::Refused(why),
     };
-    slip_in(fix, map, head, zones, hits, text, out)
+    slip_in(fix, map, head, atlas, zones, hits, text, out)
 }
 
-// The slip at a fix.
+// The slip at a fix, through the map's atlas, or without one where there are no words; any words are taken.
 pub fn slip_at(
     fix: Fix,
     map: &[u8],
+    atlas: &[u32],
     zones: &[u8],
     hits: &mut [u32],
     text: &mut [u8],
     out: &mut [u8],
 ) -> Slipped
     ensures { λ r. ⌜ replied (told r) (now (hits .exit)) (now (text .exit)) (now (out .exit))
-        ≡ slippedAt fix (now (map .entry)) (now (zones .entry)) (length (now (hits .entry))) (length (now (text .entry))) (length (now (out .entry))) ⌝ }
+        ≡ slippedAt fix (now (map .entry)) (now (atlas .entry)) (now (zones .entry)) (length (now (hits .entry))) (length (now (text .entry))) (length (now (out .entry))) ⌝ }
 {
     zero(out);
-    let stamped = match fill(fix, map, zones, hits, text, out) {
+    let stamped = match fill(fix, map, atlas, zones, hits, text, out) {
         Slipped::Stamped(stamped) => stamped,
         Slipped::Refused(why) => {
             zero_both(hits, text);
@@ -169,13 +172,14 @@ pub fn slip_at(
 pub fn slip(
     request: &[u8],
     map: &[u8],
+    atlas: &[u32],
     zones: &[u8],
     hits: &mut [u32],
     text: &mut [u8],
     out: &mut [u8],
 ) -> Slipped
     ensures { λ r. ⌜ replied (told r) (now (hits .exit)) (now (text .exit)) (now (out .exit))
-        ≡ slipped (now (request .entry)) (now (map .entry)) (now (zones .entry)) (length (now (hits .entry))) (length (now (text .entry))) (length (now (out .entry))) ⌝ }
+        ≡ slipped (now (request .entry)) (now (map .entry)) (now (atlas .entry)) (now (zones .entry)) (length (now (hits .entry))) (length (now (text .entry))) (length (now (out .entry))) ⌝ }
 {
     let fix = match read_request(request) {
         Asked::Fix(fix) => fix,
@@ -185,5 +189,5 @@ pub fn slip(
             return Slipped::Refused(why);
         }
     };
-    slip_at(fix, map, zones, hits, text, out)
+    slip_at(fix, map, atlas, zones, hits, text, out)
 }

@@ -14,16 +14,16 @@ use Rattle.header.specs.declared.header.Head.{Head}
 abbrev pub encodingIn : Head → Encoding
 encodingIn head = encodedBy (head .strict) (versionOf (head .preamble .version)) (head .sections .«data»)
 
--- where the marks of record k stand; with the distance asked for there are none
-abbrev pub markFor : List ℕ → Bool → ℕ → ℕ
-markFor marks asked k = if asked then 0 else getD marks k 0
+-- where the marks of record k stand
+abbrev pub markFor : List ℕ → ℕ → ℕ
+markFor marks k = getD marks k 0
 
 -- the border of record k, by its marks if it has any
 unfoldable pub judgeMarked : List ℕ → Head → Point → Bool → List ℕ → ℕ → ℕ → ℕ → Judgement
 judgeMarked file head fix asked marks k polygon least =
-    if eqb (markFor marks asked k) 0
+    if eqb (markFor marks k) 0
     then judgeIn file head fix asked polygon least
-    else judgedBy file (encodingIn head) marks (markFor marks asked k) (fix .lat) (fix .lon) least
+    else judgedBy file (encodingIn head) marks (markFor marks k) (fix .lat) (fix .lon) asked least
 
 -- by its number
 abbrev pub judgeNumbered : List ℕ → Head → Point → Bool → List ℕ → List ℕ → ℕ → ℕ → Judgement

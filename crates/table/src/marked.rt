@@ -51,12 +51,9 @@ pub fn encoding_of(head: Head) -> Encoding
 }
 
 // Where the marks of record k stand, 0 for none.
-fn mark_for(marks: &[u32], asked: bool, k: usize) -> usize
-    ensures { λ r. ⌜ r ≡ markFor (now (marks .entry)) asked k ⌝ }
+fn mark_for(marks: &[u32], k: usize) -> usize
+    ensures { λ r. ⌜ r ≡ markFor (now (marks .entry)) k ⌝ }
 {
-    if asked {
-        return 0;
-    }
     if k < marks.len() {
         let word = wide(marks[k]);
         return word;
@@ -77,12 +74,12 @@ fn judge_marked(
 ) -> Judged
     ensures { λ r. ⌜ told r ≡ judgeMarked (now (file .entry)) head fix asked (now (marks .entry)) k polygon least ⌝ }
 {
-    let at = mark_for(marks, asked, k);
+    let at = mark_for(marks, k);
     if at == 0 {
         return judge(file, head, fix, asked, polygon, least);
     }
     let encoding = encoding_of(head);
-    judge_by(file, encoding, marks, at, fix.lat, fix.lon, least)
+    judge_by(file, encoding, marks, at, fix.lat, fix.lon, asked, least)
 }
 
 // The turn of a record: the rest of it is read only where its box holds the location.
@@ -185,8 +182,8 @@ fn matches_marked(
     })
 }
 
-// `find_listed` with marks: record k's word in `marks` says where in them the marks of its border stand, 0 for none. With the distance asked for they are not
-// looked at. Any header and any words are taken; 36 also where marks end too soon.
+// `find_listed` with marks: record k's word in `marks` says where in them the marks of its border stand, 0 for none. Any header and any words are taken; 36 also
+// where marks end too soon.
 pub fn find_marked(
     file: &[u8],
     head: Head,

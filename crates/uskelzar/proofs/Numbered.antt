@@ -1,11 +1,13 @@
 -- What a returned 0 means to firmware: the call was answered, whatever it was given. Each exported function's contract fixes what it returns,
 -- the number said in `openingSpoken`, `foundSpoken`, `manySpoken`, `writtenSpoken`, `builtSpoken`, `salvageSpoken` or `localSpoken`; here, that this number is 0 exactly where the definition gives an answer. Assumes nothing.
 use Prim.Native.Nat.{ℕ}
-use mathlib.Core.{Bool.{Bool, true, false}, List.{List, [], _∷_, _++_}, Logic.{_↔_}, Path.{_≡_, refl, subst}}
+use mathlib.Core.{Bool.{Bool, true, false}, List.{List, [], _∷_, _++_}, Logic.{_↔_}, Path.{_≡_, refl, sym, subst}}
 use native.Mathlib.Omega.{arith}
 use lib.{IntN.{ℤ}, Ieee.{Float}}
-use Rattle.zones.{proofs.batch.NumberedMany.{manyNumbers, many-refusals}, specs.{Batch.Many.{Batch, lookedUpMany}, declared.batch.many.Totals.{Totals}}}
-use Rattle.zones.specs.Batch.Many as B
+use Rattle.atlas.{proofs.BesideIsPlain.{simple-beside-is-plain}, specs.Beside.{NoneOrAtlas, simplyBeside}}
+use Rattle.batch.proofs.{ManyIsPlain.{many-beside-is-plain}, NumberedMany.{manyNumbers, many-refusals}}
+use Rattle.batch.specs.{Many.{Batch, Left, manyBeside, lookedUpMany}, declared.many.Totals.{Totals}}
+use Rattle.batch.specs.Many as B
 use Rattle.numbers.{proofs.Refusals.{Listed}, specs.{Reply.{Reply, given, refused}, declared.refusal.Refusal.{Refusal}}}
 use Rattle.localtime.{proofs.Numbered.{footerNumbers, local-time-refusals}, specs.Local.{localTime, scaleAt}}
 use Rattle.tzif.specs.declared.local.LocalTime.{LocalTime}
@@ -13,7 +15,7 @@ use Rattle.tzif.specs.declared.local.LocalTime.the-variants as L
 use Rattle.tzif.specs.declared.refusal.Refusal as T
 use Rattle.header.{proofs.Numbered.{openingNumbers, opening-refusals, strict-opening-refusals}, specs.Opening.{openedOf, openedStrictly}}
 use Rattle.zones.proofs.NumberedLookup.{lookupNumbers, lookup-refusals, strict-lookup-refusals, simple-lookup-refusals}
-use Rattle.zones.specs.{Lookup.{lookedUp, lookedStrictly}, Simple.{simplyLooked}}
+use Rattle.zones.specs.{Lent.{Replied}, Lookup.{lookedUp, lookedStrictly}, Simple.{simplyLooked}, declared.simple.Described.{Described}}
 use Rattle.table.specs.declared.location.Location.{Location}
 use Rattle.uskelzar.specs.{Many.{manySaid, manySpoken}}
 use Rattle.uskelzar.specs.Spoken.{saidOf, openingValues, zonesValues, describedValues, localValues, localReply, openingSpoken, foundSpoken, localSpoken}
@@ -80,6 +82,19 @@ pub simple-lookup-zero : (file : List ℕ) (location : Location) (n room : ℕ)
 simple-lookup-zero file location n room =
     zero-said describedValues (simplyLooked file location n room .reply)
     (λ why is. never-zero lookupNumbers (λ z. z) (why .number) (simple-lookup-refusals file location n room why is))
+
+-- `uskelzar_simple_atlas` and `uskelzar_many_atlas`, with no words or words of which `is_atlas` says 0
+pub simple-atlas-zero : (file words : List ℕ) → NoneOrAtlas file words → (location : Location) (n room : ℕ)
+    → (foundSpoken describedValues (simplyBeside file words location n room) .said .number ≡ 0) ↔ Answered (simplyBeside file words location n room .reply)
+simple-atlas-zero file words so location n room =
+    subst (λ (left : Replied Described). (foundSpoken describedValues left .said .number ≡ 0) ↔ Answered (left .reply)) (sym (simple-beside-is-plain file words so location n room))
+    (simple-lookup-zero file location n room)
+
+pub many-atlas-zero : (file words : List ℕ) → NoneOrAtlas file words → (lats lons : List Float) (asked : Bool) (n room third : ℕ)
+    → (manySpoken (manyBeside file words lats lons asked n room third) .said .number ≡ 0) ↔ AnsweredMany (manyBeside file words lats lons asked n room third .reply)
+many-atlas-zero file words so lats lons asked n room third =
+    subst (λ (left : Left). (manySpoken left .said .number ≡ 0) ↔ AnsweredMany (left .reply)) (sym (many-beside-is-plain file words so lats lons asked n room third))
+    (many-zero file lats lons asked n room third)
 
 -- `uskelzar_local_time`, answered with a local time or with unknown
 of-local : (time : LocalTime) (why : Refusal) → localReply time ≡ refused why → ((told : T.Refusal) → time ≡ L.Refused told → Listed footerNumbers (told .number)) → Listed footerNumbers (why .number)

@@ -1,11 +1,12 @@
 -- What a slip's returned 0 means to firmware: the lent output is that of a stamped slip, of which slip's theorems speak. Assumes nothing.
 use Prim.Native.Nat.{ℕ}
-use mathlib.Core.{Bool.{true, false}, List.{List, [], _∷_}, Logic.{_↔_}, Path.{_≡_, refl, sym, ap, subst, _∙_}}
+use mathlib.Core.{Bool.{true, false}, List.{List, [], _∷_}, Logic.{_↔_, _⊎_, inl}, Path.{_≡_, refl, sym, ap, subst, _∙_}}
 use native.Mathlib.Omega.{arith}
+use Rattle.atlas.specs.Beside.{NoneOrAtlas}
 use Rattle.numbers.specs.{Lists.{padded}, Reply.{Reply, given, refused}, declared.refusal.Refusal.{Refusal}}
 use Rattle.bundle.{proofs.Theorems.{found-refusals}, specs.Bundle.{findOf}}
 use Rattle.request.{proofs.{Refusing.{fiveNumbers}, Theorems.{request-refusals}}, specs.{Request.{requestOf}, declared.read.Fix.{Fix}}}
-use Rattle.slip.proofs.Theorems.{slip-refusals, slip-at-refusals}
+use Rattle.slip.proofs.{Theorems.{slip-refusals, slip-at-refusals}, Worked.{sentence, square, berlin, texts, line, stamped}}
 use Rattle.slip.specs.{Says.{isAtNumber, isSlipNumber}, Slip.{Replied, replied, slippedAt, slipped}, declared.slip.Stamped.{Stamped}}
 use Rattle.uskelzar.proofs.Numbered.{Answered, never-zero, zero-said}
 use Rattle.uskelzar.specs.{Slips.{Printed, fixValues, fileValues, stampedValues, replySpoken, slipSpoken}, Spoken.{Spoken, saidOf, spoken}}
@@ -31,19 +32,19 @@ request-zero text = zero-said fixValues (requestOf text) (λ why is. never-zero 
 pub bundle-find-zero : (bundle name : List ℕ) → (replySpoken fileValues (findOf bundle name) .said .number ≡ 0) ↔ Answered (findOf bundle name)
 bundle-find-zero bundle name = zero-said fileValues (findOf bundle name) (λ why is. never-zero (88 ∷ 89 ∷ []) (λ z. z) (why .number) (found-refusals bundle name (sym is)))
 
--- `uskelzar_slip`
-pub slip-zero : (request map zones : List ℕ) (n room size : ℕ)
-    → (slipSpoken (slipped request map zones n room size) .said .number ≡ 0) ↔ Answered (slipped request map zones n room size .reply)
-slip-zero request map zones n room size =
-    let left = slipped request map zones n room size in
-    zero-said stampedValues (left .reply) (λ why is. not-slip (why .number) (slip-refusals request map zones n room size why (left .hits) (left .text) (left .out) (whole left is)))
+-- `uskelzar_slip`, and `uskelzar_slip_atlas` with no words or words of which `is_atlas` says 0
+pub slip-zero : (request map atlas zones : List ℕ) → NoneOrAtlas map atlas → (n room size : ℕ)
+    → (slipSpoken (slipped request map atlas zones n room size) .said .number ≡ 0) ↔ Answered (slipped request map atlas zones n room size .reply)
+slip-zero request map atlas zones so n room size =
+    let left = slipped request map atlas zones n room size in
+    zero-said stampedValues (left .reply) (λ why is. not-slip (why .number) (slip-refusals request map atlas zones so n room size why (left .hits) (left .text) (left .out) (whole left is)))
 
--- `uskelzar_slip_at`
-pub slip-at-zero : (fix : Fix) (map zones : List ℕ) (n room size : ℕ)
-    → (slipSpoken (slippedAt fix map zones n room size) .said .number ≡ 0) ↔ Answered (slippedAt fix map zones n room size .reply)
-slip-at-zero fix map zones n room size =
-    let left = slippedAt fix map zones n room size in
-    zero-said stampedValues (left .reply) (λ why is. not-at (why .number) (slip-at-refusals fix map zones n room size why (left .hits) (left .text) (left .out) (whole left is)))
+-- `uskelzar_slip_at`, and `uskelzar_slip_at_atlas` alike
+pub slip-at-zero : (fix : Fix) (map atlas zones : List ℕ) → NoneOrAtlas map atlas → (n room size : ℕ)
+    → (slipSpoken (slippedAt fix map atlas zones n room size) .said .number ≡ 0) ↔ Answered (slippedAt fix map atlas zones n room size .reply)
+slip-at-zero fix map atlas zones so n room size =
+    let left = slippedAt fix map atlas zones n room size in
+    zero-said stampedValues (left .reply) (λ why is. not-at (why .number) (slip-at-refusals fix map atlas zones so n room size why (left .hits) (left .text) (left .out) (whole left is)))
 
 -- what was answered was printed
 printed : (left : Replied) {number : ℕ} {words hits text out : List ℕ} → spoken number words (hits ∷ text ∷ out ∷ []) ≡ slipSpoken left → Answered (left .reply) → Printed left words hits text out
@@ -66,14 +67,19 @@ printed left {number} {words} {hits} {text} {out} e (stamped, is) = record {
     third [] = []
     third (l ∷ ls) = second ls
 
--- A call of `uskelzar_slip` that returned 0 left a stamped slip, and its length, matches and offset in the reply's words;
-pub returned-slip : (request map zones : List ℕ) (n room size : ℕ) {number : ℕ} {words hits text out : List ℕ}
-    → spoken number words (hits ∷ text ∷ out ∷ []) ≡ slipSpoken (slipped request map zones n room size) → number ≡ 0 → Printed (slipped request map zones n room size) words hits text out
-returned-slip request map zones n room size e z =
-    printed (slipped request map zones n room size) e (slip-zero request map zones n room size .0 (sym (ap (λ (s : Spoken). s .said .number) e) ∙ z))
+-- A call of `uskelzar_slip`, or of `uskelzar_slip_atlas` with an atlas, that returned 0 left a stamped slip, and its length, matches and offset in the reply's words;
+pub returned-slip : (request map atlas zones : List ℕ) → NoneOrAtlas map atlas → (n room size : ℕ) {number : ℕ} {words hits text out : List ℕ}
+    → spoken number words (hits ∷ text ∷ out ∷ []) ≡ slipSpoken (slipped request map atlas zones n room size) → number ≡ 0 → Printed (slipped request map atlas zones n room size) words hits text out
+returned-slip request map atlas zones so n room size e z =
+    printed (slipped request map atlas zones n room size) e (slip-zero request map atlas zones so n room size .0 (sym (ap (λ (s : Spoken). s .said .number) e) ∙ z))
 
--- and so one of `uskelzar_slip_at`.
-pub returned-slip-at : (fix : Fix) (map zones : List ℕ) (n room size : ℕ) {number : ℕ} {words hits text out : List ℕ}
-    → spoken number words (hits ∷ text ∷ out ∷ []) ≡ slipSpoken (slippedAt fix map zones n room size) → number ≡ 0 → Printed (slippedAt fix map zones n room size) words hits text out
-returned-slip-at fix map zones n room size e z =
-    printed (slippedAt fix map zones n room size) e (slip-at-zero fix map zones n room size .0 (sym (ap (λ (s : Spoken). s .said .number) e) ∙ z))
+-- and so one of `uskelzar_slip_at` and `uskelzar_slip_at_atlas`.
+pub returned-slip-at : (fix : Fix) (map atlas zones : List ℕ) → NoneOrAtlas map atlas → (n room size : ℕ) {number : ℕ} {words hits text out : List ℕ}
+    → spoken number words (hits ∷ text ∷ out ∷ []) ≡ slipSpoken (slippedAt fix map atlas zones n room size) → number ≡ 0 → Printed (slippedAt fix map atlas zones n room size) words hits text out
+returned-slip-at fix map atlas zones so n room size e z =
+    printed (slippedAt fix map atlas zones n room size) e (slip-at-zero fix map atlas zones so n room size .0 (sym (ap (λ (s : Spoken). s .said .number) e) ∙ z))
+
+-- Document 03's example sentence on a map of one square: returned with a 0, with its length, matches and offset in the reply, and the line in what was lent.
+pub one-printed : Printed (slipped sentence square [] berlin 4 19 49) (49 ∷ 1 ∷ 7200 ∷ 0 ∷ 0 ∷ []) (0 ∷ 0 ∷ 1 ∷ 39 ∷ []) texts line
+unfolding saidOf
+one-printed = returned-slip sentence square [] berlin (inl refl) 4 19 49 (ap slipSpoken (sym stamped)) refl

@@ -1,6 +1,6 @@
 -- How the reply to many fixes goes over to C.
 use mathlib.Core.List.{[], _∷_}
-use Rattle.zones.specs.{Batch.Many.{Batch, given, refused, Left}, declared.batch.many.Totals.{Totals}}
+use Rattle.batch.specs.{Many.{Batch, given, refused, Left}, declared.many.Totals.{Totals}}
 use Rattle.numbers.specs.Lists.{padded}
 use Rattle.uskelzar.specs.{Spoken.{Spoken}, declared.Said.{Said}}
 

@@ -6,11 +6,14 @@ pub mod slips;
 
 ghost use mathlib.Core.{Path.{_≡_}, List.{[], _∷_}};
 ghost use lib.ListN.{length};
+ghost use Rattle.atlas.specs.{Beside.{simplyBeside}, Looked.{lookedAtlas}};
 ghost use Rattle.localtime.specs.Local.{localTime, scaleAt};
 ghost use Rattle.zones.specs.{Lookup.{lookedUp, lookedStrictly, toldLooked}, Simple.{simplyLooked, toldSimple}};
 ghost use Rattle.header.specs.Opening.{openedOf, openedStrictly, toldOpened};
 ghost use Rattle.numbers.specs.Reply.{Reply, given, refused};
 ghost use Rattle.uskelzar.specs.Spoken.{saidOf, openingValues, zonesValues, describedValues, localValues, refusedSaid, localReply, spoken, openingSpoken, foundSpoken, localSpoken};
+use atlas::lookup::lookup_atlas;
+use atlas::simple::simple_atlas;
 use header::opening::Opened;
 use header::opening::open;
 use header::opening::open_strict;
@@ -171,6 +174,47 @@ pub extern "C" fn uskelzar_simple_lookup(
 {
     speak(
         say_described(simple_lookup(file, Location { lat, lon }, hits, text)),
+        reply,
+    )
+}
+
+// Looks a location up through an atlas. Values as for `uskelzar_lookup`.
+#[no_mangle]
+pub extern "C" fn uskelzar_lookup_atlas(
+    file: &[u8],
+    atlas: &[u32],
+    lat: f32,
+    lon: f32,
+    asked: bool,
+    hits: &mut [u32],
+    text: &mut [u8],
+    reply: &mut [u64; 5],
+) -> u8
+    ensures { λ r. ⌜ spoken r (now (reply .exit)) (now (hits .exit) ∷ now (text .exit) ∷ [])
+        ≡ foundSpoken zonesValues (lookedAtlas (now (file .entry)) (now (atlas .entry)) (record { lat = lat; lon = lon }) asked (length (now (hits .entry))) (length (now (text .entry)))) ⌝ }
+{
+    speak(
+        say_looked(lookup_atlas(file, atlas, Location { lat, lon }, asked, hits, text)),
+        reply,
+    )
+}
+
+// Looks a location's description up through an atlas, or without one where there are no words. Values as above.
+#[no_mangle]
+pub extern "C" fn uskelzar_simple_atlas(
+    file: &[u8],
+    atlas: &[u32],
+    lat: f32,
+    lon: f32,
+    hits: &mut [u32],
+    text: &mut [u8],
+    reply: &mut [u64; 5],
+) -> u8
+    ensures { λ r. ⌜ spoken r (now (reply .exit)) (now (hits .exit) ∷ now (text .exit) ∷ [])
+        ≡ foundSpoken describedValues (simplyBeside (now (file .entry)) (now (atlas .entry)) (record { lat = lat; lon = lon }) (length (now (hits .entry))) (length (now (text .entry)))) ⌝ }
+{
+    speak(
+        say_described(simple_atlas(file, atlas, Location { lat, lon }, hits, text)),
         reply,
     )
 }

@@ -1,12 +1,13 @@
 // Many fixes in one call, for C.
 ghost use mathlib.Core.{Path.{_≡_}, List.{[], _∷_}};
 ghost use lib.ListN.{length};
-ghost use Rattle.zones.specs.Batch.Many.{toldMany, lookedUpMany};
+ghost use Rattle.batch.specs.Many.{toldMany, manyBeside, lookedUpMany};
 ghost use Rattle.uskelzar.specs.{Spoken.{spoken}, Many.{manySaid, manySpoken}};
 use crate::Said;
 use crate::speak;
-use zones::batch::many::Many;
-use zones::batch::many::lookup_many;
+use batch::many::Many;
+use batch::many::lookup_many;
+use batch::many::many_atlas;
 
 fn say_many(many: Many) -> Said
     ensures { λ r. ⌜ r ≡ manySaid (toldMany many) ⌝ }
@@ -49,6 +50,29 @@ pub extern "C" fn uskelzar_lookup_many(
 {
     speak(
         say_many(lookup_many(file, lats, lons, asked, hits, text, answers)),
+        reply,
+    )
+}
+
+// Looks many locations up through an atlas, or without one where there are no words. Values as above.
+#[no_mangle]
+pub extern "C" fn uskelzar_many_atlas(
+    file: &[u8],
+    atlas: &[u32],
+    lats: &[f32],
+    lons: &[f32],
+    asked: bool,
+    hits: &mut [u32],
+    text: &mut [u8],
+    answers: &mut [u32],
+    reply: &mut [u64; 5],
+) -> u8
+    ensures { λ r. ⌜ spoken r (now (reply .exit)) (now (hits .exit) ∷ now (text .exit) ∷ now (answers .exit) ∷ [])
+        ≡ manySpoken (manyBeside (now (file .entry)) (now (atlas .entry)) (now (lats .entry)) (now (lons .entry)) asked (length (now (hits .entry))) (length (now (text .entry)))
+        (length (now (answers .entry)))) ⌝ }
+{
+    speak(
+        say_many(many_atlas(file, atlas, lats, lons, asked, hits, text, answers)),
         reply,
     )
 }

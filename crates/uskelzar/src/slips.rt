@@ -108,10 +108,33 @@ pub extern "C" fn uskelzar_slip(
     reply: &mut [u64; 5],
 ) -> u8
     ensures { λ r. ⌜ spoken r (now (reply .exit)) (now (hits .exit) ∷ now (text .exit) ∷ now (out .exit) ∷ [])
-        ≡ slipSpoken (slipped (now (request .entry)) (now (map .entry)) (now (zones .entry)) (length (now (hits .entry))) (length (now (text .entry))) (length (now (out .entry)))) ⌝ }
+        ≡ slipSpoken (slipped (now (request .entry)) (now (map .entry)) [] (now (zones .entry)) (length (now (hits .entry))) (length (now (text .entry))) (length (now (out .entry)))) ⌝ }
+{
+    let atlas = [0u32; 0];
+    speak(
+        say_slipped(slip(request, map, &atlas, zones, hits, text, out)),
+        reply,
+    )
+}
+
+// The slip that a request asks for, through the map's atlas, or without one where there are no words. Values as above.
+#[no_mangle]
+pub extern "C" fn uskelzar_slip_atlas(
+    request: &[u8],
+    map: &[u8],
+    atlas: &[u32],
+    zones: &[u8],
+    hits: &mut [u32],
+    text: &mut [u8],
+    out: &mut [u8],
+    reply: &mut [u64; 5],
+) -> u8
+    ensures { λ r. ⌜ spoken r (now (reply .exit)) (now (hits .exit) ∷ now (text .exit) ∷ now (out .exit) ∷ [])
+        ≡ slipSpoken (slipped (now (request .entry)) (now (map .entry)) (now (atlas .entry)) (now (zones .entry)) (length (now (hits .entry))) (length (now (text .entry)))
+        (length (now (out .entry)))) ⌝ }
 {
     speak(
-        say_slipped(slip(request, map, zones, hits, text, out)),
+        say_slipped(slip(request, map, atlas, zones, hits, text, out)),
         reply,
     )
 }
@@ -130,12 +153,38 @@ pub extern "C" fn uskelzar_slip_at(
     reply: &mut [u64; 5],
 ) -> u8
     ensures { λ r. ⌜ spoken r (now (reply .exit)) (now (hits .exit) ∷ now (text .exit) ∷ now (out .exit) ∷ [])
-        ≡ slipSpoken (slippedAt (record { lat = lat; lon = lon; instant = instant }) (now (map .entry)) (now (zones .entry)) (length (now (hits .entry))) (length (now (text .entry)))
+        ≡ slipSpoken (slippedAt (record { lat = lat; lon = lon; instant = instant }) (now (map .entry)) [] (now (zones .entry)) (length (now (hits .entry))) (length (now (text .entry)))
         (length (now (out .entry)))) ⌝ }
 {
     let fix = Fix { lat, lon, instant };
+    let atlas = [0u32; 0];
     speak(
-        say_slipped(slip_at(fix, map, zones, hits, text, out)),
+        say_slipped(slip_at(fix, map, &atlas, zones, hits, text, out)),
+        reply,
+    )
+}
+
+// The slip at a place and an instant, through the map's atlas, or without one where there are no words. Values as above.
+#[no_mangle]
+pub extern "C" fn uskelzar_slip_at_atlas(
+    lat: f32,
+    lon: f32,
+    instant: i64,
+    map: &[u8],
+    atlas: &[u32],
+    zones: &[u8],
+    hits: &mut [u32],
+    text: &mut [u8],
+    out: &mut [u8],
+    reply: &mut [u64; 5],
+) -> u8
+    ensures { λ r. ⌜ spoken r (now (reply .exit)) (now (hits .exit) ∷ now (text .exit) ∷ now (out .exit) ∷ [])
+        ≡ slipSpoken (slippedAt (record { lat = lat; lon = lon; instant = instant }) (now (map .entry)) (now (atlas .entry)) (now (zones .entry)) (length (now (hits .entry)))
+        (length (now (text .entry))) (length (now (out .entry)))) ⌝ }
+{
+    let fix = Fix { lat, lon, instant };
+    speak(
+        say_slipped(slip_at(fix, map, atlas, zones, hits, text, out)),
         reply,
     )
 }

@@ -16,7 +16,7 @@ use Rattle.numbers.specs.{Answer.{if_then_else_}, Float.{toF32, cut32, cut64, _
 -- ---- numbers of a span
 
 -- a number between two of a span lies in it
-between-span : (span : Span) (a c b : ℤ) → inSpan span a ≡ true → inSpan span b ≡ true → between a c b ≡ true → inSpan span c ≡ true
+pub between-span : (span : Span) (a c b : ℤ) → inSpan span a ≡ true → inSpan span b ≡ true → between a c b ≡ true → inSpan span c ≡ true
 unfolding inSpan between
 between-span span a c b h k e = go (leZ a c && leZ c b) refl e
   where
@@ -30,7 +30,7 @@ between-span span a c b h k e = go (leZ a c && leZ c b) refl e
     go true l e = let u = both (leZ a c) (leZ c b) l in rw (less-le-less (span .low) a c (p .0) (u .0), le-less c b (span .high) (u .1) (q .1))
     go false l e = let u = both (leZ b c) (leZ c a) e in rw (less-le-less (span .low) b c (q .0) (u .0), le-less c a (span .high) (u .1) (p .1))
 
-nearby-size : (span : Span) (v : ℤ) → nearby span ≡ true → inSpan span v ≡ true → mag v < 4194304
+pub nearby-size : (span : Span) (v : ℤ) → nearby span ≡ true → inSpan span v ≡ true → mag v < 4194304
 unfolding nearby inSpan
 nearby-size span v n h =
     let p = both (leZ (negsuc 4194303) (span .low)) (leZ (span .high) (pos 4194304)) n in
@@ -97,7 +97,7 @@ add-less : (a b : ℤ) (r : ℕ) → ltZ a b ≡ true → ltZ (a +ℤ pos r) (b 
 add-less a b zero h = rw (+ℤ-idr a, +ℤ-idr b) h
 add-less a b (suc r) h = rw (+ℤ-sucℤ a (pos r), +ℤ-sucℤ b (pos r)) (suc-less (a +ℤ pos r) (b +ℤ pos r) (add-less a b r h))
 
-far-size : (r : ℕ) (x : ℤ) (span : Span) (v : ℤ) → farFrom r x span ≡ true → inSpan span v ≡ true → suc r ≤ natAbs (v -ℤ x)
+pub far-size : (r : ℕ) (x : ℤ) (span : Span) (v : ℤ) → farFrom r x span ≡ true → inSpan span v ≡ true → suc r ≤ natAbs (v -ℤ x)
 unfolding farFrom inSpan
 far-size r x span v e h = go (leZ (x +ℤ pos r) (span .low)) refl e
   where
@@ -129,7 +129,7 @@ squared-found y x h k =
     rw (checked-fits 63 (y *ℤ y) (subst (λ (n : ℕ). n < 2 ^ 63) (sym (square-mag y)) (omega (arith, p))), checked-fits 63 (x *ℤ x) (subst (λ (n : ℕ). n < 2 ^ 63) (sym (square-mag x)) (omega (arith, q))), square-abs y, square-abs x)
     (ap found (mod-eq-of-lt (omega (arith, p, q))))
 
-difference-most : (a b : ℤ) → natAbs (a -ℤ b) ≤ natAbs a + natAbs b
+pub difference-most : (a b : ℤ) → natAbs (a -ℤ b) ≤ natAbs a + natAbs b
 difference-most a (pos zero) = let z = ap natAbs (+ℤ-idr a) in omega (arith, z)
 difference-most (pos a) (pos (suc b)) = go (ltb a (suc b))
   where
@@ -144,27 +144,27 @@ difference-most (negsuc a) (negsuc b) = go (ltb (suc b) (suc a))
     go true = omega arith
     go false = omega arith
 
-abs-mag : (z : ℤ) → natAbs z ≤ suc (mag z)
+pub abs-mag : (z : ℤ) → natAbs z ≤ suc (mag z)
 abs-mag (pos n) = omega arith
 abs-mag (negsuc n) = omega arith
 
-mag-abs : (z : ℤ) → mag z ≤ natAbs z
+pub mag-abs : (z : ℤ) → mag z ≤ natAbs z
 mag-abs (pos n) = omega arith
 mag-abs (negsuc n) = omega arith
 
 -- ---- the distance
 
-in-both : (one p other : Point) → inBox one p other ≡ true → (between (one .lat .0) (p .lat .0) (other .lat .0) ≡ true) × (between (one .lon .0) (p .lon .0) (other .lon .0) ≡ true)
+pub in-both : (one p other : Point) → inBox one p other ≡ true → (between (one .lat .0) (p .lat .0) (other .lat .0) ≡ true) × (between (one .lon .0) (p .lon .0) (other .lon .0) ≡ true)
 unfolding inBox
 in-both one p other e = both (between (one .lat .0) (p .lat .0) (other .lat .0)) (between (one .lon .0) (p .lon .0) (other .lon .0)) e
 
 -- a step that finds a number not less than this
-record Further (least : ℕ) (step : Step ℕ) : Type 0 where
-  value : ℕ
-  is : step ≡ found value
-  further : least ≤ value
+pub record Further (least : ℕ) (step : Step ℕ) : Type 0 where
+  pub value : ℕ
+  pub is : step ≡ found value
+  pub further : least ≤ value
 
-reached : (least r q : ℕ) (y x : ℤ) → r ≤ natAbs y → q ≤ natAbs x → natAbs y ≤ 2 ^ 24 → natAbs x ≤ 2 ^ 24 → least ≤ r * r + 4 * (q * q) → Further least (squared y x)
+pub reached : (least r q : ℕ) (y x : ℤ) → r ≤ natAbs y → q ≤ natAbs x → natAbs y ≤ 2 ^ 24 → natAbs x ≤ 2 ^ 24 → least ≤ r * r + 4 * (q * q) → Further least (squared y x)
 reached least r q y x a b h k e =
     let u = mul-le-mul a a in
     let v = mul-le-mul b b in

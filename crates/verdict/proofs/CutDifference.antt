@@ -10,7 +10,7 @@ use borrow.Author.Tests.{ltb-true, ltb-false}
 
 -- ---- the sign of a rounded fraction
 
-abbrev withSign : Bool → Float → Float
+abbrev pub withSign : Bool → Float → Float
 withSign s nan = nan
 withSign s (inf t) = inf s
 withSign s (fin t m e) = fin s m e
@@ -28,7 +28,7 @@ units-signed f s q k = go (ltb (q * 2 ^ k) (2 ^ (low f + suc (emax f))))
     go true = odd-signed (suc (prec f)) s q k (low f)
     go false = refl
 
-round-signed : (s : Bool) (a d : ℕ) → round binary32 s a d ≡ withSign s (round binary32 false a d)
+pub round-signed : (s : Bool) (a d : ℕ) → round binary32 s a d ≡ withSign s (round binary32 false a d)
 round-signed s a d = round-is binary32 s a d ∙ units-signed binary32 s _ _ ∙ ap (withSign s) (sym (round-is binary32 false a d))
 
 -- ---- sizes
@@ -36,7 +36,7 @@ round-signed s a d = round-is binary32 s a d ∙ units-signed binary32 s _ _ ∙
 abbrev pub sizeOf : Float → ℕ
 sizeOf x = natAbs (toSigned 63 x)
 
-abs-neg : (n : ℕ) → natAbs (negℤ (pos n)) ≡ n
+pub abs-neg : (n : ℕ) → natAbs (negℤ (pos n)) ≡ n
 abs-neg zero = refl
 abs-neg (suc n) = refl
 
@@ -63,7 +63,7 @@ or-split : (a b : Bool) → T (a || b) → T a ⊎ T b
 or-split true b t = inl tt
 or-split false b t = inr t
 
-lt-or-eq : (a b : ℕ) → T (ltb a b || (eqb a b && true)) → a ≤ b
+pub lt-or-eq : (a b : ℕ) → T (ltb a b || (eqb a b && true)) → a ≤ b
 lt-or-eq a b t = elim (or-split (ltb a b) (eqb a b && true) t) [ inl u ↦ le-of-lt (ltb→lt a b u) | inr u ↦ le-of-eq (eqb→eq a b (and-l (eqb a b) true u)) ]
 
 at-least : (x y : Float) (n : ℕ) → n ≤ 2 ^ 24 → 0 < n → HasValue x false n 1 → T (le x y) → (s : Bool) → n ≤ sizeOf (withSign s y)
@@ -141,7 +141,7 @@ module _ (q n a d : ℕ) (D : 0 < d) (least : q * d ≤ a) (most : a ≤ suc q *
 -- ---- the difference of a float and a whole number
 
 -- a float's whole part
-abbrev wholePart : ℕ → ℤ → ℕ
+abbrev pub wholePart : ℕ → ℤ → ℕ
 wholePart m e = m * up e / down e
 
 apart-neg : (q n k : ℕ) → q - n ≤ k → n - suc q ≤ k → natAbs (pos q -ℤ pos n) ≤ suc k
@@ -164,14 +164,14 @@ not-not true = refl
 not-not false = refl
 
 -- sums of two signs, and of one
-record Unlike (q n : ℕ) (y : Float) : Type 0 where
-  above : q - n ≤ sizeOf y
-  below : n - suc q ≤ sizeOf y
-  most : sizeOf y ≤ suc q + n
+pub record Unlike (q n : ℕ) (y : Float) : Type 0 where
+  pub above : q - n ≤ sizeOf y
+  pub below : n - suc q ≤ sizeOf y
+  pub most : sizeOf y ≤ suc q + n
 
-record Alike (q n : ℕ) (y : Float) : Type 0 where
-  least : q + n ≤ sizeOf y
-  most : sizeOf y ≤ suc q + n
+pub record Alike (q n : ℕ) (y : Float) : Type 0 where
+  pub least : q + n ≤ sizeOf y
+  pub most : sizeOf y ≤ suc q + n
 
 module _ (q n a d : ℕ) (D : 0 < d) (least : q * d ≤ a) (most : a ≤ suc q * d) (small : suc q + n ≤ 2 ^ 24) where
   sum-alike : (s : Bool) → Alike q n (sum binary32 s a s (n * d) d)
@@ -204,7 +204,7 @@ module _ (s : Bool) (m : ℕ) (e : ℤ) (n : ℕ) (small : suc (wholePart m e) +
   whole-most : (d : ℕ) → m * up e * d ≤ suc q * (down e * d)
   whole-most d = subst (λ (x : ℕ). m * up e * d ≤ x) (mul-assoc (suc q) (down e) d) (mul-le-mul-right d (le-of-lt (subst (λ (x : ℕ). m * up e < x) (omega (arith, suc-mul q (down e))) (lt-div-mul-add {a = m * up e} (down-pos e)))))
 
-  less-unlike : (w : Float) → HasValue w s n 1 → Unlike q n (sub binary32 (fin s m e) w)
+  pub less-unlike : (w : Float) → HasValue w s n 1 → Unlike q n (sub binary32 (fin s m e) w)
   unfolding sub add neg
   less-unlike nan v = absurd v
   less-unlike (inf t) v = absurd v
@@ -212,7 +212,7 @@ module _ (s : Bool) (m : ℕ) (e : ℤ) (n : ℕ) (small : suc (wholePart m e) +
       rw (v .0, at-denominator (down d) (k * up d) (sym (mul-one (k * up d)) ∙ v .1))
       (sum-unlike q n (m * up e * down d) (down e * down d) (mul-pos (down-pos e) (down-pos d)) (whole-least (down d)) (whole-most (down d)) small s)
 
-  less-alike : (w : Float) → HasValue w (not s) n 1 → Alike q n (sub binary32 (fin s m e) w)
+  pub less-alike : (w : Float) → HasValue w (not s) n 1 → Alike q n (sub binary32 (fin s m e) w)
   unfolding sub add neg
   less-alike nan v = absurd v
   less-alike (inf t) v = absurd v
@@ -227,11 +227,11 @@ pub record Close (c z : ℤ) (y : Float) : Type 0 where
   pub least : natAbs (c -ℤ z) ≤ suc (sizeOf y)
   pub most : sizeOf y ≤ 2 ^ 24
 
-whole-value : (n : ℕ) → n ≤ 2 ^ 23 → HasValue (ofInt binary32 (pos n)) false n 1
+pub whole-value : (n : ℕ) → n ≤ 2 ^ 23 → HasValue (ofInt binary32 (pos n)) false n 1
 unfolding ofInt
 whole-value n h = round-whole binary32 false n (omega (arith, h))
 
-negative-value : (n : ℕ) → n ≤ 2 ^ 23 → HasValue (ofInt binary32 (negsuc n)) true (suc n) 1
+pub negative-value : (n : ℕ) → n ≤ 2 ^ 23 → HasValue (ofInt binary32 (negsuc n)) true (suc n) 1
 unfolding ofInt
 negative-value n h = round-whole binary32 true (suc n) (omega (arith, h))
 

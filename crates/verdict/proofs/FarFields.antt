@@ -53,14 +53,14 @@ low-fits n h = go (ltb n 4194304) refl
     go true e = let m = ltb-true n 4194304 e in rw e (record { sfits = omega (arith, m) })
     go false e = rw e (record { sfits = omega (arith, h) })
 
-low-size : (n : ℕ) → n ≤ 8388608 → mag (lowered n) ≤ 4194304
+pub low-size : (n : ℕ) → n ≤ 8388608 → mag (lowered n) ≤ 4194304
 low-size n h = go (ltb n 4194304) refl
   where
     go : (t : Bool) → ltb n 4194304 ≡ t → mag (lowered n) ≤ 4194304
     go true e = rw e (let m = ltb-true n 4194304 e in omega (arith, m))
     go false e = rw e (omega (arith, h))
 
-low-le : (a b : ℕ) → a ≤ b → leZ (lowered a) (lowered b) ≡ true
+pub low-le : (a b : ℕ) → a ≤ b → leZ (lowered a) (lowered b) ≡ true
 low-le a b h = go (ltb a 4194304) refl (ltb b 4194304) refl
   where
     go : (t : Bool) → ltb a 4194304 ≡ t → (u : Bool) → ltb b 4194304 ≡ u → leZ (lowered a) (lowered b) ≡ true
@@ -69,7 +69,7 @@ low-le a b h = go (ltb a 4194304) refl (ltb b 4194304) refl
     go false e true g = let m = ltb-false a 4194304 e in let k = ltb-true b 4194304 g in absurd (omega (arith, m, k, h))
     go false e false g = rw (e, g) (le-leb (a - 4194304) (b - 4194304) (omega (arith, h)))
 
-low-more : (n r : ℕ) → lowered n +ℤ pos r ≡ lowered (n + r)
+pub low-more : (n r : ℕ) → lowered n +ℤ pos r ≡ lowered (n + r)
 low-more n r = go (ltb n 4194304) refl
   where
     below-zero : n < 4194304 → subℕ r (suc (4194304 - suc n)) ≡ lowered (n + r)
@@ -86,7 +86,7 @@ low-more n r = go (ltb n 4194304) refl
 -- ---- spans
 
 module _ (span : Span) (low high : ℕ) (l : span .low ≡ lowered low) (h : span .high ≡ lowered high) where
-  near-zero : high ≤ 8388608 → nearby span ≡ true
+  pub near-zero : high ≤ 8388608 → nearby span ≡ true
   unfolding nearby
   near-zero k = rw (l, h, low-le 0 low (omega arith), low-le high 8388608 k) refl
 
@@ -98,25 +98,31 @@ module _ (span : Span) (low high : ℕ) (l : span .low ≡ lowered low) (h : spa
   unfolding beside
   below-it x k = rw (h, low-le high x k) (or-true (leZ (lowered x) (span .low)))
 
+  pub far-over : (x r : ℕ) → x + r ≤ low → farFrom r (lowered x) span ≡ true
+  unfolding farFrom
+  far-over x r k = rw (low-more x r, l, low-le (x + r) low k) refl
+
+  pub far-under : (x r : ℕ) → high + r ≤ x → farFrom r (lowered x) span ≡ true
+  unfolding farFrom
+  far-under x r k = rw (h, low-more high r, low-le (high + r) x k) (or-true (leZ (lowered x +ℤ pos r) (span .low)))
+
   module _ (fix more : ℕ) (most : high ≤ 8388608) (sign : beside (lowered 4194304) span ≡ true) where
     pub far-above : fix + more ≤ low → FarSpan (lowered fix) more span
-    unfolding farFrom
     far-above k =
         record {
           side = above-it fix (omega (arith, k));
           near = near-zero most;
           sign = sign;
-          far = rw (low-more fix more, l, low-le (fix + more) low k) refl;
+          far = far-over fix more k;
         }
 
     pub far-below : high + more ≤ fix → FarSpan (lowered fix) more span
-    unfolding farFrom
     far-below k =
         record {
           side = below-it fix (omega (arith, k));
           near = near-zero most;
           sign = sign;
-          far = rw (h, low-more high more, low-le (high + more) fix k) (or-true (leZ (lowered fix +ℤ pos more) (span .low)));
+          far = far-under fix more k;
         }
 
   pub sign-above : 4194304 ≤ low → beside (lowered 4194304) span ≡ true

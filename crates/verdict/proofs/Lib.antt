@@ -11,8 +11,12 @@ pub mod WorkedGliding
 pub mod Verdicts
 pub mod Replies
 pub mod Unasked
+pub mod NearerStart
 pub mod OutsideBox
 pub mod Winds
+pub mod Finite
+pub mod AfarField
+pub mod AfarBox
 pub mod Stretch
 mod WorkedStretch
 pub mod Strict

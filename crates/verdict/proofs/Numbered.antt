@@ -6,7 +6,7 @@ use Rattle.numbers.proofs.Refusals.{either}
 use Rattle.verdict.specs.Distance.{squared, toSegment, toVertex, distanceOf, measured}
 use Rattle.verdict.specs.{Edge.{samePoint, sameZ, inBox, straight, quadrantOf, spotOf, edgeOf, closestOn, cutOf}, Step.{Step}}
 use Rattle.verdict.specs.Verdict.{Judgement, Last, none, after, along, passing, closedAt, thenOn, judge, judgedAt}
-use Rattle.verdict.specs.Winding.{turned, quarterBy, turnAt, acrossBy, clearOf, woundBy}
+use Rattle.verdict.specs.{Stretch.{leapt}, Winding.{turned, quarterBy, turnAt, acrossBy, clearOf, woundBy}}
 use Rattle.verdict.specs.declared.edge.{Edge.{Edge, the-variants.{Sloped, EqualLongitude, EqualLatitude}}, Spot.{Spot}}
 use Rattle.verdict.specs.declared.step.{Tally.{Tally}, Verdict.{Verdict}}
 use Rattle.border.specs.{Trace.{Trace}, declared.{place.{FixedLat.{FixedLat}, FixedLon.{FixedLon}, Point.{Point}}, reader.Encoding.{Encoding}}}
@@ -25,7 +25,7 @@ pub data NumberedJudgement (P : ℕ → Type 0) : Judgement → Type 0 where
   unjudged : {least : ℕ} → NumberedJudgement P (J.failed least)
   not-judged : {n : ℕ} → P n → NumberedJudgement P (J.refused n)
 
-then-step : {P : ℕ → Type 0} {A B : Type 0} {step : Step A} {next : A → Step B} → NumberedStep P step → ((a : A) → NumberedStep P (next a)) → NumberedStep P (S._>>=_ step next)
+pub then-step : {P : ℕ → Type 0} {A B : Type 0} {step : Step A} {next : A → Step B} → NumberedStep P step → ((a : A) → NumberedStep P (next a)) → NumberedStep P (S._>>=_ step next)
 then-step goes k = k _
 then-step meets k = meets
 then-step (stops h) k = stops h
@@ -68,6 +68,10 @@ module _ {P : ℕ → Type 0} (twelve : P 12) (thirteen : P 13) where
   quarter quarters tally =
       either (NumberedStep P) (eqb quarters 1) (turns-by (pos 1) tally) (either (NumberedStep P) (eqb quarters 3) (turns-by (negsuc 0) tally) goes)
 
+  pub leaps : (fix from to : Point) (tally : Tally) → NumberedStep P (leapt fix from to tally)
+  unfolding leapt
+  leaps fix from to tally = quarter _ tally
+
   crosses : (crossing fix : FixedLon) (q : ℕ) → NumberedStep P (turnAt crossing fix q)
   unfolding turnAt
   crosses crossing fix q =
@@ -98,18 +102,18 @@ module _ {P : ℕ → Type 0} (twelve : P 12) (thirteen : P 13) where
   edge-numbered fix asked none to tally = goes
   edge-numbered fix asked (after from) to tally = then-step (winds fix from to tally) (measures asked fix from to)
 
-  passes : (fix : Point) (asked : Bool) (last : Last) (to : Point) (tally : Tally) → NumberedStep P (passing fix asked last to tally)
+  pub passes : (fix : Point) (asked : Bool) (last : Last) (to : Point) (tally : Tally) → NumberedStep P (passing fix asked last to tally)
   unfolding passing
   passes fix asked last to tally = either (NumberedStep P) (samePoint to fix) meets (edge-numbered fix asked last to tally)
 
-  closes : (asked : Bool) (tally : Tally) → NumberedJudgement P (closedAt asked tally)
+  pub closes : (asked : Bool) (tally : Tally) → NumberedJudgement P (closedAt asked tally)
   unfolding closedAt
   closes asked tally =
       either (NumberedJudgement P) (sameZ (tally .winding) (negsuc 3)) judged
       (either (NumberedJudgement P) (sameZ (tally .winding) (pos 4)) judged
       (either (NumberedJudgement P) (sameZ (tally .winding) (pos 0)) judged judged))
 
-  goes-on : (asked : Bool) (least : ℕ) {step : Step Tally} {rest : Tally → Judgement} → NumberedStep P step → ((tally : Tally) → NumberedJudgement P (rest tally))
+  pub goes-on : (asked : Bool) (least : ℕ) {step : Step Tally} {rest : Tally → Judgement} → NumberedStep P step → ((tally : Tally) → NumberedJudgement P (rest tally))
       → NumberedJudgement P (thenOn asked least step rest)
   unfolding thenOn
   goes-on asked least goes k = k _

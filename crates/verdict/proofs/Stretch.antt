@@ -7,9 +7,9 @@ use lib.{Dec.{ltb, eqb}, IntN.{ℤ, pos, negsuc, _+ℤ_, +ℤ-negℤ-cancel, -�
 use Rattle.numbers.specs.Answer.{if_then_else_}
 use Rattle.border.specs.{Trace.{Trace, point}, Box.{Box, holds}, declared.place.Point.{Point}}
 use Rattle.numbers.proofs.Tests.{both}
-use Rattle.verdict.specs.{Step.{Step, found, meets, refused, _>>=_}, Distance.{measured}, Winding.{turned, quarterBy, clearOf, woundBy}}
-use Rattle.verdict.specs.{Verdict.{after, along, passing, thenOn, judge}, Stretch.{Stretch, stays, leads}, declared.step.Tally.{Tally}}
-use Rattle.verdict.proofs.Checks.{checked-fits}
+use Rattle.verdict.specs.{Step.{Step, found, meets, refused, _>>=_}, Distance.{measured}, Winding.{turned, quarterBy, clearOf, woundBy}, Far.{isAfar}, inner.Afar.{fieldOf}}
+use Rattle.verdict.specs.{Verdict.{after, along, passing, thenOn, judge}, Stretch.{Stretch, stays, leads, leapt}, declared.step.Tally.{Tally}}
+use Rattle.verdict.proofs.{AfarField.{afar-quiet}, AfarBox.{holds-parts, afar-box, held-within}, Checks.{checked-fits}}
 use Rattle.verdict.proofs.OutsideBox.{Side, north, west, south, east, leZ-trans, unless, corner, tallied, first, quarters, quarters-led}
 use Rattle.verdict.proofs.OutsideBox.{Beyond, ahead, two-quadrants, no-vertex, not-in-edge-box, on-some-side}
 
@@ -71,6 +71,10 @@ quarter-led true true true w least h = refl
 
 -- ---- an edge on one side
 
+-- between two points of a box an edge leaves the least distance as it is, if it is asked for
+abbrev Quiet : Point → Bool → Box → ℕ → Type 0
+Quiet fix asked box least = (from to : Point) → holds box from ≡ true → holds box to ≡ true → (w : ℤ) → measured asked fix from to (tallied w least) ≡ found (tallied w least)
+
 never-two : (a b : Bool) (across m : Step Tally) → (if eqb (quarters a b) 2 then across else m) ≡ m
 never-two true true across m = refl
 never-two true false across m = refl
@@ -96,33 +100,32 @@ module _ (fix : Point) (side : Side) where
         let b = ahead fix side to in
         rw (two-quadrants fix side to k, two-quadrants fix side from h, quarters-led (first side) a b, never-two a b) (unchanged (quarterBy (quarters a b) t) (clearOf fix from to) clear)
 
+    -- and so does the leap from one to the other
+    leapt-on-side : (t : Tally) → leapt fix from to t ≡ quarterBy (quarters (ahead fix side from) (ahead fix side to)) t
+    unfolding leapt
+    leapt-on-side t = rw (two-quadrants fix side to k, two-quadrants fix side from h, quarters-led (first side) (ahead fix side from) (ahead fix side to))
+
   -- the tally at a point of a stretch that starts with this winding, ahead or not
   module _ (a : Bool) (w : ℤ) (least : ℕ) (room : Roomy w) where
     abbrev at : Point → Tally
     at p = tallied (led a (ahead fix side p) w) least
 
-    passed : (from to : Point) → Beyond fix side from → Beyond fix side to → passing fix false (after from) to (at from) ≡ found (at to)
-    unfolding passing along measured
-    passed from to h k =
-        rw (no-vertex fix side to k, wound-on-side from to h k, quarter-led a (ahead fix side from) (ahead fix side to) w least room)
+    -- an edge whose distance, if it is asked for, changes nothing
+    passed : (asked : Bool) (from to : Point) → Beyond fix side from → Beyond fix side to → measured asked fix from to (at to) ≡ found (at to)
+        → passing fix asked (after from) to (at from) ≡ found (at to)
+    unfolding passing along
+    passed asked from to h k quiet =
+        rw (no-vertex fix side to k, wound-on-side from to h k, quarter-led a (ahead fix side from) (ahead fix side to) w least room) quiet
 
     -- the points of a stretch are passed one after the other
-    passed-all : (box : Box) → ((p : Point) → holds box p ≡ true → Beyond fix side p) → {from to : Point} {trace rest : Trace} → Beyond fix side from → Stretch box from trace to rest
-        → judge fix false (after from) (at from) trace ≡ judge fix false (after to) (at to) rest
+    passed-all : (asked : Bool) (box : Box) → ((p : Point) → holds box p ≡ true → Beyond fix side p) → Quiet fix asked box least → {from to : Point} {trace rest : Trace} → holds box from ≡ true
+        → Stretch box from trace to rest → judge fix asked (after from) (at from) trace ≡ judge fix asked (after to) (at to) rest
     unfolding judge thenOn
-    passed-all box sided h stays = refl
-    passed-all box sided {from} h (leads {to = to} held more) = rw (passed from to h (sided to held)) (passed-all box sided (sided to held) more)
+    passed-all asked box sided quiet h stays = refl
+    passed-all asked box sided quiet {from} h (leads {to = to} held more) =
+        rw (passed asked from to (sided from h) (sided to held) (quiet from to h held (led a (ahead fix side to) w))) (passed-all asked box sided quiet held more)
 
 -- ---- the box
-
--- what a box that holds a point says of its coordinates
-pub holds-parts : (box : Box) (p : Point) → holds box p ≡ true
-    → (leZ (box .low .lat .0) (p .lat .0) ≡ true) × (leZ (p .lat .0) (box .high .lat .0) ≡ true) × (leZ (box .low .lon .0) (p .lon .0) ≡ true) × (leZ (p .lon .0) (box .high .lon .0) ≡ true)
-holds-parts box p e =
-    let two = both (leZ (box .low .lat .0) (p .lat .0) && leZ (p .lat .0) (box .high .lat .0)) (leZ (box .low .lon .0) (p .lon .0) && leZ (p .lon .0) (box .high .lon .0)) e in
-    let lat = both (leZ (box .low .lat .0) (p .lat .0)) (leZ (p .lat .0) (box .high .lat .0)) (two .0) in
-    let lon = both (leZ (box .low .lon .0) (p .lon .0)) (leZ (p .lon .0) (box .high .lon .0)) (two .1) in
-    (lat .0, lat .1, lon .0, lon .1)
 
 -- a point of a box that lies on one side of the fix lies there too
 held-beyond : (fix : Point) (side : Side) (box : Box) → Beyond fix side (corner fix side box) → (p : Point) → holds box p ≡ true → Beyond fix side p
@@ -142,36 +145,66 @@ ends-held box h (leads held more) = ends-held box held more
 
 -- ---- the law
 
+-- A stretch whose box does not hold the fix, and in whose box no edge changes the least distance, does to what follows it what its one edge does without the distance.
+module _ (fix : Point) (asked : Bool) (box : Box) {from to : Point} {trace rest : Trace} (t : Tally) (out : holds box fix ≡ false) (start : holds box from ≡ true)
+    (stretch : Stretch box from trace to rest)
+    (room : Roomy (t .winding)) where
+  abbrev away : (side : Side) × Beyond fix side (corner fix side box)
+  away = on-some-side fix box out
+
+  abbrev side : Side
+  side = away .0
+
+  sided : (p : Point) → holds box p ≡ true → Beyond fix side p
+  sided = held-beyond fix side box (away .1)
+
+  abbrev a : Bool
+  a = ahead fix side from
+
+  abbrev led-to : Tally
+  led-to = at fix side a (t .winding) (t .least) room to
+
+  from-there : at fix side a (t .winding) (t .least) room from ≡ t
+  from-there = ap (λ (z : ℤ). tallied z (t .least)) (led-same a (t .winding))
+
+  whole : Quiet fix asked box (t .least) → judge fix asked (after from) t trace ≡ judge fix asked (after to) led-to rest
+  whole quiet =
+      subst (λ (u : Tally). judge fix asked (after from) u trace ≡ judge fix asked (after to) led-to rest) from-there
+      (passed-all fix side a (t .winding) (t .least) room asked box sided quiet start stretch)
+
+  edge : passing fix false (after from) to t ≡ found led-to
+  unfolding measured
+  edge =
+      subst (λ (u : Tally). passing fix false (after from) to u ≡ found led-to) from-there
+      (passed fix side a (t .winding) (t .least) room false from to (sided from start) (sided to (ends-held box start stretch)) refl)
+
+  leap : leapt fix from to t ≡ found led-to
+  leap =
+      subst (λ (u : Tally). leapt fix from to u ≡ found led-to) from-there
+      (leapt-on-side fix side from to (sided from start) (sided to (ends-held box start stretch)) (at fix side a (t .winding) (t .least) room from)
+      ∙ quarter-led a a (ahead fix side to) (t .winding) (t .least) room)
+
+  as-leap : Quiet fix asked box (t .least) → judge fix asked (after from) t trace ≡ thenOn asked (t .least) (leapt fix from to t) (λ u. judge fix asked (after to) u rest)
+  unfolding thenOn
+  as-leap quiet = whole quiet ∙ ap (λ (m : Step Tally). thenOn asked (t .least) m (λ u. judge fix asked (after to) u rest)) (sym leap)
+
 -- A stretch whose box does not hold the fix, judged without the distance, does to what follows it what its one edge does: no point of it is met, nothing is refused, and the turns add up
 -- to the edge's. The winding before it needs room for one more quarter turn; how many points the stretch has does not matter.
 pub stretch-is-edge : (fix : Point) (box : Box) {from to : Point} {trace rest : Trace} (t : Tally) → holds box fix ≡ false → holds box from ≡ true → Stretch box from trace to rest → Roomy (t .winding)
     → judge fix false (after from) t trace ≡ judge fix false (after from) t (point to rest)
-stretch-is-edge fix box {from} {to} {trace} {rest} t out start stretch room = whole ∙ sym edge
-  where
-    away : (side : Side) × Beyond fix side (corner fix side box)
-    away = on-some-side fix box out
+unfolding judge measured thenOn
+stretch-is-edge fix box {from} {to} {trace} {rest} t out start stretch room =
+    whole fix false box t out start stretch room (λ x y h k w. refl)
+    ∙ ap (λ (m : Step Tally). thenOn false (t .least) m (λ u. judge fix false (after to) u rest)) (sym (edge fix false box t out start stretch room))
 
-    side : Side
-    side = away .0
+-- And the edge is no more than a leap from one quadrant to the same or the next,
+pub stretch-is-leap : (fix : Point) (box : Box) {from to : Point} {trace rest : Trace} (t : Tally) → holds box fix ≡ false → holds box from ≡ true → Stretch box from trace to rest → Roomy (t .winding)
+    → judge fix false (after from) t trace ≡ thenOn false (t .least) (leapt fix from to t) (λ u. judge fix false (after to) u rest)
+unfolding measured
+stretch-is-leap fix box t out start stretch room = as-leap fix false box t out start stretch room (λ x y h k w. refl)
 
-    sided : (p : Point) → holds box p ≡ true → Beyond fix side p
-    sided = held-beyond fix side box (away .1)
-
-    a : Bool
-    a = ahead fix side from
-
-    led-to : Tally
-    led-to = at fix side a (t .winding) (t .least) room to
-
-    from-there : at fix side a (t .winding) (t .least) room from ≡ t
-    from-there = ap (λ (z : ℤ). tallied z (t .least)) (led-same a (t .winding))
-
-    whole : judge fix false (after from) t trace ≡ judge fix false (after to) led-to rest
-    whole =
-        subst (λ (u : Tally). judge fix false (after from) u trace ≡ judge fix false (after to) led-to rest) from-there
-        (passed-all fix side a (t .winding) (t .least) room box sided (sided from start) stretch)
-
-    edge : judge fix false (after from) t (point to rest) ≡ judge fix false (after to) led-to rest
-    edge =
-        subst (λ (u : Tally). judge fix false (after from) u (point to rest) ≡ judge fix false (after to) led-to rest) from-there
-        (passed-all fix side a (t .winding) (t .least) room box sided (sided from start) (leads (ends-held box start stretch) stays))
+-- with the distance asked for too, where the box also is afar by the least distance so far: that distance stays.
+pub afar-is-leap : (fix : Point) (box : Box) {from to : Point} {trace rest : Trace} (t : Tally) → holds box fix ≡ false → isAfar fix (t .least) (box .low) (box .high) ≡ true → holds box from ≡ true
+    → Stretch box from trace to rest → Roomy (t .winding) → judge fix true (after from) t trace ≡ thenOn true (t .least) (leapt fix from to t) (λ u. judge fix true (after to) u rest)
+afar-is-leap fix box t out far start stretch room =
+    as-leap fix true box t out start stretch room (λ x y h k w. afar-quiet fix (fieldOf box) (t .least) (afar-box fix (t .least) box far) x y (held-within box x h) (held-within box y k) w)

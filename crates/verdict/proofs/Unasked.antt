@@ -50,10 +50,10 @@ distance-plain fix from to =
 
 -- a step with the distance and one without it, and a judgement with and without
 module _ (d : ℕ) where
-  abbrev with : Tally → Tally
+  abbrev pub with : Tally → Tally
   with t = record { winding = t .winding; least = d }
 
-  abbrev kept : Tally → Step Tally
+  abbrev pub kept : Tally → Step Tally
   kept t = found (with t)
 
   abbrev Alike : Step Tally → Step Tally → Type 0
@@ -106,7 +106,7 @@ module _ (d : ℕ) where
       clear-kept (meets v) = refl
       clear-kept (S.refused n) = refl
 
-      wound-kept : (t : Tally) → woundBy fix from to (with t) ≡ (woundBy fix from to t >>= kept)
+      pub wound-kept : (t : Tally) → woundBy fix from to (with t) ≡ (woundBy fix from to t >>= kept)
       unfolding woundBy
       wound-kept t =
           let q = quadrantOf fix to in

@@ -6,7 +6,7 @@ use lib.{Dec.{ltb, eqb}, IntN.{ℤ, pos, negsuc, natAbs, _+ℤ_, _-ℤ_}, Signed
 use Rattle.numbers.specs.Answer.{if_then_else_}
 use Rattle.border.specs.declared.place.{FixedLon.{FixedLon}, Point.{Point}}
 use Rattle.verdict.specs.{Step.{Step, found, meets, refused, _>>=_, checked}, Edge.{samePoint, straight, inBox, quadrantOf, edgeOf}, Distance.{distanceOf, measured}}
-use Rattle.verdict.specs.{Winding.{turned, quarterBy, halfTurn, turnAt, crossingOf, acrossBy, clearOf, woundBy}, Verdict.{after, along, passing}}
+use Rattle.verdict.specs.{Winding.{turned, quarterBy, halfTurn, turnAt, crossingOf, acrossBy, clearOf, woundBy}, Stretch.{leapt}, Verdict.{after, along, passing}}
 use Rattle.verdict.specs.declared.{edge.Edge.{Edge, the-variants.{Sloped, EqualLongitude, EqualLatitude}}, step.{Tally.{Tally}, Verdict.the-variants.{OnBorderVertex, OnBorderSegment}}}
 
 -- what a step finds winds no further than this
@@ -65,6 +65,10 @@ unfolding quarterBy
 quarter-winds n t =
     if-winds (natAbs (t .winding) + 2) (eqb n 1) (turned (pos 1) t) _ (turned-winds (pos 1) t (omega arith))
     (if-winds (natAbs (t .winding) + 2) (eqb n 3) (turned (negsuc 0) t) (found t) (turned-winds (negsuc 0) t (omega arith)) (omega arith))
+
+pub leapt-winds : (fix from to : Point) (t : Tally) → Winds (natAbs (t .winding) + 2) (leapt fix from to t)
+unfolding leapt
+leapt-winds fix from to t = quarter-winds _ t
 
 half-turns : (west : Bool) (q : ℕ) → Halves (found (halfTurn west q))
 unfolding halfTurn

@@ -1,11 +1,12 @@
--- A stretch north of a location, worked; and that the bound on the winding is needed.
+-- A stretch north of a location, worked, with the distance too; and that the bound on the winding is needed.
 use native.Mathlib.Omega.{arith}
 use mathlib.Core.{Path.{_≡_, refl}, Bool.{true, false}}
 use lib.IntN.{pos, negsuc}
 use Rattle.border.specs.{Place.{pointAt}, Trace.{Trace, point, closed}, Box.{Box}, declared.place.Point.{Point}}
-use Rattle.verdict.specs.{Step.{checked}, Edge.{samePoint, straight, between, inBox, quadrantOf}, Winding.{turned, quarterBy, clearOf, woundBy}, Distance.{measured}}
-use Rattle.verdict.specs.{Verdict.{reached, refused, after, along, passing, closedAt, thenOn, judge}, Stretch.{Stretch, stays, leads}, declared.step.Verdict.the-variants.{OnBorderSegment}}
-use Rattle.verdict.proofs.{OutsideBox.{tallied}, Stretch.{stretch-is-edge}}
+use Rattle.verdict.specs.{Step.{checked}, Edge.{samePoint, straight, between, inBox, quadrantOf}, Winding.{turned, quarterBy, clearOf, woundBy}}
+use Rattle.verdict.specs.{Distance.{measured}, Far.{small, isSmall, raised, gapOf, isAfar}}
+use Rattle.verdict.specs.{Verdict.{reached, refused, after, along, passing, closedAt, thenOn, judge}, Stretch.{Stretch, stays, leads, leapt}, declared.step.Verdict.the-variants.{OnBorderSegment}}
+use Rattle.verdict.proofs.{OutsideBox.{tallied}, Stretch.{stretch-is-edge, afar-is-leap}}
 
 abbrev here : Point
 here = pointAt (pos 0) (pos 0)
@@ -29,6 +30,19 @@ in-the-north = leads refl (leads refl (leads refl (leads refl stays)))
 -- by four edges as by one
 pub turned-once : judge here false (after north-east) (tallied (pos 3) 7) westward ≡ judge here false (after north-east) (tallied (pos 3) 7) (point north-west closed)
 turned-once = stretch-is-edge here north-box (tallied (pos 3) 7) refl refl in-the-north (omega arith)
+
+-- Two numbers lie between its box and the location: with the distance, it is far by 4 and not by 5.
+far-enough : isAfar here 4 (north-box .low) (north-box .high) ≡ true
+unfolding isAfar isSmall small gapOf raised
+far-enough = refl
+
+pub too-near : isAfar here 5 (north-box .low) (north-box .high) ≡ false
+unfolding isAfar isSmall small gapOf raised
+too-near = refl
+
+pub turned-afar : judge here true (after north-east) (tallied (pos 3) 4) westward
+    ≡ thenOn true 4 (leapt here north-east north-west (tallied (pos 3) 4)) (λ u. judge here true (after north-west) u closed)
+turned-afar = afar-is-leap here north-box (tallied (pos 3) 4) refl far-enough refl in-the-north (omega arith)
 
 -- With no room for one more quarter turn a stretch that turns on and back is refused, and its one edge is not.
 pub no-room : judge here false (after north-east) (tallied (pos 2147483647) 7) (point north-west (point (pointAt (pos 5) (pos 3)) closed)) ≡ refused 13

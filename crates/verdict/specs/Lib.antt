@@ -4,4 +4,5 @@ pub mod Winding
 pub mod Distance
 pub mod Verdict
 pub mod Stretch
+pub mod Far
 pub mod inner

@@ -1,3 +1,5 @@
 -- What inner functions say to each other: no promise and no theorem of the page speaks of it.
 pub mod Gliding
+pub mod Afar
 pub mod Kept
+pub mod Walk

@@ -64,7 +64,7 @@ fn to_segment(near: Spot, at: Spot) -> Distance
     Distance::Is(sum_of_squares(lat, lon))
 }
 
-fn to_vertex(to: Point, fix: Point) -> Distance
+pub fn to_vertex(to: Point, fix: Point) -> Distance
     ensures { λ r. ⌜ told r ≡ toVertex to fix ⌝ }
 {
     let lat = (to.lat.0 as i64) - (fix.lat.0 as i64);

@@ -77,7 +77,7 @@ pub fn in_box(one: Point, point: Point, other: Point) -> bool
 }
 
 // The quadrant about `fix` that a point lies in: 0 north-east, 1 north-west, 2 south-west, 3 south-east.
-fn quadrant_of(fix: Point, point: Point) -> u8
+pub(crate) fn quadrant_of(fix: Point, point: Point) -> u8
     ensures { λ r. ⌜ r ≡ quadrantOf fix point ⌝ }
 {
     if fix.lat.0 <= point.lat.0 {

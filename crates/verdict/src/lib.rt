@@ -1,4 +1,5 @@
 // What a border says of a location.
+pub mod afar;
 pub mod distance;
 pub mod edge;
 pub mod far;

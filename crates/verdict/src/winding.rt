@@ -40,7 +40,7 @@ fn turn(tally: Tally, by: i32) -> Passed
 }
 
 // One quadrant on, or one back.
-fn quarter(quarters: u8, tally: Tally) -> Passed
+pub(crate) fn quarter(quarters: u8, tally: Tally) -> Passed
     ensures { λ r. ⌜ step.told r ≡ quarterBy quarters tally ⌝ }
 {
     if quarters == 1 {

@@ -7,7 +7,7 @@ use Rattle.zones.specs.Simple.{describedWith, describedIn, simplyLookedW
 use Rattle.numbers.{specs.{Lists.{zeros}, Reply.{Reply, given, refused}, declared.refusal.Refusal.{Refusal}}, proofs.Replies.{carried, onward}}
 use Rattle.table.specs.declared.location.Location.{Location}
 
-refused-zero : {A : Type 0} (n room : ℕ) {whole : Reply (Outcome A)} {why : Refusal} {hs ts : List ℕ} → refused why ≡ whole → hs ≡ zeros n → ts ≡ zeros room
+pub refused-zero : {A : Type 0} (n room : ℕ) {whole : Reply (Outcome A)} {why : Refusal} {hs ts : List ℕ} → refused why ≡ whole → hs ≡ zeros n → ts ≡ zeros room
     → replied {A = A} (refused why) hs ts ≡ repliedOf n room whole
 unfolding repliedOf
 refused-zero n room {why = why} e h t = (λ i. replied (refused why) (h i) (t i)) ∙ ap (repliedOf n room) e

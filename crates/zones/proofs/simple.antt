@@ -3,4 +3,4 @@ mod Joining
 mod Picking
 mod Naming
 mod Describing
-mod Replies
+pub mod Replies

@@ -4,7 +4,7 @@ use Prim.Native.Nat.{ℕ, zero, suc, _+_, _/_, _≤_}
 use lib.{Dec.{leb, eqb}, ListN.{length}}
 use Rattle.numbers.specs.{Answer.{if_then_else_}, Lists.{padded}, Reply.{Reply, given, refused, plain, demand, _>>=_, _>>_}}
 use Rattle.header.specs.{Text.{textAt, bytesOf}, Header.{blameOf, headOf}, declared.{header.Head.{Head}, text.Text.{Text}}}
-use Rattle.table.specs.{Hits.{width}, Find.{Matched, matchedWith}, declared.{hits.Hit.{Hit}, location.Location.{Location}}}
+use Rattle.table.specs.{Hits.{width}, Find.{Matched, matchedWith}, declared.{find.Matches.{Matches}, hits.Hit.{Hit}, location.Location.{Location}}}
 use Rattle.zones.specs.{Fields.{fieldsPlace}, Lent.{Outcome, Replied, repliedOf}}
 use Rattle.zones.specs.declared.simple.{Value.{Value}, Picked.{Picked}, Picks.{Picks}, Checked.{Checked}, Description.{Description}, Wording.{Wording}}
 use Rattle.zones.specs.declared.simple.{Described.{Described}, Simple.{Simple}, Parts.{Parts}, Named.{Named}}
@@ -110,6 +110,10 @@ wordedOf file head room matches = do
   bytes ← fitting room (bytesIn description)
   given description
 
+-- every match is checked, then the first described
+abbrev pub describing : List ℕ → Head → ℕ → List Hit → Reply (Option (List ℕ))
+describing file head room matches = checked file head matches >> wordedOf file head room matches
+
 -- the matches and the description, in a file with this header, with so many bytes for text
 abbrev pub describedFrom : List ℕ → Head → ℕ → Reply Matched → Reply (Outcome Described)
 describedFrom file head room matched = do
@@ -171,6 +175,11 @@ toldWorded (W.Refused why) = refused why
 abbrev pub toldSimple : Simple → Reply Described
 toldSimple (S.Described described) = given described
 toldSimple (S.Refused why) = refused why
+
+-- after a search: what is said of the matches, and the description in so many bytes of text
+pub record ToldSimply (room : ℕ) (text : List ℕ) (found : Matches) (worded : Option (List ℕ)) (described : Described) : Type 0 where
+  pub said : described ≡ record { matches = found .count; mark = found .mark; description = lengthIn worded }
+  pub kept : text ≡ padded room (bytesIn worded)
 
 pub record Worded (room : ℕ) (text : List ℕ) (worded : Option (List ℕ)) (description : Description) : Type 0 where
   pub said : description ≡ lengthIn worded

@@ -7,7 +7,7 @@ ghost use Rattle.header.specs.{Utf8.{unmasked}, Text.{bytesOf}};
 ghost use Rattle.table.specs.{Hits.{width, slots}, inner.Agreeing.{Agrees}};
 ghost use Rattle.zones.specs.{Fields.{toldFields, Wrote}, Lent.{Filled, replied}};
 ghost use Rattle.zones.specs.Simple.{same, partOf, begun, newer, pickedFrom, descriptionAt, toldNamed, LiesNamed, checked, fitting, wordedOf, toldPicks, toldChecked, toldWorded, Worded};
-ghost use Rattle.zones.specs.Simple.{describedWith, simplyLookedWith, simplyLooked, toldSimple};
+ghost use Rattle.zones.specs.Simple.{describing, describedWith, simplyLookedWith, simplyLooked, toldSimple, ToldSimply};
 use crate::fields::Fields;
 use crate::fields::fields_place;
 use header::codes::BAD_FIELD;
@@ -26,6 +26,7 @@ use header::zero::zero_both;
 use numbers::refusal::Refusal;
 use numbers::refusal::plain;
 use table::find::Found;
+use table::find::Matches;
 use table::find::find_in;
 use table::hits::hit_at;
 use table::location::Location;
@@ -278,16 +279,12 @@ fn describe(text: &mut [u8], file: &[u8], head: Head, hits: &[u32], count: usize
     }
 }
 
-// In a text that is zero.
-fn look(file: &[u8], head: Head, location: Location, hits: &mut [u32], text: &mut [u8]) -> Simple
-    requires { ⌜ now text ≡ zeros (length (now text)) ⌝ }
-    ensures { λ r. ⌜ Agrees (Filled (length (now (hits .entry))) (length (now (text .entry))) (now (hits .exit)) (now (text .exit)))
-        (describedWith (now (file .entry)) head location (length (now (hits .entry))) (length (now (text .entry)))) (toldSimple r) ⌝ }
+// After a search: the fields of its matches are checked, and the first is described, in a text that is zero.
+pub fn tell(file: &[u8], head: Head, found: Matches, hits: &[u32], text: &mut [u8]) -> Simple
+    requires { ⌜ (now text ≡ zeros (length (now text))) × (found .count ≤ length (now hits) / width) ⌝ }
+    ensures { λ r. ⌜ Agrees (ToldSimply (length (now (text .entry))) (now (text .exit)) found)
+        (describing (now (file .entry)) head (length (now (text .entry))) (take (found .count) (slots (now (hits .entry))))) (toldSimple r) ⌝ }
 {
-    let found = match find_in(file, head, location, false, hits) {
-        Found::Matches(found) => found,
-        Found::Refused(why) => return Simple::Refused(why),
-    };
     let matches = found.count;
     let checked = check(file, head, hits, matches);
     if let Checked::Refused(why) = checked {
@@ -302,6 +299,19 @@ fn look(file: &[u8], head: Head, location: Location, hits: &mut [u32], text: &mu
         mark: found.mark,
         description,
     })
+}
+
+// In a text that is zero.
+fn look(file: &[u8], head: Head, location: Location, hits: &mut [u32], text: &mut [u8]) -> Simple
+    requires { ⌜ now text ≡ zeros (length (now text)) ⌝ }
+    ensures { λ r. ⌜ Agrees (Filled (length (now (hits .entry))) (length (now (text .entry))) (now (hits .exit)) (now (text .exit)))
+        (describedWith (now (file .entry)) head location (length (now (hits .entry))) (length (now (text .entry)))) (toldSimple r) ⌝ }
+{
+    let found = match find_in(file, head, location, false, hits) {
+        Found::Matches(found) => found,
+        Found::Refused(why) => return Simple::Refused(why),
+    };
+    tell(file, head, found, hits, text)
 }
 
 // In a file whose header was read; any header is taken.

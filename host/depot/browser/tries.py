@@ -226,7 +226,23 @@ def the_day(driver):
         same_answer(driver, "yards.plb", "slip at")
 
 
+def for_readers(driver):
+    """The picture that README.md shows, docs/page.png, and the page behind it."""
+    window(driver, 1020, 600)
+    opened(driver, "yards")
+    choice = next(button for button in driver.find_elements(By.CSS_SELECTOR, "[data-slip]") if "2005" in button.find_element(By.XPATH, "./ancestor::tr").get_attribute("textContent"))
+    driver.execute_cdp_cmd("Emulation.setScrollbarsHidden", {"hidden": True})
+    driver.execute_script("arguments[0].click()", choice)
+    by(driver, "#all").click()
+    driver.execute_script("scrollTo(0, 0)")
+    picture(driver, "page")
+    driver.execute_cdp_cmd("Emulation.setScrollbarsHidden", {"hidden": False})
+    docs = pathlib.Path(__file__).resolve().parents[3] / "docs"
+    check("docs/yards.html is this page", (docs / "yards.html").read_bytes() == (FOLDER / "yards.html").read_bytes())
+
+
 def yards(driver):
+    for_readers(driver)
     window(driver, 1280, 800)
     opened(driver, "yards")
     picture(driver, "yards")

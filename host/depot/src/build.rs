@@ -27,7 +27,7 @@ pub fn file_of(plan: &Plan) -> Result<Vec<u8>, NotBuilt> {
 pub struct Asked {
     /// Where the mended drawing goes.
     pub mend: Option<PathBuf>,
-    /// The folder that the names of zones are held against.
+    /// The folder or bundle that the names of zones are held against.
     pub zones: Option<PathBuf>,
     /// Whether polygons and names with faults are built too.
     pub as_drawn: bool,
@@ -50,21 +50,22 @@ pub fn run(input: &Path, output: Option<&Path>, form: Form, asked: &Asked) -> Re
     let mut said = report(&plan, &fixes.lines);
     let file = output.map(|output| file_of(&plan).map(|file| (output, file))).transpose();
     let file = file.map_err(|why| Fault::No(format!("{said}{}", not_built(&plan, &why))))?;
+    let mut inputs: Vec<&Path> = [input].into_iter().chain(asked.zones.as_deref()).collect();
     if let Some(to) = &asked.mend {
-        write_drawing(to, input, &drawing)?;
+        write_drawing(to, &inputs, &drawing)?;
         mended.lines().iter().for_each(|line| said.push_str(&format!("mended: {line}\n")));
         let _ = writeln!(said, "{}: the drawing{}", to.display(), if mended.is_empty() { ", in which nothing was to mend" } else { ", mended" });
     }
     if let Some((output, file)) = file {
-        let inputs: Vec<&Path> = [input].into_iter().chain(asked.mend.as_deref()).collect();
+        inputs.extend(asked.mend.as_deref());
         write_whole(output, &inputs, |out| out.write_all(&file))?;
         let _ = writeln!(said, "{}: {}", output.display(), count(file.len(), "byte"));
     }
     Ok(Said::yes(said))
 }
 
-fn write_drawing(to: &Path, input: &Path, drawing: &Value) -> Result<(), Fault> {
-    write_whole(to, &[input], |out| {
+fn write_drawing(to: &Path, inputs: &[&Path], drawing: &Value) -> Result<(), Fault> {
+    write_whole(to, inputs, |out| {
         serde_json::to_writer(&mut *out, drawing)?;
         out.write_all(b"\n")
     })

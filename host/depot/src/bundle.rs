@@ -6,7 +6,7 @@ use crate::{output, source};
 use std::collections::BTreeSet;
 use std::fmt::Write;
 use std::path::{Path, PathBuf};
-use uskelzar::{zone_name, Bundle, Bundled, Error, LeftOut, Map};
+use uskelzar::{zone_name, Bundle, Bundled, Error, LeftOut, Map, Number, TimeZone};
 
 /// Writes the bundle of a folder's zones, or of those that maps name, where there are any.
 pub fn run(folder: &Path, output: &Path, maps: &[PathBuf]) -> Result<Said, Fault> {
@@ -25,6 +25,36 @@ pub fn run(folder: &Path, output: &Path, maps: &[PathBuf]) -> Result<Said, Fault
     // a map's zone that is missing will miss on a slip
     let yes = maps.is_empty() || bundled.left_out.is_empty();
     Ok(Said { text: format!("{}: {}\n{told}", output.display(), summary(folder, &bundled)), yes })
+}
+
+const WANTED: &str = "give the folder with the zones' TZif files, such as /usr/share/zoneinfo, or what `depot bundle` made of one";
+
+/// The zones' files of a folder, as the bundle that is written of it, with what was left out; or a bundle as it stands.
+pub fn opened(place: &Path) -> Result<(Bundle, Vec<LeftOut>), Fault> {
+    if place.is_dir() {
+        let Bundled { bundle, zones, left_out, .. } = Bundle::of_folder(place).map_err(|error| Fault::file(place, error))?;
+        return if zones.is_empty() { Err(Fault::file(place, format!("has no zone: {WANTED}"))) } else { Ok((bundle, left_out)) };
+    }
+    let bundle = Bundle::of_bytes(source::bytes(place).map_err(|fault| Fault::NotRun(format!("{fault}: {WANTED}")))?);
+    match bundle.find("") {
+        // a fault of the head is met by every name
+        Err(why) if why.number == Number::Bundle && bundle.find("x") == Err(why) => Err(Fault::No(format!("{}: {why}\n  this is no bundle of zones: {WANTED}", place.display()))),
+        _ => Ok((bundle, vec![])),
+    }
+}
+
+/// The bytes of an entry, and of the name in it.
+const ENTRY: usize = 52;
+const NAME: usize = 40;
+
+/// The names that slips can be stamped by: those of entries that the library finds, and whose files it reads.
+pub fn names(bundle: &Bundle) -> BTreeSet<String> {
+    let bytes = bundle.to_bytes();
+    let place = |at: usize| bytes.get(at..at + 4).map_or(0, |four| u32::from_be_bytes([four[0], four[1], four[2], four[3]]) as usize);
+    let entries = bytes.get(place(12)..place(16)).unwrap_or_default();
+    let name = |entry: &[u8]| String::from_utf8(entry[..NAME].iter().copied().take_while(|byte| *byte != 0).collect()).ok();
+    let is_read = |name: &String| bundle.find(name).is_ok_and(|file| TimeZone::new(file).is_ok());
+    entries.chunks_exact(ENTRY).filter_map(name).filter(is_read).collect()
 }
 
 fn no_folder(folder: &Path, error: Error) -> Fault {

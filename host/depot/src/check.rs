@@ -1,9 +1,10 @@
 //! `depot check`: reads all of a file, strictly, asks what salvage asks, and asks the library what lookups in it would meet.
 
+use crate::dropped::{self, Told};
 use crate::fault::{Fault, Said};
 use crate::grid::Point;
 use crate::words::{self, count, few};
-use crate::{output, salvage, source};
+use crate::{output, source};
 use std::collections::HashSet;
 use std::path::Path;
 use uskelzar::{End, Entry, Map};
@@ -23,22 +24,6 @@ pub(crate) struct Found {
     pub faults: Vec<Told>,
 }
 
-/// What is wrong, and with which entry, by number and place.
-pub(crate) struct Told {
-    pub entry: Option<(u32, u32)>,
-    pub words: String,
-}
-
-impl Told {
-    /// In words; an entry's number is told as another file has it too.
-    pub fn words(&self, other: impl Fn(u32) -> String) -> String {
-        match self.entry {
-            Some((number, place)) => format!("entry {number}{} at byte {place}: {}", other(number), self.words),
-            None => self.words.clone(),
-        }
-    }
-}
-
 /// Says whether a file can be relied on.
 pub fn run(path: &Path) -> Result<Said, Fault> {
     let map = source::open(path, true)?;
@@ -52,7 +37,7 @@ pub fn run(path: &Path) -> Result<Said, Fault> {
         count(found.zones.len(), "zone"),
         count(found.lookups, "lookup"),
     )];
-    lines.extend([salvage::ASKED.to_string(), ASKED.to_string()]);
+    lines.extend([dropped::ASKED.to_string(), ASKED.to_string()]);
     lines.extend(few(&found.faults.iter().map(|told| told.words(|_| String::new())).collect::<Vec<_>>()));
     lines.push(if found.faults.is_empty() { "in order\n" } else { "not in order\n" }.into());
     Ok(Said { yes: found.faults.is_empty(), text: lines.join("\n") })
@@ -105,7 +90,7 @@ impl Found {
         self.lookup(map, entry, "in the middle of its box", middle);
         let points = match map.border(entry) {
             Ok(points) => points,
-            Err(why) => return self.fault(entry, salvage::border_words(entry, why)),
+            Err(why) => return self.fault(entry, dropped::border_words(entry, why)),
         };
         self.points += points.len();
         if let Some(outside) = points.iter().find(|point| !holds(entry, map.degrees(**point))) {
@@ -127,7 +112,7 @@ impl Found {
         }
         match map.fields(entry.metadata) {
             Ok(fields) => self.strings += fields.len(),
-            Err(why) => self.fault(entry, salvage::fields_words(why)),
+            Err(why) => self.fault(entry, dropped::fields_words(why)),
         }
     }
 
@@ -146,7 +131,7 @@ impl Found {
             Ok(salvaged) => {
                 let told: HashSet<u32> = self.faults.iter().filter_map(|told| told.entry).map(|(number, _)| number).collect();
                 let new = salvaged.dropped.iter().filter(|dropped| !told.contains(&dropped.entry));
-                self.faults.extend(salvage::told(map, new));
+                self.faults.extend(dropped::told(map, new));
             }
             Err(error) if self.faults.is_empty() => self.faults.push(Told { entry: None, words: format!("salvage would not take it: {error}") }),
             Err(_) => (),

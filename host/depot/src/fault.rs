@@ -32,6 +32,7 @@ impl Fault {
         match error {
             uskelzar::Error::File(error) => Fault::NotRun(format!("{path}: {error}")),
             uskelzar::Error::Refused(why) => Fault::No(format!("{path}: {why}{}", advice(why.number))),
+            uskelzar::Error::NotAtlas(not) => Fault::No(format!("{path}: {not}")),
             uskelzar::Error::Unknown(number) => Fault::NotRun(format!("{path}: {number}: library and program are of different releases")),
         }
     }
@@ -44,7 +45,7 @@ fn advice(number: uskelzar::Number) -> &'static str {
         TooShort | Magic => "\n  this is no PLB file: give the file of borders",
         LengthMismatch => "\n  the file is cut, or something was added: copy it again",
         Incomplete => "\n  the file was cut inside a number: copy it again, or look it up without --strict",
-        IndexTable => "\n  depot check names the entries; lookups without an index are answered still",
+        IndexTable => "\n  depot check names the entries; lookups without an index or an atlas are answered still",
         NothingLeft => "\n  no entry is whole: copy the file again",
         Precision => "\n  the file's precision must be 1 to 32 for a lookup",
         _ => "",

@@ -1,11 +1,13 @@
 //! What the program `depot` does, verb by verb.
 
+pub mod atlas;
 pub mod build;
 pub mod bundle;
 pub mod check;
 pub mod day;
 pub mod draw;
 pub mod drawing;
+mod dropped;
 pub mod evidence;
 pub mod fault;
 pub mod fixes;

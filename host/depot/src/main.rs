@@ -9,7 +9,7 @@ use depot::source::STANDARD;
 use depot::words::shown;
 use depot::zone::Way;
 use depot::slips::Files;
-use depot::{bundle, check, index, page, salvage, show, stamp, verify, zone};
+use depot::{atlas, bundle, check, index, page, salvage, show, stamp, verify, zone};
 use std::io::Write;
 use std::path::{Path, PathBuf};
 use std::process::ExitCode;
@@ -67,8 +67,8 @@ enum Verb {
         /// Write the drawing with what can be mended without choice: rings wound the other way, points twice in a row, a ring's missing last point
         #[arg(long, value_name = "GEOJSON", conflicts_with = "dry_run")]
         mend: Option<PathBuf>,
-        /// Folder with the zones' TZif files, which names must be of; /usr/share/zoneinfo where it is there
-        #[arg(long, value_name = "TZDIR")]
+        /// Folder with the zones' TZif files, or a bundle of them (depot bundle), which names must be of; /usr/share/zoneinfo where it is there
+        #[arg(long)]
         zones: Option<PathBuf>,
         /// Build polygons and names with faults too, as they are drawn; each is said
         #[arg(long)]
@@ -91,7 +91,7 @@ enum Verb {
     /// Say which zones hold a fix, and how the search ended
     ///
     /// The file comes first and then the fix; LAT LON FILE, as it was before, is taken too.
-    #[command(after_help = "Examples:\n  depot zone examples/world-9.plb 52.52 13.40 --explain\n  depot zone examples/world-9.plb 52.52 13.40 --index world-9.index\n\nExit status 0 only if a zone holds the fix and the search was whole.")]
+    #[command(after_help = "Examples:\n  depot zone examples/world-9.plb 52.52 13.40 --explain\n  depot zone examples/world-9.plb 52.52 13.40 --atlas world-9.atlas\n\nExit status 0 only if a zone holds the fix and the search was whole.")]
     Zone {
         #[arg(allow_negative_numbers = true)]
         file: PathBuf,
@@ -107,6 +107,9 @@ enum Verb {
         /// Read only the entries near the fix, by an index of the file (depot index); the answer is the same
         #[arg(long, value_name = "INDEX", conflicts_with = "strict")]
         index: Option<PathBuf>,
+        /// Read only the stretches of borders near the fix, by an atlas of the file (depot atlas); the answer is the same
+        #[arg(long, value_name = "ATLAS", conflicts_with_all = ["strict", "index"])]
+        atlas: Option<PathBuf>,
         /// With the table entry behind each match, and the distance to the nearest border
         #[arg(long)]
         explain: bool,
@@ -126,6 +129,20 @@ enum Verb {
         /// The index to write
         #[arg(short, long)]
         output: PathBuf,
+    },
+    /// Build the atlas of a file, for lookups that read only the stretches of borders near a fix
+    ///
+    /// An index with marks along the borders; of maps of the world it takes a quarter of their size. It is of this file alone, and whoever opens both works each of its words out again. No lookup
+    /// through it answers other than without it.
+    #[command(after_help = "Examples:\n  depot atlas examples/world-9.plb -o world-9.atlas\n  depot atlas examples/world-9.plb --check world-9.atlas\n\nExit status 0 only if it was built, or the one that is checked is the file's.")]
+    Atlas {
+        file: PathBuf,
+        /// The atlas to write
+        #[arg(short, long, required_unless_present = "check")]
+        output: Option<PathBuf>,
+        /// Say whether this is the file's atlas, whoever wrote it
+        #[arg(long, value_name = "ATLAS", conflicts_with = "output")]
+        check: Option<PathBuf>,
     },
     /// Write what is left of a damaged file into a new one
     ///
@@ -154,6 +171,9 @@ enum Verb {
         map: PathBuf,
         /// Folder with the zones' TZif files, or a bundle of them (depot bundle)
         zones: PathBuf,
+        /// The map's atlas (depot atlas); without it one is built where the lines pay for it. The slips are the same
+        #[arg(long, value_name = "ATLAS")]
+        atlas: Option<PathBuf>,
         /// Write what each slip rests on, for depot verify
         #[arg(long, value_name = "FILE")]
         evidence: Option<PathBuf>,
@@ -169,6 +189,9 @@ enum Verb {
         map: PathBuf,
         /// Folder with the zones' TZif files, or a bundle of them (depot bundle)
         zones: PathBuf,
+        /// The map's atlas (depot atlas); without it one is built where the slips pay for it
+        #[arg(long, value_name = "ATLAS")]
+        atlas: Option<PathBuf>,
     },
     /// Write the zones' TZif files into one file
     ///
@@ -231,7 +254,7 @@ impl Verb {
         match self {
             Verb::Stamp { evidence: Some(evidence), .. } if evidence == Path::new(STANDARD) => Some(evidence),
             Verb::Build { output, mend, .. } => mend.as_deref().filter(|mend| *mend == Path::new(STANDARD)).or(output.as_deref()),
-            Verb::Show { output, .. } => output.as_deref(),
+            Verb::Show { output, .. } | Verb::Atlas { output, .. } => output.as_deref(),
             Verb::Index { output, .. } | Verb::Salvage { output, .. } | Verb::Stamp { output, .. } | Verb::Draw { output, .. } | Verb::Page { output, .. } => Some(output),
             Verb::Bundle { output, .. } => Some(output),
             Verb::Zone { .. } | Verb::Check { .. } | Verb::Verify { .. } => None,
@@ -266,16 +289,18 @@ fn run(verb: Verb) -> Result<Said, Fault> {
         }
         Verb::Show { file, geojson: true, output } => show::geojson(&file, output.as_deref()),
         Verb::Show { file, .. } => show::run(&file),
-        Verb::Zone { lat, lon, file, strict, index, explain } => {
+        Verb::Zone { lat, lon, file, strict, index, atlas, explain } => {
             let (file, lat, lon) = file_and_fix(file, lat, lon)?;
             let plain = if strict { Way::Strict } else { Way::Plain };
-            zone::run(&file, lat, lon, index.map_or(plain, Way::Through), explain)
+            zone::run(&file, lat, lon, index.map(Way::Through).or(atlas.map(Way::Atlas)).unwrap_or(plain), explain)
         }
         Verb::Index { file, output } => index::run(&file, &output),
+        Verb::Atlas { file, output: Some(output), .. } => atlas::run(&file, &output),
+        Verb::Atlas { file, check, .. } => atlas::check(&file, &check.expect("one of the two is required")),
         Verb::Check { file } => check::run(&file),
         Verb::Salvage { file, output } => salvage::run(&file, &output),
-        Verb::Stamp { day, output, map, zones, evidence } => stamp::run(&day, &output, &Files { map: &map, zones: &zones }, evidence.as_deref()),
-        Verb::Verify { evidence, map, zones } => verify::run(&evidence, &Files { map: &map, zones: &zones }),
+        Verb::Stamp { day, output, map, zones, atlas, evidence } => stamp::run(&day, &output, &Files { map: &map, zones: &zones, atlas: atlas.as_deref() }, evidence.as_deref()),
+        Verb::Verify { evidence, map, zones, atlas } => verify::run(&evidence, &Files { map: &map, zones: &zones, atlas: atlas.as_deref() }),
         Verb::Bundle { folder, output, map } => bundle::run(&folder, &output, &map),
         Verb::Draw { file, output, columns, frame, plain } => draw::run(&file, &output, columns, frame, plain),
         Verb::Page { file, output, day, drawn, columns } => page::run(&file, &output, columns, day.as_deref(), drawn.as_deref()),

@@ -1,20 +1,22 @@
-//! The names of zones that a drawing has, held against the folder that slips are stamped by.
+//! The names of zones that a drawing has, held against the zones' files that slips are stamped by.
 
+use crate::bundle;
 use crate::fault::Fault;
 use crate::geojson::{Collection, Feature};
 use crate::words::{count, few};
 use std::collections::BTreeSet;
-use std::fs::{self, File};
-use std::io::Read;
 use std::path::{Path, PathBuf};
+use uskelzar::LeftOut;
 
 /// Where Debian's tzdata has its files.
 const USUAL: &str = "/usr/share/zoneinfo";
 
-/// The names of the TZif files in a folder.
+/// The names of the zones in a folder of TZif files, or in a bundle of them.
 pub struct Known {
-    folder: PathBuf,
+    place: PathBuf,
     names: BTreeSet<String>,
+    /// Those that the folder has and no slip can be stamped by.
+    left_out: Vec<LeftOut>,
 }
 
 /// What is said of a drawing's names: faults, and what is no fault.
@@ -24,36 +26,15 @@ pub struct Said {
     pub notes: Vec<String>,
 }
 
-/// Deeper folders than those of tzdata are not looked into.
-const DEEPEST: usize = 4;
-
 impl Known {
-    /// Of the folder that was asked for; else of the usual one, where it is there.
-    pub fn of(folder: Option<&Path>) -> Result<Option<Known>, Fault> {
-        let place = folder.unwrap_or(Path::new(USUAL));
-        let mut known = Known { folder: place.to_path_buf(), names: BTreeSet::new() };
-        match known.walk(place, "", 0) {
-            Ok(()) if !known.names.is_empty() => Ok(Some(known)),
-            _ if folder.is_none() => Ok(None),
-            Ok(()) => Err(Fault::file(place, "has no TZif file: give the folder of zones, such as /usr/share/zoneinfo")),
-            Err(error) => Err(Fault::file(place, error)),
+    /// Of the folder or bundle that was asked for; else of the usual folder, where it is there.
+    pub fn of(asked: Option<&Path>) -> Result<Option<Known>, Fault> {
+        let place = asked.unwrap_or(Path::new(USUAL));
+        match bundle::opened(place) {
+            Ok((bundle, left_out)) => Ok(Some(Known { place: place.to_path_buf(), names: bundle::names(&bundle), left_out })),
+            Err(_) if asked.is_none() => Ok(None),
+            Err(fault) => Err(fault),
         }
-    }
-
-    fn walk(&mut self, folder: &Path, before: &str, depth: usize) -> std::io::Result<()> {
-        for entry in fs::read_dir(folder)? {
-            let entry = entry?;
-            let Ok(name) = entry.file_name().into_string() else { continue };
-            let (path, name) = (entry.path(), format!("{before}{name}"));
-            // the same zones again, with and without leap seconds
-            let twice = matches!(name.as_str(), "posix" | "right");
-            if path.is_dir() && depth < DEEPEST && !twice {
-                self.walk(&path, &format!("{name}/"), depth + 1)?;
-            } else if is_tzif(&path) {
-                self.names.insert(name);
-            }
-        }
-        Ok(())
     }
 
     /// Known names that look like one, the likest first: at most three, and none that is quite another.
@@ -66,11 +47,6 @@ impl Known {
         let most = (name.chars().count() / 3).clamp(1, 4);
         all.into_iter().filter(|(far, _)| *far <= most).take(3).map(|(_, known)| known).collect()
     }
-}
-
-fn is_tzif(path: &Path) -> bool {
-    let mut magic = [0; 4];
-    path.is_file() && File::open(path).and_then(|mut file| file.read_exact(&mut magic)).is_ok() && magic == *b"TZif"
 }
 
 fn value<'a>(feature: &'a Feature, name: &str) -> Option<&'a str> {
@@ -96,7 +72,7 @@ pub fn said(collection: &Collection, known: Option<&Known>) -> Said {
     }
     match known {
         Some(known) => said.faults.extend(named.iter().filter_map(|(feature, zone)| known.fault(feature, zone.as_deref()?))),
-        None => said.notes.push(format!("no zones in {USUAL}: the names of zones were held against nothing; --zones gives a folder")),
+        None => said.notes.push(format!("no zones in {USUAL}: the names of zones were held against nothing; --zones gives a folder or a bundle")),
     }
     let without: Vec<String> = named.iter().filter(|(_, zone)| zone.is_none()).map(|(feature, _)| format!("{} has no zone: nothing can be stamped in it", feature.name)).collect();
     said.notes.extend(few(&without));
@@ -109,9 +85,12 @@ impl Known {
         if self.names.contains(zone) {
             return None;
         }
+        if let Some(LeftOut { why, .. }) = self.left_out.iter().find(|left| left.name == zone) {
+            return Some(format!("{}: {zone:?} of {} stamps nothing: {why}", feature.name, self.place.display()));
+        }
         let nearest = self.nearest(zone);
         let near = if nearest.is_empty() { format!("{} are there", count(self.names.len(), "name")) } else { format!("nearest: {}", nearest.join(", ")) };
-        Some(format!("{}: {zone:?} is no zone of {}; {near}", feature.name, self.folder.display()))
+        Some(format!("{}: {zone:?} is no zone of {}; {near}", feature.name, self.place.display()))
     }
 }
 
@@ -131,7 +110,7 @@ mod tests {
 
     fn known() -> Known {
         let names = ["Europe/Berlin", "Europe/Bern", "America/New_York", "America/Argentina/Salta", "UTC", "Etc/UTC", "Asia/Tokyo"];
-        Known { folder: "zones".into(), names: names.map(String::from).into() }
+        Known { place: "zones".into(), names: names.map(String::from).into(), left_out: vec![] }
     }
 
     fn told(properties: &[Value]) -> Said {

@@ -8,6 +8,7 @@ use std::fs::{self, File, Permissions};
 use std::io::{self, BufWriter, Write};
 use std::os::unix::fs::MetadataExt;
 use std::path::{Path, PathBuf};
+use std::time::Duration;
 
 /// Writes a file under a temporary name beside its own, and renames it when it is whole. On a fault nothing is left. It may take the place of a file, but
 /// of nothing else, and never of one of these inputs; it then keeps that file's mode. `-` is standard output.
@@ -83,4 +84,20 @@ pub fn progress(steps: usize, what: &'static str) -> ProgressBar {
     }
     let style = ProgressStyle::with_template("{msg} [{bar:40}] {pos}/{len} {eta}").expect("the template is good");
     ProgressBar::new(steps as u64).with_style(style.progress_chars("=> ")).with_message(what)
+}
+
+/// A file below this many bytes is read in a moment.
+const LONG: usize = 1 << 20;
+/// How often the line of what takes long is drawn again.
+const TICK: Duration = Duration::from_millis(200);
+
+/// Does what takes long for a large file, with a line on standard error that says for how long it has; none for a small one, or where nobody looks.
+pub fn waiting<T>(bytes: usize, what: &'static str, work: impl FnOnce() -> T) -> T {
+    let line = if bytes < LONG { ProgressBar::hidden() } else { ProgressBar::new_spinner() };
+    let style = ProgressStyle::with_template("{msg} {spinner} {elapsed}").expect("the template is good");
+    let line = line.with_style(style).with_message(what);
+    line.enable_steady_tick(TICK);
+    let done = work();
+    line.finish_and_clear();
+    done
 }

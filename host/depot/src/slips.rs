@@ -2,11 +2,11 @@
 
 use crate::day::Asked;
 use crate::fault::Fault;
-use crate::{output, source};
+use crate::{bundle, output, source};
 use rayon::prelude::*;
 use std::fmt;
 use std::path::Path;
-use uskelzar::{zone_name, Bundle, Bundled, LeftOut, NotStamped, Number, Printer, Refusal, Request, Stamped};
+use uskelzar::{zone_name, LeftOut, Map, NotStamped, Number, Printer, Request, Stamped};
 
 /// The files that slips rest on.
 #[derive(Clone, Copy)]
@@ -14,6 +14,8 @@ pub struct Files<'a> {
     pub map: &'a Path,
     /// The folder with the zones' TZif files, or a bundle of them.
     pub zones: &'a Path,
+    /// The map's atlas, where one is given.
+    pub atlas: Option<&'a Path>,
 }
 
 /// A printer by these files.
@@ -21,42 +23,39 @@ pub struct Opened {
     pub printer: Printer<Vec<u8>>,
     /// What a folder has and its bundle has not.
     pub left_out: Vec<LeftOut>,
+    /// The words of the atlas that was built for the slips.
+    pub built: Option<usize>,
 }
 
+/// From so many slips on an atlas is built for them. Counted in instructions, 485 lookups pay for it on the world's time zones at precision 21 (375 million for building it; 0.81 a lookup, and 0.03 through it), 456 on examples/world-15.plb, and
+/// 564 on examples/world-9.plb.
+pub const PAID_BY: usize = 500;
+
 impl Files<'_> {
-    /// Opens them. A folder of zones becomes a bundle in memory, the one that `depot bundle` writes of it.
-    pub fn open(&self) -> Result<Opened, Fault> {
-        let (zones, left_out) = if self.zones.is_dir() { self.folder()? } else { (self.bundle()?, vec![]) };
-        Ok(Opened { printer: Printer::new(source::open(self.map, false)?, zones), left_out })
-    }
-
-    fn folder(&self) -> Result<(Bundle, Vec<LeftOut>), Fault> {
-        let Bundled { bundle, zones, left_out, .. } = Bundle::of_folder(self.zones).map_err(|error| Fault::file(self.zones, error))?;
-        if zones.is_empty() {
-            return Err(Fault::file(self.zones, format!("has no zone: {WANTED}")));
+    /// Opens them for so many slips. A folder of zones becomes a bundle in memory, the one that `depot bundle` writes of it; where no atlas is given and the slips pay for one, it is built.
+    pub fn open(&self, slips: usize) -> Result<Opened, Fault> {
+        let (zones, left_out) = bundle::opened(self.zones)?;
+        if let Some(atlas) = self.atlas {
+            return Ok(Opened { printer: Printer::new(source::open_with(self.map, atlas)?, zones), left_out, built: None });
         }
-        Ok((bundle, left_out))
-    }
-
-    fn bundle(&self) -> Result<Bundle, Fault> {
-        let bundle = Bundle::of_bytes(source::bytes(self.zones).map_err(|fault| Fault::NotRun(format!("{fault}: {WANTED}")))?);
-        match bundle.find("") {
-            // a fault of the head is met by every name
-            Err(why) if why.number == Number::Bundle && bundle.find("x") == Err(why) => Err(no_bundle(self.zones, why)),
-            _ => Ok(bundle),
-        }
+        let mut map = source::open(self.map, false)?;
+        let built = build_atlas(&mut map, slips);
+        Ok(Opened { printer: Printer::new(map, zones), left_out, built })
     }
 
     /// Those of them that an output may not take the place of.
     pub fn inputs(&self) -> Vec<&Path> {
-        vec![self.map, self.zones]
+        [self.map, self.zones].into_iter().chain(self.atlas).collect()
     }
 }
 
-const WANTED: &str = "give the folder with the zones' TZif files, such as /usr/share/zoneinfo, or what `depot bundle` made of one";
-
-fn no_bundle(path: &Path, why: Refusal) -> Fault {
-    Fault::No(format!("{}: {why}\n  this is no bundle of zones: {WANTED}", path.display()))
+/// Builds an atlas in a map where so many slips pay for it, and answers how many words it has. Of some maps none can be built: they are asked plainly.
+fn build_atlas(map: &mut Map<Vec<u8>>, slips: usize) -> Option<usize> {
+    if slips < PAID_BY {
+        return None;
+    }
+    let built = output::waiting(map.bytes().len(), "building an atlas", || map.build_atlas().map(|atlas| atlas.words().len()));
+    built.ok()
 }
 
 /// A line's slip.

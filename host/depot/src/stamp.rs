@@ -25,8 +25,8 @@ pub fn run(day: &Path, output: &Path, files: &Files, evidence: Option<&Path>) ->
     if evidence == Some(output) {
         return Err(Fault::file(output, "is to be the slips' file and their evidence: give two names with -o and --evidence"));
     }
-    let opened = files.open()?;
     let read = day::read(day)?;
+    let opened = files.open(read.lines.len())?;
     let slips = stamped(&opened, &read, evidence.is_some());
     let names = names(&read);
     let inputs: Vec<&Path> = [day].into_iter().chain(files.inputs()).collect();
@@ -86,7 +86,8 @@ fn summary(output: &Path, opened: &Opened, day: &Day, slips: &[Written]) -> Said
     text.push('\n');
     let renamed = names(day).into_iter().skip(day.names.len()).zip(HOUR.iter().chain(&WAYS)).filter(|(name, ours)| name != *ours);
     let renamed = renamed.map(|(name, ours)| format!("the day has a column {ours:?}: ours is {name:?}"));
-    for note in day.notes.iter().cloned().chain(renamed).chain(left_out(opened, slips)) {
+    let built = opened.built.map(|words| format!("an atlas of the map was built for so many lines, {}; depot atlas keeps one, and --atlas takes it", count(words, "word")));
+    for note in day.notes.iter().cloned().chain(renamed).chain(built).chain(left_out(opened, slips)) {
         text.push_str(&format!("note: {note}\n"));
     }
     Said { text, yes: stamped == slips.len() }

@@ -20,7 +20,7 @@ struct Held {
 /// Says first whether the files are those of the evidence, and then which of its slips do not come out again.
 pub fn run(path: &Path, files: &Files) -> Result<Said, Fault> {
     let (held, bad) = read(path)?;
-    let printer = files.open()?.printer;
+    let printer = files.open(held.len())?.printer;
     let basis = Basis::of(&printer);
     let mut text = others(files, &basis, &held);
     let same_files = text.is_empty();

@@ -13,14 +13,19 @@ pub enum Way {
     Strict,
     /// Plainly, with its entries from an index.
     Through(PathBuf),
+    /// Plainly, by an atlas.
+    Atlas(PathBuf),
 }
 
 /// Says the zones that hold a fix, and how the search ended; explained, with the entry behind each.
 pub fn run(path: &Path, lat: f32, lon: f32, way: Way, explain: bool) -> Result<Said, Fault> {
-    let map = source::open(path, matches!(way, Way::Strict))?;
+    let map = match &way {
+        Way::Atlas(atlas) => source::open_with(path, atlas)?,
+        _ => source::open(path, matches!(way, Way::Strict))?,
+    };
     let refused = |error| Fault::map(path, error);
     let zones = match way {
-        Way::Plain => map.lookup(lat, lon).map_err(refused)?,
+        Way::Plain | Way::Atlas(_) => map.lookup(lat, lon).map_err(refused)?,
         Way::Strict => map.lookup_strict(lat, lon).map_err(refused)?,
         Way::Through(index) => index::lookup(&index, (path, &map), (lat, lon))?,
     };

@@ -134,10 +134,44 @@ fn names_of_zones() {
     said(&tried(&split, &["--zones", &folder.path("tz")]), 1, &["\"Yard/Nort\" is no zone of", "nearest: Yard/North"]);
     said(&tried(&[(r#""tzid": "Yard/North""#, a)], &["--zones", &folder.path("tz")]), 0, &[]);
     said(&tried(&split, &["--zones", &folder.path("none")]), 2, &["none: No such file"]);
-    said(&tried(&split, &["--zones", &folder.path("tz/Yard/North")]), 2, &["Not a directory"]);
+    said(&tried(&split, &["--zones", &folder.path("tz/Yard/North")]), 1, &["this is no bundle of zones"]);
+    // a file that is there, and by which no slip can be stamped
+    fs::write(folder.0.join("tz/Yard/South"), b"TZif").unwrap();
+    said(&tried(&[(r#""tzid": "Yard/South""#, a)], &["--zones", &folder.path("tz")]), 1, &["\"Yard/South\" of", "stamps nothing: refusal 41"]);
     // what is no fault is said
     let beside = [(r#""Name": "A", "tzid": "Asia/Tokyo", "TimezoneIdPrefix": "Etc/", "TimezoneId": "UTC""#, a), (r#""Name": "B""#, b)];
     said(&tried(&beside, &[]), 0, &["note: feature 2 (B) has no zone: nothing can be stamped in it", "note: feature 1 (A): slips are stamped by TimezoneIdPrefix and TimezoneId, \"Etc/UTC\"", "and says \"Asia/Tokyo\""]);
+}
+
+/// The same words by a folder and by the bundle of it, which is never written over.
+#[test]
+fn names_of_a_bundle() {
+    let folder = Folder::new("bundled-names");
+    let (a, tz, zones) = ("[[[1, 1], [2, 1], [2, 2], [1, 1]]]", folder.path("tz"), folder.path("zones.tzdata"));
+    fs::create_dir_all(folder.0.join("tz/Yard")).unwrap();
+    fs::copy("/usr/share/zoneinfo/UTC", folder.0.join("tz/Yard/North")).unwrap();
+    fs::copy("/usr/share/zoneinfo/Asia/Tokyo", folder.0.join("tz/Yard/East")).unwrap();
+    said(&depot(&["bundle", &tz, "-o", &zones]), 0, &["2 zones"]);
+    for (name, status) in [("Yard/North", 0), ("Yard/East", 0), ("Yard/Nort", 1), ("Europe/Berlin", 1), ("Yard/North\\u0000", 1)] {
+        let input = folder.with("in.geojson", drawing(&[(&format!(r#""tzid": "{name}""#), a)]));
+        let [by_folder, by_bundle] = [&tz, &zones].map(|place| {
+            let ran = depot(&["build", &input, "--dry-run", "--zones", place]);
+            assert_eq!(ran.status, status, "{name}: {ran:?}");
+            format!("{}{}", ran.out, ran.err).replace(place.as_str(), "ZONES")
+        });
+        assert_eq!(by_folder, by_bundle);
+        assert_eq!(by_bundle.contains("is no zone of ZONES; nearest: Yard/North"), status == 1 && name.starts_with("Yard"), "{by_bundle}");
+    }
+    let input = folder.with("in.geojson", drawing(&[(r#""tzid": "Yard/North""#, a)]));
+    let kept = fs::read(&zones).unwrap();
+    said(&depot(&["build", &input, "-o", &zones, "--zones", &zones]), 2, &["zones.tzdata, which is read"]);
+    said(&depot(&["build", &input, "--mend", &zones, "--zones", &zones]), 2, &["zones.tzdata, which is read"]);
+    assert_eq!(fs::read(&zones).unwrap(), kept);
+    // damaged: the head; an entry whose file is not there is no zone
+    said(&depot(&["build", &input, "--dry-run", "--zones", &folder.with("cut.tzdata", &kept[..30])]), 1, &["refusal 89", "this is no bundle of zones"]);
+    let mut other = kept.clone();
+    other[24 + 52 + 40] = 0x7f;
+    said(&depot(&["build", &input, "--dry-run", "--zones", &folder.with("other.tzdata", other)]), 1, &["\"Yard/North\" is no zone of"]);
 }
 
 #[test]

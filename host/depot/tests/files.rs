@@ -88,6 +88,11 @@ fn files_of_the_world() {
     let ran = depot(&["stamp", &day, "-o", &out, WORLD, ZONEINFO]);
     assert!(ran.status == 0 && ran.out.contains("2 lines, 2 stamped"), "{ran:?}");
     assert!(ran.out.contains("note: cells are parted by semicolons") && ran.out.contains("note: 1 instant with parts of a second"), "{ran:?}");
+    let day = folder.with("tabs.csv", "lat\tlong\ttime\tnote\tnote\n52.52\t13.40\t1782907199\ta\tb\n");
+    let ran = depot(&["stamp", &day, "-o", &out, WORLD, ZONEINFO]);
+    assert!(ran.status == 0 && ran.out.contains("note: cells are parted by tabs") && fs::read_to_string(&out).unwrap().starts_with("lat,long,time,note,note (2),"), "{ran:?}");
+    let ran = depot(&["stamp", &folder.with("latin.csv", b"lat,lon,time,depot\n52.52,13.40,0,M\xfcnchen\n"), "-o", &out, WORLD, ZONEINFO]);
+    assert!(ran.status == 2 && ran.err.contains("line 2 is not UTF-8: save the file as UTF-8, or turn it with `iconv"), "{ran:?}");
     let drawing = folder.with("marked.geojson", [b"\xef\xbb\xbf", fs::read(YARDS).unwrap().as_slice()].concat());
     assert_eq!(depot(&["build", &drawing, "--dry-run", "--precision", "25"]).status, 0);
     for (words, why) in [("2026-07-01T11:59:59", "has no offset: add Z"), ("2016-12-31T23:59:60Z", "is a leap second")] {

@@ -2,8 +2,12 @@
 
 mod common;
 
-use common::{depot, depot_of, Folder, DAY, WORLD, ZONEINFO};
+use common::{call, depot, depot_of, Folder, DAY, WORLD, ZONEINFO};
+use depot::slips::PAID_BY;
 use std::fs;
+use std::process::Stdio;
+use std::thread::sleep;
+use std::time::Duration;
 
 const RMC: &str = "$GNRMC,115959.00,A,5231.200000,N,01324.000000,E,0.0,0.0,010726,,,A*41";
 
@@ -33,6 +37,47 @@ fn by_a_folder_or_by_its_bundle() {
     fs::create_dir(folder.path("empty")).unwrap();
     let ran = depot(&["stamp", DAY, "-o", &by_bundle, WORLD, &folder.path("empty")]);
     assert!(ran.status == 2 && ran.err.contains("has no zone"), "{ran:?}");
+}
+
+/// A day is stamped by as many threads as there are processors, here as they are asked for, and its slips stay in their order.
+#[test]
+fn on_all_processors() {
+    let folder = Folder::new("stamp-threads");
+    let day = folder.with("day.csv", (0..20_000).map(|i| format!("52.52,13.40,{i}\n")).collect::<String>());
+    let out = folder.path("slips.csv");
+    let mut running = call(&["stamp", &day, "-o", &out, WORLD, ZONEINFO]).env("RAYON_NUM_THREADS", "3").stdin(Stdio::null()).stdout(Stdio::null()).spawn().unwrap();
+    let (tasks, mut most) = (format!("/proc/{}/task", running.id()), 0);
+    while running.try_wait().unwrap().is_none() {
+        most = fs::read_dir(&tasks).map_or(0, Iterator::count).max(most);
+        sleep(Duration::from_millis(2));
+    }
+    assert!(most > 3, "{most} threads");
+    let slips = fs::read_to_string(&out).unwrap();
+    assert!(slips.lines().skip(1).enumerate().all(|(i, line)| line.starts_with(&format!("52.52,13.40,{i},"))), "{slips}");
+}
+
+/// A day whose lines pay for an atlas is stamped through one, which is said; through one that is given, or plainly, the slips are the same.
+#[test]
+fn by_an_atlas() {
+    let folder = Folder::new("stamp-atlas");
+    let (atlas, one, other) = (folder.path("world.atlas"), folder.path("one.csv"), folder.path("other.csv"));
+    assert_eq!(depot(&["atlas", WORLD, "-o", &atlas]).status, 0);
+    let lines: Vec<String> = (0..PAID_BY).map(|i| format!("{},{},1782907199\n", i as f64 % 179.0 - 88.7, (i * 7) as f64 % 359.0 - 178.6)).collect();
+    let (most, all) = (folder.with("most.csv", lines[1..].concat()), folder.with("all.csv", lines.concat()));
+    let ran = depot(&["stamp", &all, "-o", &one, WORLD, ZONEINFO]);
+    assert!(ran.out.contains("note: an atlas of the map was built for so many lines, ") && ran.out.contains(" words; depot atlas keeps one, and --atlas takes it\n"), "{ran:?}");
+    let ran = depot(&["stamp", &all, "-o", &other, WORLD, ZONEINFO, "--atlas", &atlas]);
+    assert!(!ran.out.contains("note: "), "{ran:?}");
+    assert_eq!(fs::read(&one).unwrap(), fs::read(&other).unwrap());
+    let ran = depot(&["stamp", &most, "-o", &other, WORLD, ZONEINFO]);
+    assert!(!ran.out.contains("note: "), "{ran:?}");
+    let without_first = |path: &str| fs::read_to_string(path).unwrap().lines().skip(1).map(str::to_string).collect::<Vec<_>>();
+    assert_eq!(without_first(&one)[1..], without_first(&other));
+    // an atlas is an input, and it is the map's or none
+    let ran = depot(&["stamp", DAY, "-o", &atlas, WORLD, ZONEINFO, "--atlas", &atlas]);
+    assert!(ran.status == 2 && ran.err.contains("which is read"), "{ran:?}");
+    let ran = depot(&["stamp", DAY, "-o", &other, WORLD, ZONEINFO, "--atlas", &all]);
+    assert!(ran.status == 1 && ran.err.contains("refusal 36: no atlas of this map"), "{ran:?}");
 }
 
 /// A zone whose file is not in the folder, or is left out of its bundle, is not stamped; of the second it is said why.

@@ -20,8 +20,8 @@ fn said(ran: &Ran, status: i32, words: &[&str]) {
 
 #[test]
 fn help_has_an_example_for_each_verb() {
-    said(&depot(&["--help"]), 0, &["build", "show", "zone", "check", "salvage", "index", "stamp", "verify", "bundle", "draw", "page", "Exit status"]);
-    for verb in ["build", "show", "zone", "check", "salvage", "index", "stamp", "verify", "bundle", "draw", "page"] {
+    said(&depot(&["--help"]), 0, &["build", "show", "zone", "check", "salvage", "index", "atlas", "stamp", "verify", "bundle", "draw", "page", "Exit status"]);
+    for verb in ["build", "show", "zone", "check", "salvage", "index", "atlas", "stamp", "verify", "bundle", "draw", "page"] {
         said(&depot(&[verb, "--help"]), 0, &["Example", &format!("depot {verb} ")]);
     }
 }
@@ -185,6 +185,69 @@ fn indexes_that_are_none() {
     said(&depot(&["index", &folder.with("order.plb", OUT_OF_ORDER), "-o", &out]), 1, &["refusal 34: a table that is not in order", "depot check names the entries"]);
     said(&depot(&["index", WORLD, "-o", &folder.path("none/out.index")]), 2, &["nothing was written"]);
     assert_eq!(folder.names(), ["odd", "order.plb", "picture.plb", "zeros"]);
+}
+
+#[test]
+fn zones_by_an_atlas() {
+    let folder = Folder::new("atlas");
+    let atlas = folder.path("world.atlas");
+    let built = depot(&["atlas", WORLD, "-o", &atlas]);
+    said(&built, 0, &["world.atlas: ", " words, ", " % of the file; built in "]);
+    assert_eq!(folder.names(), ["world.atlas"]);
+    let map = uskelzar::Map::read(WORLD).unwrap();
+    let words = uskelzar::Atlas::build(&map).unwrap();
+    assert_eq!(fs::read(&atlas).unwrap(), words.to_bytes());
+    let share = 400.0 * words.words().len() as f64 / map.bytes().len() as f64;
+    said(&built, 0, &[&format!(", {share:.1} % of the file")]);
+    said(&depot(&["atlas", WORLD, "--check", &atlas]), 0, &["world.atlas: the atlas of ", "world-9.plb: ", "; checked in "]);
+    for (lat, lon) in [("52.52", "13.40"), ("41.88", "-87.63"), ("-33.87", "151.21"), ("0", "-30"), ("90", "180"), ("-90", "-180")] {
+        let plain = depot(&["zone", WORLD, lat, lon, "--explain"]);
+        assert_eq!(depot(&["zone", WORLD, lat, lon, "--explain", "--atlas", &atlas]), plain);
+    }
+    // the yards' own, and that of another file
+    let file = yards(&folder);
+    let zone = |atlas: &str| depot(&["zone", &file, "0.0035", "109.338", "--atlas", atlas]);
+    let own = folder.path("yards.atlas");
+    said(&zone(&atlas), 1, &["world.atlas: refusal 36: no atlas of this map: it was built for another map", "depot atlas ", "yards.plb -o ", "world.atlas"]);
+    said(&depot(&["atlas", &file, "-o", &own]), 0, &["yards.atlas: "]);
+    said(&zone(&own), 0, &["Asia/Pontianak, Tank farm: in the zone", "search: whole"]);
+    said(&depot(&["atlas", WORLD, "--check", &own]), 1, &["yards.atlas: refusal 36", "depot atlas "]);
+    said(&depot(&["zone", WORLD, "52.52", "13.40", "--atlas", &atlas, "--strict"]), 2, &["--strict"]);
+    said(&depot(&["zone", WORLD, "52.52", "13.40", "--atlas", &atlas, "--index", &atlas]), 2, &["--index"]);
+}
+
+/// Words that are no atlas of the file are refused by every verb that takes one, with why and what to do; what is written takes the place of no input.
+#[test]
+fn atlases_that_are_none() {
+    let folder = Folder::new("no-atlas");
+    let good = uskelzar::Atlas::build(&uskelzar::Map::read(WORLD).unwrap()).unwrap().to_bytes();
+    let mut damaged = good.clone();
+    damaged[good.len() - 3] ^= 64;
+    let whys = [
+        (folder.with("odd", &good[..good.len() - 1]), "so it was cut or is an index; build it again with `depot atlas`"),
+        (folder.with("cut", &good[..good.len() / 8 * 4]), "so it was cut or is an index; build it again with `depot atlas`"),
+        (folder.with("damaged", &damaged), "it is of another release, or damaged; build it again with `depot atlas`"),
+        (folder.with("zeros", [0; 12000]), "it was built for another map, or for this one before it was changed; build it again with `depot atlas`"),
+    ];
+    for (atlas, why) in &whys {
+        said(&depot(&["zone", WORLD, "52.52", "13.40", "--atlas", atlas]), 1, &["refusal 36: no atlas of this map: ", why, &format!("world-9.plb -o {atlas}")]);
+        said(&depot(&["atlas", WORLD, "--check", atlas]), 1, &["refusal 36: no atlas of this map: ", why]);
+    }
+    said(&depot(&["zone", WORLD, "1", "2", "--atlas", &folder.path("missing")]), 2, &["missing: No such file"]);
+    said(&depot(&["atlas", WORLD]), 2, &["--output"]);
+    said(&depot(&["atlas", WORLD, "-o", &folder.path("x"), "--check", &whys[0].0]), 2, &["--check"]);
+    let out = folder.path("out.atlas");
+    said(&depot(&["atlas", &folder.path("missing"), "-o", &out]), 2, &["No such file"]);
+    said(&depot(&["atlas", &folder.with("picture.plb", "GIF89a.."), "-o", &out]), 1, &["refusal 3"]);
+    let order = folder.with("order.plb", OUT_OF_ORDER);
+    said(&depot(&["atlas", &order, "-o", &out]), 1, &["refusal 34: a table that is not in order", "depot check names the entries", "without an index or an atlas"]);
+    said(&depot(&["zone", &order, "1", "2", "--atlas", &whys[0].0]), 1, &["order.plb: refusal 34"]);
+    said(&depot(&["atlas", &order, "-o", &order]), 1, &["refusal 34"]);
+    said(&depot(&["atlas", WORLD, "-o", &folder.path("none/out.atlas")]), 2, &["nothing was written"]);
+    let file = yards(&folder);
+    said(&depot(&["atlas", &file, "-o", &file]), 2, &["which is read: give another name with -o; nothing was written"]);
+    said(&depot(&["atlas", &file, "-o", "/dev/null"]), 2, &["is there and is no file"]);
+    assert_eq!(folder.names(), ["cut", "damaged", "odd", "order.plb", "picture.plb", "yards.plb", "zeros"]);
 }
 
 #[test]

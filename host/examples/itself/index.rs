@@ -8,7 +8,7 @@ use crate::tally::Tally;
 use uskelzar::raw::{self, HIT_WORDS};
 use uskelzar::Number;
 
-/// The head of an index: length, metadata start, count, where the lists of the tiles begin and the last one ends.
+/// The head of an index: length, metadata start, count, where the lists of the tiles begin and the last one ends. Behind it, and its last word, stand records, kept bytes and lists.
 const HEAD: usize = 2052;
 
 pub struct Index {
@@ -18,25 +18,24 @@ pub struct Index {
     room: Vec<u32>,
 }
 
-fn slots(random: &mut Random) -> usize {
+pub fn slots(random: &mut Random) -> usize {
     random.pick(&[0, HIT_WORDS, 12 * HIT_WORDS])
 }
 
-/// One to three words changed: a bit, any value, one beside it, another word's, a small one; or some cut off, or some put behind.
-fn damage(random: &mut Random, words: &mut Vec<u32>) {
+/// One to three words changed, half of them from a place on: a bit, any value, one beside it, another word's, a small one; or some cut off, or some put behind.
+pub fn damage(random: &mut Random, words: &mut Vec<u32>, from: usize) {
     match random.below(8) {
         0 => words.truncate(random.below(words.len() + 1)),
         1 => words.resize(words.len() + 1 + random.below(4), random.pick(&[0, 0, 1, u32::MAX])),
-        _ => (0..1 + random.below(3)).for_each(|_| change(random, words)),
+        _ => (0..1 + random.below(3)).for_each(|_| change(random, words, from)),
     }
 }
 
-fn change(random: &mut Random, words: &mut [u32]) {
+fn change(random: &mut Random, words: &mut [u32], from: usize) {
     let at = match random.below(6) {
         0 => random.below(4),
-        1 | 2 => random.below(HEAD),
-        // records, kept bytes and lists stand behind the head
-        _ => random.below(words.len() - HEAD + 1) + HEAD - 1,
+        1 | 2 => random.below(from),
+        _ => random.below(words.len() - from) + from,
     };
     words[at] = match random.below(6) {
         0 => words[at] ^ 1 << random.below(32),
@@ -63,7 +62,7 @@ impl Index {
         }
         for _ in 0..4 {
             let mut words = index.clone();
-            damage(random, &mut words);
+            damage(random, &mut words, HEAD - 1);
             self.damaged(random, tally, &made, &words, edge);
         }
     }
@@ -74,8 +73,8 @@ impl Index {
         let Index { file, words, lent, .. } = self;
         let (file, words) = (&*file.hold(&made.bytes, edge), &*words.hold(index, edge));
         let plain = lent.lookup(file, fix, slots, 64, edge);
-        let indexed = lent.lookup_indexed((file, words), fix, slots, 64, edge);
-        let through = lent.lookup_through((file, words), fix, slots, 64, edge);
+        let indexed = lent.lookup_by(raw::lookup_indexed, (file, words), fix, slots, 64, edge);
+        let through = lent.lookup_by(raw::lookup_through, (file, words), fix, slots, 64, edge);
         let Fix { lat, lon, asked } = fix;
         tally.met("plain and through an index", plain.number());
         tally.same(plain == indexed && plain == through, || format!("index: {lat} {lon} {asked} {slots} {file:02X?}: {plain:?}, {indexed:?}, {through:?}"));
@@ -92,12 +91,12 @@ impl Index {
             Edge::Front => Edge::Back,
             Edge::Back => Edge::Front,
         };
-        let beside = lent.lookup_through((file, words.hold(damaged, other)), fix, slots, 64, edge);
+        let beside = lent.lookup_by(raw::lookup_through, (file, words.hold(damaged, other)), fix, slots, 64, edge);
         let words = &*words.hold(damaged, edge);
         let said = raw::is_index(file, words);
         tally.same(said.is_ok() == built, || format!("is_index: {said:?}, built {built}: {file:02X?} {damaged:?}"));
-        let through = lent.lookup_through((file, words), fix, slots, 64, edge);
-        let indexed = lent.lookup_indexed((file, words), fix, slots, 64, edge);
+        let through = lent.lookup_by(raw::lookup_through, (file, words), fix, slots, 64, edge);
+        let indexed = lent.lookup_by(raw::lookup_indexed, (file, words), fix, slots, 64, edge);
         let Fix { lat, lon, asked } = fix;
         tally.met(if built { "damaged words that are the index" } else { "damaged words" }, through.number());
         let right = through == beside && is_tidy(&through) && (!built || through == lent.lookup(file, fix, slots, 64, edge));
@@ -113,7 +112,7 @@ impl Index {
 }
 
 /// Zeros behind what was written; refused with a number that is promised.
-fn is_tidy(outcome: &Outcome) -> bool {
+pub fn is_tidy(outcome: &Outcome) -> bool {
     let (words, bytes) = outcome.reply.map_or((0, 0), |reply| (HIT_WORDS * reply[0] as usize, reply[3] as usize));
     let numbered = outcome.reply.map_or_else(|refusal| (refusal.number as u8) <= 18 || refusal.number == Number::OtherIndex, |_| true);
     numbered && outcome.hits[words..].iter().all(|word| *word == 0) && outcome.text[bytes..].iter().all(|byte| *byte == 0)

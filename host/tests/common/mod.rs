@@ -10,7 +10,7 @@ pub mod tzif;
 
 use fence::{Edge, Fence};
 use uskelzar::raw::{self, Reply, HIT_WORDS};
-use uskelzar::Refusal;
+use uskelzar::{Atlas, Map, Refusal};
 
 pub const WORLD: &str = concat!(env!("CARGO_MANIFEST_DIR"), "/../examples/world-9.plb");
 
@@ -144,6 +144,10 @@ impl Buffers {
         })
     }
 
+    pub fn simple_atlas(&mut self, (file, atlas): (&[u8], &[u32]), fix: Fix, words: usize, bytes: usize, edge: Edge) -> Outcome {
+        self.call(words, bytes, edge, |hits, text| raw::simple_atlas(file, atlas, (fix.lat, fix.lon), hits, text))
+    }
+
     fn call(
         &mut self,
         words: usize,
@@ -162,6 +166,24 @@ impl Buffers {
         self.hits.assert_kept(4 * words, edge);
         self.text.assert_kept(bytes, edge);
         outcome
+    }
+}
+
+/// The atlas of the last file that was asked for.
+#[derive(Default)]
+pub struct AtlasOf {
+    file: Vec<u8>,
+    words: Vec<u32>,
+}
+
+impl AtlasOf {
+    /// No word where the file has none.
+    pub fn of(&mut self, file: &[u8]) -> Vec<u32> {
+        if self.file != file {
+            let atlas = Map::open(file).and_then(|map| Atlas::build(&map));
+            *self = AtlasOf { file: file.to_vec(), words: atlas.map_or(vec![], |atlas| atlas.words().to_vec()) };
+        }
+        self.words.clone()
     }
 }
 

@@ -4,7 +4,7 @@ use lib.{Dec.{ltb, leb, eqb}, ListN.{length, set, getD}, Seq.{sets}}
 use mathlib.Core.{Bool.{Bool, _&&_}, List.{List, [], _∷_}, Path.{_≡_}}
 use Rattle.header.specs.declared.header.Head.{Head}
 use Rattle.index.specs.{Index.{recordsAt}, Tied.{wordAt}, inner.Own.{isWord, isAt, standsFrom, isEmptyFrom}}
-use Rattle.marks.specs.Marks.{low}
+use Rattle.marks.specs.Marks.{low, groupsOf}
 use Rattle.numbers.specs.{Answer.{if_then_else_}, Reply.{Reply, plain, demand, _>>_}}
 use Rattle.atlas.specs.Atlas.{marksFor, entryOf, besideOf}
 
@@ -24,9 +24,9 @@ behindBy beside used = low (used + 1 + length beside) ∷ beside
 abbrev pub behindOf : List ℕ → Head → List ℕ → ℕ → List ℕ
 behindOf file head words used = behindBy (besideOf (marksBy file head words (wordAt words 2) 0)) used
 
--- how many words the marks of so many stretches have
+-- how many words the marks of so many stretches and of their groups have
 abbrev pub sizeOf : ℕ → ℕ
-sizeOf count = if eqb count 0 then 0 else (1 + 11 * count)
+sizeOf count = if eqb count 0 then 0 else (1 + 11 * count + 11 * groupsOf count)
 
 -- the word of an entry whose marks go from one place to another
 abbrev pub entryFor : ℕ → ℕ → ℕ

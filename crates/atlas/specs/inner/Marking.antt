@@ -4,7 +4,7 @@ use mathlib.Core.List.{List, [], _∷_}
 use Rattle.numbers.specs.Answer.{Answer, found, failed}
 use Rattle.border.specs.Box.{Box}
 use Rattle.border.specs.declared.reader.{Reader.{Reader}, Encoding.{Encoding}}
-use Rattle.marks.specs.Marks.{wordOf, low, kindOf, nextOf, endOf, Span, spanned, counted, marksFrom, stretchEdges}
+use Rattle.marks.specs.Marks.{wordOf, low, kindOf, nextOf, endOf, Span, spanned, counted, levelsFrom}
 use Rattle.atlas.specs.declared.{span.{Frame.{Frame}, Reach.{Reach}}, course.{Edges.{Edges}, Course.{Course}}}
 use Rattle.atlas.specs.declared.course.Edges.the-variants as E
 
@@ -21,7 +21,7 @@ toldEdges E.None = failed
 
 -- ---- a border's marks, from its first state and how many stretches it has
 abbrev pub marksOf : List ℕ → Encoding → Course → List ℕ
-marksOf file encoding course = counted (course .count) (marksFrom stretchEdges (course .count) file encoding (course .first))
+marksOf file encoding course = counted (course .count) (levelsFrom (course .count) file encoding (course .first))
 
 -- the last seven words of a mark: what it says of the state
 abbrev pub stateWords : Reader → List ℕ

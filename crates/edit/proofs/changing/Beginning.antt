@@ -20,13 +20,15 @@ noEnds = record { boxes = 0; borders = 0; lengths = 0; texts = 0; bytes = 0 }
 
 module _ (kind version precision names room : ℕ) (sizes strings : List ℕ) where
   -- the lists' lengths are those that were lent
-  checks-as : (l l′ t t′ b b′ : ℕ) → l ≡ l′ → t ≡ t′ → b ≡ b′ → (r : Changed) → Checks kind version precision names room sizes strings l t b r → Checks kind version precision names room sizes strings l′ t′ b′ r
+  checks-as : (l l′ t t′ b b′ : ℕ) → l ≡ l′ → t ≡ t′ → b ≡ b′ → (r : Changed) → Checks kind version precision names room sizes strings l t b r →
+      Checks kind version precision names room sizes strings l′ t′ b′ r
   checks-as l l′ t t′ b b′ el et eb r c =
       subst (λ (n : ℕ). Checks kind version precision names room sizes strings l′ t′ n r) eb
       (subst (λ (n : ℕ). Checks kind version precision names room sizes strings l′ n b r) et
       (subst (λ (n : ℕ). Checks kind version precision names room sizes strings n t b r) el c))
 
-  module _ (boxes : List ℤ) (borders lengths texts bytes : List ℕ) (boxes₁ : List ℤ) (borders₁ lengths₁ texts₁ bytes₁ : List ℕ) (cut : listsAs boxes₁ borders₁ lengths₁ texts₁ bytes₁ ≡ cutTo noEnds (listsAs boxes borders lengths texts bytes)) where
+  module _ (boxes : List ℤ) (borders lengths texts bytes : List ℕ) (boxes₁ : List ℤ) (borders₁ lengths₁ texts₁ bytes₁ : List ℕ)
+      (cut : listsAs boxes₁ borders₁ lengths₁ texts₁ bytes₁ ≡ cutTo noEnds (listsAs boxes borders lengths texts bytes)) where
     abbrev before : Lists
     before = listsAs boxes borders lengths texts bytes
 
@@ -52,7 +54,8 @@ module _ (kind version precision names room : ℕ) (sizes strings : List ℕ) wh
 
     blanked : listsAs boxes₁ borders₁ lengths₁ texts₁ bytes₁ ≡ blank before
     unfolding blank
-    blanked = lists-same boxes₁ (replicate (length boxes) (pos 0)) borders₁ (zeros (length borders)) lengths₁ (zeros (length lengths)) texts₁ (zeros (length texts)) bytes₁ (zeros (length bytes)) boxes-none borders-none lengths-none texts-none bytes-none
+    blanked = lists-same boxes₁ (replicate (length boxes) (pos 0)) borders₁ (zeros (length borders)) lengths₁ (zeros (length lengths)) texts₁ (zeros (length texts)) bytes₁
+        (zeros (length bytes)) boxes-none borders-none lengths-none texts-none bytes-none
 
     pub lengths-same : length lengths₁ ≡ length lengths
     lengths-same = ap length lengths-none ∙ length-replicate (length lengths) 0
@@ -67,7 +70,9 @@ module _ (kind version precision names room : ℕ) (sizes strings : List ℕ) wh
       checks : Checks kind version precision names room sizes strings (length lengths) (length texts) (length bytes) r
       checks = checks-as (length lengths₁) (length lengths) (length texts₁) (length texts) (length bytes₁) (length bytes) lengths-same texts-same bytes-same r c
 
-      pub begin-refused : (why : Refusal) → r ≡ C.Refused why → Begins (firstPlan kind version precision names sizes strings) room (frontSpace names sizes (length lengths) (length texts) (length bytes)) before (listsAs boxes₁ borders₁ lengths₁ texts₁ bytes₁) (C.Refused why)
+      pub begin-refused : (why : Refusal) → r ≡ C.Refused why →
+          Begins (firstPlan kind version precision names sizes strings) room (frontSpace names sizes (length lengths) (length texts) (length bytes)) before
+          (listsAs boxes₁ borders₁ lengths₁ texts₁ bytes₁) (C.Refused why)
       unfolding Begins Checks
       begin-refused why e = (subst (Checks kind version precision names room sizes strings (length lengths) (length texts) (length bytes)) e checks, blanked)
 
@@ -110,12 +115,15 @@ module _ (kind version precision names room : ℕ) (sizes strings : List ℕ) wh
 
           lengths-are : Front 0 (map length (frontOf plan)) lengths₂
           lengths-are =
-              subst (λ (l : List ℕ). Front 0 l lengths₂) (sym (ap (map length) (front-is kind version precision names sizes strings names-fit) ∙ cut-lengths (take (names + 1) sizes) strings (checked .whole)))
+              subst (λ (l : List ℕ). Front 0 l lengths₂)
+              (sym (ap (map length) (front-is kind version precision names sizes strings names-fit) ∙ cut-lengths (take (names + 1) sizes) strings (checked .whole)))
               (behind (take (names + 1) sizes) lengths₁ lengths₂ (length lengths) lengths-none words)
 
           texts-are : Front 0 (joined (frontOf plan)) texts₂
           texts-are =
-              subst (λ (l : List ℕ). Front 0 l texts₂) (ap (λ (n : ℕ). take n strings) (checked .front-is) ∙ (sym (joined-cut (take (names + 1) sizes) strings) ∙ ap joined (sym (front-is kind version precision names sizes strings names-fit))))
+              subst (λ (l : List ℕ). Front 0 l texts₂)
+              (ap (λ (n : ℕ). take n strings) (checked .front-is) ∙
+              (sym (joined-cut (take (names + 1) sizes) strings) ∙ ap joined (sym (front-is kind version precision names sizes strings names-fit))))
               (behind (take (held .front) strings) texts₁ texts₂ (length texts) texts-none (stored-front texts₁ (take (held .front) strings) texts₂ next put texts-fit))
 
           bytes-are : Front 0 (0 ∷ []) bytes₁
@@ -125,7 +133,8 @@ module _ (kind version precision names room : ℕ) (sizes strings : List ℕ) wh
 
           lies : Lies (holding plan []) (dataOf (holding plan [])) after
           lies =
-              none-lies plan after (subst (Front (pos 0) []) (sym boxes-none) (front-zero (pos 0) (length boxes))) (subst (Front 0 []) (sym borders-none) (front-zero 0 (length borders))) lengths-are texts-are bytes-are
+              none-lies plan after (subst (Front (pos 0) []) (sym boxes-none) (front-zero (pos 0) (length boxes))) (subst (Front 0 []) (sym borders-none) (front-zero 0 (length borders)))
+              lengths-are texts-are bytes-are
 
           holds : Holds (summed (holding plan []) room) held after
           unfolding summed

@@ -7,12 +7,14 @@ use Rattle.draft.{proofs.held.Fronts.{cleared, front-cut, front-of-more}, specs
 use Rattle.edit.specs.{inner.Changing.Cut.{cutAt, cutTo, Inside}, declared.changing.cut.Ends.{Ends}}
 
 -- what comes back for `&mut list[at..]`, zero
-pub cut-back : {A : Type 0} (none : A) (list lent : List A) (at : ℕ) → lent ≡ replicate (length (take (length list - at) (drop at list))) none → take at list ++ (lent ++ drop (length list - at) (drop at list)) ≡ cutAt none at list
+pub cut-back : {A : Type 0} (none : A) (list lent : List A) (at : ℕ) → lent ≡ replicate (length (take (length list - at) (drop at list))) none →
+    take at list ++ (lent ++ drop (length list - at) (drop at list)) ≡ cutAt none at list
 unfolding cutAt
 cut-back none list lent at e = cleared none list lent at (length list) refl e
 
 -- lists that are the same, one by one
-pub lists-same : (boxes boxes′ : List ℤ) (borders borders′ lengths lengths′ texts texts′ bytes bytes′ : List ℕ) → boxes ≡ boxes′ → borders ≡ borders′ → lengths ≡ lengths′ → texts ≡ texts′ → bytes ≡ bytes′
+pub lists-same : (boxes boxes′ : List ℤ) (borders borders′ lengths lengths′ texts texts′ bytes bytes′ : List ℕ) → boxes ≡ boxes′ → borders ≡ borders′ → lengths ≡ lengths′ → texts ≡ texts′ →
+    bytes ≡ bytes′
     → listsAs boxes borders lengths texts bytes ≡ listsAs boxes′ borders′ lengths′ texts′ bytes′
 lists-same boxes boxes′ borders borders′ lengths lengths′ texts texts′ bytes bytes′ a b c d e =
     ap (λ (l : List ℤ). listsAs l borders lengths texts bytes) a
@@ -21,10 +23,12 @@ lists-same boxes boxes′ borders borders′ lengths lengths′ texts texts′ b
     ∙ (ap (λ (l : List ℕ). listsAs boxes′ borders′ lengths′ l bytes) d ∙ ap (λ (l : List ℕ). listsAs boxes′ borders′ lengths′ texts′ l) e)))
 
 module _ (ends : Ends) (boxes : List ℤ) (borders lengths texts bytes : List ℕ) (boxes′ : List ℤ) (borders′ lengths′ texts′ bytes′ : List ℕ) where
-  pub all-cut : boxes′ ≡ cutAt (pos 0) (ends .boxes) boxes → borders′ ≡ cutAt 0 (ends .borders) borders → lengths′ ≡ cutAt 0 (ends .lengths) lengths → texts′ ≡ cutAt 0 (ends .texts) texts → bytes′ ≡ cutAt 0 (ends .bytes) bytes
+  pub all-cut : boxes′ ≡ cutAt (pos 0) (ends .boxes) boxes → borders′ ≡ cutAt 0 (ends .borders) borders → lengths′ ≡ cutAt 0 (ends .lengths) lengths → texts′ ≡ cutAt 0 (ends .texts) texts →
+      bytes′ ≡ cutAt 0 (ends .bytes) bytes
       → listsAs boxes′ borders′ lengths′ texts′ bytes′ ≡ cutTo ends (listsAs boxes borders lengths texts bytes)
   unfolding cutTo
-  all-cut a b c d e = lists-same boxes′ (cutAt (pos 0) (ends .boxes) boxes) borders′ (cutAt 0 (ends .borders) borders) lengths′ (cutAt 0 (ends .lengths) lengths) texts′ (cutAt 0 (ends .texts) texts) bytes′ (cutAt 0 (ends .bytes) bytes) a b c d e
+  all-cut a b c d e = lists-same boxes′ (cutAt (pos 0) (ends .boxes) boxes) borders′ (cutAt 0 (ends .borders) borders) lengths′ (cutAt 0 (ends .lengths) lengths) texts′
+      (cutAt 0 (ends .texts) texts) bytes′ (cutAt 0 (ends .bytes) bytes) a b c d e
 
 -- ---- what a cut leaves
 pub cut-length : {A : Type 0} (none : A) (n : ℕ) (list : List A) → n ≤ length list → length (cutAt none n list) ≡ length list

@@ -9,7 +9,8 @@ use Rattle.build.specs.Room.{enough, workOf}
 use Rattle.builder.proofs.Counting.{lengths-room}
 use Rattle.builder.specs.{Borders.{Drawn}, File.{isText}, Yards.{Plan, Text, Yard, sumOf}}
 use Rattle.build.specs.Entries.Corners.{cornersOf}
-use Rattle.draft.{proofs.held.{Everyone.{every-take}, Fronts.{front-of-more, front-part}, Kept.{dropped-data}, Lying.{Splits, boxes-end, borders-end, bytes-end, holds-other, lengths-end}}, specs.Held.State.{heldWith}}
+use Rattle.draft.proofs.held.{Everyone.{every-take}, Fronts.{front-of-more, front-part}, Kept.{dropped-data}, Lying.{Splits, boxes-end, borders-end, bytes-end, holds-other, lengths-end}}
+use Rattle.draft.specs.Held.State.{heldWith}
 use Rattle.draft.proofs.held.{Lying.{lies-dropped, lies-splits}, Redrawn.{drawnTo}, Standing.{fields-short, front-many, held-front, held-names, readable-parts}, Stood.{Stood, stood, work-enough}}
 use Rattle.draft.proofs.held.Texts.{dropped-values, restValues, valuesIn}
 use Rattle.draft.specs.Held.{Builder.{Builder, dropLast, holding, summed}, Space.{longEnough, roomsOf}, State.{Answers, Holds, Idle, Lies, Lists, SameRooms, Stands, frontOf, listsAs, textsOf}}
@@ -25,7 +26,8 @@ use Rattle.edit.proofs.changing.{Cuts.{cut-front, cut-rooms}, Lasts.{fe
 use Rattle.edit.specs.{inner.Changing.{Cut.{Inside, cutTo}, Dropped.{Lent, Shortened, Shortens, endsOf, shortOf, withSums}}, Changing.Dropped.{Drops, lastSize, leftSpace}}
 
 -- the lists as they are lent
-pub lent-here : {boxes : List ℤ} {borders lengths texts bytes : List ℕ} {starts keys spare kept held words places : ℕ} → Lent (roomsOf (length boxes) (length borders) (length lengths) (length texts) (length bytes) starts keys spare kept held words places) (listsAs boxes borders lengths texts bytes)
+pub lent-here : {boxes : List ℤ} {borders lengths texts bytes : List ℕ} {starts keys spare kept held words places : ℕ} →
+    Lent (roomsOf (length boxes) (length borders) (length lengths) (length texts) (length bytes) starts keys spare kept held words places) (listsAs boxes borders lengths texts bytes)
 lent-here = record { boxes = refl; borders = refl; lengths = refl; texts = refl; bytes = refl }
 
 pub broken-sums : (r : Summed) → tagOf (declared K.enum) r ≡ 1 → (x : Sums) → r ≡ S.Sums x → ⊥
@@ -121,12 +123,14 @@ module _ (builder : Held) (rooms : Rooms) (borders lengths : List ℕ) (held : H
 
     -- what the sums ask for, of `lengths[from..to]` and `texts[front..strings]`
     pub left-summing : (from to : ℕ) → from ≡ held .names + 1 → to ≡ from + held .names * held .yards
-        → Summing (held .names) (held .yards) (length (take (to - from) (drop from (lists .lengths)))) (length (lists .borders)) (length (take (held .strings - held .front) (drop (held .front) (lists .texts))))
+        → Summing (held .names) (held .yards) (length (take (to - from) (drop from (lists .lengths)))) (length (lists .borders))
+        (length (take (held .strings - held .front) (drop (held .front) (lists .texts))))
         (workOf (rooms .starts) (rooms .keys) (rooms .spare) (rooms .kept) (rooms .held) (rooms .words) (rooms .places) (rooms .boxes))
     left-summing from to ef et =
         let size : length (take (held .strings - held .front) (drop (held .front) (lists .texts))) ≡ builder .strings - lastSize builder lengths - builder .front =
         length-take-le (held .strings - held .front) (drop (held .front) (lists .texts)) (omega (arith, length-drop (held .front) (lists .texts), texts-in)) ∙ omega (arith, strings-is, front-is) in
-        let enough-is : enough (workOf (rooms .starts) (rooms .keys) (rooms .spare) (rooms .kept) (rooms .held) (rooms .words) (rooms .places) (rooms .boxes)) (builder .yards - 1) (builder .names * (builder .yards - 1)) (builder .strings - lastSize builder lengths - builder .front) ≡ true =
+        let enough-is : enough (workOf (rooms .starts) (rooms .keys) (rooms .spare) (rooms .kept) (rooms .held) (rooms .words) (rooms .places) (rooms .boxes)) (builder .yards - 1)
+        (builder .names * (builder .yards - 1)) (builder .strings - lastSize builder lengths - builder .front) ≡ true =
         work-enough rooms (builder .names) (builder .yards - 1) (builder .front) (builder .strings - lastSize builder lengths) (s .room) in
         let work = workOf (rooms .starts) (rooms .keys) (rooms .spare) (rooms .kept) (rooms .held) (rooms .words) (rooms .places) (rooms .boxes) in
         record {
@@ -170,7 +174,8 @@ module _ (b : Builder) (builder : Held) (rooms : Rooms) (before : Lists) (h : Ho
 
   -- the sums may be taken of the lists as they are
   left-stands : (from to : ℕ) → from ≡ held .names + 1 → to ≡ from + held .names * held .yards
-      → Stands (take n (plan .yards)) (drawnTo (dataOf plan) n) (held .names) (held .yards) (before .boxes) (before .borders) (take (to - from) (drop from (before .lengths))) (take (held .strings - held .front) (drop (held .front) (before .texts)))
+      → Stands (take n (plan .yards)) (drawnTo (dataOf plan) n) (held .names) (held .yards) (before .boxes) (before .borders) (take (to - from) (drop from (before .lengths)))
+      (take (held .strings - held .front) (drop (held .front) (before .texts)))
   left-stands from to ef et =
       let kept : List Text = valuesIn (take n (plan .yards)) in
       let gone : List Text = restValues plan n in
@@ -181,24 +186,36 @@ module _ (b : Builder) (builder : Held) (rooms : Rooms) (before : Lists) (h : Ho
       flat-more (λ (t : Text). t) (frontOf plan) (valuesOf plan) ∙ ap (λ (l : List ℕ). joined (frontOf plan) ++ l) (ap joined values ∙ flat-more (λ (t : Text). t) kept gone) in
       let front-size : length (map length (frontOf plan)) ≡ length (plan .names) + 1 = length-map (frontOf plan) length ∙ front-many plan (b .room) (h .sound) in
       let kept-size : length (map length (frontOf plan)) + length (map length kept) ≡ to =
-      sym (length-append (map length (frontOf plan)) (map length kept)) ∙ (ap length (sym (map-more length (frontOf plan) kept)) ∙ (kept-many b builder before h (s .some) ∙ omega (arith, ef, et, products, names-is builder rooms (before .borders) (before .lengths) held s))) in
+      sym (length-append (map length (frontOf plan)) (map length kept)) ∙
+      (ap length (sym (map-more length (frontOf plan) kept)) ∙
+      (kept-many b builder before h (s .some) ∙ omega (arith, ef, et, products, names-is builder rooms (before .borders) (before .lengths) held s))) in
       let lengths-lie : take (to - from) (drop from (before .lengths)) ≡ map length kept =
       front-part 0 (h .lies .lengths-are) (map length (frontOf plan)) (map length kept) (map length gone) lengths-all from to (omega (arith, ef, front-size, names-are)) (sym kept-size) in
       record {
         many = yards-are ∙ sym (left-many b builder before h (s .some));
         few = yards-few builder rooms (before .borders) (before .lengths) held s;
-        valued = ap (λ (k : ℕ). every (λ y. eqb k (length (y .values))) (take n (plan .yards))) names-are ∙ every-take (λ (y : Yard). eqb (length (plan .names)) (length (y .values))) n (plan .yards) (h .sound .valued);
+        valued = ap (λ (k : ℕ). every (λ y. eqb k (length (y .values))) (take n (plan .yards))) names-are ∙
+            every-take (λ (y : Yard). eqb (length (plan .names)) (length (y .values))) n (plan .yards) (h .sound .valued);
         drawn-many = sym (borders-end plan (b .room) (h .sound) n less) ∙ sym (left-many b builder before h (s .some));
-        boxes-are = ap (λ (k : ℕ). take k (before .boxes)) (ap (λ (k : ℕ). 4 * k) yards-are ∙ boxes-end plan (b .room) (h .sound) n less) ∙ front-of-more (pos 0) (cornersOf (take n (plan .yards))) (cornersOf (drop n (plan .yards))) (splits .boxes-are);
-        borders-are = ap (λ (k : ℕ). take k (before .borders)) (yards-are ∙ borders-end plan (b .room) (h .sound) n less) ∙ front-of-more 0 (take n (dataOf plan .places)) (drop n (dataOf plan .places)) (splits .borders-are);
+        boxes-are = ap (λ (k : ℕ). take k (before .boxes)) (ap (λ (k : ℕ). 4 * k) yards-are ∙ boxes-end plan (b .room) (h .sound) n less) ∙
+            front-of-more (pos 0) (cornersOf (take n (plan .yards))) (cornersOf (drop n (plan .yards))) (splits .boxes-are);
+        borders-are = ap (λ (k : ℕ). take k (before .borders)) (yards-are ∙ borders-end plan (b .room) (h .sound) n less) ∙
+            front-of-more 0 (take n (dataOf plan .places)) (drop n (dataOf plan .places)) (splits .borders-are);
         lengths-are = lengths-lie;
         texts-are = front-part 0 (h .lies .texts-are) (joined (frontOf plan)) (joined kept) (joined gone) texts-all (held .front) (held .strings) front-are
             (strings-are ∙ (ap length (flat-more (λ (t : Text). t) (frontOf plan) kept) ∙ length-append (joined (frontOf plan)) (joined kept)));
-        short = omega (arith, ap sumOf lengths-lie, ap length lengths-lie, length-map kept length, fields-short (take n (plan .yards)) (every-take (λ (y : Yard). every isText (y .values)) n (plan .yards) (readable-parts plan (h .sound .texts) .1 .1 .1)));
+        short = omega (
+          arith,
+          ap sumOf lengths-lie,
+          ap length lengths-lie,
+          length-map kept length,
+          fields-short (take n (plan .yards)) (every-take (λ (y : Yard). every isText (y .values)) n (plan .yards) (readable-parts plan (h .sound .texts) .1 .1 .1)),
+        );
       }
     where
       products : held .names * held .yards ≡ builder .names * (builder .yards - 1)
-      products = ap (λ (k : ℕ). k * held .yards) (names-is builder rooms (before .borders) (before .lengths) held s) ∙ ap (λ (k : ℕ). builder .names * k) (yards-is builder rooms (before .borders) (before .lengths) held s)
+      products = ap (λ (k : ℕ). k * held .yards) (names-is builder rooms (before .borders) (before .lengths) held s) ∙
+          ap (λ (k : ℕ). builder .names * k) (yards-is builder rooms (before .borders) (before .lengths) held s)
 
   -- the lists, cut
   left-lies : Lies (holding plan (take n (plan .yards))) (dataOf (holding plan (take n (plan .yards)))) (cutTo (endsOf held) before)
@@ -206,11 +223,15 @@ module _ (b : Builder) (builder : Held) (rooms : Rooms) (before : Lists) (h : Ho
   left-lies =
       let product : held .names * held .yards ≡ length (plan .names) * n = ap (λ (k : ℕ). k * held .yards) names-are ∙ ap (λ (k : ℕ). length (plan .names) * k) yards-are in
       lies-dropped plan (b .room) (h .sound) n less (cutTo (endsOf held) before)
-      (cut-front (pos 0) (cornersOf (take n (plan .yards))) (cornersOf (drop n (plan .yards))) _ (before .boxes) refl (splits .boxes-are) (4 * held .yards) (ap (λ (k : ℕ). 4 * k) yards-are ∙ boxes-end plan (b .room) (h .sound) n less))
-      (cut-front 0 (take n (dataOf plan .places)) (drop n (dataOf plan .places)) _ (before .borders) refl (splits .borders-are) (held .yards) (yards-are ∙ borders-end plan (b .room) (h .sound) n less))
-      (cut-front 0 (map length (textsOf (holding plan (take n (plan .yards))))) (map length (restValues plan n)) _ (before .lengths) refl (splits .lengths-are) (held .names + 1 + held .names * held .yards) (omega (arith, names-are, product, lengths-end plan (b .room) (h .sound) n less)))
+      (cut-front (pos 0) (cornersOf (take n (plan .yards))) (cornersOf (drop n (plan .yards))) _ (before .boxes) refl (splits .boxes-are) (4 * held .yards)
+      (ap (λ (k : ℕ). 4 * k) yards-are ∙ boxes-end plan (b .room) (h .sound) n less))
+      (cut-front 0 (take n (dataOf plan .places)) (drop n (dataOf plan .places)) _ (before .borders) refl (splits .borders-are) (held .yards)
+      (yards-are ∙ borders-end plan (b .room) (h .sound) n less))
+      (cut-front 0 (map length (textsOf (holding plan (take n (plan .yards))))) (map length (restValues plan n)) _ (before .lengths) refl (splits .lengths-are)
+      (held .names + 1 + held .names * held .yards) (omega (arith, names-are, product, lengths-end plan (b .room) (h .sound) n less)))
       (cut-front 0 (joined (textsOf (holding plan (take n (plan .yards))))) (joined (restValues plan n)) _ (before .texts) refl (splits .texts-are) (held .strings) strings-are)
-      (cut-front 0 (take (getD (dataOf plan .places) n 0) (dataOf plan .bytes)) (drop (getD (dataOf plan .places) n 0) (dataOf plan .bytes)) _ (before .bytes) refl (splits .bytes-are) (held .bytes) (bytes-are ∙ bytes-end plan (b .room) (h .sound) n less))
+      (cut-front 0 (take (getD (dataOf plan .places) n 0) (dataOf plan .bytes)) (drop (getD (dataOf plan .places) n 0) (dataOf plan .bytes)) _ (before .bytes) refl (splits .bytes-are)
+      (held .bytes) (bytes-are ∙ bytes-end plan (b .room) (h .sound) n less))
 
   -- the numbers
   left-totals : totalsOf (holding plan (take n (plan .yards))) ≡ totalsFor (take n (plan .yards)) (drawnTo (dataOf plan) n)
@@ -236,9 +257,13 @@ module _ (b : Builder) (builder : Held) (rooms : Rooms) (before : Lists) (h : Ho
   left-numbers =
       let t : Totals = totals in
       ap (λ (x : Held). withSums x (t .table) (t .metadata) (t .greatest)) (s .is)
-      ∙ (ap (λ (k : ℕ). heldWith builder k (record { table = t .table; metadata = t .metadata; bytes = getD (before .borders) (builder .yards - 1) 0; yards = builder .yards - 1; greatest = t .greatest })) (sym (strings-is builder rooms (before .borders) (before .lengths) held s))
-      ∙ (ap (λ (k : ℕ). heldWith builder (held .strings) (record { table = t .table; metadata = t .metadata; bytes = k; yards = builder .yards - 1; greatest = t .greatest })) (sym (bytes-is builder rooms (before .borders) (before .lengths) held s) ∙ sym totals-bytes)
-      ∙ (ap (λ (k : ℕ). heldWith builder (held .strings) (record { table = t .table; metadata = t .metadata; bytes = t .bytes; yards = k; greatest = t .greatest })) (sym (yards-is builder rooms (before .borders) (before .lengths) held s) ∙ sym totals-yards)
+      ∙ (ap (λ (k : ℕ). heldWith builder k
+      (record { table = t .table; metadata = t .metadata; bytes = getD (before .borders) (builder .yards - 1) 0; yards = builder .yards - 1; greatest = t .greatest }))
+      (sym (strings-is builder rooms (before .borders) (before .lengths) held s))
+      ∙ (ap (λ (k : ℕ). heldWith builder (held .strings) (record { table = t .table; metadata = t .metadata; bytes = k; yards = builder .yards - 1; greatest = t .greatest }))
+      (sym (bytes-is builder rooms (before .borders) (before .lengths) held s) ∙ sym totals-bytes)
+      ∙ (ap (λ (k : ℕ). heldWith builder (held .strings) (record { table = t .table; metadata = t .metadata; bytes = t .bytes; yards = k; greatest = t .greatest }))
+      (sym (yards-is builder rooms (before .borders) (before .lengths) held s) ∙ sym totals-yards)
       ∙ ap (heldWith builder (held .strings)) (sym left-totals))))
 
   left-holds : Holds (summed (holding plan (take n (plan .yards))) (b .room)) (withSums held (totals .table) (totals .metadata) (totals .greatest)) (cutTo (endsOf held) before)
@@ -250,7 +275,8 @@ module _ (b : Builder) (builder : Held) (rooms : Rooms) (before : Lists) (h : Ho
   unfolding dropLast leftSpace
   left-given =
       let last : Reply Builder = given (summed (holding plan (take n (plan .yards))) (b .room)) in
-      ap (λ (x : Bool). demand x (plain 29) >> (demand (longEnough rooms (builder .names) (builder .yards - 1) (builder .front) (builder .strings - lastSize builder (before .lengths))) (plain 28) >> last))
+      ap (λ (x : Bool). demand x (plain 29) >>
+      (demand (longEnough rooms (builder .names) (builder .yards - 1) (builder .front) (builder .strings - lastSize builder (before .lengths))) (plain 28) >> last))
       (lt-ltb 0 (length (plan .yards)) (omega (arith, less)))
       ∙ ap (λ (x : Bool). demand x (plain 28) >> last) (s .room)
 
@@ -272,7 +298,9 @@ module _ (builder : Held) (rooms : Rooms) (before : Lists) (l : Lent rooms befor
 
     abbrev Summed-of : Summed → List ℕ → ℕ → ℕ → Type 0
     Summed-of summed places from to =
-        (yards : List Yard) (drawn : Drawn) → Stands yards drawn (held .names) (held .yards) (before .boxes) (before .borders) (take (to - from) (drop from (before .lengths))) (take (held .strings - held .front) (drop (held .front) (before .texts)))
+        (yards : List Yard) (drawn : Drawn) →
+        Stands yards drawn (held .names) (held .yards) (before .boxes) (before .borders) (take (to - from) (drop from (before .lengths)))
+        (take (held .strings - held .front) (drop (held .front) (before .texts)))
         → SumsUp yards drawn places summed
 
     module _ (summed′ : Summed) {places : List ℕ} (from to : ℕ) (ef : from ≡ held .names + 1) (et : to ≡ from + held .names * held .yards) (sums : Summed-of summed′ places from to) where
@@ -286,7 +314,8 @@ module _ (builder : Held) (rooms : Rooms) (before : Lists) (l : Lent rooms befor
             broken = λ f. absurd (false≢true (sym f ∙ short-is .stands));
           }
 
-      module _ (x : Sums) (given-sums : summed′ ≡ S.Sums x) (after : Lists) (cut : after ≡ cutTo (endsOf held) before) (next : Held) (numbers : next ≡ withSums held (x .table) (x .metadata) (x .greatest)) where
+      module _ (x : Sums) (given-sums : summed′ ≡ S.Sums x) (after : Lists) (cut : after ≡ cutTo (endsOf held) before) (next : Held)
+          (numbers : next ≡ withSums held (x .table) (x .metadata) (x .greatest)) where
         drop-holds : (b : Builder) (h : Holds b builder before) → Holds (summed (holding (b .plan) (take (length (b .plan .yards) - 1) (b .plan .yards))) (b .room)) next after
         drop-holds b h =
             let t : Totals = totals b builder rooms before h held short-is in
@@ -294,7 +323,8 @@ module _ (builder : Held) (rooms : Rooms) (before : Lists) (l : Lent rooms befor
             let same : x ≡ left-sums b builder rooms before h held short-is = cc in
             let is : next ≡ withSums held (t .table) (t .metadata) (t .greatest) = numbers ∙ ap (λ (y : Sums). withSums held (y .table) (y .metadata) (y .greatest)) same in
             subst (λ (y : Held). Holds (summed (holding (b .plan) (take (length (b .plan .yards) - 1) (b .plan .yards))) (b .room)) y after) (sym is)
-            (subst (Holds (summed (holding (b .plan) (take (length (b .plan .yards) - 1) (b .plan .yards))) (b .room)) (withSums held (t .table) (t .metadata) (t .greatest))) (sym cut) (left-holds b builder rooms before h held short-is))
+            (subst (Holds (summed (holding (b .plan) (take (length (b .plan .yards) - 1) (b .plan .yards))) (b .room)) (withSums held (t .table) (t .metadata) (t .greatest))) (sym cut)
+            (left-holds b builder rooms before h held short-is))
 
         pub drop-done : Drops builder rooms before after (C.Into next)
         unfolding Answers

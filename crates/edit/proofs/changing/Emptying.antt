@@ -30,8 +30,10 @@ module _ (b : Builder) (builder : Held) (before : Lists) (h : Holds b builder be
       none-lies plan (cutTo (frontEnds builder) before)
       (subst (Front (pos 0) []) (sym (cut-all (pos 0) (before .boxes))) (front-zero (pos 0) (length (before .boxes))))
       (subst (Front 0 []) (sym (cut-all 0 (before .borders))) (front-zero 0 (length (before .borders))))
-      (cut-front 0 (map length (frontOf plan)) (map length (valuesOf plan)) (map length (textsOf plan)) (before .lengths) (lengths-split plan (b .room) (h .sound)) (h .lies .lengths-are) (builder .names + 1) (omega (arith, size, held-names b builder before h)))
-      (cut-front 0 (joined (frontOf plan)) (joined (valuesOf plan)) (joined (textsOf plan)) (before .texts) (texts-split plan (b .room) (h .sound)) (h .lies .texts-are) (builder .front) (held-front b builder before h))
+      (cut-front 0 (map length (frontOf plan)) (map length (valuesOf plan)) (map length (textsOf plan)) (before .lengths) (lengths-split plan (b .room) (h .sound)) (h .lies .lengths-are)
+      (builder .names + 1) (omega (arith, size, held-names b builder before h)))
+      (cut-front 0 (joined (frontOf plan)) (joined (valuesOf plan)) (joined (textsOf plan)) (before .texts) (texts-split plan (b .room) (h .sound)) (h .lies .texts-are) (builder .front)
+      (held-front b builder before h))
       (front-made 0 (0 ∷ []) _ (length (before .bytes) - 1) (cut-all 0 (before .bytes) ∙ ap zeros some))
 
   cleared-is : emptiedOf builder ≡ heldAs (clear b)

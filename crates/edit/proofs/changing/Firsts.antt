@@ -43,7 +43,8 @@ module _ (kind version precision names : ℕ) (sizes strings : List ℕ) where
   abbrev cuts : List Text
   cuts = cutBy sizes strings
 
-  counted : countedLengths (record { kind = kind; version = version; precision = precision; names = names; yards = []; lats = []; lons = []; pieces = []; lengths = sizes; texts = strings }) ≡ names + 1
+  counted : countedLengths (record { kind = kind; version = version; precision = precision; names = names; yards = []; lats = []; lons = []; pieces = []; lengths = sizes; texts = strings })
+      ≡ names + 1
   unfolding countedLengths valuesFrom
   counted = omega arith
 
@@ -153,7 +154,8 @@ module _ (kind version precision names : ℕ) (sizes strings : List ℕ) where
               pub no-lengths : lengths < names + 1 → (r : Changed) → r ≡ C.Refused (plain 28) → Checks kind version precision names room sizes strings lengths texts bytes r
               no-lengths h = no-room (ap (λ (b : Bool). b && (leb (sumOf (take (names + 1) sizes)) texts && leb 1 bytes)) (lt-leb (names + 1) lengths h))
 
-              pub no-texts : names + 1 ≤ lengths → texts < sumOf (take (names + 1) sizes) → (r : Changed) → r ≡ C.Refused (plain 28) → Checks kind version precision names room sizes strings lengths texts bytes r
+              pub no-texts : names + 1 ≤ lengths → texts < sumOf (take (names + 1) sizes) → (r : Changed) → r ≡ C.Refused (plain 28) →
+                  Checks kind version precision names room sizes strings lengths texts bytes r
               no-texts a h =
                   no-room (ap (λ (b : Bool). b && (leb (sumOf (take (names + 1) sizes)) texts && leb 1 bytes)) (le-leb (names + 1) lengths a)
                   ∙ ap (λ (b : Bool). b && leb 1 bytes) (lt-leb (sumOf (take (names + 1) sizes)) texts h))
@@ -172,10 +174,12 @@ module _ (kind version precision names : ℕ) (sizes strings : List ℕ) where
                     let counts = both (leb (length (plan .names)) 255) (plan .numbered) good-counts in
                     none-sound plan room (counts .0) (counts .1) (readable-is many ∙ good-texts) (known-is ∙ not-false k good)
 
-                module _ (c : 1 ≤ bytes) (head front : ℕ) (eh : head ≡ length (headFrom kind version precision names (cutBy (take (names + 1) sizes) strings))) (ef : front ≡ sumOf (take (names + 1) sizes)) where
+                module _ (c : 1 ≤ bytes) (head front : ℕ) (eh : head ≡ length (headFrom kind version precision names (cutBy (take (names + 1) sizes) strings)))
+                    (ef : front ≡ sumOf (take (names + 1) sizes)) where
                   front-size : front ≡ length (joined (frontOf plan))
                   front-size =
-                      ef ∙ (ap sumOf (sym (cut-lengths (take (names + 1) sizes) strings first-whole)) ∙ (sym (joined-sum (cutBy (take (names + 1) sizes) strings)) ∙ ap (λ (l : List Text). length (joined l)) (sym (front-is many))))
+                      ef ∙ (ap sumOf (sym (cut-lengths (take (names + 1) sizes) strings first-whole)) ∙
+                      (sym (joined-sum (cutBy (take (names + 1) sizes) strings)) ∙ ap (λ (l : List Text). length (joined l)) (sym (front-is many))))
 
                   head-is : head ≡ length (headOf plan)
                   unfolding headOf planOf

@@ -55,9 +55,11 @@ module _ (b : Builder) (builder : Held) (before : Lists) (h : Holds b builder be
       ap (λ (n : ℕ). length (plan .names) * n) up ∙ ap (λ (n : ℕ). n * suc (builder .yards - 1)) (sym (held-names b builder before h)) in
       omega (arith, texts-many plan (b .room) (h .sound), times, mul-suc (builder .names) (builder .yards - 1), held-names b builder before h)
 
-  last-lengths : (from to : ℕ) → from ≡ builder .names + 1 + builder .names * (builder .yards - 1) → to ≡ from + builder .names → take (to - from) (drop from (before .lengths)) ≡ map length (restValues plan left)
+  last-lengths : (from to : ℕ) → from ≡ builder .names + 1 + builder .names * (builder .yards - 1) → to ≡ from + builder .names →
+      take (to - from) (drop from (before .lengths)) ≡ map length (restValues plan left)
   last-lengths from to ef et =
-      front-slice 0 (map length (textsOf fewer)) (map length (restValues plan left)) (subst (λ (l : List ℕ). Front 0 l (before .lengths)) (dropped-lengths plan left) (h .lies .lengths-are)) from to (ef ∙ sym kept-many)
+      front-slice 0 (map length (textsOf fewer)) (map length (restValues plan left)) (subst (λ (l : List ℕ). Front 0 l (before .lengths)) (dropped-lengths plan left) (h .lies .lengths-are))
+      from to (ef ∙ sym kept-many)
       (omega (arith, et, ef, all-many, ap length (dropped-lengths plan left)))
 
   last-size : lastSize builder (before .lengths) ≡ length (joined (restValues plan left))

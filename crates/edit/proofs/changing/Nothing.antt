@@ -2,7 +2,8 @@
 use Prim.Native.Nat.{ℕ}
 use lib.{Dec.{leb}, IntN.{pos}, ListN.{length}}
 use mathlib.Core.{Bool.{true}, List.{List, [], _∷_, flatMap, map, zipWith}, Path.{_≡_, refl, sym, ap, subst, _∙_}}
-use Rattle.builder.specs.{Borders.{drawnFrom, drawnOf}, Entries.{highestOf, tableFrom, tableOf}, File.{bordersGood, headOf, known, readable}, Metadata.{fieldsOf, metadataOf, remotes}, Sharing.{firstsAfter, goodOnes}, Yards.{Plan, Text}}
+use Rattle.builder.specs.{Borders.{drawnFrom, drawnOf}, Entries.{highestOf, tableFrom, tableOf}, File.{bordersGood, headOf, known, readable}, Metadata.{fieldsOf, metadataOf, remotes}}
+use Rattle.builder.specs.{Sharing.{firstsAfter, goodOnes}, Yards.{Plan, Text}}
 use Rattle.build.specs.Entries.Corners.{cornersOf}
 use Rattle.draft.proofs.held.Texts.{cleared-texts}
 use Rattle.draft.specs.Held.{Builder.{holding, summed}, Sound.{Sound}, State.{Front, Lies, Lists, frontOf, heldAs}, Totals.{Totals, dataOf, drawnOr, totalsFor, totalsOf}}
@@ -62,7 +63,8 @@ module _ (plan : Plan) where
         greatest = t .greatest;
       }
 
-  none-is : (room : ℕ) → heldNone (plan .kind) (plan .version) (plan .precision) (length (plan .names)) room (length (headOf plan)) (length (joined (frontOf plan))) ≡ heldAs (summed (holding plan []) room)
+  none-is : (room : ℕ) → heldNone (plan .kind) (plan .version) (plan .precision) (length (plan .names)) room (length (headOf plan)) (length (joined (frontOf plan))) ≡ heldAs
+      (summed (holding plan []) room)
   unfolding summed headOf numbersOf
   none-is room =
       ap (numbersOf room (length (joined (frontOf plan)))) (sym none-totals)
@@ -91,7 +93,8 @@ module _ (plan : Plan) where
       }
 
   -- names and notice alone
-  pub none-lies : (lists : Lists) → Front (pos 0) [] (lists .boxes) → Front 0 [] (lists .borders) → Front 0 (map length (frontOf plan)) (lists .lengths) → Front 0 (joined (frontOf plan)) (lists .texts) → Front 0 (0 ∷ []) (lists .bytes)
+  pub none-lies : (lists : Lists) → Front (pos 0) [] (lists .boxes) → Front 0 [] (lists .borders) → Front 0 (map length (frontOf plan)) (lists .lengths) →
+      Front 0 (joined (frontOf plan)) (lists .texts) → Front 0 (0 ∷ []) (lists .bytes)
       → Lies (holding plan []) (dataOf (holding plan [])) lists
   unfolding dataOf drawnOr drawnOf drawnFrom cornersOf
   none-lies lists boxes borders lengths texts bytes =

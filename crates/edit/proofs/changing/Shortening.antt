@@ -15,7 +15,8 @@ use Rattle.edit.specs.{inner.Changing.Dropped.{Lent, Shortens, shortOf, 
 
 module _ (builder : Held) (rooms : Rooms) (borders lengths : List ℕ) where
   abbrev Refuses : Refusal → Type 0
-  Refuses why = (b : Builder) (before : Lists) → before .borders ≡ borders → before .lengths ≡ lengths → Lent rooms before → Holds b builder before → dropLast b (leftSpace builder rooms lengths) ≡ refused why
+  Refuses why = (b : Builder) (before : Lists) → before .borders ≡ borders → before .lengths ≡ lengths → Lent rooms before → Holds b builder before →
+      dropLast b (leftSpace builder rooms lengths) ≡ refused why
 
   refuses : (why : Refusal) (r : Changed) → r ≡ C.Refused why → (standing builder rooms ≡ false → why ≡ plain 29) → Refuses why → Shortens builder rooms borders lengths r
   unfolding Shortens
@@ -81,12 +82,14 @@ module _ (builder : Held) (rooms : Rooms) (borders lengths : List ℕ) where
         unfolding lastSize
         last-is = let size : from + builder .names - from ≡ builder .names = omega arith in ap (λ (k : ℕ). sumOf (take k (drop from lengths))) size
 
-        pub last-over : builder .strings - builder .front < sumOf (take (from + builder .names - from) (drop from lengths)) → (r : Changed) → r ≡ C.Refused (plain 28) → Shortens builder rooms borders lengths r
+        pub last-over : builder .strings - builder .front < sumOf (take (from + builder .names - from) (drop from lengths)) → (r : Changed) → r ≡ C.Refused (plain 28) →
+            Shortens builder rooms borders lengths r
         last-over over r e =
             refuses (plain 28) r e (standing-still (plain 28))
             (λ b before eb el l h. absurd (omega (arith, over, last-is, subst (λ (ls : List ℕ). lastSize builder ls ≤ builder .strings - builder .front) el (last-fits b builder before h there))))
 
-        module _ (last : ℕ) (within : (last ≡ sumOf (take (from + builder .names - from) (drop from lengths))) × (sumOf (take (from + builder .names - from) (drop from lengths)) ≤ builder .strings - builder .front)) where
+        module _ (last : ℕ) (within : (last ≡ sumOf (take (from + builder .names - from) (drop from lengths))) ×
+            (sumOf (take (from + builder .names - from) (drop from lengths)) ≤ builder .strings - builder .front)) where
           last-same : last ≡ lastSize builder lengths
           last-same = within .0 ∙ last-is
 
@@ -101,7 +104,8 @@ module _ (builder : Held) (rooms : Rooms) (borders lengths : List ℕ) where
               refuses (plain 28) r e (standing-still (plain 28))
               (λ b before eb el l h. absurd (omega (arith, over, subst (λ (ls : List ℕ). getD ls (builder .yards - 1) 0 ≤ builder .bytes) eb (place-fits b builder before h there))))
 
-          module _ (inside : getD borders (builder .yards - 1) 0 ≤ builder .bytes) (w : Bool) (tested : w ≡ longEnough rooms (builder .names) (builder .yards - 1) (builder .front) (builder .strings - last)) where
+          module _ (inside : getD borders (builder .yards - 1) 0 ≤ builder .bytes) (w : Bool)
+              (tested : w ≡ longEnough rooms (builder .names) (builder .yards - 1) (builder .front) (builder .strings - last)) where
             room-is : longEnough rooms (builder .names) (builder .yards - 1) (builder .front) (builder .strings - lastSize builder lengths) ≡ w
             room-is = ap (λ (k : ℕ). longEnough rooms (builder .names) (builder .yards - 1) (builder .front) (builder .strings - k)) (sym last-same) ∙ sym tested
 
@@ -109,7 +113,9 @@ module _ (builder : Held) (rooms : Rooms) (borders lengths : List ℕ) where
             unfolding dropLast leftSpace
             no-room b more none =
                 let last : Reply Builder = given (summed (holding (b .plan) (take (length (b .plan .yards) - 1) (b .plan .yards))) (b .room)) in
-                ap (λ (x : Bool). demand x (plain 29) >> (demand (longEnough rooms (builder .names) (builder .yards - 1) (builder .front) (builder .strings - lastSize builder lengths)) (plain 28) >> last)) (lt-ltb 0 (length (b .plan .yards)) more)
+                ap (λ (x : Bool). demand x (plain 29) >>
+                (demand (longEnough rooms (builder .names) (builder .yards - 1) (builder .front) (builder .strings - lastSize builder lengths)) (plain 28) >> last))
+                (lt-ltb 0 (length (b .plan .yards)) more)
                 ∙ ap (λ (x : Bool). demand x (plain 28) >> last) (room-is ∙ none)
 
             pub room-bad : not w ≡ true → (r : Changed) → r ≡ C.Refused (plain 28) → Shortens builder rooms borders lengths r
@@ -119,7 +125,8 @@ module _ (builder : Held) (rooms : Rooms) (borders lengths : List ℕ) where
 
             -- the greatest latitude comes as it is stored
             pub shortened : not w ≡ false → (greatest : ℤ) → greatest ≡ builder .greatest
-                → Shortens builder rooms borders lengths (C.Into (withSums (shortOf builder (builder .strings - last) (getD borders (builder .yards - 1) 0)) (builder .table) (builder .metadata) greatest))
+                → Shortens builder rooms borders lengths
+                (C.Into (withSums (shortOf builder (builder .strings - last) (getD borders (builder .yards - 1) 0)) (builder .table) (builder .metadata) greatest))
             unfolding Shortens withSums shortOf
             shortened m greatest e =
                 record {
@@ -128,5 +135,6 @@ module _ (builder : Held) (rooms : Rooms) (borders lengths : List ℕ) where
                   last-in = omega (arith, last-less, last-same);
                   bytes-in = inside;
                   room = room-is ∙ not-false w m;
-                  is = ap (withSums (shortOf builder (builder .strings - last) (getD borders (builder .yards - 1) 0)) (builder .table) (builder .metadata)) e ∙ ap (λ (k : ℕ). shortOf builder (builder .strings - k) (getD borders (builder .yards - 1) 0)) last-same;
+                  is = ap (withSums (shortOf builder (builder .strings - last) (getD borders (builder .yards - 1) 0)) (builder .table) (builder .metadata)) e ∙
+                      ap (λ (k : ℕ). shortOf builder (builder .strings - k) (getD borders (builder .yards - 1) 0)) last-same;
                 }

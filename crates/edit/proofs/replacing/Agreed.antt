@@ -11,7 +11,8 @@ use Rattle.draft.specs.declared.held.state.Held.{Held}
 use Rattle.build.specs.Metadata.Kept.{joined}
 use Rattle.numbers.specs.Reply.{Reply, given, refused, plain, demand, _>>=_, _>>_}
 use Rattle.edit.proofs.replacing.Placed.{value-within, size-new}
-use Rattle.edit.specs.{inner.Replacing.{Replaced.{afterChecks}, Spot.{textAt, spotIn, within, sizeWith, checkedOf}}, Replacing.Replaced.{replaced, spaceFor}, declared.replacing.check.Spot.{Spot}}
+use Rattle.edit.specs.{inner.Replacing.{Replaced.{afterChecks}, Spot.{textAt, spotIn, within, sizeWith, checkedOf}}, Replacing.Replaced.{replaced, spaceFor}}
+use Rattle.edit.specs.declared.replacing.check.Spot.{Spot}
 
 compared : (a t w l m fit : Bool) (spot : Spot) (next : Builder) → (a ≡ true → w ≡ true) → (a ≡ true → m ≡ l)
     → ((demand a (plain 30) >> (demand t (plain 26) >> (demand w (plain 28) >> (demand m (plain 28) >> given spot)))) >>= λ s. (demand (true && fit) (plain 28) >> given next))
@@ -53,9 +54,12 @@ module _ (b : Builder) (held : Held) (lists : Lists) (h : Holds b held lists) (r
       let two = inside e in
       ap (λ (n : ℕ). leb n out && longEnough rooms (held .names) (held .yards) (held .front) (sizeWith held spot (length text))) (held-strings b held lists h)
       ∙ (ap (λ (n : ℕ). leb (length (joined (textsOf plan))) out && longEnough rooms (held .names) (held .yards) (held .front) n) (size-new b held lists h yard field text (two .0) (two .1))
-      ∙ (ap (λ (n : ℕ). leb (length (joined (textsOf plan))) out && longEnough rooms n (held .yards) (held .front) (length (joined (textsOf (replaced plan yard field text))))) (held-names b held lists h)
-      ∙ (ap (λ (n : ℕ). leb (length (joined (textsOf plan))) out && longEnough rooms (length (plan .names)) n (held .front) (length (joined (textsOf (replaced plan yard field text))))) (held-yards b held lists h)
-      ∙ ap (λ (n : ℕ). leb (length (joined (textsOf plan))) out && longEnough rooms (length (plan .names)) (length (plan .yards)) n (length (joined (textsOf (replaced plan yard field text))))) (held-front b held lists h))))
+      ∙ (ap (λ (n : ℕ). leb (length (joined (textsOf plan))) out && longEnough rooms n (held .yards) (held .front) (length (joined (textsOf (replaced plan yard field text)))))
+      (held-names b held lists h)
+      ∙ (ap (λ (n : ℕ). leb (length (joined (textsOf plan))) out && longEnough rooms (length (plan .names)) n (held .front) (length (joined (textsOf (replaced plan yard field text)))))
+      (held-yards b held lists h)
+      ∙ ap (λ (n : ℕ). leb (length (joined (textsOf plan))) out && longEnough rooms (length (plan .names)) (length (plan .yards)) n
+      (length (joined (textsOf (replaced plan yard field text))))) (held-front b held lists h))))
 
   pub checked-as : (checkedOf held rooms out yard field text (lists .lengths) >>= λ s. fitting afterChecks next) ≡ replace b yard field text (spaceFor rooms out plan yard field text)
   unfolding checkedOf replace fitting
@@ -63,7 +67,10 @@ module _ (b : Builder) (held : Held) (lists : Lists) (h : Holds b held lists) (r
       let fit : Bool = leb (fileSize (length (headOf (next .plan))) (next .totals)) (upTo (next .room)) in
       let w : Bool = within held spot in
       let m : Bool = leb (held .strings) out && longEnough rooms (held .names) (held .yards) (held .front) (sizeWith held spot (length text)) in
-      ap (λ (t : Bool). (demand t (plain 28) >> (demand (ltb yard (held .yards) && ltb field (held .names)) (plain 30) >> (demand (isText text) (plain 26) >> (demand w (plain 28) >> (demand m (plain 28) >> given spot))))) >>= λ s. (demand (true && fit) (plain 28) >> given next)) stands
-      ∙ (ap (λ (a : Bool). (demand a (plain 30) >> (demand (isText text) (plain 26) >> (demand w (plain 28) >> (demand m (plain 28) >> given spot)))) >>= λ s. (demand (true && fit) (plain 28) >> given next)) same-there
+      ap (λ (t : Bool). (demand t (plain 28) >>
+      (demand (ltb yard (held .yards) && ltb field (held .names)) (plain 30) >> (demand (isText text) (plain 26) >> (demand w (plain 28) >> (demand m (plain 28) >> given spot))))) >>=
+      λ s. (demand (true && fit) (plain 28) >> given next)) stands
+      ∙ (ap (λ (a : Bool). (demand a (plain 30) >> (demand (isText text) (plain 26) >> (demand w (plain 28) >> (demand m (plain 28) >> given spot)))) >>= λ s.
+      (demand (true && fit) (plain 28) >> given next)) same-there
       ∙ compared there (isText text) w (spaceFor rooms out plan yard field text .lists) m fit spot next
       (λ e. value-within b held lists h yard field text (inside e .0) (inside e .1)) same-room)

@@ -14,20 +14,24 @@ use Rattle.draft.specs.declared.held.state.Changed.the-variants as C
 use Rattle.numbers.{proofs.Replies.{demanded}, specs.{Lists.{zeros}, Reply.{Reply, given, refused, plain, demand, _>>=_, _>>_}, declared.refusal.Refusal.{Refusal}}}
 use Rattle.writer.{proofs.Stores.{stored-length}, specs.inner.Stored.{Stored}}
 use Rattle.edit.proofs.replacing.{Agreed.{checked-as}, Found.{text-few}, Renewed.{renews}, Spots.{Within, fallen, index-inside, spot-ordered, within-parts}}
-use Rattle.edit.specs.{inner.Replacing.{Exchange.{Exchanging}, Replaced.{PutIn, Putting, Renews, Resumming, Resums, TakenBack, afterChecks, spotUpTo}, Spot.{checkedOf}}, Replacing.Replaced.{Replaces, replaced, spaceFor}}
+use Rattle.edit.specs.inner.Replacing.{Exchange.{Exchanging}, Replaced.{PutIn, Putting, Renews, Resumming, Resums, TakenBack, afterChecks, spotUpTo}, Spot.{checkedOf}}
+use Rattle.edit.specs.Replacing.Replaced.{Replaces, replaced, spaceFor}
 use Rattle.edit.specs.inner.Replacing.Spot.{sizeWith, spotIn, textAt, told, within}
 use Rattle.edit.specs.declared.replacing.check.{Spot.{Spot}, Checked.{Checked}}
 use Rattle.edit.specs.declared.replacing.check.Checked.the-variants as D
 
 -- ---- taken back or not
-pub back-into : (changed : Changed) (held : Held) → changed ≡ C.Into held → (spot : Spot) (strings : ℕ) (old lengths texts : List ℕ) → TakenBack changed spot strings old lengths texts lengths texts (C.Into held)
+pub back-into : (changed : Changed) (held : Held) → changed ≡ C.Into held → (spot : Spot) (strings : ℕ) (old lengths texts : List ℕ) →
+    TakenBack changed spot strings old lengths texts lengths texts (C.Into held)
 unfolding TakenBack
 back-into changed held e spot strings old lengths texts = subst (λ (x : Changed). TakenBack x spot strings old lengths texts lengths texts (C.Into held)) (sym e) (refl, (refl, refl))
 
-pub back-refused : (changed : Changed) (why : Refusal) → changed ≡ C.Refused why → (spot : Spot) (strings : ℕ) (old lengths texts lengths′ texts′ : List ℕ) (end : ℕ) → PutIn spot strings old lengths texts lengths′ texts′ end
+pub back-refused : (changed : Changed) (why : Refusal) → changed ≡ C.Refused why → (spot : Spot) (strings : ℕ) (old lengths texts lengths′ texts′ : List ℕ) (end : ℕ) →
+    PutIn spot strings old lengths texts lengths′ texts′ end
     → TakenBack changed spot strings old lengths texts lengths′ texts′ (C.Refused why)
 unfolding TakenBack
-back-refused changed why e spot strings old lengths texts lengths′ texts′ end p = subst (λ (x : Changed). TakenBack x spot strings old lengths texts lengths′ texts′ (C.Refused why)) (sym e) (refl, (end, p))
+back-refused changed why e spot strings old lengths texts lengths′ texts′ end p =
+    subst (λ (x : Changed). TakenBack x spot strings old lengths texts lengths′ texts′ (C.Refused why)) (sym e) (refl, (end, p))
 
 -- ---- while a text is put
 module _ (held : Held) (spot : Spot) (size borders lengths texts out : ℕ) (work : Work) (p : Putting held spot size borders lengths texts out work) where
@@ -44,7 +48,8 @@ module _ (held : Held) (spot : Spot) (size borders lengths texts out : ℕ) (wor
           room = ap (λ (n : ℕ). enough work (held .yards) (held .names * held .yards) (n - held .front)) is ∙ p .resumming .room;
         }
 
-    pub back-room : (again : Spot) → again ≡ spotUpTo spot size → (old out′ : ℕ) → old ≡ spot .from - spot .place → out′ ≡ out → (again .index < lengths′) × Exchanging (again .place) (again .from) end old texts′ out′
+    pub back-room : (again : Spot) → again ≡ spotUpTo spot size → (old out′ : ℕ) → old ≡ spot .from - spot .place → out′ ≡ out →
+        (again .index < lengths′) × Exchanging (again .place) (again .from) end old texts′ out′
     back-room again e old out′ same wide =
         let i : again .index ≡ spot .index = ap (λ (s : Spot). s .index) e in
         let a : again .place ≡ spot .place = ap (λ (s : Spot). s .place) e in
@@ -64,7 +69,8 @@ module _ (held : Held) (spot : Spot) (size borders lengths texts out : ℕ) (wor
 pub renews-again : (held : Held) (spot : Spot) (text : Text) (lists : Lists) (lengths′ texts′ : List ℕ) (end : ℕ) → PutIn spot (held .strings) text (lists .lengths) (lists .texts) lengths′ texts′ end
     → (r : Changed) → Resums held end (lists .boxes) (lists .borders) lengths′ texts′ r
     → (saved lengths″ texts″ : List ℕ) (r″ : Changed) → saved ≡ take (spot .from - spot .place) (drop (spot .place) (lists .texts)) → (again : Spot) → again ≡ spotUpTo spot (length text)
-    → TakenBack r again end saved lengths′ texts′ lengths″ texts″ r″ → length texts″ ≡ length (lists .texts) → Renews held spot text lists (listsAs (lists .boxes) (lists .borders) lengths″ texts″ (lists .bytes)) r″
+    → TakenBack r again end saved lengths′ texts′ lengths″ texts″ r″ → length texts″ ≡ length (lists .texts) →
+    Renews held spot text lists (listsAs (lists .boxes) (lists .borders) lengths″ texts″ (lists .bytes)) r″
 renews-again held spot text lists lengths′ texts′ end p r sums saved lengths″ texts″ r″ kept again e back long =
     renews held spot text lists lengths′ texts′ end p r sums saved lengths″ texts″ r″ kept (subst (λ (s : Spot). TakenBack r s end saved lengths′ texts′ lengths″ texts″ r″) e back) long
 
@@ -101,14 +107,19 @@ module _ (held : Held) (rooms : Rooms) (out yard field : ℕ) (text : Text) (len
       record { stands = a .0; there = b .0; is-text = c .0; is = same; within′ = d .0; room = f .0 }
 
   long-parts : (strings : ℕ) → longEnough rooms (held .names) (held .yards) (held .front) strings ≡ true
-      → Own rooms (held .names) (held .yards) strings × (enough (workOf (rooms .starts) (rooms .keys) (rooms .spare) (rooms .kept) (rooms .held) (rooms .words) (rooms .places) (rooms .boxes)) (held .yards) (held .names * held .yards) (strings - held .front) ≡ true)
+      → Own rooms (held .names) (held .yards) strings ×
+      (enough (workOf (rooms .starts) (rooms .keys) (rooms .spare) (rooms .kept) (rooms .held) (rooms .words) (rooms .places) (rooms .boxes)) (held .yards) (held .names * held .yards)
+      (strings - held .front) ≡ true)
   unfolding longEnough
   long-parts strings e =
-      let two = both (ownEnough rooms (held .names) (held .yards) strings) (enough (workOf (rooms .starts) (rooms .keys) (rooms .spare) (rooms .kept) (rooms .held) (rooms .words) (rooms .places) (rooms .boxes)) (held .yards) (held .names * held .yards) (strings - held .front)) e in
+      let two = both (ownEnough rooms (held .names) (held .yards) strings)
+      (enough (workOf (rooms .starts) (rooms .keys) (rooms .spare) (rooms .kept) (rooms .held) (rooms .words) (rooms .places) (rooms .boxes)) (held .yards) (held .names * held .yards)
+      (strings - held .front)) e in
       (own-parts rooms (held .names) (held .yards) strings (two .0), two .1)
 
   putting-here : Passed held rooms out yard field text lengths here
-      → Putting held here (length text) (rooms .borders) (rooms .lengths) (rooms .texts) out (workOf (rooms .starts) (rooms .keys) (rooms .spare) (rooms .kept) (rooms .held) (rooms .words) (rooms .places) (rooms .boxes))
+      → Putting held here (length text) (rooms .borders) (rooms .lengths) (rooms .texts) out
+      (workOf (rooms .starts) (rooms .keys) (rooms .spare) (rooms .kept) (rooms .held) (rooms .words) (rooms .places) (rooms .boxes))
   putting-here p =
       let s = stood held rooms (p .stands) in
       let w = within-parts held here (p .within′) in
@@ -137,14 +148,18 @@ module _ (held : Held) (rooms : Rooms) (out yard field : ℕ) (text : Text) (len
 
   module _ (checked : Checked) (e : told checked ≡ checkedOf held rooms out yard field text lengths) where
     pub may-put : (spot : Spot) → checked ≡ D.At spot
-        → Putting held spot (length text) (rooms .borders) (rooms .lengths) (rooms .texts) out (workOf (rooms .starts) (rooms .keys) (rooms .spare) (rooms .kept) (rooms .held) (rooms .words) (rooms .places) (rooms .boxes))
+        → Putting held spot (length text) (rooms .borders) (rooms .lengths) (rooms .texts) out
+        (workOf (rooms .starts) (rooms .keys) (rooms .spare) (rooms .kept) (rooms .held) (rooms .words) (rooms .places) (rooms .boxes))
     may-put spot at =
         let p = passed spot (ap told (sym at) ∙ e) in
-        subst (λ (s : Spot). Putting held s (length text) (rooms .borders) (rooms .lengths) (rooms .texts) out (workOf (rooms .starts) (rooms .keys) (rooms .spare) (rooms .kept) (rooms .held) (rooms .words) (rooms .places) (rooms .boxes))) (sym (p .is))
+        subst (λ (s : Spot). Putting held s (length text) (rooms .borders) (rooms .lengths) (rooms .texts) out
+        (workOf (rooms .starts) (rooms .keys) (rooms .spare) (rooms .kept) (rooms .held) (rooms .words) (rooms .places) (rooms .boxes))) (sym (p .is))
         (putting-here (subst (Passed held rooms out yard field text lengths) (p .is) p))
 
-    module _ (lists : Lists) (same : lists .lengths ≡ lengths) (boxes : rooms .boxes ≡ length (lists .boxes)) (borders : rooms .borders ≡ length (lists .borders)) (many : rooms .lengths ≡ length (lists .lengths)) (texts : rooms .texts ≡ length (lists .texts)) (bytes : rooms .bytes ≡ length (lists .bytes)) where
-      agreed : (b : Builder) → Holds b held lists → (told checked >>= λ s. fitting afterChecks (summed (replaced (b .plan) yard field text) (b .room))) ≡ replace b yard field text (spaceFor rooms out (b .plan) yard field text)
+    module _ (lists : Lists) (same : lists .lengths ≡ lengths) (boxes : rooms .boxes ≡ length (lists .boxes)) (borders : rooms .borders ≡ length (lists .borders))
+        (many : rooms .lengths ≡ length (lists .lengths)) (texts : rooms .texts ≡ length (lists .texts)) (bytes : rooms .bytes ≡ length (lists .bytes)) where
+      agreed : (b : Builder) → Holds b held lists →
+          (told checked >>= λ s. fitting afterChecks (summed (replaced (b .plan) yard field text) (b .room))) ≡ replace b yard field text (spaceFor rooms out (b .plan) yard field text)
       agreed b h =
           ap (λ (r : Reply Spot). r >>= λ s. fitting afterChecks (summed (replaced (b .plan) yard field text) (b .room))) (e ∙ ap (checkedOf held rooms out yard field text) (sym same))
           ∙ checked-as b held lists h rooms (holds-standing b held lists h rooms boxes borders many texts bytes) out yard field text
@@ -154,7 +169,11 @@ module _ (held : Held) (rooms : Rooms) (out yard field : ℕ) (text : Text) (len
       replace-refused why is =
           record {
             answers = λ b h. (sym (agreed b h) ∙ ap (λ (x : Checked). told x >>= λ s. fitting afterChecks (summed (replaced (b .plan) yard field text) (b .room))) is, refl);
-            fallen = λ f. (let known : refused why ≡ refused (plain 28) = ap told (sym is) ∙ (e ∙ sym (fallen held rooms out yard field text lengths f)) in let same-why : why ≡ plain 28 = cc in ap C.Refused same-why, refl);
+            fallen = λ f. (
+              let known : refused why ≡ refused (plain 28) = ap told (sym is) ∙ (e ∙ sym (fallen held rooms out yard field text lengths f)) in
+                  let same-why : why ≡ plain 28 = cc in ap C.Refused same-why,
+              refl,
+            );
           }
 
       pub replace-put : (spot : Spot) → checked ≡ D.At spot → (after : Lists) (r : Changed) → Renews held spot text lists after r → Replaces held rooms out yard field text lists after r
@@ -164,15 +183,19 @@ module _ (held : Held) (rooms : Rooms) (out yard field : ℕ) (text : Text) (len
           let t = both (ltb yard (held .yards)) (ltb field (held .names)) (p .there) in
           record {
             answers = λ b h.
-                subst (λ (x : Reply Builder). Answers x lists after r) (ap (λ (x : Checked). told x >>= λ s. fitting afterChecks (summed (replaced (b .plan) yard field text) (b .room))) (sym at) ∙ agreed b h)
-                (renews b yard field h (omega (arith, held-yards b held lists h, ltb-true yard (held .yards) (t .0))) (omega (arith, held-names b held lists h, ltb-true field (held .names) (t .1))) (p .is-text) (p .is ∙ ap (spotIn (textAt (held .names) yard field)) (sym same)));
+                subst (λ (x : Reply Builder). Answers x lists after r)
+                (ap (λ (x : Checked). told x >>= λ s. fitting afterChecks (summed (replaced (b .plan) yard field text) (b .room))) (sym at) ∙ agreed b h)
+                (renews b yard field h (omega (arith, held-yards b held lists h, ltb-true yard (held .yards) (t .0)))
+                (omega (arith, held-names b held lists h, ltb-true field (held .names) (t .1))) (p .is-text) (p .is ∙ ap (spotIn (textAt (held .names) yard field)) (sym same)));
             fallen = λ f. let z : _≡_ {A = ℕ} 0 1 = (let no-way : true ≡ false = sym (p .stands) ∙ f in cc) in absurd (omega arith);
           }
 
 -- ---- the lists that were worked in had other items, and the same lengths
 pub idle-as : {starts keys spare kept held words places out starts₁ keys₁ spare₁ kept₁ held₁ words₁ places₁ out₁ starts′ keys′ spare′ kept′ held′ words′ places′ out′ : List ℕ}
-    → length starts₁ ≡ length starts → length keys₁ ≡ length keys → length spare₁ ≡ length spare → length kept₁ ≡ length kept → length held₁ ≡ length held → length words₁ ≡ length words → length places₁ ≡ length places → length out₁ ≡ length out
-    → Idle starts₁ keys₁ spare₁ kept₁ held₁ words₁ places₁ out₁ starts′ keys′ spare′ kept′ held′ words′ places′ out′ → Idle starts keys spare kept held words places out starts′ keys′ spare′ kept′ held′ words′ places′ out′
+    → length starts₁ ≡ length starts → length keys₁ ≡ length keys → length spare₁ ≡ length spare → length kept₁ ≡ length kept → length held₁ ≡ length held → length words₁ ≡ length words →
+    length places₁ ≡ length places → length out₁ ≡ length out
+    → Idle starts₁ keys₁ spare₁ kept₁ held₁ words₁ places₁ out₁ starts′ keys′ spare′ kept′ held′ words′ places′ out′ →
+    Idle starts keys spare kept held words places out starts′ keys′ spare′ kept′ held′ words′ places′ out′
 idle-as a b c d e f g h i =
     record {
       starts-zero = i .starts-zero ∙ ap zeros a;

@@ -1,6 +1,7 @@
 -- One text in the place of another, in a list that is zero behind its texts. Assumes nothing.
 use Prim.Native.Nat.{ℕ, _+_, _-_, _^_, _≤_, _<_}
-use lib.{ListN.{length, take, drop, replicate, length-append, length-replicate, length-take, length-drop, replicate-append-replicate}, Seq.{take-at, drop-at, sets-eq, drop-append-add, drop-drop, length-sets}}
+use lib.ListN.{length, take, drop, replicate, length-append, length-replicate, length-take, length-drop, replicate-append-replicate}
+use lib.Seq.{take-at, drop-at, sets-eq, drop-append-add, drop-drop, length-sets}
 use mathlib.Core.{List.{List, [], _∷_, _++_, append-assoc}, Path.{_≡_, refl, sym, ap, subst, _∙_}}
 use native.Mathlib.Omega.{arith}
 use Rattle.numbers.specs.Lists.{zeros}
@@ -111,7 +112,8 @@ module _ (place from strings : ℕ) (text texts out : List ℕ) (e : Exchanging 
           ∙ (ap (λ (l : List ℕ). l ++ (zeros (strings - end) ++ drop strings two)) low
           ∙ (ap (λ (l : List ℕ). new ++ (zeros (strings - end) ++ l)) high
           ∙ ap (λ (l : List ℕ). new ++ l) (replicate-append-replicate (strings - end) k 0))) in
-          let size : length three ≡ length new + ((strings - end) + k) = ap length whole ∙ (length-append new (zeros ((strings - end) + k)) ∙ ap (λ (n : ℕ). length new + n) (length-replicate ((strings - end) + k) 0)) in
+          let size : length three ≡ length new + ((strings - end) + k) =
+          ap length whole ∙ (length-append new (zeros ((strings - end) + k)) ∙ ap (λ (n : ℕ). length new + n) (length-replicate ((strings - end) + k) 0)) in
           let left : (strings - end) + k ≡ length three - length new = omega (arith, size) in
           record { room = omega (arith, size); is = whole ∙ ap (λ (n : ℕ). new ++ zeros n) left }
 

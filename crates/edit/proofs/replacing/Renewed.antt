@@ -16,7 +16,8 @@ use Rattle.build.specs.Metadata.Kept.{joined}
 use Rattle.numbers.specs.{Answer.{if_then_else_}, Reply.{Reply, given, refused, plain, demand, _>>_}, declared.refusal.Refusal.{Refusal}}
 use Rattle.writer.{specs.inner.Stored.{Stored}, proofs.Stores.{stored-front}}
 use Rattle.edit.proofs.replacing.Placed as P
-use Rattle.edit.specs.{inner.Replacing.{Exchange.{Exchanged}, Replaced.{PutIn, Renews, Resums, afterChecks, heldWith, resummed, sizeFits, spotUpTo, TakenBack}, Spot.{spotIn, textAt}}, Replacing.Replaced.{replaced}}
+use Rattle.edit.specs.inner.Replacing.{Exchange.{Exchanged}, Replaced.{PutIn, Renews, Resums, afterChecks, heldWith, resummed, sizeFits, spotUpTo, TakenBack}, Spot.{spotIn, textAt}}
+use Rattle.edit.specs.Replacing.Replaced.{replaced}
 use Rattle.edit.specs.declared.replacing.check.Spot.{Spot}
 
 -- ---- what is made of the sums
@@ -29,7 +30,8 @@ module _ (held : Held) (strings table metadata : ℕ) (greatest : ℤ) where
   unfolding resummed
   resum-long e = rw e refl
 
-module _ (b : Builder) (held : Held) (lists : Lists) (h : Holds b held lists) (yard field : ℕ) (text : Text) (y : yard < length (b .plan .yards)) (f : field < length (b .plan .names)) (t : isText text ≡ true) where
+module _ (b : Builder) (held : Held) (lists : Lists) (h : Holds b held lists) (yard field : ℕ) (text : Text) (y : yard < length (b .plan .yards)) (f : field < length (b .plan .names))
+    (t : isText text ≡ true) where
   abbrev plan : Plan
   plan = b .plan
 
@@ -73,7 +75,8 @@ module _ (b : Builder) (held : Held) (lists : Lists) (h : Holds b held lists) (y
   texts-were = subst (λ (l : List ℕ). Front 0 l (lists .texts)) (strings-around plan (b .room) (h .sound) yard field text y f) (h .lies .texts-are)
 
   -- ---- the new text is put in
-  module _ (lengths′ texts′ : List ℕ) (end : ℕ) (sized : lengths′ ≡ set (lists .lengths) (spot .index) (length text)) (put : Exchanged (spot .place) (spot .from) (held .strings) text (lists .texts) texts′ end) where
+  module _ (lengths′ texts′ : List ℕ) (end : ℕ) (sized : lengths′ ≡ set (lists .lengths) (spot .index) (length text))
+      (put : Exchanged (spot .place) (spot .from) (held .strings) text (lists .texts) texts′ end) where
     abbrev lists′ : Lists
     lists′ = listsAs (lists .boxes) (lists .borders) lengths′ texts′ (lists .bytes)
 
@@ -97,8 +100,10 @@ module _ (b : Builder) (held : Held) (lists : Lists) (h : Holds b held lists) (y
 
     -- the sums may be taken of it
     pub stands-now : (from to : ℕ) → from ≡ held .names + 1 → to ≡ held .names + 1 + held .names * held .yards
-        → Stands (plan′ .yards) (dataOf plan′) (held .names) (held .yards) (lists .boxes) (lists .borders) (take (to - from) (drop from lengths′)) (take (end - held .front) (drop (held .front) texts′))
-    stands-now from to ef et = stands-more plan′ (b .room) sound′ lists′ lies′ (held .names) (held .yards) from to (held .front) end (held-names b held lists h) same-yards ef et (held-front b held lists h) end-is
+        → Stands (plan′ .yards) (dataOf plan′) (held .names) (held .yards) (lists .boxes) (lists .borders) (take (to - from) (drop from lengths′))
+        (take (end - held .front) (drop (held .front) texts′))
+    stands-now from to ef et =
+        stands-more plan′ (b .room) sound′ lists′ lies′ (held .names) (held .yards) from to (held .front) end (held-names b held lists h) same-yards ef et (held-front b held lists h) end-is
 
     -- ---- with its sums it is the builder of the definition
     abbrev sums : Totals
@@ -166,7 +171,8 @@ module _ (b : Builder) (held : Held) (lists : Lists) (h : Holds b held lists) (y
       texts-back : length texts″ ≡ length (lists .texts) → texts″ ≡ lists .texts
       texts-back long = front-one 0 texts-were texts-again long
 
-      unchanged : length texts″ ≡ length (lists .texts) → (why : Refusal) → C.Refused why ≡ sum → Answers (fitting afterChecks next) lists (listsAs (lists .boxes) (lists .borders) lengths″ texts″ (lists .bytes)) (C.Refused why)
+      unchanged : length texts″ ≡ length (lists .texts) → (why : Refusal) → C.Refused why ≡ sum →
+          Answers (fitting afterChecks next) lists (listsAs (lists .boxes) (lists .borders) lengths″ texts″ (lists .bytes)) (C.Refused why)
       unfolding Answers fitting
       unchanged long why e = go fit fit-is
         where
@@ -188,31 +194,39 @@ module _ (b : Builder) (held : Held) (lists : Lists) (h : Holds b held lists) (y
 -- ---- as the functions say it
 module _ (held : Held) (spot : Spot) (text : Text) (lists : Lists) (lengths′ texts′ : List ℕ) (end : ℕ) (p : PutIn spot (held .strings) text (lists .lengths) (lists .texts) lengths′ texts′ end)
     (r : Changed) (sums : Resums held end (lists .boxes) (lists .borders) lengths′ texts′ r) where
-  renews-into : length texts′ ≡ length (lists .texts) → (held′ : Held) → r ≡ C.Into held′ → Renews held spot text lists (listsAs (lists .boxes) (lists .borders) lengths′ texts′ (lists .bytes)) (C.Into held′)
+  renews-into : length texts′ ≡ length (lists .texts) → (held′ : Held) → r ≡ C.Into held′ →
+      Renews held spot text lists (listsAs (lists .boxes) (lists .borders) lengths′ texts′ (lists .bytes)) (C.Into held′)
   unfolding Renews Resums
   renews-into long held′ into =
       λ b yard field h y f t e.
-      let q : PutIn (spotIn (textAt (held .names) yard field) (lists .lengths)) (held .strings) text (lists .lengths) (lists .texts) lengths′ texts′ end = subst (λ (s : Spot). PutIn s (held .strings) text (lists .lengths) (lists .texts) lengths′ texts′ end) e p in
+      let q : PutIn (spotIn (textAt (held .names) yard field) (lists .lengths)) (held .strings) text (lists .lengths) (lists .texts) lengths′ texts′ end =
+      subst (λ (s : Spot). PutIn s (held .strings) text (lists .lengths) (lists .texts) lengths′ texts′ end) e p in
       renewed b held lists h yard field text y f t lengths′ texts′ end (q .sized) (q .put) long held′
-      (sym into ∙ sums (replaced (b .plan) yard field text .yards) (dataOf (replaced (b .plan) yard field text)) (stands-now b held lists h yard field text y f t lengths′ texts′ end (q .sized) (q .put) (held .names + 1) (held .names + 1 + held .names * held .yards) refl refl))
+      (sym into ∙ sums (replaced (b .plan) yard field text .yards) (dataOf (replaced (b .plan) yard field text))
+      (stands-now b held lists h yard field text y f t lengths′ texts′ end (q .sized) (q .put) (held .names + 1) (held .names + 1 + held .names * held .yards) refl refl))
 
   renews-refused : (saved lengths″ texts″ : List ℕ) (end″ : ℕ) → saved ≡ take (spot .from - spot .place) (drop (spot .place) (lists .texts))
       → PutIn (spotUpTo spot (length text)) end saved lengths′ texts′ lengths″ texts″ end″
-      → length texts″ ≡ length (lists .texts) → (why : Refusal) → r ≡ C.Refused why → Renews held spot text lists (listsAs (lists .boxes) (lists .borders) lengths″ texts″ (lists .bytes)) (C.Refused why)
+      → length texts″ ≡ length (lists .texts) → (why : Refusal) → r ≡ C.Refused why →
+      Renews held spot text lists (listsAs (lists .boxes) (lists .borders) lengths″ texts″ (lists .bytes)) (C.Refused why)
   unfolding Renews Resums
   renews-refused saved lengths″ texts″ end″ kept again long why stays =
       λ b yard field h y f t e.
       let here : Spot = spotIn (textAt (held .names) yard field) (lists .lengths) in
-      let q : PutIn here (held .strings) text (lists .lengths) (lists .texts) lengths′ texts′ end = subst (λ (s : Spot). PutIn s (held .strings) text (lists .lengths) (lists .texts) lengths′ texts′ end) e p in
+      let q : PutIn here (held .strings) text (lists .lengths) (lists .texts) lengths′ texts′ end =
+      subst (λ (s : Spot). PutIn s (held .strings) text (lists .lengths) (lists .texts) lengths′ texts′ end) e p in
       let k : saved ≡ take (here .from - here .place) (drop (here .place) (lists .texts)) = subst (λ (s : Spot). saved ≡ take (s .from - s .place) (drop (s .place) (lists .texts))) e kept in
-      let a : PutIn (spotUpTo here (length text)) end saved lengths′ texts′ lengths″ texts″ end″ = subst (λ (s : Spot). PutIn (spotUpTo s (length text)) end saved lengths′ texts′ lengths″ texts″ end″) e again in
+      let a : PutIn (spotUpTo here (length text)) end saved lengths′ texts′ lengths″ texts″ end″ =
+      subst (λ (s : Spot). PutIn (spotUpTo s (length text)) end saved lengths′ texts′ lengths″ texts″ end″) e again in
       unchanged b held lists h yard field text y f t lengths′ texts′ end (q .sized) (q .put) saved lengths″ texts″ end″ k (a .sized) (a .put) long why
-      (sym stays ∙ sums (replaced (b .plan) yard field text .yards) (dataOf (replaced (b .plan) yard field text)) (stands-now b held lists h yard field text y f t lengths′ texts′ end (q .sized) (q .put) (held .names + 1) (held .names + 1 + held .names * held .yards) refl refl))
+      (sym stays ∙ sums (replaced (b .plan) yard field text .yards) (dataOf (replaced (b .plan) yard field text))
+      (stands-now b held lists h yard field text y f t lengths′ texts′ end (q .sized) (q .put) (held .names + 1) (held .names + 1 + held .names * held .yards) refl refl))
 
 -- what was refused is taken back
 pub renews : (held : Held) (spot : Spot) (text : Text) (lists : Lists) (lengths′ texts′ : List ℕ) (end : ℕ) → PutIn spot (held .strings) text (lists .lengths) (lists .texts) lengths′ texts′ end
     → (r : Changed) → Resums held end (lists .boxes) (lists .borders) lengths′ texts′ r
-    → (saved lengths″ texts″ : List ℕ) (r″ : Changed) → saved ≡ take (spot .from - spot .place) (drop (spot .place) (lists .texts)) → TakenBack r (spotUpTo spot (length text)) end saved lengths′ texts′ lengths″ texts″ r″
+    → (saved lengths″ texts″ : List ℕ) (r″ : Changed) → saved ≡ take (spot .from - spot .place) (drop (spot .place) (lists .texts)) →
+    TakenBack r (spotUpTo spot (length text)) end saved lengths′ texts′ lengths″ texts″ r″
     → length texts″ ≡ length (lists .texts) → Renews held spot text lists (listsAs (lists .boxes) (lists .borders) lengths″ texts″ (lists .bytes)) r″
 unfolding TakenBack
 renews held spot text lists lengths′ texts′ end p (C.Into held′) sums saved lengths″ texts″ r″ kept back long =

@@ -32,9 +32,11 @@ module _ (held : Held) (strings : ℕ) (sums : Sums) where
 
 -- what is lent of the lists
 pub summing : (held : Held) (strings : ℕ) (lengths texts : List ℕ) (borders : ℕ) (work : Work) → Resumming held strings borders (length lengths) (length texts) work
-    → Summing (held .names) (held .yards) (length (take (held .names + 1 + held .names * held .yards - (held .names + 1)) (drop (held .names + 1) lengths))) borders (length (take (strings - held .front) (drop (held .front) texts))) work
+    → Summing (held .names) (held .yards) (length (take (held .names + 1 + held .names * held .yards - (held .names + 1)) (drop (held .names + 1) lengths))) borders
+    (length (take (strings - held .front) (drop (held .front) texts))) work
 summing held strings lengths texts borders work r =
-    let all : length (take (held .names + 1 + held .names * held .yards - (held .names + 1)) (drop (held .names + 1) lengths)) ≡ held .names * held .yards = simp (length-take, length-drop) (omega (arith, r .lengths-room)) in
+    let all : length (take (held .names + 1 + held .names * held .yards - (held .names + 1)) (drop (held .names + 1) lengths)) ≡ held .names * held .yards =
+    simp (length-take, length-drop) (omega (arith, r .lengths-room)) in
     let size : length (take (strings - held .front) (drop (held .front) texts)) ≡ strings - held .front = simp (length-take, length-drop) (omega (arith, r .texts-room, r .front-first)) in
     record { named = r .few-names; few = r .few-yards; all = all; bordered = r .borders-room; room = ap (λ (n : ℕ). enough work (held .yards) (held .names * held .yards) n) size ∙ r .room }
 
@@ -44,7 +46,8 @@ broken-tag S.Broken tag sums e = let z : _≡_ {A = ℕ} 0 1 = cc in omega arith
 
 module _ (held : Held) (strings : ℕ) (boxes : List ℤ) (borders lengths texts : List ℕ) (s : Summed) {places : List ℕ}
     (sums : (yards : List Yard) (drawn : Drawn)
-    → Stands yards drawn (held .names) (held .yards) boxes borders (take (held .names + 1 + held .names * held .yards - (held .names + 1)) (drop (held .names + 1) lengths)) (take (strings - held .front) (drop (held .front) texts))
+    → Stands yards drawn (held .names) (held .yards) boxes borders (take (held .names + 1 + held .names * held .yards - (held .names + 1)) (drop (held .names + 1) lengths))
+    (take (strings - held .front) (drop (held .front) texts))
     → SumsUp yards drawn places s) where
   pub resums-broken : tagOf (declared K.enum) s ≡ 1 → (r : Changed) → Resums held strings boxes borders lengths texts r
   unfolding Resums

@@ -9,7 +9,6 @@ use Rattle.builder.{proofs.Counting.{lengths-room}, specs.{File.{isText}, Yards
 use Rattle.draft.specs.{Held.Space.{longEnough, ownEnough, standing}, declared.held.{room.Rooms.{Rooms}, state.Held.{Held}}}
 use Rattle.numbers.specs.Reply.{Reply, given, refused, plain, demand, _>>=_, _>>_}
 use Rattle.edit.specs.{inner.Replacing.Spot.{textAt, spotIn, within, sizeWith, checkedOf, told}, declared.replacing.check.{Spot.{Spot}, Checked.{Checked}}}
-use Rattle.edit.specs.declared.replacing.check.Checked.the-variants as C
 
 -- ---- the index of a value
 pub index-inside : (names yards yard field : ℕ) → yard < yards → field < names → textAt names yard field < names + 1 + names * yards
@@ -20,7 +19,8 @@ pub index-few : (names yards yard field : ℕ) → names ≤ 255 → yards ≤ 4
 index-few names yards yard field a b h k = omega (arith, index-inside names yards yard field h k, lengths-room names yards a b)
 
 -- ---- a spot
-pub spot-is : (index : ℕ) (lengths : List ℕ) (place : ℕ) → place ≡ sumOf (take index lengths) → _≡_ {A = Spot} (record { index = index; place = place; from = place + getD lengths index 0 }) (spotIn index lengths)
+pub spot-is : (index : ℕ) (lengths : List ℕ) (place : ℕ) → place ≡ sumOf (take index lengths) →
+    _≡_ {A = Spot} (record { index = index; place = place; from = place + getD lengths index 0 }) (spotIn index lengths)
 spot-is index lengths place e = ap (λ (n : ℕ). record { index = index; place = n; from = n + getD lengths index 0 }) e
 
 pub spot-ordered : (index : ℕ) (lengths : List ℕ) (spot : Spot) → spot ≡ spotIn index lengths → spot .place ≤ spot .from

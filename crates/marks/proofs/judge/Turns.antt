@@ -1,155 +1,196 @@
--- The loops over the points of a stretch and over the stretches of a border, turn by turn. Assumes nothing.
-use Prim.Native.Nat.{ℕ, zero, suc, _+_, _-_, _/_, _≤_, _<_}
-use borrow.Author.Tests.{lt-ltb, le-ltb, le-leb, lt-leb}
-use lib.{IntN.{pos}, ListN.{length}}
+-- The loops over the stretches and the groups of a border, turn by turn, and the distance to begin with. Assumes nothing.
+use Prim.Native.Nat.{ℕ, zero, suc, _+_, _-_, _*_, _/_, _≤_, _<_, min}
+use borrow.Author.Tests.{ltb-true, ltb-false, lt-ltb, le-ltb, le-leb, lt-leb}
+use lib.{Dec.{ltb, leb}, IntN.{pos}, ListN.{length}}
 use native.Mathlib.Omega.{arith}
-use mathlib.Core.{Path.{_≡_, refl, sym, ap, _∙_}, Bool.{true, false, and-false}, List.{List, [], _∷_}}
+use mathlib.Core.{Path.{_≡_, refl, sym, ap, _∙_, subst}, Bool.{Bool, true, false, _&&_, and-false}, List.{List, [], _∷_}}
 use types.Run.{OneOf, miss}
 use denote.Enum.Declared.{tagOf}
-use Rattle.border.specs.{Trace.{reaches, nextPoint}, declared.{place.{FixedLat.{FixedLat}, FixedLon.{FixedLon}, Point.{Point}}, reader.{Reader.{Reader}, Next.{Next}, Encoding.{Encoding}}}}
-use Rattle.verdict.specs.{Step.{Step, found, told, _>>=_}, Edge.{samePoint, inBox}, Verdict.{Judgement, reached, refused, after, along, passing, closedAt, thenOn}}
+use Rattle.border.specs.{Trace.{traceOf}, declared.{place.{FixedLat.{FixedLat}, FixedLon.{FixedLon}, Point.{Point}}, reader.{Reader.{Reader}, Encoding.{Encoding}}}}
+use Rattle.verdict.specs.{Step.{Step, found, told, _>>=_}, Edge.{samePoint}, Distance.{toVertex}, Stretch.{leapt, passingFirst}}
+use Rattle.verdict.specs.Verdict.{Judgement, refused, onBorder, after, along, passing, closedAt, thenOn}
 use Rattle.verdict.specs.declared.step.{Tally.{Tally}, Passed.{Passed}, Verdict.the-variants.{OnBorderVertex}}
-use Rattle.marks.specs.{Judging.{readOn, stretchBy, endIn, stretchesBy, isInside, judgedBy}, Marks.{nextOr, stretchEdges}, Words.{wordAt, lowIn, highIn, startIn, stateIn}}
-use Rattle.border.specs.inner.Told as R
-use Rattle.numbers.specs.Answer as A
-use Rattle.border.specs.declared.reader.Next.the-variants as N
-use Rattle.border.proofs.reader.Next as Next'
+use Rattle.marks.specs.Judging.{canPass, stretchBy, endIn, pointsBy, stretchesBy, groupsBy, isInside, countIn, judgedFrom, nearerBy, nearestOf, nearIn, isBelow, judgedBy}
+use Rattle.marks.specs.{Marks.{stretchEdges, groupWide, groupsOf}, Words.{wordAt, lowIn, highIn, startIn, stateIn}}
+use Rattle.marks.proofs.Nearest.{near-less}
+use Rattle.numbers.proofs.Tests.{both}
+use Rattle.numbers.specs.Answer.{if_then_else_}
 use Rattle.verdict.proofs.step.Passed as Passed'
 use Rattle.verdict.specs.declared.step.Passed.the-variants as P
 
 -- ---- what a `let .. else` leaves
-pub none-next : {A : Type 0} (next : Next) (none : A) (go : Reader → A) → OneOf (1 ∷ 2 ∷ 3 ∷ []) (tagOf Next'.the-type next) → nextOr (R.told next) none go ≡ none
-unfolding nextOr
-none-next (N.Point s) none go o = absurd (miss (1 ∷ 2 ∷ 3 ∷ []) 0 tt o)
-none-next N.Ended none go o = refl
-none-next N.Failed none go o = refl
-none-next (N.Refused n) none go o = refl
-
 pub stays-stopped : (p : Passed) (go : Tally → Step Tally) → OneOf (1 ∷ 2 ∷ []) (tagOf Passed'.the-type p) → told p ≡ (told p >>= go)
 stays-stopped (P.On t) go o = absurd (miss (1 ∷ 2 ∷ []) 0 tt o)
 stays-stopped (P.Meets v) go o = refl
 stays-stopped P.Over go o = refl
 
-pub decides : (p : Passed) (least : ℕ) (go : Tally → Judgement) → OneOf (1 ∷ 2 ∷ []) (tagOf Passed'.the-type p) → thenOn false least (told p) (λ tally. refused 13) ≡ thenOn false least (told p) go
+pub decides : (p : Passed) (asked : Bool) (least : ℕ) (go : Tally → Judgement) → OneOf (1 ∷ 2 ∷ []) (tagOf Passed'.the-type p)
+    → thenOn asked least (told p) (λ tally. refused 13) ≡ thenOn asked least (told p) go
 unfolding thenOn
-decides (P.On t) least go o = absurd (miss (1 ∷ 2 ∷ []) 0 tt o)
-decides (P.Meets v) least go o = refl
-decides P.Over least go o = refl
+decides (P.On t) asked least go o = absurd (miss (1 ∷ 2 ∷ []) 0 tt o)
+decides (P.Meets v) asked least go o = refl
+decides P.Over asked least go o = refl
 
--- ---- the points of a stretch
-module _ (file : List ℕ) (encoding : Encoding) (fix : Point) where
-  -- after so many edges, what is left comes to what the whole stretch comes to
-  pub record Reading (start : Reader) (tally : Tally) (reader : Reader) (counted : Tally) (n : ℕ) : Type 0 where
-    pub left : ℕ
-    pub sum : n + left ≡ 128
-    pub same : readOn file encoding fix left reader counted ≡ readOn file encoding fix stretchEdges start tally
+-- ---- the stretches of a border
+module _ (file : List ℕ) (encoding : Encoding) (fix : Point) (asked : Bool) (words : List ℕ) (first : Point) where
+  -- one that is passed as an edge, and one that is not
+  module _ (at : ℕ) (to : Point) (inside : Tally → Step Tally) (t : Tally) {b : Bool} (is : b ≡ canPass fix asked (t .least) (lowIn words at) (highIn words at)) {m : Step Tally} where
+    pub stretch-passed : b ≡ true → {from : Point} → from ≡ startIn words at → m ≡ leapt fix from to t → m ≡ stretchBy file encoding fix asked words first at to inside t
+    unfolding stretchBy
+    stretch-passed h f e = e ∙ (λ i. leapt fix (f i) to t) ∙ rw (sym is ∙ h)
 
-  module _ {start : Reader} {tally : Tally} where
-    pub reading-starts : Reading start tally start tally 0
-    unfolding stretchEdges
-    reading-starts = record { left = stretchEdges; sum = refl; same = refl }
+    pub stretch-entered : b ≡ false → m ≡ inside t → m ≡ stretchBy file encoding fix asked words first at to inside t
+    unfolding stretchBy
+    stretch-entered h e = e ∙ rw (sym is ∙ h)
 
-    module _ {reader : Reader} {counted : Tally} {n : ℕ} (r : Reading start tally reader counted n) where
-      pub reading-ends : 128 ≤ n → found counted ≡ readOn file encoding fix stretchEdges start tally
-      unfolding readOn
-      reading-ends h = go (r .left) (omega (arith, h, r .sum)) (r .same)
-        where
-          go : (left : ℕ) → left ≡ 0 → readOn file encoding fix left reader counted ≡ readOn file encoding fix stretchEdges start tally
-              → found counted ≡ readOn file encoding fix stretchEdges start tally
-          go zero e same = same
-          go (suc k) e same = absurd (omega (arith, e))
+  -- the points of a stretch, by its state
+  pub points-read : (at : ℕ) (t : Tally) {s : Reader} → s ≡ stateIn words at first → {m : Step Tally} → m ≡ passingFirst fix asked 128 (after (s .point)) (traceOf file encoding s) t
+      → m ≡ pointsBy file encoding fix asked words first at t
+  unfolding stretchEdges
+  points-read at t s e = e ∙ (λ i. passingFirst fix asked 128 (after (s i .point)) (traceOf file encoding (s i)) t)
 
-      module _ (more : n < 128) where
-        abbrev fuel : ℕ
-        fuel = r .left - 1
+  pub stretches-done : (left at : ℕ) (to : Point) (t : Tally) → left ≡ 0 → found t ≡ stretchesBy file encoding fix asked words first left at to t
+  unfolding stretchesBy
+  stretches-done zero at to t e = refl
+  stretches-done (suc k) at to t e = absurd (omega (arith, e))
 
-        whole : readOn file encoding fix (suc fuel) reader counted ≡ readOn file encoding fix stretchEdges start tally
-        whole =
-            let e : suc fuel ≡ r .left = omega (arith, more, r .sum) in
-            ap (λ (k : ℕ). readOn file encoding fix k reader counted) e ∙ r .same
+  pub stretches-next : (left at : ℕ) (to : Point) (t : Tally) → 0 < left
+      → (stretchBy file encoding fix asked words first at (endIn words to (left - 1) at) (pointsBy file encoding fix asked words first at) t
+      >>= stretchesBy file encoding fix asked words first (left - 1) (at + 11) to)
+      ≡ stretchesBy file encoding fix asked words first left at to t
+  unfolding stretchesBy
+  stretches-next zero at to t h = absurd (omega (arith, h))
+  stretches-next (suc k) at to t h = let e : suc k - 1 ≡ k = omega arith in rw e
 
-        pub reading-none : (next : Next) → R.told next ≡ nextPoint file encoding reader → OneOf (1 ∷ 2 ∷ 3 ∷ []) (tagOf Next'.the-type next)
-            → found counted ≡ readOn file encoding fix stretchEdges start tally
-        unfolding readOn
-        reading-none next e o =
-            sym (none-next next (found counted) (λ t. passing fix false (after (reader .point)) (t .point) counted >>= readOn file encoding fix fuel t) o) ∙ rw e whole
+  pub groups-done : (groups at left fine : ℕ) (t : Tally) → groups ≡ 0 → found t ≡ groupsBy file encoding fix asked words first groups at left fine t
+  unfolding groupsBy
+  groups-done zero at left fine t e = refl
+  groups-done (suc k) at left fine t e = absurd (omega (arith, e))
 
-        module _ (later : Reader) (is : A.found (reaches later) ≡ nextPoint file encoding reader) where
-          here : (passing fix false (after (reader .point)) (later .point) counted >>= readOn file encoding fix fuel later) ≡ readOn file encoding fix stretchEdges start tally
-          unfolding readOn nextOr
-          here = rw (← is) at whole
+  pub groups-next : (groups at left fine : ℕ) (t : Tally) → 0 < groups → {few : ℕ} → few ≡ min groupWide left → {to : Point} → to ≡ endIn words first (groups - 1) at
+      → (stretchBy file encoding fix asked words first at to (stretchesBy file encoding fix asked words first few fine to) t
+      >>= groupsBy file encoding fix asked words first (groups - 1) (at + 11) (left - few) (fine + few * 11))
+      ≡ groupsBy file encoding fix asked words first groups at left fine t
+  unfolding groupsBy
+  groups-next zero at left fine t h f e = absurd (omega (arith, h))
+  groups-next (suc k) at left fine t h f e =
+      let z : suc k - 1 ≡ k = omega arith in
+      (λ i. stretchBy file encoding fix asked words first at (e i) (stretchesBy file encoding fix asked words first (f i) fine (e i)) t
+      >>= groupsBy file encoding fix asked words first (suc k - 1) (at + 11) (left - f i) (fine + f i * 11))
+      ∙ rw z
 
-          pub reading-stops : (p : Passed) → told p ≡ passing fix false (after (reader .point)) (later .point) counted → OneOf (1 ∷ 2 ∷ []) (tagOf Passed'.the-type p)
-              → told p ≡ readOn file encoding fix stretchEdges start tally
-          reading-stops p e o = stays-stopped p (readOn file encoding fix fuel later) o ∙ ap (λ (m : Step Tally). m >>= readOn file encoding fix fuel later) e ∙ here
+-- ---- how many marks there are
+module _ (words : List ℕ) (at : ℕ) where
+  pub no-words : length words ≤ at → 0 ≡ countIn words at
+  unfolding countIn
+  no-words h = rw (le-ltb at (length words) h)
 
-          pub reading-on : (t : Tally) → found t ≡ passing fix false (after (reader .point)) (later .point) counted → Reading start tally later t (n + 1)
-          reading-on t e =
-              record {
-                left = fuel;
-                sum = omega (arith, more, r .sum);
-                same = ap (λ (m : Step Tally). m >>= readOn file encoding fix fuel later) e ∙ here;
-              }
+  pub no-room : (length words - (at + 1)) / 11 < wordAt words at + groupsOf (wordAt words at) → 0 ≡ countIn words at
+  unfolding countIn
+  no-room h = simp (lt-leb (wordAt words at + groupsOf (wordAt words at)) ((length words - (at + 1)) / 11) h, and-false)
 
-  -- ---- the stretches of a border
-  module _ (words : List ℕ) (first : Point) where
-    -- one that is read, and one that is passed as an edge
-    module _ (at : ℕ) (to : Point) (t : Tally) {low high : Point} (l : low ≡ lowIn words at) (h : high ≡ highIn words at) {m : Step Tally} where
-      pub stretch-read : inBox low fix high ≡ true → {s : Reader} → s ≡ stateIn words at first → m ≡ readOn file encoding fix stretchEdges s t → m ≡ stretchBy file encoding fix words first at to t
-      unfolding stretchBy
-      stretch-read b s e =
-          let test = (λ i. inBox (sym l i) fix (sym h i)) ∙ b in
-          e ∙ (λ i. readOn file encoding fix stretchEdges (s i) t) ∙ rw test
+  -- a word that says 0 says so
+  pub room-for : at < length words → wordAt words at + groupsOf (wordAt words at) ≤ (length words - (at + 1)) / 11 → wordAt words at ≡ countIn words at
+  unfolding countIn
+  room-for more room = go (ltb 0 (wordAt words at)) refl
+    where
+      go : (b : Bool) → ltb 0 (wordAt words at) ≡ b → wordAt words at ≡ (if (ltb at (length words) && (b && leb (wordAt words at + groupsOf (wordAt words at)) ((length words - (at + 1)) / 11))) then wordAt words at else 0)
+      go true e = rw (lt-ltb at (length words) more, le-leb (wordAt words at + groupsOf (wordAt words at)) ((length words - (at + 1)) / 11) room)
+      go false e = let none = ltb-false 0 (wordAt words at) e in rw (lt-ltb at (length words) more) (omega (arith, none))
 
-      pub stretch-passed : inBox low fix high ≡ false → {from : Point} → from ≡ startIn words at → m ≡ passing fix false (after from) to t → m ≡ stretchBy file encoding fix words first at to t
-      unfolding stretchBy
-      stretch-passed b f e =
-          let test = (λ i. inBox (sym l i) fix (sym h i)) ∙ b in
-          e ∙ (λ i. passing fix false (after (f i)) to t) ∙ rw test
+  none-in : countIn words at ≡ 0 → isInside words at ≡ false
+  unfolding countIn
+  none-in e = go (isInside words at) refl e
+    where
+      go : (b : Bool) → isInside words at ≡ b → (if b then wordAt words at else 0) ≡ 0 → isInside words at ≡ false
+      go true i e =
+          let two = both (ltb at (length words)) (ltb 0 (wordAt words at) && leb (wordAt words at + groupsOf (wordAt words at)) ((length words - (at + 1)) / 11)) i in
+          let some = ltb-true 0 (wordAt words at) (both (ltb 0 (wordAt words at)) (leb (wordAt words at + groupsOf (wordAt words at)) ((length words - (at + 1)) / 11)) (two .1) .0) in
+          absurd (omega (arith, some, e))
+      go false i e = i
 
-    pub stretches-done : (left at : ℕ) (t : Tally) → left ≡ 0 → closedAt false t ≡ stretchesBy file encoding fix words first left at t
-    unfolding stretchesBy
-    stretches-done zero at t e = refl
-    stretches-done (suc k) at t e = absurd (omega (arith, e))
+  some-in : 0 < countIn words at → (isInside words at ≡ true) × (countIn words at ≡ wordAt words at)
+  unfolding countIn
+  some-in h = go (isInside words at) refl h
+    where
+      go : (b : Bool) → isInside words at ≡ b → 0 < (if b then wordAt words at else 0) → (isInside words at ≡ true) × ((if b then wordAt words at else 0) ≡ wordAt words at)
+      go true i h = (i, refl)
+      go false i h = absurd (omega (arith, h))
 
-    pub stretches-next : (left at : ℕ) (t : Tally) → 0 < left
-        → thenOn false (t .least) (stretchBy file encoding fix words first at (endIn words first (left - 1) at) t) (stretchesBy file encoding fix words first (left - 1) (at + 11))
-        ≡ stretchesBy file encoding fix words first left at t
-    unfolding stretchesBy
-    stretches-next zero at t h = absurd (omega (arith, h))
-    stretches-next (suc k) at t h = let e : suc k - 1 ≡ k = omega arith in rw e
+-- ---- from a least distance on
+module _ (file : List ℕ) (encoding : Encoding) (words : List ℕ) (at : ℕ) (fix : Point) (asked : Bool) (least n : ℕ) (is : n ≡ countIn words at) where
+  abbrev by : Judgement
+  by = judgedFrom file encoding words at fix asked least
+
+  pub from-none : n ≡ 0 → refused 36 ≡ by
+  unfolding judgedFrom
+  from-none e = rw (none-in words at (sym is ∙ e))
+
+  module _ (some : 0 < n) where
+    there : (isInside words at ≡ true) × (countIn words at ≡ wordAt words at)
+    there = some-in words at (subst (λ (k : ℕ). 0 < k) is some)
+
+    pub from-vertex : {first : Point} → first ≡ startIn words (at + 1) → samePoint first fix ≡ true → onBorder OnBorderVertex asked least ≡ by
+    unfolding judgedFrom passing thenOn
+    from-vertex e same = let test = (λ i. samePoint (sym e i) fix) ∙ same in rw (there .0, test)
+
+    pub from-groups : {first : Point} → first ≡ startIn words (at + 1) → samePoint first fix ≡ false
+        → thenOn asked least (groupsBy file encoding fix asked words first (groupsOf n) (at + 1 + n * 11) n (at + 1) (record { winding = pos 0; least = least })) (closedAt asked) ≡ by
+    unfolding judgedFrom passing along
+    from-groups e other =
+        let test = (λ i. samePoint (sym e i) fix) ∙ other in
+        let count = is ∙ there .1 in
+        (λ i. thenOn asked least (groupsBy file encoding fix asked words (e i) (groupsOf (count i)) (at + 1 + count i * 11) (count i) (at + 1) (record { winding = pos 0; least = least })) (closedAt asked))
+        ∙ rw (there .0, test)
+
+-- ---- a distance to begin with
+pub nearest-done : (words : List ℕ) (fix : Point) (left at near : ℕ) → left ≡ 0 → near ≡ nearestOf words fix left at near
+unfolding nearestOf
+nearest-done words fix zero at near e = refl
+nearest-done words fix (suc k) at near e = absurd (omega (arith, e))
+
+pub nearest-next : (words : List ℕ) (fix : Point) (left at near : ℕ) → 0 < left
+    → nearestOf words fix (left - 1) (at + 11) (nearerBy (toVertex (startIn words at) fix) near) ≡ nearestOf words fix left at near
+unfolding nearestOf
+nearest-next words fix zero at near h = absurd (omega (arith, h))
+nearest-next words fix (suc k) at near h = let e : suc k - 1 ≡ k = omega arith in rw e
 
 -- ---- all of it
-module _ (file : List ℕ) (encoding : Encoding) (words : List ℕ) (at : ℕ) (lat : FixedLat) (lon : FixedLon) (least : ℕ) where
-  abbrev by : Judgement
-  by = judgedBy file encoding words at lat lon least
-
+module _ (file : List ℕ) (encoding : Encoding) (words : List ℕ) (at : ℕ) (lat : FixedLat) (lon : FixedLon) (asked : Bool) (least : ℕ) where
   abbrev fix : Point
   fix = record { lat = lat; lon = lon }
 
-  pub no-words : length words ≤ at → refused 36 ≡ by
-  unfolding judgedBy
-  no-words h = rw (le-ltb at (length words) h)
+  abbrev near : ℕ
+  near = nearIn words at fix asked least
 
-  pub no-count : wordAt words at ≡ 0 → refused 36 ≡ by
-  unfolding judgedBy
-  no-count e = simp (e, and-false)
+  abbrev judged : ℕ → Judgement
+  judged = judgedFrom file encoding words at fix asked
 
-  pub no-room : (length words - (at + 1)) / 11 < wordAt words at → refused 36 ≡ by
-  unfolding judgedBy
-  no-room h = simp (lt-leb (wordAt words at) ((length words - (at + 1)) / 11) h, and-false)
+  abbrev by-all : Judgement
+  by-all = judgedBy file encoding words at lat lon asked least
 
-  module _ (more : at < length words) (some : 0 < wordAt words at) (room : wordAt words at ≤ (length words - (at + 1)) / 11) where
-    inside : isInside words at ≡ true
-    inside = rw (lt-ltb at (length words) more, lt-ltb 0 (wordAt words at) some, le-leb (wordAt words at) ((length words - (at + 1)) / 11) room)
+  -- with the distance that was found, and what it led to
+  module _ {n : ℕ} (e : n ≡ near) where
+    -- where it is no less to begin with
+    pub from-same : least ≤ n → judged least ≡ by-all
+    unfolding judgedBy
+    from-same h = either (isBelow near (judged near)) (ap judged (omega (arith, h, e, near-less words at fix asked least)))
+      where
+        either : (b : Bool) → judged least ≡ judged near → judged least ≡ (if b then judged near else judged least)
+        either true e = e
+        either false e = refl
 
-    pub at-vertex : {first : Point} → first ≡ startIn words (at + 1) → samePoint first fix ≡ true → reached OnBorderVertex least ≡ by
-    unfolding judgedBy passing thenOn
-    at-vertex e same = let test = (λ i. samePoint (sym e i) fix) ∙ same in rw (inside, test)
+    module _ {j : Judgement} (g : j ≡ judged n) where
+      led : j ≡ judged near
+      led = g ∙ ap judged e
 
-    pub by-stretches : {first : Point} → first ≡ startIn words (at + 1) → samePoint first fix ≡ false
-        → stretchesBy file encoding fix words first (wordAt words at) (at + 1) (record { winding = pos 0; least = least }) ≡ by
-    unfolding judgedBy passing along thenOn
-    by-stretches e other =
-        let test = (λ i. samePoint (sym e i) fix) ∙ other in
-        (λ i. stretchesBy file encoding fix words (e i) (wordAt words at) (at + 1) (record { winding = pos 0; least = least })) ∙ rw (inside, test)
+      tested : (b : Bool) → isBelow n j ≡ b → isBelow near (judged near) ≡ b
+      tested b h = sym (λ i. isBelow (e i) (led i)) ∙ h
+
+      pub from-near : isBelow n j ≡ true → j ≡ by-all
+      unfolding judgedBy
+      from-near h = led ∙ rw (tested true h)
+
+      pub from-least : isBelow n j ≡ false → judged least ≡ by-all
+      unfolding judgedBy
+      from-least h = rw (tested false h)

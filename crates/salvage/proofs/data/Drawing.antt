@@ -36,7 +36,8 @@ module _ (file : List ℕ) (head : Head) where
   border-drawn r {now} {after} {at} {next} {place} {encoding} good e p c =
       let same = subst (λ (n : ℕ). Copied (movesBytes (encodingIn file head .version)) (closedMoves file (encodingIn file head) n) now at after next) p
       (subst (λ (x : Encoding). Copied (movesBytes (x .version)) (closedMoves file x place) now at after next) e c) in
-      subst (λ (a : Answer (Unit {0})). Copied (movesBytes (encodingIn file head .version)) (a >>= λ end. found (movesAt file (encodingIn file head) (borderPlace file head r))) now at after next) (kept-closes r good) same
+      subst (λ (a : Answer (Unit {0})). Copied (movesBytes (encodingIn file head .version)) (a >>= λ end. found (movesAt file (encodingIn file head) (borderPlace file head r))) now at after
+      next) (kept-closes r good) same
 
   module _ (before : List ℕ) (at : ℕ) where
     abbrev all : List Row

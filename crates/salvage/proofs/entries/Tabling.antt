@@ -44,7 +44,8 @@ module _ (file : List ℕ) (head : Head) (before : List ℕ) (at : ℕ) where
   unfolding keptFrom rowsIn
   tables-start e = record { written = []; rest = λ short. rw e (refl, short); laid = capped-none before at }
 
-  pub tables-go : {now after′ : List ℕ} {next next′ id id′ size size′ : ℕ} {from cursor : Cursor} (r : Row) → Tabling now next id size from → LedTo file head from r → cursor ≡ after r → id′ ≡ r .metadata
+  pub tables-go : {now after′ : List ℕ} {next next′ id id′ size size′ : ℕ} {from cursor : Cursor} (r : Row) → Tabling now next id size from → LedTo file head from r → cursor ≡ after r →
+      id′ ≡ r .metadata
       → Measured (entryGood file head r) (borderBytes file head r) size′ → Capped now next (entryBytes id size r) after′ next′ → Tabling after′ next′ id′ size′ cursor
   unfolding tableFrom allShort
   tables-go {id = id} {id′ = id′} {size = size} {size′ = size′} {from = from} {cursor = cursor} r t l n i m c =
@@ -66,7 +67,8 @@ module _ (file : List ℕ) (head : Head) (before : List ℕ) (at : ℕ) where
             rw n (parts .1),
           )
 
-  pub tables-end : {now : List ℕ} {next id size : ℕ} {from : Cursor} → Tabling now next id size from → keptFrom file head from ≡ [] → Tabled (allShort file head all) before at (tableFrom file head 0 0 all) now next
+  pub tables-end : {now : List ℕ} {next id size : ℕ} {from : Cursor} → Tabling now next id size from → keptFrom file head from ≡ [] →
+      Tabled (allShort file head all) before at (tableFrom file head 0 0 all) now next
   unfolding tableFrom
   tables-end {now} {next} {id} {size} {from} t e = go (allShort file head all) refl
     where

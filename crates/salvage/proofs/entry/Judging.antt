@@ -22,6 +22,7 @@ module _ (file : List ℕ) (head : Head) (r : Row) where
   unfolding entryGood
   entry-stops e = rw (← e)
 
-  pub entry-goes : {place : ℕ} {answer : Reply (Unit {0})} → given tt ≡ borderGood file head r → place ≡ recordPlace file head r → answer ≡ fieldsGood file head (head .preamble .count) place → answer ≡ entryGood file head r
+  pub entry-goes : {place : ℕ} {answer : Reply (Unit {0})} → given tt ≡ borderGood file head r → place ≡ recordPlace file head r →
+      answer ≡ fieldsGood file head (head .preamble .count) place → answer ≡ entryGood file head r
   unfolding entryGood
   entry-goes {place} e p a = a ∙ ap (fieldsGood file head (head .preamble .count)) p ∙ ap (λ (b : Reply (Unit {0})). b >> fieldsGood file head (head .preamble .count) (recordPlace file head r)) e

@@ -169,7 +169,8 @@ pub record Readable (answer : Answer (List RawPoint)) : Type 0 where
   pub moves : List RawPoint
   pub are : answer ≡ found moves
 
-pairs-cons : (read : Reading) (n place : ℕ) {pair : Pair} {more : List RawPoint} → pairAt read place ≡ found pair → pairsFrom read n (pair .place) ≡ found more → pairsFrom read (suc n) place ≡ found (pair .by ∷ more)
+pairs-cons : (read : Reading) (n place : ℕ) {pair : Pair} {more : List RawPoint} → pairAt read place ≡ found pair → pairsFrom read n (pair .place) ≡ found more →
+    pairsFrom read (suc n) place ≡ found (pair .by ∷ more)
 unfolding pairsFrom
 pairs-cons read n place {pair} e r =
     ap (λ (answer : Answer Pair). answer >>= λ pair. pairsFrom read n (pair .place) >>= λ rest. found (pair .by ∷ rest)) e
@@ -206,7 +207,8 @@ module _ (f : List ℕ) (encoding : Encoding) (plain : encoding .version ≡ Pla
       shown true g = record { to = q; ends = g }
       shown false g = record { to = q; ends = g }
 
-  closed-pairs : (n : ℕ) (s : Reader) (begun : Bool) (place : ℕ) (first p : Point) → AtPair f encoding plain s begun place n first p → endOf (traceOf f encoding s) ≡ found tt → Readable (pairsFrom own-read (suc n) place)
+  closed-pairs : (n : ℕ) (s : Reader) (begun : Bool) (place : ℕ) (first p : Point) → AtPair f encoding plain s begun place n first p → endOf (traceOf f encoding s) ≡ found tt →
+      Readable (pairsFrom own-read (suc n) place)
   unfolding pairsFrom
   closed-pairs zero s begun place first p h e =
       let one = pair-found s begun place 0 first p h e in
@@ -217,7 +219,8 @@ module _ (f : List ℕ) (encoding : Encoding) (plain : encoding .version ≡ Pla
       let on = ends-moved u k (one .pair .by) (movedBy p (one .pair .by))
       (ap endOf (sym (by-move f encoding plain s begun place (suc k) first p h (one .here) ∙ ap (λ (t : Answer Turn). traceBy t (traceOf f encoding)) (pair-steps u (one .pair .by) k refl))) ∙ e) in
       let q = on .to in
-      let rest = closed-pairs k (behindMove u k q) true (one .pair .place) (if begun then first else q) q (on-the-way f encoding plain (one .pair .place) k (if begun then first else q) q) (on .ends) in
+      let rest = closed-pairs k (behindMove u k q) true (one .pair .place) (if begun then first else q) q (on-the-way f encoding plain (one .pair .place) k (if begun then first else q) q)
+      (on .ends) in
       record { moves = one .pair .by ∷ rest .moves; are = pairs-cons own-read (suc k) place (one .here) (rest .are) }
 
 -- ---- a whole border
@@ -250,12 +253,15 @@ module _ (f : List ℕ) (encoding : Encoding) (plain : encoding .version ≡ Pla
   begins-not : {count : Numeral} → the-read place ≡ found count → count .value ≡ 0 → traceOf f encoding (borderAt place) ≡ T.failed
   unfolding traceBy
   begins-not h none =
-      let turned : turn f encoding (borderAt place) ≡ failed = rw plain (open-plain (encoding .strict) f (encoding .«data») (borderAt place) refl ∙ count-fails the-read (borderAt place) refl (sym h) none) in
+      let turned : turn f encoding (borderAt place) ≡ failed =
+      rw plain (open-plain (encoding .strict) f (encoding .«data») (borderAt place) refl ∙ count-fails the-read (borderAt place) refl (sym h) none) in
       trace-turn f encoding (borderAt place) ∙ ap (λ (t : Answer Turn). traceBy t (traceOf f encoding)) turned
 
-  unread : {answer : Answer Numeral} → the-read place ≡ answer → turn f encoding (borderAt place) ≡ (answer >>= λ count. if eqb (count .value) 0 then failed else plainPair the-read (onward (borderAt place) (count .place) (count .value) Idle))
+  unread : {answer : Answer Numeral} → the-read place ≡ answer →
+      turn f encoding (borderAt place) ≡ (answer >>= λ count. if eqb (count .value) 0 then failed else plainPair the-read (onward (borderAt place) (count .place) (count .value) Idle))
   unfolding plainTurn
-  unread h = rw plain (open-plain (encoding .strict) f (encoding .«data») (borderAt place) refl ∙ ap (λ (a : Answer Numeral). a >>= λ count. if eqb (count .value) 0 then failed else plainPair the-read (onward (borderAt place) (count .place) (count .value) Idle)) h)
+  unread h = rw plain (open-plain (encoding .strict) f (encoding .«data») (borderAt place) refl ∙
+      ap (λ (a : Answer Numeral). a >>= λ count. if eqb (count .value) 0 then failed else plainPair the-read (onward (borderAt place) (count .place) (count .value) Idle)) h)
 
   pub plain-readable : endOf (traceOf f encoding (borderAt place)) ≡ found tt → Readable (plainMoves the-read place)
   unfolding traceBy endOf
@@ -289,14 +295,19 @@ module _ (f f′ : List ℕ) (encoding encoding′ : Encoding) (plain : encoding
 
       counts : two .count .value ≡ one .count .value
       counts =
-          omega (arith, pairs-length (readingOf (encoding .strict) f) (suc (one .count .value)) (one .count .place) moves (one .pairs), pairs-length (readingOf (encoding′ .strict) f′) (suc (two .count .value)) (two .count .place) moves (two .pairs))
+          omega (
+            arith,
+            pairs-length (readingOf (encoding .strict) f) (suc (one .count .value)) (one .count .place) moves (one .pairs),
+            pairs-length (readingOf (encoding′ .strict) f′) (suc (two .count .value)) (two .count .place) moves (two .pairs),
+          )
 
       go : (v : ℕ) → one .count .value ≡ v → traceOf f encoding (borderAt place) ≡ traceOf f′ encoding′ (borderAt place′)
       go zero v = begins-not f encoding plain place (one .here) v ∙ sym (begins-not f′ encoding′ plain′ place′ (two .here) (counts ∙ v))
       go (suc k) v =
           same-pairs f f′ encoding encoding′ plain plain′ (one .count .value) false origin origin (one .count .place) (two .count .place) (borderAt place) (borderAt place′) moves
           (begins f encoding plain place (one .here) (λ z. omega arith))
-          (subst (λ (n : ℕ). AtPair f′ encoding′ plain′ (borderAt place′) false (two .count .place) n origin origin) counts (begins f′ encoding′ plain′ place′ (two .here) (λ z. omega (arith, counts))))
+          (subst (λ (n : ℕ). AtPair f′ encoding′ plain′ (borderAt place′) false (two .count .place) n origin origin) counts
+          (begins f′ encoding′ plain′ place′ (two .here) (λ z. omega (arith, counts))))
           (one .pairs)
           (subst (λ (n : ℕ). pairsFrom (readingOf (encoding′ .strict) f′) (suc n) (two .count .place) ≡ found moves) counts (two .pairs))
 
@@ -323,14 +334,16 @@ module _ (strict : Bool) (f : List ℕ) where
       let two = reads-both strict (varint-whole (signedForm (by .lon)) (form-few (by .lon) k)) (at-next f place lat lon here) in
       rw (form-again (by .lat) h, form-again (by .lon) k) at (sym (pair-is (readingOf strict f) place one two))
 
-  pair-behind : (by : RawPoint) (rest : List ℕ) (place : ℕ) → At f place (plainMoveBytes by ++ rest) → At f (place + length (varintOf (signedForm (by .lat))) + length (varintOf (signedForm (by .lon)))) rest
+  pair-behind : (by : RawPoint) (rest : List ℕ) (place : ℕ) → At f place (plainMoveBytes by ++ rest) →
+      At f (place + length (varintOf (signedForm (by .lat))) + length (varintOf (signedForm (by .lon)))) rest
   unfolding plainMoveBytes
   pair-behind by rest place h =
       let lat = varintOf (signedForm (by .lat)) in
       let lon = varintOf (signedForm (by .lon)) in
       at-next f (place + length lat) lon rest (at-next f place lat (lon ++ rest) (subst (At f place) (append-assoc lat lon rest) h))
 
-  pairs-again : (read : Reading) (n place : ℕ) (moves : List RawPoint) → pairsFrom read n place ≡ found moves → (place′ : ℕ) → At f place′ (flatMap plainMoveBytes moves) → pairsFrom (readingOf strict f) n place′ ≡ found moves
+  pairs-again : (read : Reading) (n place : ℕ) (moves : List RawPoint) → pairsFrom read n place ≡ found moves → (place′ : ℕ) → At f place′ (flatMap plainMoveBytes moves) →
+      pairsFrom (readingOf strict f) n place′ ≡ found moves
   unfolding pairsFrom flatMap
   pairs-again read zero place moves e place′ here = e
   pairs-again read (suc n) place moves e place′ here =
@@ -346,7 +359,8 @@ module _ (strict : Bool) (f : List ℕ) where
       ∙ ap found (sym (s .all))
 
 -- the moves of a border of version 0, written at any place of any file, are read again there, strictly or not
-pub plain-again : (f f′ : List ℕ) (strict strict′ : Bool) (place place′ : ℕ) (moves : List RawPoint) → plainMoves (readingOf strict f) place ≡ found moves → At f′ place′ (movesBytes Plain moves) → plainMoves (readingOf strict′ f′) place′ ≡ found moves
+pub plain-again : (f f′ : List ℕ) (strict strict′ : Bool) (place place′ : ℕ) (moves : List RawPoint) → plainMoves (readingOf strict f) place ≡ found moves →
+    At f′ place′ (movesBytes Plain moves) → plainMoves (readingOf strict′ f′) place′ ≡ found moves
 unfolding movesBytes
 plain-again f f′ strict strict′ place place′ moves e here =
     let c = counted-of (readingOf strict f) place moves e in
@@ -380,7 +394,8 @@ module _ (read : Reading) (place : ℕ) (before : List ℕ) (at : ℕ) where
       size : (moves : List RawPoint) → length moves ≡ suc (count .value) → varintOf (count .value) ++ flatMap plainMoveBytes moves ≡ movesBytes Plain moves
       size moves l = plain-bytes moves (count .value) (omega arith)
 
-      go : (answer : Answer (List RawPoint)) → pairsFrom read (suc (count .value)) (count .place) ≡ answer → Copied (flatMap plainMoveBytes) answer middle next after end → Copied (movesBytes Plain) answer before at after end
+      go : (answer : Answer (List RawPoint)) → pairsFrom read (suc (count .value)) (count .place) ≡ answer → Copied (flatMap plainMoveBytes) answer middle next after end →
+          Copied (movesBytes Plain) answer before at after end
       go (found moves) h k = capped-as (size moves (pairs-length read (suc (count .value)) (count .place) moves h)) (capped-then (varintOf (count .value)) (flatMap plainMoveBytes moves) c k)
       go failed h k = tt
       go (refused n) h k = tt

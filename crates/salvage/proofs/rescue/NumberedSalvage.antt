@@ -28,7 +28,8 @@ module _ (file : List ℕ) where
   text : (head : Head) (place : ℕ) → NumberedReply Known (stringAt (head .strict) file 0 place orElse plain 26)
   unfolding textAt
   text head place =
-      unblamed file (record { number = 26; detail = 0 }) (stringAt (head .strict) file 0 place) (text-numbered {P = Known} refl refl (head .strict) (λ e. refl) file 0 place (record { number = 26; detail = 0 }) refl)
+      unblamed file (record { number = 26; detail = 0 }) (stringAt (head .strict) file 0 place)
+      (text-numbered {P = Known} refl refl (head .strict) (λ e. refl) file 0 place (record { number = 26; detail = 0 }) refl)
 
   texts : (head : Head) (more place : ℕ) → NumberedReply Known (textsInline file head more place)
   unfolding textsInline
@@ -42,7 +43,9 @@ module _ (file : List ℕ) where
     known =
         then-reply (head-numbered {P = Known} (still-listed headerNumbers (26 ∷ 28 ∷ 31 ∷ 32 ∷ [])) true (λ e. refl) file)
         (λ head. then-reply (texts head (head .preamble .count + 1) 7)
-        (λ bytes. and-then (demands (leb (length (newFile file head bytes (keptOf file head (rowsIn file head)))) (min room (2 ^ 30)) && leb (length (linesFrom file head 0 (rowsIn file head))) words) (plain 28) refl)
+        (λ bytes. and-then (demands
+        (leb (length (newFile file head bytes (keptOf file head (rowsIn file head)))) (min room (2 ^ 30)) && leb (length (linesFrom file head 0 (rowsIn file head))) words) (plain 28)
+        refl)
         (and-then (demands (ltb 0 (length (keptOf file head (rowsIn file head)))) (plain 32) refl)
         answers)))
 

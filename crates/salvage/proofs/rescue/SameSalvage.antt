@@ -26,7 +26,8 @@ module _ (file : List ℕ) (words room : ℕ) where
         ap (λ (x : Replied). x .out) same,
       )
 
-  all-zero : (answer : Reply Salvaged) (why : Refusal) → repliedOf words room answer .reply ≡ refused why → (repliedOf words room answer .list ≡ zeros words) × (repliedOf words room answer .out ≡ zeros room)
+  all-zero : (answer : Reply Salvaged) (why : Refusal) → repliedOf words room answer .reply ≡ refused why →
+      (repliedOf words room answer .list ≡ zeros words) × (repliedOf words room answer .out ≡ zeros room)
   all-zero (given s) why e = let z : _≡_ {A = ℕ} 0 1 = cc in absurd (omega arith)
   all-zero (refused w) why e = (refl, refl)
 

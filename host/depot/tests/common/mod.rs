@@ -62,12 +62,18 @@ pub fn depot(words: &[&str]) -> Ran {
     depot_of(words, &[])
 }
 
+/// The program with these words, not run yet.
+pub fn call(words: &[&str]) -> Command {
+    let runner = std::env::var("CARGO_TARGET_X86_64_UNKNOWN_LINUX_GNU_RUNNER").unwrap_or_default();
+    let mut all = runner.split_whitespace().chain([env!("CARGO_BIN_EXE_depot")]).chain(words.iter().copied());
+    let mut command = Command::new(all.next().unwrap());
+    command.args(all);
+    command
+}
+
 /// Runs it with this standard input.
 pub fn depot_of(words: &[&str], input: &[u8]) -> Ran {
-    let runner = std::env::var("CARGO_TARGET_X86_64_UNKNOWN_LINUX_GNU_RUNNER").unwrap_or_default();
-    let all: Vec<&str> = runner.split_whitespace().chain([env!("CARGO_BIN_EXE_depot")]).chain(words.iter().copied()).collect();
-    let pipes = Command::new(all[0]).args(&all[1..]).stdin(Stdio::piped()).stdout(Stdio::piped()).stderr(Stdio::piped()).spawn();
-    let mut running = pipes.unwrap();
+    let mut running = call(words).stdin(Stdio::piped()).stdout(Stdio::piped()).stderr(Stdio::piped()).spawn().unwrap();
     // it may end without reading
     let _ = running.stdin.take().unwrap().write_all(input);
     let ran = running.wait_with_output().unwrap();

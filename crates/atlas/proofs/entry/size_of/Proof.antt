@@ -1,38 +1,45 @@
 -- `atlas::entry::size_of` meets its contract. Assumes nothing.
-use borrow.Author.Needs.{needs}
+use borrow.Author.{Needs.{needs}, Tests.{eq-eqb, ne-eqb}}
 use native.Mathlib.Omega.{arith}
-use borrow.Author.Tests.{eq-eqb, ne-eqb}
-use Rattle.atlas.proofs.entry.size_of.Statement.{statement}
+use Rattle.atlas.proofs.{Behind.{groups-few}, entry.size_of.Statement.{statement}}
 use Rattle.atlas.proofs.entry.size_of.Tie as tie
 
 returns : tie.Need-returns
-returns c =
-    let args = c .before .args in
-    let if1 = c .if1 in
-    (rw (eq-eqb (args .count) 0 (if1 .taken)), omega arith)
+returns c = (rw (eq-eqb (c .before .args .count) 0 (c .if1 .taken)), omega arith)
 
 mul-result : tie.Need-mul-result
-mul-result c =
-    let pre = c .before .pre in
-    omega (arith, pre)
+mul-result c = omega (arith, c .before .before .pre)
 
 add-result : tie.Need-add-result
-add-result c =
-    let pre = c .before .pre in
-    omega (arith, pre)
+add-result c = omega (arith, c .before .before .pre)
+
+mul-result-2 : tie.Need-mul-result-2
+mul-result-2 c =
+    let pre = c .before .before .pre in
+    let args = c .before .before .args in
+    omega (arith, pre, c .groups-of .ensures, groups-few (args .count))
+
+add-result-2 : tie.Need-add-result-2
+add-result-2 c =
+    let pre = c .before .before .pre in
+    let args = c .before .before .args in
+    omega (arith, pre, c .groups-of .ensures, groups-few (args .count))
 
 returns-2 : tie.Need-returns-2
 returns-2 c =
-    let args = c .before .args in
-    let if1 = c .if1 in
-    let pre = c .before .pre in
-    (rw (ne-eqb (args .count) 0 (if1 .left)), omega (arith, pre))
+    let args = c .before .before .args in
+    let if1 = c .before .if1 in
+    let pre = c .before .before .pre in
+    (rw (ne-eqb (args .count) 0 (if1 .left)) (omega (arith, c .groups-of .ensures)), omega (arith, pre, c .groups-of .ensures, groups-few (args .count)))
 
 pub size-of-spec : {M : Type 1} → statement M
 size-of-spec =
     tie.close
     (tie.spec
     returns
+    (λ c κs. search needs)
     mul-result
     add-result
+    mul-result-2
+    add-result-2
     returns-2)

@@ -17,31 +17,56 @@ abbrev μ-loop : tie.MeasureT-loop
 μ-loop file index₀ strict end at₀ floor₀ place₀ n₀ index at floor place n = end - at .place
 
 returns : tie.Need-returns Inv-loop μ-loop
-returns c = agree-refused _ (tabling-unreadable _ _ _ _ _ _ (c .before .before .before .before .before .loop .inv .0) (c .before .before .before .if1 .taken) (sym (ap toldReading (c .enum-told .given .1)) ∙ c .before .before .row-at .ensures) ∙ same-table _ _ (c .before .before .before .before .before .before .start-at .ensures))
+returns c = agree-refused _ (tabling-unreadable _ _ _ _ _ _ (c .before .before .before .before .before .loop .inv .0) (c .before .before .before .if1 .taken)
+    (sym (ap toldReading (c .enum-told .given .1)) ∙ c .before .before .row-at .ensures) ∙ same-table _ _ (c .before .before .before .before .before .before .start-at .ensures))
 
 returns-2 : tie.Need-returns-2 Inv-loop μ-loop
-returns-2 c = agree-refused _ (tabling-refused _ _ _ _ _ _ (c .before .before .before .before .before .loop .inv .0) (c .before .before .before .if1 .taken) (sym (ap toldReading (c .enum-told2 .given .1)) ∙ c .before .before .row-at .ensures) ∙ same-table _ _ (c .before .before .before .before .before .before .start-at .ensures))
+returns-2 c = agree-refused _ (tabling-refused _ _ _ _ _ _ (c .before .before .before .before .before .loop .inv .0) (c .before .before .before .if1 .taken)
+    (sym (ap toldReading (c .enum-told2 .given .1)) ∙ c .before .before .row-at .ensures) ∙ same-table _ _ (c .before .before .before .before .before .before .start-at .ensures))
+
+-- ---- the places that the answers speak of
+abbrev at-loop : tie.After-row Inv-loop μ-loop → tie.At-loop Inv-loop μ-loop
+at-loop c = c .before .before .before .before .before
+
+abbrev at-row-2 : tie.After-put-record-arg Inv-loop μ-loop → tie.After-row Inv-loop μ-loop
+at-row-2 c = c .before .before .before .before .before
+
+abbrev at-row : tie.After-after Inv-loop μ-loop → tie.After-row Inv-loop μ-loop
+at-row c = at-row-2 (c .before .before .before .before .before)
 
 put-record-requires : tie.Need-put-record-requires Inv-loop μ-loop
 put-record-requires c κs =
-    let g = c .before .before .before .before .before .before .before .before .before .before .loop .inv .0 in
-    (omega (arith, g .here, g .few, c .before .before .before .before .before .before .before .before .before .before .before .before .before .struct-known .given), omega (arith, row-place _ _ _ (sym (ap toldReading (c .before .before .before .before .before .row .given .1)) ∙ c .before .before .before .before .before .before .before .row-at .ensures), c .before .before .before .before .before .before .before .before .if1 .taken, c .before .before .before .before .before .before .before .before .before .before .before .before .before .struct-known .given))
+    let g = at-loop (at-row-2 c) .loop .inv .0 in (
+      omega (arith, g .here, g .few, at-loop (at-row-2 c) .before .before .before .struct-known .given),
+      omega (
+        arith,
+        row-place _ _ _ (sym (ap toldReading (at-row-2 c .row .given .1)) ∙ at-row-2 c .before .before .row-at .ensures),
+        at-row-2 c .before .before .before .if1 .taken,
+        at-loop (at-row-2 c) .before .before .before .struct-known .given,
+      ),
+    )
 
 add-n : tie.Need-add-n Inv-loop μ-loop
-add-n c = omega (arith, c .before .before .before .before .before .before .before .before .before .before .before .before .before .before .before .loop .inv .0 .few, c .before .before .before .before .before .before .before .before .before .before .before .before .before .before .before .before .before .before .struct-known .given)
+add-n c = omega (arith, at-loop (at-row c) .loop .inv .0 .few, at-loop (at-row c) .before .before .before .struct-known .given)
 
 loop-less : tie.Need-loop-less Inv-loop μ-loop
-loop-less c = tabling-less _ _ _ _ _ _ (c .before .before .before .before .before .before .before .before .before .before .before .before .before .before .before .loop .inv .0) (c .before .before .before .before .before .before .before .before .before .before .before .before .before .if1 .taken) (sym (ap toldReading (c .before .before .before .before .before .before .before .before .before .before .row .given .1)) ∙ c .before .before .before .before .before .before .before .before .before .before .before .before .row-at .ensures) (c .after .ensures)
+loop-less c = tabling-less _ _ _ _ _ _ (at-loop (at-row c) .loop .inv .0) (at-row c .before .before .before .if1 .taken)
+    (sym (ap toldReading (at-row c .row .given .1)) ∙ at-row c .before .before .row-at .ensures) (c .after .ensures)
 
 loop-again : tie.Need-loop-again Inv-loop μ-loop
 loop-again c =
-    (tabling-next _ _ _ _ _ _ (c .before .before .before .before .before .before .before .before .before .before .before .before .before .before .before .loop .inv .0) (c .before .before .before .before .before .before .before .before .before .before .before .before .before .if1 .taken) (sym (ap toldReading (c .before .before .before .before .before .before .before .before .before .before .row .given .1)) ∙ c .before .before .before .before .before .before .before .before .before .before .before .before .row-at .ensures) (sym (c .before .before .before .before .before .before .before .is-next .ensures) ∙ c .before .before .before .before .before .before .if2 .taken) (c .after .ensures) (c .before .before .before .before .put-record .ensures), stored-length (c .before .before .before .before .put-record .ensures) ∙ c .before .before .before .before .before .before .before .before .before .before .before .before .before .before .before .loop .inv .1)
-
-same-length-3 : tie.Need-same-length-3 Inv-loop μ-loop
-same-length-3 c = c .before .before .before .before .before .before .before .before .before .loop .inv .1
+    let loop = at-loop (at-row c) .loop in let put-record = c .before .before .before .before .put-record in (
+      tabling-next _ _ _ _ _ _ (loop .inv .0) (at-row c .before .before .before .if1 .taken) (sym (ap toldReading (at-row c .row .given .1)) ∙ at-row c .before .before .row-at .ensures)
+          (sym (c .before .before .before .before .before .before .before .is-next .ensures) ∙ c .before .before .before .before .before .before .if2 .taken) (c .after .ensures)
+          (put-record .ensures),
+      stored-length (put-record .ensures) ∙ loop .inv .1,
+    )
 
 returns-3 : tie.Need-returns-3 Inv-loop μ-loop
-returns-3 c = agree-refused _ (tabling-not-next _ _ _ _ _ _ (c .before .before .before .before .before .before .before .before .before .loop .inv .0) (c .before .before .before .before .before .before .before .if1 .taken) (sym (ap toldReading (c .before .before .before .before .row .given .1)) ∙ c .before .before .before .before .before .before .row-at .ensures) (sym (c .before .is-next .ensures) ∙ c .if2 .left) ∙ same-table _ _ (c .before .before .before .before .before .before .before .before .before .before .start-at .ensures))
+returns-3 c = agree-refused _ (tabling-not-next _ _ _ _ _ _ (at-loop (c .before .before .before .before) .loop .inv .0)
+    (c .before .before .before .before .before .before .before .if1 .taken)
+    (sym (ap toldReading (c .before .before .before .before .row .given .1)) ∙ c .before .before .before .before .before .before .row-at .ensures)
+    (sym (c .before .is-next .ensures) ∙ c .if2 .left) ∙ same-table _ _ (at-loop (c .before .before .before .before) .before .start-at .ensures))
 
 returns-4 : tie.Need-returns-4 Inv-loop μ-loop
 returns-4 c =
@@ -52,27 +77,7 @@ pub put-table-spec : {M : Type 1} → statement M
 put-table-spec =
     tie.close
     (tie.spec
-    Inv-loop
-    μ-loop
-    (λ c. search needs)
-    (λ c. search needs)
-    (λ c κs. search needs)
-    (λ c. (tabling-starts _ _ _ _ _ _, refl))
-    (λ c κs. search needs)
-    (λ c. search needs)
-    (λ c. search needs)
-    (λ c. c .before .before .before .before .before .loop .inv .1)
-    returns
-    (λ c. search needs)
-    (λ c. c .before .before .before .before .before .loop .inv .1)
-    returns-2
-    (λ c κs. search needs)
-    put-record-requires
-    (λ c κs. search needs)
-    add-n
-    loop-less
-    loop-again
-    same-length-3
-    returns-3
-    (λ c. c .before .before .loop .inv .1)
-    returns-4)
+    Inv-loop μ-loop (λ c. search needs) (λ c. search needs) (λ c κs. search needs) (λ c. (tabling-starts _ _ _ _ _ _, refl)) (λ c κs. search needs)
+    (λ c. search needs) (λ c. search needs) (λ c. c .before .before .before .before .before .loop .inv .1) returns (λ c. search needs)
+    (λ c. c .before .before .before .before .before .loop .inv .1) returns-2 (λ c κs. search needs) put-record-requires (λ c κs. search needs) add-n
+    loop-less loop-again (λ c. at-loop (c .before .before .before .before) .loop .inv .1) returns-3 (λ c. c .before .before .loop .inv .1) returns-4)

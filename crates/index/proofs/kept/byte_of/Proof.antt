@@ -13,13 +13,11 @@ returns c =
 
 returns-2 : tie.Need-returns-2
 returns-2 c =
-    let args = c .before .before .before .args in
-    (none-past (args .file .now) (args .size) (args .place) (omega (arith, c .if2 .left)), omega arith)
+    let args = c .before .before .before .args in (none-past (args .file .now) (args .size) (args .place) (omega (arith, c .if2 .left)), omega arith)
 
 returns-3 : tie.Need-returns-3
 returns-3 c =
-    let args = c .before .before .args in
-    (none-past (args .file .now) (args .size) (args .place) (omega (arith, c .if1 .left)), omega arith)
+    let args = c .before .before .args in (none-past (args .file .now) (args .size) (args .place) (omega (arith, c .if1 .left)), omega arith)
 
 pub byte-of-spec : {M : Type 1} → statement M
 byte-of-spec = tie.close (tie.spec (λ c. search needs) (λ c κs. search needs) returns returns-2 returns-3)

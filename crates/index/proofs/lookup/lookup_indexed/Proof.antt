@@ -12,37 +12,39 @@ enum-told c = search needs
 
 returns : tie.Need-returns
 returns c =
-    indexed-unopened (length (c .before .before .before .before .before .before .before .before .before .before .before .before .before .before .before .args .hits .now)) (length (c .before .before .before .before .before .before .before .before .before .before .before .before .before .before .before .args .text .now)) (c .before .before .before .before .before .before .before .before .before .before .before .before .before .before .before .args .file .now) (c .before .before .before .before .before .before .before .before .before .before .before .before .before .before .before .args .index .now) (c .before .before .before .before .before .before .before .before .before .before .before .before .before .before .before .args .location) (c .before .before .before .before .before .before .before .before .before .before .before .before .before .before .before .args .asked) (sym (ap toldHead (c .before .before .before .before .before .before .before .before .why .given .1)) ∙ c .before .before .before .before .before .before .before .before .before .before .head-of .ensures) (c .before .before .before .before .zero-both .ensures .0) (c .before .before .before .before .zero-both .ensures .1)
+    let args = c .before .before .before .before .before .before .before .before .before .before .before .before .before .before .before .args in
+    let zero-both = c .before .before .before .before .zero-both in
+    indexed-unopened (length (args .hits .now)) (length (args .text .now)) (args .file .now) (args .index .now) (args .location) (args .asked)
+    (sym (ap toldHead (c .before .before .before .before .before .before .before .before .why .given .1)) ∙
+    c .before .before .before .before .before .before .before .before .before .before .head-of .ensures) (zero-both .ensures .0) (zero-both .ensures .1)
+
+-- ---- the places that the answers speak of
+abbrev at-tied : tie.After-slice-known6 → tie.After-tied
+at-tied c = c .before .before .before .before .before .before .before .before
+
+abbrev at-match2-keys2 : tie.After-slice-known8 → tie.At-match2-keys2
+at-match2-keys2 c = c .before .before .before .before .before .before .before .before
 
 returns-2 : tie.Need-returns-2
 returns-2 c =
-    indexed-untied (length (c .before .before .before .before .before .before .before .before .before .before .before .before .before .before .before .before .before .before .before .args .hits .now)) (length (c .before .before .before .before .before .before .before .before .before .before .before .before .before .before .before .before .before .before .before .args .text .now)) (c .before .before .before .before .before .before .before .before .before .before .before .before .before .before .before .before .before .before .before .args .file .now) (c .before .before .before .before .before .before .before .before .before .before .before .before .before .before .before .before .before .before .before .args .index .now) (c .before .before .before .before .before .before .before .before .before .before .before .before .before .before .before .before .before .before .before .args .location) (c .before .before .before .before .before .before .before .before .before .before .before .before .before .before .before .before .before .before .before .args .asked) (sym (ap toldHead (c .before .before .before .before .before .before .before .before .before .before .before .before .head .given .1)) ∙ c .before .before .before .before .before .before .before .before .before .before .before .before .before .before .head-of .ensures) (sym (ap toldTied (c .before .before .before .before .before .before .before .before .tied .given .1)) ∙ c .before .before .before .before .before .before .before .before .before .before .tied-with .ensures) (c .before .before .before .before .zero-both2 .ensures .0) (c .before .before .before .before .zero-both2 .ensures .1)
+    let args = at-tied c .before .before .before .before .before .before .before .before .before .before .before .args in
+    let zero-both2 = c .before .before .before .before .zero-both2 in
+    indexed-untied (length (args .hits .now)) (length (args .text .now)) (args .file .now) (args .index .now) (args .location) (args .asked)
+    (sym (ap toldHead (at-tied c .before .before .before .before .head .given .1)) ∙ at-tied c .before .before .before .before .before .before .head-of .ensures)
+    (sym (ap toldTied (at-tied c .tied .given .1)) ∙ at-tied c .before .before .tied-with .ensures) (zero-both2 .ensures .0) (zero-both2 .ensures .1)
 
 returns-3 : tie.Need-returns-3
 returns-3 c =
+    let args = at-match2-keys2 c .before .before .before .before .before .before .before .before .before .before .args in
+    let tied-with = at-match2-keys2 c .before .tied-with in
     c .before .before .before .before .through-in .ensures
-    ∙ indexed-tied (length (c .before .before .before .before .before .before .before .before .before .before .before .before .before .before .before .before .before .before .args .hits .now)) (length (c .before .before .before .before .before .before .before .before .before .before .before .before .before .before .before .before .before .before .args .text .now)) (c .before .before .before .before .before .before .before .before .before .before .before .before .before .before .before .before .before .before .args .file .now) (c .before .before .before .before .before .before .before .before .before .before .before .before .before .before .before .before .before .before .args .index .now) (c .before .before .before .before .before .before .before .before .before .before .before .before .before .before .before .before .before .before .args .location) (c .before .before .before .before .before .before .before .before .before .before .before .before .before .before .before .before .before .before .args .asked) (sym (ap toldHead (c .before .before .before .before .before .before .before .before .before .before .before .head .given .1)) ∙ c .before .before .before .before .before .before .before .before .before .before .before .before .before .head-of .ensures)
-    (is-yes (c .before .before .before .before .before .before .before .before .before .tied-with .result) (enum-told (c .before .before .before .before .before .before .before .before)) ∙ c .before .before .before .before .before .before .before .before .before .tied-with .ensures)
+    ∙ indexed-tied (length (args .hits .now)) (length (args .text .now)) (args .file .now) (args .index .now) (args .location) (args .asked)
+    (sym (ap toldHead (at-match2-keys2 c .before .before .before .head .given .1)) ∙ at-match2-keys2 c .before .before .before .before .before .head-of .ensures)
+    (is-yes (tied-with .result) (enum-told (at-match2-keys2 c)) ∙ tied-with .ensures)
 
 pub lookup-indexed-spec : {M : Type 1} → statement M
 lookup-indexed-spec =
     tie.close
     (tie.spec
-    (λ c κs. tt)
-    (λ c. search needs)
-    (λ c. search needs)
-    (λ c κs. tt)
-    (λ c. search needs)
-    (λ c. search needs)
-    returns
-    (λ c κs. tt)
-    (λ c. search needs)
-    (λ c κs. tt)
-    (λ c. search needs)
-    (λ c. search needs)
-    returns-2
-    enum-told
-    (λ c κs. tt)
-    (λ c. search needs)
-    (λ c. search needs)
-    returns-3)
+    (λ c κs. tt) (λ c. search needs) (λ c. search needs) (λ c κs. tt) (λ c. search needs) (λ c. search needs) returns (λ c κs. tt) (λ c. search needs)
+    (λ c κs. tt) (λ c. search needs) (λ c. search needs) returns-2 enum-told (λ c κs. tt) (λ c. search needs) (λ c. search needs) returns-3)

@@ -15,37 +15,17 @@ abbrev μ-loop : tie.MeasureT-loop
 
 returns : tie.Need-returns Inv-loop μ-loop
 returns c =
-    let loop = c .before .before .before .loop in
-    let loop-test = c .before .before .loop-test in
-    let is-word = c .before .is-word in
+    let loop = c .before .before .before .loop in let loop-test = c .before .before .loop-test in let is-word = c .before .is-word in
     emptying-other _ _ (loop .inv) (loop-test .taken) (sym (is-word .ensures) ∙ not-true _ (c .if1 .taken))
-
-add-at : tie.Need-add-at Inv-loop μ-loop
-add-at c = search needs
-
-loop-less : tie.Need-loop-less Inv-loop μ-loop
-loop-less c = omega (arith, c .before .before .loop-test .taken)
 
 loop-again : tie.Need-loop-again Inv-loop μ-loop
 loop-again c =
-    let loop = c .before .before .before .loop in
-    let loop-test = c .before .before .loop-test in
-    let is-word = c .before .is-word in
+    let loop = c .before .before .before .loop in let loop-test = c .before .before .loop-test in let is-word = c .before .is-word in
     emptying-next _ _ (loop .inv) (loop-test .taken) (sym (is-word .ensures) ∙ not-false _ (c .if1 .left))
-
-returns-2 : tie.Need-returns-2 Inv-loop μ-loop
-returns-2 c = emptying-ends _ _ (c .before .loop .inv) (c .loop-test .left)
 
 pub is-empty-from-spec : {M : Type 1} → statement M
 is-empty-from-spec =
     tie.close
     (tie.spec
-    Inv-loop
-    μ-loop
-    (λ c. refl)
-    (λ c κs. search needs)
-    returns
-    add-at
-    loop-less
-    loop-again
-    returns-2)
+    Inv-loop μ-loop (λ c. refl) (λ c κs. search needs) returns (λ c. search needs) (λ c. omega (arith, c .before .before .loop-test .taken))
+    loop-again (λ c. emptying-ends _ _ (c .before .loop .inv) (c .loop-test .left)))

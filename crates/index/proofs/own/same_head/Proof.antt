@@ -12,18 +12,14 @@ returns c = and-first _ _ (sym (c .before .is-word .ensures) ∙ not-true _ (c .
 returns-2 : tie.Need-returns-2
 unfolding isAt
 returns-2 c =
-    let is-word = c .before .before .before .is-word in
-    let if1 = c .before .before .if1 in
-    let is-word2 = c .before .is-word2 in
+    let is-word = c .before .before .before .is-word in let if1 = c .before .before .if1 in let is-word2 = c .before .is-word2 in
     goes _ _ (sym (is-word .ensures) ∙ not-false _ (if1 .left)) (and-first _ _ (sym (is-word2 .ensures) ∙ not-true _ (c .if2 .taken)))
 
 returns-3 : tie.Need-returns-3
 unfolding isAt
 returns-3 c =
-    let is-word = c .before .before .before .before .is-word in
-    let if1 = c .before .before .before .if1 in
-    let is-word2 = c .before .before .is-word2 in
-    let if2 = c .before .if2 in
+    let is-word = c .before .before .before .before .is-word in let if1 = c .before .before .before .if1 in
+    let is-word2 = c .before .before .is-word2 in let if2 = c .before .if2 in
     goes _ _ (sym (is-word .ensures) ∙ not-false _ (if1 .left)) (goes _ _ (sym (is-word2 .ensures) ∙ not-false _ (if2 .left)) (c .is-word3 .ensures ∙ and-end _))
 
 pub same-head-spec : {M : Type 1} → statement M

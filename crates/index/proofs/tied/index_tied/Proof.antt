@@ -15,9 +15,4 @@ pub index-tied-spec : {M : Type 1} → statement M
 index-tied-spec =
     tie.close
     (tie.spec
-    (λ c κs. tt)
-    (λ c. search needs)
-    (λ c. search needs)
-    returns
-    (λ c κs. tt)
-    returns-2)
+    (λ c κs. tt) (λ c. search needs) (λ c. search needs) returns (λ c κs. tt) returns-2)

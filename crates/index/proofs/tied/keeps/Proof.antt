@@ -15,20 +15,21 @@ abbrev μ-loop : tie.MeasureT-loop
 
 mul-if1 : tie.Need-mul-if1 Inv-loop μ-loop
 mul-if1 c =
-    let inside : c .before .loop .at < length (c .before .before .before .before .args .index .now) = omega (arith, comparing-inside _ _ _ _ (c .before .loop .inv) (c .loop-test .taken), c .before .before .before .before .pre .1) in
+    let inside : c .before .loop .at < length (c .before .before .before .before .args .index .now) =
+    omega (arith, comparing-inside _ _ _ _ (c .before .loop .inv) (c .loop-test .taken), c .before .before .before .before .pre .1) in
     search needs
 
 shared-slice-read-if1 : tie.Need-shared-slice-read-if1 Inv-loop μ-loop
 shared-slice-read-if1 c = omega (arith, comparing-inside _ _ _ _ (c .before .before .loop .inv) (c .before .loop-test .taken), c .before .before .before .before .before .pre .1)
 
-four-at-requires : tie.Need-four-at-requires Inv-loop μ-loop
-four-at-requires c κs = omega (arith, c .before .loop-test .taken, c .before .before .before .before .before .pre .0)
-
 returns : tie.Need-returns Inv-loop μ-loop
-returns c = comparing-differs _ _ _ _ (c .before .before .before .before .loop .inv) (c .before .before .before .loop-test .taken) (ne-eqb _ _ (λ e. c .if1 .taken (e ∙ sym (c .before .four-at .ensures))))
+returns c = comparing-differs _ _ _ _ (c .before .before .before .before .loop .inv) (c .before .before .before .loop-test .taken)
+    (ne-eqb _ _ (λ e. c .if1 .taken (e ∙ sym (c .before .four-at .ensures))))
 
 add-at : tie.Need-add-at Inv-loop μ-loop
-add-at c = omega (arith, comparing-inside _ _ _ _ (c .before .before .before .before .loop .inv) (c .before .before .before .loop-test .taken), c .before .before .before .before .before .before .before .pre .0, c .before .before .before .before .before .before .before .pre .2)
+add-at c =
+    let told = comparing-inside _ _ _ _ (c .before .before .before .before .loop .inv) (c .before .before .before .loop-test .taken) in
+    omega (arith, told, c .before .before .before .before .before .before .before .pre .0, c .before .before .before .before .before .before .before .pre .2)
 
 add-place : tie.Need-add-place Inv-loop μ-loop
 add-place c = omega (arith, c .before .before .before .loop-test .taken, c .before .before .before .before .before .before .before .pre .0)
@@ -40,15 +41,7 @@ pub keeps-spec : {M : Type 1} → statement M
 keeps-spec =
     tie.close
     (tie.spec
-    Inv-loop
-    μ-loop
-    (λ c. comparing-starts _ _ _ _)
-    mul-if1
-    shared-slice-read-if1
-    four-at-requires
-    returns
-    add-at
-    add-place
-    (λ c. omega (arith, c .before .before .before .loop-test .taken))
-    loop-again
+    Inv-loop μ-loop (λ c. comparing-starts _ _ _ _) mul-if1 shared-slice-read-if1
+    (λ c κs. omega (arith, c .before .loop-test .taken, c .before .before .before .before .before .pre .0)) returns add-at add-place
+    (λ c. omega (arith, c .before .before .before .loop-test .taken)) loop-again
     (λ c. comparing-ends _ _ _ _ (c .before .loop .inv) (c .loop-test .left)))

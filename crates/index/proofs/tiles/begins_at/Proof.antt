@@ -8,19 +8,18 @@ sub-result : tie.Need-sub-result
 sub-result c = omega (arith, c .before .power-of-two .ensures, half-small (c .before .before .args .precision) (c .before .before .pre .1))
 
 mul-result : tie.Need-mul-result
-mul-result c = rw (c .side-of .ensures) (omega (arith, away-small (c .before .before .args .power) (c .before .before .args .precision) (c .before .before .args .i) (c .before .before .pre .1) (c .before .before .pre .2)))
+mul-result c =
+    let args = c .before .before .args in
+    rw (c .side-of .ensures) (omega (arith, away-small (args .power) (args .precision) (args .i) (c .before .before .pre .1) (c .before .before .pre .2)))
 
 add-result : tie.Need-add-result
-add-result c = rw (c .side-of .ensures) (omega (arith, away-small (c .before .before .args .power) (c .before .before .args .precision) (c .before .before .args .i) (c .before .before .pre .1) (c .before .before .pre .2)))
+add-result c =
+    let args = c .before .before .args in
+    rw (c .side-of .ensures) (omega (arith, away-small (args .power) (args .precision) (args .i) (c .before .before .pre .1) (c .before .before .pre .2)))
 
 pub begins-at-spec : {M : Type 1} → statement M
 begins-at-spec =
     tie.close
     (tie.spec
-    (λ c. search needs)
-    (λ c κs. search needs)
-    (λ c κs. search needs)
-    sub-result
-    mul-result
-    add-result
+    (λ c. search needs) (λ c κs. search needs) (λ c κs. search needs) sub-result mul-result add-result
     (λ c. rw (c .side-of .ensures, c .before .power-of-two .ensures)))

@@ -13,7 +13,9 @@ returns c = rw (eq-eqb (c .before .before .args .i + 1) (2 ^ c .before .before .
 
 returns-2 : tie.Need-returns-2
 unfolding spanOf
-returns-2 c = rw (ne-eqb (c .before .before .before .args .i + 1) (2 ^ c .before .before .before .args .power) (λ e. c .before .if1 .left (e ∙ sym (c .before .before .power-of-two .ensures)))) (c .begins-at .ensures)
+returns-2 c =
+    let args = c .before .before .before .args in
+    rw (ne-eqb (args .i + 1) (2 ^ args .power) (λ e. c .before .if1 .left (e ∙ sym (c .before .before .power-of-two .ensures)))) (c .begins-at .ensures)
 
 pub end-of-spec : {M : Type 1} → statement M
 end-of-spec = tie.close (tie.spec (λ c. search needs) (λ c κs. omega arith) returns (λ c. search needs) (λ c κs. omega arith) returns-2)

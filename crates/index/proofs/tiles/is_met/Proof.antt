@@ -6,8 +6,5 @@ use Rattle.index.proofs.tiles.is_met.Tie as tie
 returns : tie.Need-returns
 returns c = and-true _ _ _ (le-leb _ _ (c .before .before .before .if1 .taken)) (lt-ltb _ _ (c .before .if2 .taken))
 
-returns-2 : tie.Need-returns-2
-returns-2 c = and-second _ _ _ (le-leb _ _ (c .before .before .if1 .taken)) (le-ltb _ _ (c .if2 .left))
-
 pub is-met-spec : {M : Type 1} → statement M
-is-met-spec = tie.close (tie.spec returns returns-2 (λ c. and-self _ _ (lt-leb _ _ (c .if1 .left))))
+is-met-spec = tie.close (tie.spec returns (λ c. and-second _ _ _ (le-leb _ _ (c .before .before .if1 .taken)) (le-ltb _ _ (c .if2 .left))) (λ c. and-self _ _ (lt-leb _ _ (c .if1 .left))))

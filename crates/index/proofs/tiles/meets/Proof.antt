@@ -8,7 +8,8 @@ use Rattle.index.proofs.tiles.meets.Tie as tie
 returns : tie.Need-returns
 unfolding meets
 returns c =
-    let is = rw (c .before .before .before .before .before .before .lift .ensures, c .before .before .before .before .before .lift2 .ensures) at (sym (c .before .before .before .before .is-met .ensures) ∙ c .before .before .before .if1 .taken) in
+    let is = rw (c .before .before .before .before .before .before .lift .ensures, c .before .before .before .before .before .lift2 .ensures)
+    at (sym (c .before .before .before .before .is-met .ensures) ∙ c .before .before .before .if1 .taken) in
     rw (c .before .before .lift3 .ensures, c .before .lift4 .ensures) at (c .is-met2 .ensures) ∙ and-rest _ _ is
 
 returns-2 : tie.Need-returns-2
@@ -20,4 +21,6 @@ returns-2 c =
 pub meets-spec : {M : Type 1} → statement M
 meets-spec =
     tie.close
-    (tie.spec (λ c κs. search needs) (λ c κs. search needs) (λ c κs. search needs) (λ c κs. search needs) (λ c κs. search needs) (λ c κs. search needs) returns returns-2)
+    (tie.spec
+    (λ c κs. search needs) (λ c κs. search needs) (λ c κs. search needs) (λ c κs. search needs) (λ c κs. search needs) (λ c κs. search needs) returns
+    returns-2)

@@ -8,8 +8,5 @@ use Rattle.index.proofs.words.word_of.Reads as reads
 use Rattle.index.proofs.words.word_of.Lts as lts
 use Rattle.numbers.proofs.point.bits_of.Reads as bits-of-reads
 
-returns : tie.Need-returns
-returns c = c .bits-of .ensures ∙ ap (ofZ w32) (toZ-ofZ w32 _ (c .before .fits .coordinate))
-
 pub word-of-spec : {M : Type 1} → statement M
-word-of-spec = tie.close (tie.spec (λ c κs. search needs) returns)
+word-of-spec = tie.close (tie.spec (λ c κs. search needs) (λ c. c .bits-of .ensures ∙ ap (ofZ w32) (toZ-ofZ w32 _ (c .before .fits .coordinate))))

@@ -19,7 +19,7 @@ not-last words first zero at e = absurd (e (λ i. zero))
 not-last words first (suc n) at e = λ i. startIn words (at + 11)
 
 returns : tie.Need-returns
-returns c = last-one (c .before .before .args .words .now) (c .before .before .args .first) (c .before .before .args .behind) (c .before .before .args .at) (c .if1 .taken)
+returns c = last-one (c .before .before .args .words .now) (c .before .before .args .last) (c .before .before .args .behind) (c .before .before .args .at) (c .if1 .taken)
 
 point-at-requires : tie.Need-point-at-requires
 point-at-requires c κs =
@@ -32,7 +32,7 @@ returns-2 : tie.Need-returns-2
 returns-2 c =
     let args = c .before .before .before .args in
     let if1 = c .before .if1 in
-    c .point-at .ensures ∙ not-last (args .words .now) (args .first) (args .behind) (args .at) (if1 .left)
+    c .point-at .ensures ∙ not-last (args .words .now) (args .last) (args .behind) (args .at) (if1 .left)
 
 pub end-at-spec : {M : Type 1} → statement M
 end-at-spec = tie.close (tie.spec returns (λ c. search needs) (λ c. search needs) point-at-requires returns-2)

@@ -1,26 +1,28 @@
--- `marks::judge::pass_stretch` meets its contract, by whether the box holds the location. Assumes nothing.
+-- `marks::judge::pass_stretch` meets its contract, by whether it may be passed as its one edge. Assumes nothing.
 use borrow.Author.Needs.{needs}
-use mathlib.Core.Path.{sym, _∙_}
-use Rattle.marks.proofs.judge.{Turns.{stretch-read, stretch-passed}, pass_stretch.Statement.{statement}}
+use denote.Ref.{now}
+use Rattle.marks.proofs.judge.{Turns.{stretch-passed, stretch-entered, points-read}, pass_stretch.Statement.{statement}}
+use Rattle.marks.specs.Judging.{pointsBy}
 use Rattle.marks.proofs.judge.pass_stretch.Tie as tie
 
 returns : tie.Need-returns
 returns c =
-    let point-at = c .before .before .before .before .before .point-at in
-    let point-at2 = c .before .before .before .before .point-at2 in
-    let in-box = c .before .before .before .in-box in
+    let a = c .before .before .before .before .before .before .args in
+    let is-passed = c .before .before .before .is-passed in
     let if1 = c .before .before .if1 in
-    let state-at = c .before .state-at in
-    stretch-read _ _ _ _ _ _ _ _ (point-at .ensures) (point-at2 .ensures) (sym (in-box .ensures) ∙ if1 .taken) (state-at .ensures) (c .read-on .ensures)
+    stretch-passed (now (a .file)) (a .encoding) (a .fix) (a .asked) (now (a .words)) (a .first) (a .at) (a .to)
+    (pointsBy (now (a .file)) (a .encoding) (a .fix) (a .asked) (now (a .words)) (a .first) (a .at))
+    (a .tally) (is-passed .ensures) (if1 .taken) (c .before .point-at .ensures) (c .leap .ensures)
 
 returns-2 : tie.Need-returns-2
 returns-2 c =
-    let point-at = c .before .before .before .before .before .point-at in
-    let point-at2 = c .before .before .before .before .point-at2 in
-    let in-box = c .before .before .before .in-box in
+    let a = c .before .before .before .before .before .before .args in
+    let is-passed = c .before .before .before .is-passed in
     let if1 = c .before .before .if1 in
-    let point-at3 = c .before .point-at3 in
-    stretch-passed _ _ _ _ _ _ _ _ (point-at .ensures) (point-at2 .ensures) (sym (in-box .ensures) ∙ if1 .left) (point-at3 .ensures) (c .pass-edge .ensures)
+    stretch-entered (now (a .file)) (a .encoding) (a .fix) (a .asked) (now (a .words)) (a .first) (a .at) (a .to)
+    (pointsBy (now (a .file)) (a .encoding) (a .fix) (a .asked) (now (a .words)) (a .first) (a .at))
+    (a .tally) (is-passed .ensures) (if1 .left)
+    (points-read (now (a .file)) (a .encoding) (a .fix) (a .asked) (now (a .words)) (a .first) (a .at) (a .tally) (c .before .state-at .ensures) (c .pass-edges .ensures))
 
 pub pass-stretch-spec : {M : Type 1} → statement M
 pass-stretch-spec =
@@ -30,10 +32,7 @@ pass-stretch-spec =
     (λ c. search needs)
     (λ c κs. search needs)
     (λ c κs. search needs)
-    (λ c κs. search needs)
-    (λ c κs. search needs)
     returns
-    (λ c. search needs)
     (λ c κs. search needs)
     (λ c κs. search needs)
     returns-2)

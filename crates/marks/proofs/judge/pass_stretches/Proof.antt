@@ -1,22 +1,22 @@
--- `marks::judge::pass_stretches` meets its contract. The loop's invariant: what is left, judged from where it has come to, is what the whole gives. Assumes nothing.
+-- `marks::judge::pass_stretches` meets its contract. The loop's invariant: what is left, passed from where it has come to, is what the whole gives. Assumes nothing.
 use Prim.Native.Nat.{_+_, _*_, _-_, _≤_}
 use borrow.Author.Needs.{needs}
 use denote.Ref.{now}
 use lib.ListN.{length}
-use mathlib.Core.{Bool.{false}, Path.{_≡_, refl, sym, ap, _∙_}}
+use mathlib.Core.Path.{_≡_, refl, sym, ap, _∙_}
 use native.Mathlib.Omega.{arith}
-use Rattle.marks.proofs.judge.{Turns.{decides, stretches-done, stretches-next}, pass_stretches.Statement.{statement}}
-use Rattle.marks.specs.Judging.{stretchBy, stretchesBy}
+use Rattle.marks.proofs.judge.{Turns.{stays-stopped, stretches-done, stretches-next}, pass_stretches.Statement.{statement}}
+use Rattle.marks.specs.Judging.{stretchBy, pointsBy, stretchesBy}
 use Rattle.border.specs.declared.place.Point.{Point}
-use Rattle.verdict.specs.{Step.{Step, told}, Verdict.{Judgement, thenOn}, declared.step.Tally.{Tally}}
+use Rattle.verdict.specs.{Step.{Step, told, _>>=_}, declared.step.{Passed.{Passed}, Tally.{Tally}}}
 use Rattle.marks.proofs.judge.pass_stretches.Tie as tie
 
 abbrev Inv-loop : tie.InvT-loop
-Inv-loop file encoding fix words first count place left₀ at₀ counted₀ left at counted =
-    (stretchesBy file encoding fix words first left at counted ≡ stretchesBy file encoding fix words first left₀ at₀ counted₀) × (at + 11 * left ≤ length words)
+Inv-loop file encoding fix asked words first count place end left₀ at₀ counted₀ left at counted =
+    (stretchesBy file encoding fix asked words first left at end counted ≡ stretchesBy file encoding fix asked words first left₀ at₀ end counted₀) × (at + 11 * left ≤ length words)
 
 abbrev μ-loop : tie.MeasureT-loop
-μ-loop file encoding fix words first count place left₀ at₀ counted₀ left at counted = left
+μ-loop file encoding fix asked words first count place end left₀ at₀ counted₀ left at counted = left
 
 end-at-requires : tie.Need-end-at-requires Inv-loop μ-loop
 end-at-requires c κs = omega (arith, c .before .loop .inv .1, c .loop-test .taken)
@@ -31,29 +31,26 @@ pass-stretch-requires c κs =
 stepped : (c : tie.After-pass-stretch Inv-loop μ-loop) →
     let a = c .before .before .before .before .before .before .args in
     let l = c .before .before .before .loop in
-    thenOn false (l .counted .least) (told (c .pass-stretch .result)) (stretchesBy (now (a .file)) (a .encoding) (a .fix) (now (a .words)) (a .first) (l .left - 1) (l .at + 11))
-    ≡ stretchesBy (now (a .file)) (a .encoding) (a .fix) (now (a .words)) (a .first) (a .count) (a .place) (a .tally)
+    (told (c .pass-stretch .result) >>= stretchesBy (now (a .file)) (a .encoding) (a .fix) (a .asked) (now (a .words)) (a .first) (l .left - 1) (l .at + 11) (a .end))
+    ≡ stretchesBy (now (a .file)) (a .encoding) (a .fix) (a .asked) (now (a .words)) (a .first) (a .count) (a .place) (a .end) (a .tally)
 stepped c =
-    let args = c .before .before .before .before .before .before .args in
-    let loop = c .before .before .before .loop in
+    let a = c .before .before .before .before .before .before .args in
+    let l = c .before .before .before .loop in
     let end-at = c .before .end-at in
     let loop-test = c .before .before .loop-test in
-    let a = args in
-    let l = loop in
-    let rest = stretchesBy (now (a .file)) (a .encoding) (a .fix) (now (a .words)) (a .first) (l .left - 1) (l .at + 11) in
-    ap (λ (m : Step Tally). thenOn false (l .counted .least) m rest) (c .pass-stretch .ensures)
-    ∙ ap (λ (to : Point). thenOn false (l .counted .least) (stretchBy (now (a .file)) (a .encoding) (a .fix) (now (a .words)) (a .first) (l .at) to (l .counted)) rest) (end-at .ensures)
-    ∙ stretches-next (now (a .file)) (a .encoding) (a .fix) (now (a .words)) (a .first) (l .left) (l .at) (l .counted) (loop-test .taken)
+    let end-at = end-at in
+    let loop-test = loop-test in
+    let rest = stretchesBy (now (a .file)) (a .encoding) (a .fix) (a .asked) (now (a .words)) (a .first) (l .left - 1) (l .at + 11) (a .end) in
+    ap (λ (m : Step Tally). m >>= rest) (c .pass-stretch .ensures)
+    ∙ ap (λ (to : Point). stretchBy (now (a .file)) (a .encoding) (a .fix) (a .asked) (now (a .words)) (a .first) (l .at) to
+    (pointsBy (now (a .file)) (a .encoding) (a .fix) (a .asked) (now (a .words)) (a .first) (l .at)) (l .counted) >>= rest) (end-at .ensures)
+    ∙ stretches-next (now (a .file)) (a .encoding) (a .fix) (a .asked) (now (a .words)) (a .first) (l .left) (l .at) (a .end) (l .counted) (loop-test .taken)
     ∙ l .inv .0
 
 returns : tie.Need-returns Inv-loop μ-loop
-returns c =
-    let pass-stretch = c .before .before .pass-stretch in
-    let matched = c .before .match in
-    c .stopped .ensures ∙ decides (pass-stretch .result) _ _ (matched .keys2) ∙ stepped (c .before .before)
+returns c = stays-stopped (c .before .pass-stretch .result) _ (c .match .keys2) ∙ stepped (c .before)
 
 loop-again : tie.Need-loop-again Inv-loop μ-loop
-unfolding thenOn
 loop-again c =
     let passed = c .before .passed in
     let loop = c .before .before .before .before .before .before .loop in
@@ -61,10 +58,7 @@ loop-again c =
     (rw (passed .given .1) at (stepped (c .before .before .before)), omega (arith, loop .inv .1, loop-test .taken))
 
 returns-2 : tie.Need-returns-2 Inv-loop μ-loop
-returns-2 c =
-    let loop-test = c .before .loop-test in
-    let loop = c .before .before .loop in
-    c .closed .ensures ∙ stretches-done _ _ _ _ _ _ _ _ (omega (arith, loop-test .left)) ∙ loop .inv .0
+returns-2 c = stretches-done _ _ _ _ _ _ _ _ _ _ (omega (arith, c .loop-test .left)) ∙ c .before .loop .inv .0
 
 add-at : tie.Need-add-at Inv-loop μ-loop
 add-at c =
@@ -89,10 +83,8 @@ pass-stretches-spec =
     end-at-requires
     pass-stretch-requires
     (λ c. search needs)
-    (λ c κs. search needs)
     returns
     add-at
     loop-less
     loop-again
-    (λ c κs. search needs)
     returns-2)

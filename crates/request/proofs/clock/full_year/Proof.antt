@@ -4,11 +4,5 @@ use Rattle.request.proofs.Times.{year-new, year-old}
 use Rattle.request.proofs.clock.full_year.Statement.{statement}
 use Rattle.request.proofs.clock.full_year.Tie as tie
 
-returns : tie.Need-returns
-returns c = year-new (c .before .args .year) (c .if1 .taken)
-
-returns-2 : tie.Need-returns-2
-returns-2 c = year-old (c .before .args .year) (c .if1 .left)
-
 pub full-year-spec : {M : Type 1} → statement M
-full-year-spec = tie.close (tie.spec (λ c. search needs) returns (λ c. search needs) returns-2)
+full-year-spec = tie.close (tie.spec (λ c. search needs) (λ c. year-new (c .before .args .year) (c .if1 .taken)) (λ c. search needs) (λ c. year-old (c .before .args .year) (c .if1 .left)))

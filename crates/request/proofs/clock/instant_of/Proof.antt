@@ -7,11 +7,8 @@ use Rattle.request.proofs.Times.{instant-fits, instant-is}
 use Rattle.request.proofs.clock.instant_of.Statement.{statement}
 use Rattle.request.proofs.clock.instant_of.Tie as tie
 
-sub-result : tie.Need-sub-result
-sub-result c = instant-fits (c .args .day) (c .args .second) (c .pre .0) (c .pre .1)
-
 returns : tie.Need-returns
 returns c = toZ-ofZ w64 _ (instant-fits (c .args .day) (c .args .second) (c .pre .0) (c .pre .1)) ∙ instant-is (c .args .day) (c .args .second) (c .pre .0) (c .pre .1)
 
 pub instant-of-spec : {M : Type 1} → statement M
-instant-of-spec = tie.close (tie.spec (λ c. search needs) (λ c. search needs) (λ c. search needs) sub-result returns)
+instant-of-spec = tie.close (tie.spec (λ c. search needs) (λ c. search needs) (λ c. search needs) (λ c. instant-fits (c .args .day) (c .args .second) (c .pre .0) (c .pre .1)) returns)

@@ -11,15 +11,13 @@ returns c = simp (lt-leb (c .before .args .hour) 23 (c .if1 .taken))
 returns-2 : tie.Need-returns-2
 unfolding isTime
 returns-2 c =
-    let args = c .before .before .args in
-    let if1 = c .before .if1 in
+    let args = c .before .before .args in let if1 = c .before .if1 in
     simp (le-leb (args .hour) 23 (if1 .left), lt-leb (args .minute) 59 (c .if2 .taken))
 
 returns-3 : tie.Need-returns-3
 unfolding isTime
 returns-3 c =
-    let args = c .before .before .args in
-    let if1 = c .before .if1 in
+    let args = c .before .before .args in let if1 = c .before .if1 in
     simp (le-leb (args .hour) 23 (if1 .left), le-leb (args .minute) 59 (c .if2 .left))
 
 pub is-time-spec : {M : Type 1} → statement M

@@ -9,30 +9,18 @@ use Rattle.request.specs.Request.{at}
 use Rattle.request.specs.Told.{shown}
 use Rattle.request.proofs.clock.when.Tie as tie
 
-moment-requires : tie.Need-moment-requires
-moment-requires c κs = sym (c .before .formed .ensures) ∙ c .if1 .taken
-
 returns : tie.Need-returns
 returns c =
-    let args = c .before .before .before .before .before .args in
-    let formed = c .before .before .formed in
-    let if1 = c .before .if1 in
+    let args = c .before .before .before .before .before .args in let formed = c .before .before .formed in let if1 = c .before .if1 in
     c .moment .ensures ∙ ap (λ (a : Answer When). shown (at (args .place) a) instantAt) (when-moment (args .text .now) (sym (formed .ensures) ∙ if1 .taken))
 
 returns-2 : tie.Need-returns-2
 returns-2 c =
-    let args = c .before .before .before .before .before .args in
-    let formed = c .before .before .formed in
-    let if1 = c .before .if1 in
+    let args = c .before .before .before .before .before .args in let formed = c .before .before .formed in let if1 = c .before .if1 in
     c .seconds .ensures ∙ ap (λ (a : Answer When). shown (at (args .place) a) instantAt) (when-seconds (args .text .now) (sym (formed .ensures) ∙ if1 .left))
 
 pub when-spec : {M : Type 1} → statement M
 when-spec =
     tie.close
     (tie.spec
-    (λ c. search needs)
-    (λ c κs. search needs)
-    moment-requires
-    returns
-    (λ c κs. search needs)
-    returns-2)
+    (λ c. search needs) (λ c κs. search needs) (λ c κs. sym (c .before .formed .ensures) ∙ c .if1 .taken) returns (λ c κs. search needs) returns-2)

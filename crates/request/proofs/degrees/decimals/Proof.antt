@@ -13,12 +13,11 @@ use Rattle.request.specs.declared.number.Digits.{Digits}
 use Rattle.request.proofs.degrees.decimals.Tie as tie
 
 returns : tie.Need-returns
-returns c = no-decimals (c .before .before .args .text .now) (c .before .before .args .from) (c .before .before .args .start) (c .if1 .taken)
+returns c = let args = c .before .before .args in no-decimals (args .text .now) (args .from) (args .start) (c .if1 .taken)
 
 value-requires : tie.Need-value-requires
 value-requires c κs =
-    let args = c .before .before .before .args in
-    let pre = c .before .before .before .pre in
+    let args = c .before .before .before .args in let pre = c .before .before .before .pre in
     let rest = take (length (args .text .now) - args .from) (drop (args .from) (args .text .now)) in
     let few : length rest ≤ 9 = omega (arith, pre .1, ap length (rest-is (args .text .now) (args .from)), length-drop (args .from) (args .text .now)) in
     (omega arith, omega (arith, value-short (args .start) 1000 9 rest (pre .0) few))
@@ -30,4 +29,5 @@ returns-2 c =
 
 pub decimals-spec : {M : Type 1} → statement M
 decimals-spec =
-    tie.close (tie.spec returns (λ c. search needs) (λ c. search needs) (λ c. search needs) value-requires returns-2)
+    tie.close (tie.spec
+    returns (λ c. search needs) (λ c. search needs) (λ c. search needs) value-requires returns-2)

@@ -11,22 +11,12 @@ use Rattle.request.proofs.fraction.assembled.Tie as tie
 -- rounded, they are as many, or 2 ^ 24
 range : (c : tie.After-rounded) → (8388608 ≤ c .rounded .result) × (c .rounded .result ≤ 16777216)
 range c =
-    let args = c .before .args in
-    let o = compare (args .rest * 2) (args .unit) in
-    let pre = c .before .pre in
+    let args = c .before .args in let o = compare (args .rest * 2) (args .unit) in let pre = c .before .pre in
     rw (c .rounded .ensures) (le-trans (pre .0) (nearest-ge (args .kept) o), le-trans (nearest-le (args .kept) o) (pre .1))
-
-add-of-bits : tie.Need-add-of-bits
-add-of-bits c = omega (arith, range c)
-
-cast-of-bits : tie.Need-cast-of-bits
-cast-of-bits c = omega (arith, range c)
 
 returns : tie.Need-returns
 returns c =
-    let args = c .before .before .args in
-    let rounded = c .before .rounded in
-    let r = range (c .before) in
+    let args = c .before .before .args in let rounded = c .before .rounded in let r = range (c .before) in
     c .of-bits .ensures
     ∙ sym (pattern (rounded .result) (args .place) (r .0) (r .1) (c .before .before .pre .3))
     ∙ ap (λ (q : ℕ). units binary32 false q (args .place)) (rounded .ensures)
@@ -34,4 +24,5 @@ returns c =
 pub assembled-spec : {M : Type 1} → statement M
 assembled-spec =
     tie.close
-    (tie.spec (λ c. search needs) (λ c κs. search needs) add-of-bits cast-of-bits (λ c κs. search needs) returns)
+    (tie.spec
+    (λ c. search needs) (λ c κs. search needs) (λ c. omega (arith, range c)) (λ c. omega (arith, range c)) (λ c κs. search needs) returns)

@@ -12,14 +12,10 @@ use Rattle.request.proofs.fraction.rounded.Tie as tie
 at-order : (kept rest unit : ℕ) (o : Ordering) → Cmp o (rest * 2) unit → nearest kept o ≡ nearest kept (compare (rest * 2) unit)
 at-order kept rest unit o found = ap (nearest kept) (sym (order-is (rest * 2) unit o found))
 
-returns : tie.Need-returns
-returns c = let a = c .before .args in at-order (a .kept) (a .rest) (a .unit) Ordering·lt (omega arith)
-
 returns-2 : tie.Need-returns-2
 returns-2 c = let a = c .before .before .args in add-one _ ∙ at-order (a .kept) (a .rest) (a .unit) Ordering·gt (omega arith)
 
-returns-3 : tie.Need-returns-3
-returns-3 c = let a = c .before .before .args in at-order (a .kept) (a .rest) (a .unit) Ordering·eq (omega arith)
-
 pub rounded-spec : {M : Type 1} → statement M
-rounded-spec = tie.close (tie.spec (λ c. search needs) returns (λ c. search needs) returns-2 (λ c. search needs) returns-3)
+rounded-spec = tie.close (tie.spec
+    (λ c. search needs) (λ c. let a = c .before .args in at-order (a .kept) (a .rest) (a .unit) Ordering·lt (omega arith)) (λ c. search needs)
+    returns-2 (λ c. search needs) (λ c. let a = c .before .before .args in at-order (a .kept) (a .rest) (a .unit) Ordering·eq (omega arith)))

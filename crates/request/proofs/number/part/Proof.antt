@@ -12,8 +12,7 @@ use Rattle.request.proofs.number.part.Tie as tie
 
 value-requires : tie.Need-value-requires
 value-requires c κs =
-    let args = c .before .before .args in
-    let pre = c .before .before .pre in
+    let args = c .before .before .args in let pre = c .before .before .pre in
     let few : length (take (args .from + args .n - args .from) (drop (args .from) (args .text .now))) ≤ 4 = omega (
       arith,
       pre,
@@ -27,17 +26,19 @@ unfolding partOf
 returns c =
     let text = c .before .before .before .args .text .now in
     let same : c .before .before .before .args .from + c .before .before .before .args .n - c .before .before .before .args .from ≡ c .before .before .before .args .n = omega arith in
-    let value : c .value .result .value ≡ partOf (c .before .before .before .args .from) (c .before .before .before .args .n) text = ap (λ (d : Digits). d .value) (c .value .ensures)
-    ∙ ap (λ (k : ℕ). valueFrom 0 (take k (drop (c .before .before .before .args .from) text))) same in (
+    let args = c .before .before .before .args in
+    let value : c .value .result .value ≡ partOf (args .from) (args .n) text = ap (λ (d : Digits). d .value) (c .value .ensures)
+    ∙ ap (λ (k : ℕ). valueFrom 0 (take k (drop (args .from) text))) same in (
       value,
       omega (
         arith,
         value,
-        value-short 0 1 (c .before .before .before .args .n) (take (c .before .before .before .args .n) (drop (c .before .before .before .args .from) text))
-            (omega arith) (omega (arith, length-take (c .before .before .before .args .n) (drop (c .before .before .before .args .from) text))),
+        value-short 0 1 (args .n) (take (args .n) (drop (args .from) text))
+            (omega arith) (omega (arith, length-take (args .n) (drop (args .from) text))),
       ),
     )
 
 pub part-spec : {M : Type 1} → statement M
 part-spec =
-    tie.close (tie.spec (λ c. search needs) (λ c. search needs) (λ c. search needs) (λ c. search needs) value-requires returns)
+    tie.close (tie.spec
+    (λ c. search needs) (λ c. search needs) (λ c. search needs) (λ c. search needs) value-requires returns)

@@ -9,34 +9,25 @@ use Rattle.request.proofs.sentence.fix.Statement.{statement}
 use Rattle.request.specs.Told.{toldWhole, toldDegrees}
 use Rattle.request.proofs.sentence.fix.Tie as tie
 
-time-in-requires : tie.Need-time-in-requires
-time-in-requires c κs = c .before .pre
-
 returns : tie.Need-returns
 returns c =
-    let args = c .before .before .before .before .before .args in
-    let why = c .before .why in
-    let time-in = c .before .before .before .time-in in
+    let args = c .before .before .before .before .before .args in let why = c .before .why in let time-in = c .before .before .before .time-in in
     fix-time (args .body .now) (sym (ap toldWhole (why .given .1)) ∙ time-in .ensures .0)
 
 turned-in-requires : tie.Need-turned-in-requires
-turned-in-requires c κs =
-    let pre = c .before .before .before .before .before .pre in
-    (pre, omega arith, omega arith, omega arith)
+turned-in-requires c κs = let pre = c .before .before .before .before .before .pre in (pre, omega arith, omega arith, omega arith)
 
 returns-2 : tie.Need-returns-2
 returns-2 c =
     let args = c .before .before .before .before .before .before .before .before .before .args in
     let second = c .before .before .before .before .before .second in
-    let time-in = c .before .before .before .before .before .before .before .time-in in
-    let why2 = c .before .why2 in
+    let time-in = c .before .before .before .before .before .before .before .time-in in let why2 = c .before .why2 in
     let turned-in = c .before .before .before .turned-in in
     fix-lat (args .body .now) (sym (ap toldWhole (second .given .1)) ∙ time-in .ensures .0) (sym (ap toldDegrees (why2 .given .1)) ∙ turned-in .ensures)
 
 turned-in-requires-2 : tie.Need-turned-in-requires-2
 turned-in-requires-2 c κs =
-    let pre = c .before .before .before .before .before .before .before .before .before .pre in
-    (pre, omega arith, omega arith, omega arith)
+    let pre = c .before .before .before .before .before .before .before .before .before .pre in (pre, omega arith, omega arith, omega arith)
 
 returns-3 : tie.Need-returns-3
 returns-3 c =
@@ -44,49 +35,44 @@ returns-3 c =
     let second = c .before .before .before .before .before .before .before .before .before .second in
     let time-in = c .before .before .before .before .before .before .before .before .before .before .before .time-in in
     let lat = c .before .before .before .before .before .lat in
-    let turned-in = c .before .before .before .before .before .before .before .turned-in in
-    let why3 = c .before .why3 in
+    let turned-in = c .before .before .before .before .before .before .before .turned-in in let why3 = c .before .why3 in
     let turned-in2 = c .before .before .before .turned-in2 in
     fix-lon (args .body .now) (sym (ap toldWhole (second .given .1)) ∙ time-in .ensures .0) (sym (ap toldDegrees (lat .given .1)) ∙ turned-in .ensures) (sym (ap toldDegrees (why3 .given .1))
     ∙ turned-in2 .ensures)
 
-date-in-requires : tie.Need-date-in-requires
-date-in-requires c κs =
-    let pre = c .before .before .before .before .before .before .before .before .before .before .before .before .before .pre in
-    pre
+-- ---- the places that the answers speak of
+abbrev at-second : tie.After-known-told5 → tie.After-second
+at-second c = c .before .before .before .before .before .before .before .before .before
 
 returns-4 : tie.Need-returns-4
 returns-4 c =
-    let args = c .before .before .before .before .before .before .before .before .before .before .before .before .before .before .before .before .before .args in
-    let second = c .before .before .before .before .before .before .before .before .before .before .before .before .before .second in
-    let time-in = c .before .before .before .before .before .before .before .before .before .before .before .before .before .before .before .time-in in
+    let args = at-second (c .before .before .before .before) .before .before .before .before .args in
+    let second = at-second (c .before .before .before .before) .second in
+    let time-in = at-second (c .before .before .before .before) .before .before .time-in in
     let lat = c .before .before .before .before .before .before .before .before .before .lat in
     let turned-in = c .before .before .before .before .before .before .before .before .before .before .before .turned-in in
     let lon = c .before .before .before .before .before .lon in
-    let turned-in2 = c .before .before .before .before .before .before .before .turned-in2 in
-    let why4 = c .before .why4 in
+    let turned-in2 = c .before .before .before .before .before .before .before .turned-in2 in let why4 = c .before .why4 in
     let date-in = c .before .before .before .date-in in
     fix-date (args .body .now) (sym (ap toldWhole (second .given .1)) ∙ time-in .ensures .0) (sym (ap toldDegrees (lat .given .1)) ∙ turned-in .ensures) (sym (ap toldDegrees (lon .given .1))
     ∙ turned-in2 .ensures) (sym (ap toldWhole (why4 .given .1)) ∙ date-in .ensures .0)
 
 instant-of-requires : tie.Need-instant-of-requires
 instant-of-requires c κs =
-    let day = c .before .day in
-    let date-in = c .before .before .before .date-in in
-    let second = c .before .before .before .before .before .before .before .before .before .before .before .before .before .second in
-    let time-in = c .before .before .before .before .before .before .before .before .before .before .before .before .before .before .before .time-in in
+    let day = c .before .day in let date-in = c .before .before .before .date-in in
+    let second = at-second (c .before .before .before .before) .second in
+    let time-in = at-second (c .before .before .before .before) .before .before .time-in in
     (below-held 3652059 (day .given .1) (date-in .ensures .1), below-held 86400 (second .given .1) (time-in .ensures .1))
 
 returns-5 : tie.Need-returns-5
 returns-5 c =
-    let args = c .before .before .before .before .before .before .before .before .before .before .before .before .before .before .before .before .before .before .args in
-    let second = c .before .before .before .before .before .before .before .before .before .before .before .before .before .before .second in
-    let time-in = c .before .before .before .before .before .before .before .before .before .before .before .before .before .before .before .before .time-in in
+    let args = at-second (c .before .before .before .before .before) .before .before .before .before .args in
+    let second = at-second (c .before .before .before .before .before) .second in
+    let time-in = at-second (c .before .before .before .before .before) .before .before .time-in in
     let lat = c .before .before .before .before .before .before .before .before .before .before .lat in
     let turned-in = c .before .before .before .before .before .before .before .before .before .before .before .before .turned-in in
     let lon = c .before .before .before .before .before .before .lon in
-    let turned-in2 = c .before .before .before .before .before .before .before .before .turned-in2 in
-    let day = c .before .before .day in
+    let turned-in2 = c .before .before .before .before .before .before .before .before .turned-in2 in let day = c .before .before .day in
     let date-in = c .before .before .before .before .date-in in
     fix-is (args .body .now) (sym (ap toldWhole (second .given .1)) ∙ time-in .ensures .0) (sym (ap toldDegrees (lat .given .1)) ∙ turned-in .ensures) (sym (ap toldDegrees (lon .given .1))
     ∙ turned-in2 .ensures) (sym (ap toldWhole (day .given .1)) ∙ date-in .ensures .0) (toZ-ofZ w64 (c .instant-of .result) (sfits-of (c .instant-of .ok)) ∙ c .instant-of .ensures)
@@ -95,21 +81,6 @@ pub fix-spec : {M : Type 1} → statement M
 fix-spec =
     tie.close
     (tie.spec
-    time-in-requires
-    (λ c. search needs)
-    (λ c. search needs)
-    returns
-    turned-in-requires
-    (λ c. search needs)
-    (λ c. search needs)
-    returns-2
-    turned-in-requires-2
-    (λ c. search needs)
-    (λ c. search needs)
-    returns-3
-    date-in-requires
-    (λ c. search needs)
-    (λ c. search needs)
-    returns-4
-    instant-of-requires
-    returns-5)
+    (λ c κs. c .before .pre) (λ c. search needs) (λ c. search needs) returns turned-in-requires (λ c. search needs) (λ c. search needs) returns-2
+    turned-in-requires-2 (λ c. search needs) (λ c. search needs) returns-3 (λ c κs. let pre = at-second c .before .before .before .before .pre in pre)
+    (λ c. search needs) (λ c. search needs) returns-4 instant-of-requires returns-5)

@@ -15,15 +15,12 @@ returns c = simp (lt-leb 2 (length (c .before .before .args .text .now)) (c .if1
 returns-2 : tie.Need-returns-2
 unfolding isAddress
 returns-2 c =
-    let args = c .before .before .before .args in
-    let if1 = c .before .if1 in
+    let args = c .before .before .before .args in let if1 = c .before .if1 in
     simp (le-leb 2 (length (args .text .now)) (if1 .left), lt-leb (length (args .text .now)) 8 (c .if2 .taken))
 
 returns-3 : tie.Need-returns-3
 returns-3 c =
-    let args = c .before .before .before .before .args in
-    let if1 = c .before .before .if1 in
-    let if2 = c .before .if2 in
+    let args = c .before .before .before .before .args in let if1 = c .before .before .if1 in let if2 = c .before .if2 in
     c .every .ensures ∙ address-is (args .text .now) (if1 .left) (if2 .left)
 
 pub is-address-spec : {M : Type 1} → statement M

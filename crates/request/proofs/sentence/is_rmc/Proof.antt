@@ -8,22 +8,13 @@ use Rattle.request.proofs.sentence.is_rmc.Statement.{statement}
 use Rattle.request.specs.Text.{formed}
 use Rattle.request.proofs.sentence.is_rmc.Tie as tie
 
-returns : tie.Need-returns
-returns c = rmc-short (c .before .before .args .text .now) (c .if1 .taken)
-
 returns-2 : tie.Need-returns-2
 returns-2 c =
-    let args = c .before .before .before .before .before .args in
-    c .formed .ensures ∙ ap (formed (82 ∷ 77 ∷ 67 ∷ [])) (rest-is (args .text .now) 2)
+    let args = c .before .before .before .before .before .args in c .formed .ensures ∙ ap (formed (82 ∷ 77 ∷ 67 ∷ [])) (rest-is (args .text .now) 2)
 
 pub is-rmc-spec : {M : Type 1} → statement M
 is-rmc-spec =
     tie.close
     (tie.spec
-    returns
-    (λ c. search needs)
-    (λ c. search needs)
-    (λ c. search needs)
-    (λ c. search needs)
-    (λ c κs. search needs)
-    returns-2)
+    (λ c. rmc-short (c .before .before .args .text .now) (c .if1 .taken)) (λ c. search needs) (λ c. search needs) (λ c. search needs)
+    (λ c. search needs) (λ c κs. search needs) returns-2)

@@ -8,8 +8,7 @@ use Rattle.request.proofs.sentence.mode_known.Tie as tie
 
 returns : tie.Need-returns
 returns c =
-    let args = c .before .before .before .before .before .args in
-    let field-start = c .before .before .before .field-start in
+    let args = c .before .before .before .before .before .args in let field-start = c .before .before .before .field-start in
     let find = c .before .before .find in
     c .is-mode .ensures ∙ ap isMode (field-is 12 (args .body .now) (field-start .result) (find .result) (field-start .ensures .0) (find .ensures .0))
 
@@ -17,10 +16,4 @@ pub mode-known-spec : {M : Type 1} → statement M
 mode-known-spec =
     tie.close
     (tie.spec
-    (λ c κs. search needs)
-    (λ c κs. search needs)
-    (λ c. search needs)
-    (λ c. search needs)
-    (λ c. search needs)
-    (λ c κs. search needs)
-    returns)
+    (λ c κs. search needs) (λ c κs. search needs) (λ c. search needs) (λ c. search needs) (λ c. search needs) (λ c κs. search needs) returns)

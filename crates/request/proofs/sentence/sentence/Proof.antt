@@ -13,49 +13,34 @@ use Rattle.request.specs.Request.{bodyOf, fieldsOf, meaning}
 use Rattle.request.specs.Told.{shown}
 use Rattle.request.proofs.sentence.sentence.Tie as tie
 
-sealed-requires : tie.Need-sealed-requires
-sealed-requires c κs = c .before .before .pre .1
-
 returns : tie.Need-returns
 returns c =
-    let star-of = c .before .before .before .star-of in
-    let args = c .before .before .before .before .before .args in
-    let sealed = c .before .before .sealed in
-    let if1 = c .before .if1 in
+    let star-of = c .before .before .before .star-of in let args = c .before .before .before .before .before .args in
+    let sealed = c .before .before .sealed in let if1 = c .before .if1 in
     ap refused (c .refuse .ensures) ∙ ap (λ (n : ℕ). refused (refusal 82 0 n)) (star-of .ensures) ∙ not-sealed (args .line .now) (sym (sealed .ensures) ∙ not-true _ (if1 .taken))
 
 sub-fields : tie.Need-sub-fields
 sub-fields c =
-    let args = c .before .before .before .before .args in
-    let star-of = c .before .before .star-of in
-    let pre = c .before .before .before .before .pre in
-    let sealed = c .before .sealed in
+    let args = c .before .before .before .before .args in let star-of = c .before .before .star-of in
+    let pre = c .before .before .before .before .pre in let sealed = c .before .sealed in
     seal-some (args .line .now) (star-of .ensures) (pre .1) (sym (sealed .ensures) ∙ not-false _ (c .if1 .left))
 
 part-fields-start : tie.Need-part-fields-start
 part-fields-start c =
-    let args = c .before .before .before .before .args in
-    let star-of = c .before .before .star-of in
-    let pre = c .before .before .before .before .pre in
-    let sealed = c .before .sealed in
+    let args = c .before .before .before .before .args in let star-of = c .before .before .star-of in
+    let pre = c .before .before .before .before .pre in let sealed = c .before .sealed in
     seal-some (args .line .now) (star-of .ensures) (pre .1) (sym (sealed .ensures) ∙ not-false _ (c .if1 .left))
-
-part-fields-end : tie.Need-part-fields-end
-part-fields-end c = omega (arith, c .before .before .star-of .ensures)
 
 fields-requires : tie.Need-fields-requires
 fields-requires c κs =
-    let pre = c .before .before .before .before .before .pre in
-    let star-of = c .before .before .before .star-of in
+    let pre = c .before .before .before .before .before .pre in let star-of = c .before .before .before .star-of in
     let args = c .before .before .before .before .before .args in
     omega (arith, pre .0, length-take (star-of .result - 1) (drop 1 (args .line .now)), length-drop 1 (args .line .now))
 
 returns-2 : tie.Need-returns-2
 returns-2 c =
-    let star-of = c .before .before .before .before .star-of in
-    let args = c .before .before .before .before .before .before .args in
-    let sealed = c .before .before .before .sealed in
-    let if1 = c .before .before .if1 in
+    let star-of = c .before .before .before .before .star-of in let args = c .before .before .before .before .before .before .args in
+    let sealed = c .before .before .before .sealed in let if1 = c .before .before .if1 in
     c .fields .ensures
     ∙ ap (λ (l : List ℕ). shown (fieldsOf l (star-of .result)) meaning) (body-is (args .line .now) (star-of .ensures))
     ∙ ap (λ (n : ℕ). shown (fieldsOf (bodyOf (args .line .now)) n) meaning) (star-of .ensures)
@@ -65,12 +50,5 @@ pub sentence-spec : {M : Type 1} → statement M
 sentence-spec =
     tie.close
     (tie.spec
-    (λ c κs. search needs)
-    sealed-requires
-    (λ c κs. search needs)
-    returns
-    sub-fields
-    part-fields-start
-    part-fields-end
-    fields-requires
-    returns-2)
+    (λ c κs. search needs) (λ c κs. c .before .before .pre .1) (λ c κs. search needs) returns sub-fields part-fields-start
+    (λ c. omega (arith, c .before .before .star-of .ensures)) fields-requires returns-2)

@@ -17,52 +17,30 @@ abbrev μ-loop : tie.MeasureT-loop
 μ-loop form text at₀ at = length text - at
 
 returns : tie.Need-returns Inv-loop μ-loop
-returns c = form-length (c .before .before .before .args .form .now) (c .before .before .before .args .text .now) (c .if1 .taken)
-
-loop-holds : tie.Need-loop-holds Inv-loop μ-loop
-loop-holds c = (refl, omega arith)
-
-shared-slice-read-mark : tie.Need-shared-slice-read-mark Inv-loop μ-loop
-shared-slice-read-mark c = omega (arith, c .before .before .before .if1 .left)
+returns c = let args = c .before .before .before .args in form-length (args .form .now) (args .text .now) (c .if1 .taken)
 
 returns-2 : tie.Need-returns-2 Inv-loop μ-loop
 returns-2 c =
     let args = c .before .before .before .before .before .before .before .before .before .args in
-    let loop = c .before .before .before .before .before .loop in
-    let if1 = c .before .before .before .before .before .before .if1 in
-    let loop-test = c .before .before .before .before .loop-test in
-    let likened = c .before .likened in
+    let loop = c .before .before .before .before .before .loop in let if1 = c .before .before .before .before .before .before .if1 in
+    let loop-test = c .before .before .before .before .loop-test in let likened = c .before .likened in
     formed-stop (args .form .now) (args .text .now) (loop .at) (if1 .left) (loop-test .taken) (sym (likened .ensures) ∙ not-true _ (c .if2 .taken)) ∙ loop .inv .0
 
 loop-again : tie.Need-loop-again Inv-loop μ-loop
 loop-again c =
     let args = c .before .before .before .before .before .before .before .before .before .args in
-    let loop = c .before .before .before .before .before .loop in
-    let if1 = c .before .before .before .before .before .before .if1 in
-    let loop-test = c .before .before .before .before .loop-test in
-    let likened = c .before .likened in
+    let loop = c .before .before .before .before .before .loop in let if1 = c .before .before .before .before .before .before .if1 in
+    let loop-test = c .before .before .before .before .loop-test in let likened = c .before .likened in
     (formed-on (args .form .now) (args .text .now) (loop .at) (if1 .left) (loop-test .taken) (sym (likened .ensures) ∙ not-false _ (c .if2 .left)) ∙ loop .inv .0, omega arith)
 
 returns-3 : tie.Need-returns-3 Inv-loop μ-loop
 returns-3 c =
-    let args = c .before .before .before .before .before .args in
-    let loop = c .before .loop in
-    let if1 = c .before .before .if1 in
+    let args = c .before .before .before .before .before .args in let loop = c .before .loop in let if1 = c .before .before .if1 in
     formed-end (args .form .now) (args .text .now) (loop .at) (if1 .left) (c .loop-test .left) ∙ loop .inv .0
 
 pub formed-spec : {M : Type 1} → statement M
 formed-spec =
     tie.close
     (tie.spec
-    Inv-loop
-    μ-loop
-    returns
-    loop-holds
-    shared-slice-read-mark
-    (λ c. omega arith)
-    (λ c κs. search needs)
-    returns-2
-    (λ c. omega arith)
-    (λ c. omega arith)
-    loop-again
-    returns-3)
+    Inv-loop μ-loop returns (λ c. (refl, omega arith)) (λ c. omega (arith, c .before .before .before .if1 .left)) (λ c. omega arith)
+    (λ c κs. search needs) returns-2 (λ c. omega arith) (λ c. omega arith) loop-again returns-3)

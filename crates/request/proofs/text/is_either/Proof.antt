@@ -3,11 +3,7 @@ use borrow.Author.Tests.{eq-eqb, ne-eqb}
 use Rattle.request.proofs.text.is_either.Statement.{statement}
 use Rattle.request.proofs.text.is_either.Tie as tie
 
-returns : tie.Need-returns
-returns c = simp (eq-eqb (c .before .args .byte) (c .before .args .a) (c .if1 .taken))
-
-returns-2 : tie.Need-returns-2
-returns-2 c = simp (ne-eqb (c .before .args .byte) (c .before .args .a) (c .if1 .left))
-
 pub is-either-spec : {M : Type 1} → statement M
-is-either-spec = tie.close (tie.spec returns returns-2)
+is-either-spec = tie.close (tie.spec
+    (λ c. simp (eq-eqb (c .before .args .byte) (c .before .args .a) (c .if1 .taken)))
+    (λ c. simp (ne-eqb (c .before .args .byte) (c .before .args .a) (c .if1 .left))))

@@ -14,26 +14,19 @@ Inv-loop text sum₀ at₀ sum at = (sum ≡ xors (drop at text)) × (at ≤ len
 abbrev μ-loop : tie.MeasureT-loop
 μ-loop text sum₀ at₀ sum at = at
 
-loop-holds : tie.Need-loop-holds Inv-loop μ-loop
-loop-holds c = (xors-end (c .args .text .now) (length (c .args .text .now)) (omega arith), omega arith)
-
-shared-slice-read-sum : tie.Need-shared-slice-read-sum Inv-loop μ-loop
-shared-slice-read-sum c = omega (arith, c .before .before .loop .inv)
-
 loop-again : tie.Need-loop-again Inv-loop μ-loop
 loop-again c =
-    let args = c .before .before .before .args in
-    let loop = c .before .before .loop in
-    let loop-test = c .before .loop-test in
+    let args = c .before .before .before .args in let loop = c .before .before .loop in let loop-test = c .before .loop-test in
     (xors-back (args .text .now) (loop .at) (loop-test .taken) (loop .inv .1) (loop .sum) (loop .inv .0), omega (arith, loop .inv))
 
 returns : tie.Need-returns Inv-loop μ-loop
 returns c =
-    let loop = c .before .loop in
-    let args = c .before .before .args in
+    let loop = c .before .loop in let args = c .before .before .args in
     loop .inv .0 ∙ ap (λ (n : ℕ). xors (drop n (args .text .now))) (let z : loop .at ≡ 0 = omega arith in z)
 
 pub xors-spec : {M : Type 1} → statement M
 xors-spec =
     tie.close
-    (tie.spec Inv-loop μ-loop loop-holds (λ c. omega arith) shared-slice-read-sum (λ c. omega arith) loop-again returns)
+    (tie.spec
+    Inv-loop μ-loop (λ c. (xors-end (c .args .text .now) (length (c .args .text .now)) (omega arith), omega arith)) (λ c. omega arith)
+    (λ c. omega (arith, c .before .before .loop .inv)) (λ c. omega arith) loop-again returns)

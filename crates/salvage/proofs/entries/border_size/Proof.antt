@@ -6,7 +6,11 @@ use Rattle.salvage.specs.{File.{borderBytes}, Kept.{entryGood}}
 use Rattle.salvage.proofs.entries.border_size.Tie as tie
 
 returns : tie.Need-returns
-returns c = measured-if (entryGood (now (c .before .before .before .before .before .before .args .file)) (c .before .before .before .before .before .before .args .head) (c .before .before .before .before .before .before .args .row)) (borderBytes (now (c .before .before .before .before .before .before .args .file)) (c .before .before .before .before .before .before .args .head) (c .before .before .before .before .before .before .args .row)) _ (λ good. sized-of (border-drawn (now (c .before .before .before .before .before .before .args .file)) (c .before .before .before .before .before .before .args .head) (c .before .before .before .before .before .before .args .row) good (c .before .before .before .encoding-in .ensures) (c .before .before .before .before .section-place .ensures) (c .before .put-border .ensures)))
+returns c =
+    let args = c .before .before .before .before .before .before .args in
+    measured-if (entryGood (now (args .file)) (args .head) (args .row)) (borderBytes (now (args .file)) (args .head) (args .row)) _
+    (λ good. sized-of (border-drawn (now (args .file)) (args .head) (args .row) good (c .before .before .before .encoding-in .ensures)
+    (c .before .before .before .before .section-place .ensures) (c .before .put-border .ensures)))
 
 pub border-size-spec : {M : Type 1} → statement M
 border-size-spec = tie.close (tie.spec (λ c κs. search needs) (λ c κs. search needs) (λ c. search needs) (λ c κs. search needs) returns)

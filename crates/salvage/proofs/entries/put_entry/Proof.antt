@@ -7,7 +7,9 @@ use Rattle.salvage.proofs.entries.put_entry.Tie as tie
 
 returns : tie.Need-returns
 unfolding entryBytes
-returns c = capped-then _ _ (c .before .before .before .before .before .before .before .before .before .before .before .put-box .ensures) (capped-then _ _ (capped-form (c .before .before .before .before .before .before .before .id-form .ensures) (c .before .before .before .before .before .before .put-number .ensures)) (c .before .before .put-number2 .ensures))
+returns c = capped-then _ _ (c .before .before .before .before .before .before .before .before .before .before .before .put-box .ensures)
+    (capped-then _ _ (capped-form (c .before .before .before .before .before .before .before .id-form .ensures) (c .before .before .before .before .before .before .put-number .ensures))
+    (c .before .before .put-number2 .ensures))
 
 pub put-entry-spec : {M : Type 1} → statement M
 put-entry-spec = tie.close (tie.spec (λ c κs. search needs) (λ c κs. search needs) (λ c κs. search needs) (λ c κs. search needs) (λ c. search needs) returns)

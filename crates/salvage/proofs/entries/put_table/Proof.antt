@@ -15,10 +15,17 @@ returns : tie.Need-returns Inv-loop μ-loop
 returns c = tables-end _ _ _ _ (c .before .before .before .loop .inv) (rw (c .enum-told .given .1) at (c .before .before .next-kept .ensures))
 
 loop-less : tie.Need-loop-less Inv-loop μ-loop
-loop-less c = rw (c .after .ensures) ((rw (c .before .before .before .before .before .before .before .row .given .1) at (c .before .before .before .before .before .before .before .before .before .next-kept .ensures)) .fewer)
+loop-less c = rw (c .after .ensures)
+    ((rw (c .before .before .before .before .before .before .before .row .given .1)
+    at (c .before .before .before .before .before .before .before .before .before .next-kept .ensures)) .fewer)
 
 loop-again : tie.Need-loop-again Inv-loop μ-loop
-loop-again c = tables-go _ _ _ _ _ (c .before .before .before .before .before .before .before .before .before .before .loop .inv) (rw (c .before .before .before .before .before .before .before .row .given .1) at (c .before .before .before .before .before .before .before .before .before .next-kept .ensures)) (c .after .ensures) refl (c .before .border-size .ensures) (c .before .before .before .before .put-entry .ensures)
+loop-again c = tables-go _ _ _ _ _ (c .before .before .before .before .before .before .before .before .before .before .loop .inv)
+    (rw (c .before .before .before .before .before .before .before .row .given .1) at (c .before .before .before .before .before .before .before .before .before .next-kept .ensures))
+    (c .after .ensures) refl (c .before .border-size .ensures) (c .before .before .before .before .put-entry .ensures)
 
 pub put-table-spec : {M : Type 1} → statement M
-put-table-spec = tie.close (tie.spec Inv-loop μ-loop (λ c. search needs) (λ c κs. search needs) (λ c. tables-start _ _ _ _ (c .start-at .ensures)) (λ c κs. search needs) (λ c. search needs) (λ c. search needs) (λ c. c .before .before .before .loop .inv .laid .size) returns (λ c κs. search needs) (λ c κs. search needs) (λ c κs. search needs) loop-less loop-again)
+put-table-spec = tie.close (tie.spec
+    Inv-loop μ-loop (λ c. search needs) (λ c κs. search needs) (λ c. tables-start _ _ _ _ (c .start-at .ensures)) (λ c κs. search needs)
+    (λ c. search needs) (λ c. search needs) (λ c. c .before .before .before .loop .inv .laid .size) returns (λ c κs. search needs)
+    (λ c κs. search needs) (λ c κs. search needs) loop-less loop-again)

@@ -4,7 +4,8 @@ use Rattle.salvage.proofs.entry.{Judging.{entry-goes, entry-stops}, ent
 use Rattle.salvage.proofs.entry.entry_good.Tie as tie
 
 returns : tie.Need-returns
-returns c = entry-goes _ _ _ (rw (c .before .before .before .enum-told .given .1) at (c .before .before .before .before .before .border-good .ensures)) (c .before .before .section-place .ensures) (c .fields-good .ensures)
+returns c = entry-goes _ _ _ (rw (c .before .before .before .enum-told .given .1) at (c .before .before .before .before .before .border-good .ensures))
+    (c .before .before .section-place .ensures) (c .fields-good .ensures)
 
 returns-2 : tie.Need-returns-2
 returns-2 c = entry-stops _ _ _ (rw (c .before .why .given .1) at (c .before .before .before .border-good .ensures))

@@ -32,7 +32,8 @@ bytes-next each [] by = sym (append-nil (each by))
 bytes-next each (m ∷ ms) by = append-assoc (each m) (flatMap each ms) (each by) ∙ ap (λ (bs : List ℕ). each m ++ bs) (bytes-next each ms by)
 
 -- a move in front of those that follow, behind those that are done
-regroup : (done : List RawPoint) (by : RawPoint) (more : Answer (List RawPoint)) → ((more >>= λ rest. found (by ∷ rest)) >>= λ rest. found (done ++ rest)) ≡ (more >>= λ rest. found ((done ++ (by ∷ [])) ++ rest))
+regroup : (done : List RawPoint) (by : RawPoint) (more : Answer (List RawPoint)) →
+    ((more >>= λ rest. found (by ∷ rest)) >>= λ rest. found (done ++ rest)) ≡ (more >>= λ rest. found ((done ++ (by ∷ [])) ++ rest))
 regroup done by (found rest) = ap found (sym (append-assoc done (by ∷ []) rest))
 regroup done by failed = refl
 regroup done by (refused n) = refl
@@ -81,12 +82,15 @@ module _ (read : Reading) (count place : ℕ) (before : List ℕ) (at : ℕ) whe
         (capped-as (bytes-next plainMoveBytes (p .done) (pair .by)) (capped-then (flatMap plainMoveBytes (p .done)) (plainMoveBytes (pair .by)) (p .laid) c))
 
     -- one that can't be read
-    pub pair-stops : (after : List ℕ) (next′ left : ℕ) (p : Pairing now next here left) (answer : Answer Pair) → answer ≡ pairAt read here → ((pair : Pair) → answer ≡ found pair → ⊥) → Copied (flatMap plainMoveBytes) whole before at after next′
+    pub pair-stops : (after : List ℕ) (next′ left : ℕ) (p : Pairing now next here left) (answer : Answer Pair) → answer ≡ pairAt read here → ((pair : Pair) → answer ≡ found pair → ⊥) →
+        Copied (flatMap plainMoveBytes) whole before at after next′
     unfolding pairsFrom
     pair-stops after next′ left p (found pair) e other = absurd (other pair refl)
     pair-stops after next′ left p failed e other =
-        let all : whole ≡ failed = p .rest ∙ ap (λ (answer : Answer Pair). (answer >>= λ pair. pairsFrom read left (pair .place) >>= λ rest. found (pair .by ∷ rest)) >>= λ rest. found (p .done ++ rest)) (sym e) in
+        let all : whole ≡ failed =
+        p .rest ∙ ap (λ (answer : Answer Pair). (answer >>= λ pair. pairsFrom read left (pair .place) >>= λ rest. found (pair .by ∷ rest)) >>= λ rest. found (p .done ++ rest)) (sym e) in
         rw all tt
     pair-stops after next′ left p (refused n) e other =
-        let all : whole ≡ refused n = p .rest ∙ ap (λ (answer : Answer Pair). (answer >>= λ pair. pairsFrom read left (pair .place) >>= λ rest. found (pair .by ∷ rest)) >>= λ rest. found (p .done ++ rest)) (sym e) in
+        let all : whole ≡ refused n =
+        p .rest ∙ ap (λ (answer : Answer Pair). (answer >>= λ pair. pairsFrom read left (pair .place) >>= λ rest. found (pair .by ∷ rest)) >>= λ rest. found (p .done ++ rest)) (sym e) in
         rw all tt

@@ -76,7 +76,8 @@ module _ (f : List ℕ) (encoding : Encoding) (packed : encoding .version ≡ Pa
         }
 
     -- the closing point
-    pub steps-end : {middle after : List ℕ} {next′ end : ℕ} → t .closed ≡ true → Capped now next (varintOf 0) middle next′ → Capped middle next′ (varintOf 0) after end → Copied (movesBytes Packed) wanted before at after end
+    pub steps-end : {middle after : List ℕ} {next′ end : ℕ} → t .closed ≡ true → Capped now next (varintOf 0) middle next′ → Capped middle next′ (varintOf 0) after end →
+        Copied (movesBytes Packed) wanted before at after end
     unfolding endOf movesBytes
     steps-end {middle} {after} {next′} {end} h c d =
         let over : traceOf f encoding t ≡ closed = closed-trace f encoding t h in
@@ -90,14 +91,17 @@ module _ (f : List ℕ) (encoding : Encoding) (packed : encoding .version ≡ Pa
         (capped-then (flatMap stepBytes (p .done)) (0 ∷ 0 ∷ []) (p .laid) (capped-as end-bytes (capped-then (varintOf 0) (varintOf 0) c d)))
 
   -- no further point: the border does not close
-  pub steps-stop : {now : List ℕ} {next : ℕ} (after : List ℕ) (end : ℕ) (s : Reader) → Stepping now next s → (n : Next) → OneOf (1 ∷ 2 ∷ 3 ∷ []) (tagOf Next'.the-type n) → R.told n ≡ nextPoint f encoding s
+  pub steps-stop : {now : List ℕ} {next : ℕ} (after : List ℕ) (end : ℕ) (s : Reader) → Stepping now next s → (n : Next) → OneOf (1 ∷ 2 ∷ 3 ∷ []) (tagOf Next'.the-type n) →
+      R.told n ≡ nextPoint f encoding s
       → Copied (movesBytes Packed) wanted before at after end
   unfolding closedMoves
   steps-stop after end s p (N.Point t) o e = absurd (miss (1 ∷ 2 ∷ 3 ∷ []) 0 tt o)
   steps-stop after end s p N.Ended o e = absurd (subst (All (DoesThere s)) (sym e) (next-does f encoding packed s (p .still-open) (p .in-range)))
   steps-stop after end s p N.Failed o e =
-      let ending : endOf whole ≡ failed = sym (p .ends) ∙ ap endOf (trace-step f encoding s ∙ ap (λ (g : Answer Given). traceThen g (traceOf f encoding)) (sym e)) ∙ sym (end-stops N.Failed (traceOf f encoding) o) in
+      let ending : endOf whole ≡ failed =
+      sym (p .ends) ∙ ap endOf (trace-step f encoding s ∙ ap (λ (g : Answer Given). traceThen g (traceOf f encoding)) (sym e)) ∙ sym (end-stops N.Failed (traceOf f encoding) o) in
       rw ending tt
   steps-stop after end s p (N.Refused n) o e =
-      let ending : endOf whole ≡ refused n = sym (p .ends) ∙ ap endOf (trace-step f encoding s ∙ ap (λ (g : Answer Given). traceThen g (traceOf f encoding)) (sym e)) ∙ sym (end-stops (N.Refused n) (traceOf f encoding) o) in
+      let ending : endOf whole ≡ refused n =
+      sym (p .ends) ∙ ap endOf (trace-step f encoding s ∙ ap (λ (g : Answer Given). traceThen g (traceOf f encoding)) (sym e)) ∙ sym (end-stops (N.Refused n) (traceOf f encoding) o) in
       rw ending tt

@@ -93,7 +93,14 @@ module _ (file : List ℕ) (head : Head) where
     unfolding rowsIn
     lists-start {at} e =
         subst (λ (x : Cursor). Listing before x 0 0 0) (sym e)
-        (record { left = left-all; count = let same : keptAt (startAt (head .sections .table)) ≡ length (keptOf file head (rowsIn file head)) = refl in omega (arith, same); few = omega arith; twice = omega arith; below = omega arith })
+        (record {
+          left = left-all;
+          count = let same : keptAt (startAt (head .sections .table)) ≡ length (keptOf file head (rowsIn file head)) = refl in
+              omega (arith, same);
+          few = omega arith;
+          twice = omega arith;
+          below = omega arith;
+        })
 
     module _ {now : List ℕ} {at : Cursor} {number words kept : ℕ} (l : Listing now at number words kept) where
       pub lists-keep : (next : Cursor) → Turned number at (T.Kept next) → Listing now next (number + 1) words (kept + 1)
@@ -106,7 +113,8 @@ module _ (file : List ℕ) (head : Head) where
             below = omega (arith, l .below);
           }
 
-      pub lists-drop : {after′ : List ℕ} {words′ : ℕ} (d : Dropped) → Turned number at (T.Dropped d) → Stored now words (number ∷ d .reason ∷ []) after′ words′ → Listing after′ (d .next) (number + 1) words′ kept
+      pub lists-drop : {after′ : List ℕ} {words′ : ℕ} (d : Dropped) → Turned number at (T.Dropped d) → Stored now words (number ∷ d .reason ∷ []) after′ words′ →
+          Listing after′ (d .next) (number + 1) words′ kept
       lists-drop d t s =
           record {
             left = left-step (number ∷ d .reason ∷ []) (subst (Left before 0 all now words) (t .0) (l .left)) s;
@@ -116,7 +124,8 @@ module _ (file : List ℕ) (head : Head) where
             below = omega (arith, l .below);
           }
 
-      pub lists-stop : {middle after′ : List ℕ} {n words′ last : ℕ} → Turned number at (T.Unreadable n) → Stored now words (number ∷ n ∷ []) middle words′ → Stored middle words′ ((number + 1) ∷ 73 ∷ []) after′ last
+      pub lists-stop : {middle after′ : List ℕ} {n words′ last : ℕ} → Turned number at (T.Unreadable n) → Stored now words (number ∷ n ∷ []) middle words′ →
+          Stored middle words′ ((number + 1) ∷ 73 ∷ []) after′ last
           → Listed file head before after′ (record { words = last; kept = kept })
       lists-stop {n = n} t s s′ =
           record {

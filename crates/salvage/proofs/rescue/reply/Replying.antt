@@ -11,7 +11,8 @@ use Rattle.salvage.specs.inner.Moves.Laid.{cap, Capped}
 use Rattle.numbers.{proofs.Lists.{zeros-drop}, specs.{Lists.{zeros, padded}, Reply.{Reply, given, refused, plain, demand, _>>=_, _>>_}, declared.refusal.Refusal.{Refusal}}}
 use Rattle.salvage.specs.{File.{headTexts, newFile}, Kept.{keptOf, linesFrom}, Salvage.{Salvaged, Replied, repliedOf, salvagedOf, salvaged}}
 use Rattle.table.specs.{Rows.{rowsIn}, declared.rows.Row.{Row}}
-use Rattle.salvage.specs.{inner.Rescue.{Texts.{Inlined}, Told.{replied, Filled}, Turns.{Listed}, Whole.{wholeOf}}, declared.rescue.{lines.Lines.{Lines}, reply.{Counts.{Counts}, Rescued.{Rescued}}}}
+use Rattle.salvage.specs.inner.Rescue.{Texts.{Inlined}, Told.{replied, Filled}, Turns.{Listed}, Whole.{wholeOf}}
+use Rattle.salvage.specs.declared.rescue.{lines.Lines.{Lines}, reply.{Counts.{Counts}, Rescued.{Rescued}}}
 use Rattle.salvage.specs.declared.rescue.reply.Rescued.the-variants as R
 use Rattle.salvage.specs.declared.rescue.texts.Put.the-variants as P
 
@@ -31,7 +32,8 @@ pub room-as : {t : Bool} (size count : ℕ) {n m room list : ℕ} → t ≡ (leb
 room-as {t} size count {n} {m} {room} {list} e is is′ =
     e ∙ ap (λ (k : ℕ). leb size (min k (2 ^ 30)) && leb count m) is ∙ ap (λ (k : ℕ). leb size (min room (2 ^ 30)) && leb count k) is′
 
-pub filled-at : (file : List ℕ) {words words′ room room′ : ℕ} (r : Rescued) (list out : List ℕ) → words′ ≡ words → room′ ≡ room → Filled (salvagedOf file words′ room′) words′ room′ r list out → Filled (salvagedOf file words room) words room r list out
+pub filled-at : (file : List ℕ) {words words′ room room′ : ℕ} (r : Rescued) (list out : List ℕ) → words′ ≡ words → room′ ≡ room →
+    Filled (salvagedOf file words′ room′) words′ room′ r list out → Filled (salvagedOf file words room) words room r list out
 filled-at file {words} {words′} {room} {room′} r list out e e′ f =
     subst (λ (n : ℕ). Filled (salvagedOf file words n) words n r list out) e′ (subst (λ (n : ℕ). Filled (salvagedOf file n room′) n room′ r list out) e f)
 
@@ -61,7 +63,8 @@ module _ (file : List ℕ) (words room : ℕ) where
   no-head e l o = rw (← e, l, o)
 
   -- ---- what was filled in, or not
-  pub told-refused : (a : Reply Salvaged) → a ≡ salvagedOf file words room → {why : Refusal} (filled filled′ : List ℕ) {list out : List ℕ} → Filled a words room (R.Refused why) filled filled′ → list ≡ zeros words → out ≡ zeros room
+  pub told-refused : (a : Reply Salvaged) → a ≡ salvagedOf file words room → {why : Refusal} (filled filled′ : List ℕ) {list out : List ℕ} →
+      Filled a words room (R.Refused why) filled filled′ → list ≡ zeros words → out ≡ zeros room
       → replied (R.Refused why) list out ≡ salvaged file words room
   unfolding salvaged
   told-refused (given s) e {why} filled filled′ f l o =
@@ -70,7 +73,8 @@ module _ (file : List ℕ) (words room : ℕ) where
       absurd (omega arith)
   told-refused (refused w) e {why} filled filled′ f l o = rw (← e, l, o, f)
 
-  pub told-counts : (a : Reply Salvaged) → a ≡ salvagedOf file words room → {counts : Counts} {list out : List ℕ} → Filled a words room (R.Counts counts) list out → replied (R.Counts counts) list out ≡ salvaged file words room
+  pub told-counts : (a : Reply Salvaged) → a ≡ salvagedOf file words room → {counts : Counts} {list out : List ℕ} → Filled a words room (R.Counts counts) list out →
+      replied (R.Counts counts) list out ≡ salvaged file words room
   unfolding salvaged
   told-counts (given s) e f = f ∙ ap (repliedOf words room) e
   told-counts (refused w) e f =
@@ -98,7 +102,8 @@ module _ (file : List ℕ) (words room : ℕ) where
     opened = rw (← opens)
 
     -- ---- a text does not fit
-    pub filled-refused : (before after list out : List ℕ) (why : Refusal) → Inlined (wholeOf file head) before 0 after (P.Refused why) → Filled (salvagedOf file words room) words room (R.Refused why) list out
+    pub filled-refused : (before after list out : List ℕ) (why : Refusal) → Inlined (wholeOf file head) before 0 after (P.Refused why) →
+        Filled (salvagedOf file words room) words room (R.Refused why) list out
     filled-refused before after list out why i = subst (λ (a : Reply Salvaged). Filled a words room (R.Refused why) list out) opened (go (headTexts file head) i)
       where
         go : (r : Reply (List ℕ)) → Inlined (r >>= λ texts. given (new texts)) before 0 after (P.Refused why) → Filled (r >>= judged) words room (R.Refused why) list out
@@ -107,13 +112,15 @@ module _ (file : List ℕ) (words room : ℕ) where
 
     -- ---- file and list were written
     module _ (before out : List ℕ) (size : ℕ) (i : Inlined (wholeOf file head) before 0 out (P.Place size)) (first list : List ℕ) (l : Lines) (w : Listed file head first list l) where
-      tests : (texts : List ℕ) → Capped before 0 (new texts) out size → (leb size (min room (2 ^ 30)) && leb (l .words) words) ≡ (leb (length (new texts)) (min room (2 ^ 30)) && leb (length lines) words)
+      tests : (texts : List ℕ) → Capped before 0 (new texts) out size →
+          (leb size (min room (2 ^ 30)) && leb (l .words) words) ≡ (leb (length (new texts)) (min room (2 ^ 30)) && leb (length lines) words)
       tests texts c =
           ap (λ (t : Bool). t && leb (l .words) words) (same-room (min room (2 ^ 30)) (omega arith) c)
           ∙ ap (λ (n : ℕ). leb (length (new texts)) (min room (2 ^ 30)) && leb n words) (counted (w .words))
 
       -- by what the texts gave
-      by : (r : Rescued) (list′ out′ : List ℕ) → ((texts : List ℕ) → Capped before 0 (new texts) out size → Filled (judged texts) words room r list′ out′) → Filled (salvagedOf file words room) words room r list′ out′
+      by : (r : Rescued) (list′ out′ : List ℕ) → ((texts : List ℕ) → Capped before 0 (new texts) out size → Filled (judged texts) words room r list′ out′) →
+          Filled (salvagedOf file words room) words room r list′ out′
       by r list′ out′ k = subst (λ (a : Reply Salvaged). Filled a words room r list′ out′) opened (go (headTexts file head) i)
         where
           go : (texts : Reply (List ℕ)) → Inlined (texts >>= λ bytes. given (new bytes)) before 0 out (P.Place size) → Filled (texts >>= judged) words room r list′ out′
@@ -122,7 +129,10 @@ module _ (file : List ℕ) (words room : ℕ) where
 
       module _ {t : Bool} (has : t ≡ (leb size (min room (2 ^ 30)) && leb (l .words) words)) where
         no-room : (list′ out′ : List ℕ) → t ≡ false → Filled (salvagedOf file words room) words room (R.Refused (plain 28)) list′ out′
-        no-room list′ out′ not-so = by (R.Refused (plain 28)) list′ out′ (λ texts c. subst (λ (b : Bool). Filled (demand b (plain 28) >> (demand (ltb 0 (length kept)) (plain 32) >> given (done texts))) words room (R.Refused (plain 28)) list′ out′) (sym not-so ∙ has ∙ tests texts c) refl)
+        no-room list′ out′ not-so =
+            by (R.Refused (plain 28)) list′ out′
+            (λ texts c. subst (λ (b : Bool). Filled (demand b (plain 28) >> (demand (ltb 0 (length kept)) (plain 32) >> given (done texts))) words room (R.Refused (plain 28)) list′ out′)
+            (sym not-so ∙ has ∙ tests texts c) refl)
 
         pub filled-28 : {why : Refusal} → why ≡ plain 28 → (list′ out′ : List ℕ) → t ≡ false → Filled (salvagedOf file words room) words room (R.Refused why) list′ out′
         filled-28 is list′ out′ not-so = subst (λ (r : Refusal). Filled (salvagedOf file words room) words room (R.Refused r) list′ out′) (sym is) (no-room list′ out′ not-so)
@@ -130,7 +140,8 @@ module _ (file : List ℕ) (words room : ℕ) where
         none-left : (list′ out′ : List ℕ) → t ≡ true → l .kept ≤ 0 → Filled (salvagedOf file words room) words room (R.Refused (plain 32)) list′ out′
         none-left list′ out′ yes′ none =
             by (R.Refused (plain 32)) list′ out′
-            (λ texts c. subst (λ (b : Bool). Filled (demand b (plain 28) >> (demand (ltb 0 (length kept)) (plain 32) >> given (done texts))) words room (R.Refused (plain 32)) list′ out′) (sym yes′ ∙ has ∙ tests texts c)
+            (λ texts c. subst (λ (b : Bool). Filled (demand b (plain 28) >> (demand (ltb 0 (length kept)) (plain 32) >> given (done texts))) words room (R.Refused (plain 32)) list′ out′)
+            (sym yes′ ∙ has ∙ tests texts c)
             (subst (λ (b : Bool). Filled (demand b (plain 32) >> given (done texts)) words room (R.Refused (plain 32)) list′ out′) (sym (le-ltb 0 (length kept) (omega (arith, w .kept)))) refl))
 
         pub filled-32 : {why : Refusal} → why ≡ plain 32 → (list′ out′ : List ℕ) → t ≡ true → l .kept ≤ 0 → Filled (salvagedOf file words room) words room (R.Refused why) list′ out′
@@ -141,8 +152,10 @@ module _ (file : List ℕ) (words room : ℕ) where
         filled-all zero wide zero′ wide′ yes′ some =
             by (R.Counts (record { size = size; lines = l .words / 2; kept = l .kept })) list out
             (λ texts c. let fits = both (leb size (min room (2 ^ 30))) (leb (l .words) words) (sym has ∙ yes′) in
-            subst (λ (b : Bool). Filled (demand b (plain 28) >> (demand (ltb 0 (length kept)) (plain 32) >> given (done texts))) words room (R.Counts (record { size = size; lines = l .words / 2; kept = l .kept })) list out) (sym yes′ ∙ has ∙ tests texts c)
-            (subst (λ (b : Bool). Filled (demand b (plain 32) >> given (done texts)) words room (R.Counts (record { size = size; lines = l .words / 2; kept = l .kept })) list out) (sym (lt-ltb 0 (length kept) (omega (arith, w .kept))))
+            subst (λ (b : Bool). Filled (demand b (plain 28) >> (demand (ltb 0 (length kept)) (plain 32) >> given (done texts))) words room
+            (R.Counts (record { size = size; lines = l .words / 2; kept = l .kept })) list out) (sym yes′ ∙ has ∙ tests texts c)
+            (subst (λ (b : Bool). Filled (demand b (plain 32) >> given (done texts)) words room (R.Counts (record { size = size; lines = l .words / 2; kept = l .kept })) list out)
+            (sym (lt-ltb 0 (length kept) (omega (arith, w .kept))))
             (all texts (leb-true size (min room (2 ^ 30)) (fits .0)) (leb-true (l .words) words (fits .1)) c)))
           where
             all : (texts : List ℕ) → size ≤ min room (2 ^ 30) → l .words ≤ words → Capped before 0 (new texts) out size

@@ -41,7 +41,8 @@ behind-twice : (xs ys : List ℕ) (r : Reply (List ℕ)) → behind xs (behind y
 behind-twice xs ys (given bytes) = ap given (sym (append-assoc xs ys bytes))
 behind-twice xs ys (refused why) = refl
 
-pub inlined-behind : (front : List ℕ) (r : Reply (List ℕ)) (put : Put) {before middle : List ℕ} (after : List ℕ) {place next : ℕ} → Capped before place front middle next → Inlined r middle next after put → Inlined (behind front r) before place after put
+pub inlined-behind : (front : List ℕ) (r : Reply (List ℕ)) (put : Put) {before middle : List ℕ} (after : List ℕ) {place next : ℕ} → Capped before place front middle next →
+    Inlined r middle next after put → Inlined (behind front r) before place after put
 inlined-behind front (given bytes) (P.Place end) after c i = capped-then front bytes c i
 inlined-behind front (given bytes) (P.Refused why) after c i = i
 inlined-behind front (refused why) (P.Place end) after c i = i
@@ -53,11 +54,13 @@ module _ (file : List ℕ) (head : Head) where
   from more t = textsInline file head more (t .next) >>= λ bytes. given (varintOf (t .size) ++ (take (t .size) (drop (t .start) file) ++ bytes))
 
   -- a text is followed by the others
-  texts-next : (more place : ℕ) {text : Text} → given text ≡ shortText (head .strict) file place → textsInline file head (suc more) place ≡ behind (textBytes file text) (textsInline file head more (text .next))
+  texts-next : (more place : ℕ) {text : Text} → given text ≡ shortText (head .strict) file place →
+      textsInline file head (suc more) place ≡ behind (textBytes file text) (textsInline file head more (text .next))
   unfolding shortText textsInline textBytes
   texts-next more place {text} e = go (stringAt (head .strict) file 0 place) e
     where
-      joined : (t : Text) (rest : Reply (List ℕ)) → (rest >>= λ bytes. given (varintOf (t .size) ++ (take (t .size) (drop (t .start) file) ++ bytes))) ≡ behind (varintOf (t .size) ++ take (t .size) (drop (t .start) file)) rest
+      joined : (t : Text) (rest : Reply (List ℕ)) →
+          (rest >>= λ bytes. given (varintOf (t .size) ++ (take (t .size) (drop (t .start) file) ++ bytes))) ≡ behind (varintOf (t .size) ++ take (t .size) (drop (t .start) file)) rest
       joined t (given bytes) = ap given (sym (append-assoc (varintOf (t .size)) (take (t .size) (drop (t .start) file)) bytes))
       joined t (refused why) = refl
 
@@ -103,7 +106,8 @@ module _ (file : List ℕ) (head : Head) where
       opened : 0 < left → behind (t .done) (textsInline file head (suc (left - 1)) place) ≡ headTexts file head
       opened h = let one : suc (left - 1) ≡ left = omega arith in ap (λ (n : ℕ). behind (t .done) (textsInline file head n place)) one ∙ t .rest
 
-      pub texts-go : {text : Text} {after : List ℕ} {next′ : ℕ} → 0 < left → given text ≡ shortText (head .strict) file place → Capped now next (textBytes file text) after next′ → Texting after (left - 1) (text .next) next′
+      pub texts-go : {text : Text} {after : List ℕ} {next′ : ℕ} → 0 < left → given text ≡ shortText (head .strict) file place → Capped now next (textBytes file text) after next′ →
+          Texting after (left - 1) (text .next) next′
       texts-go {text} h e c =
           record {
             done = t .done ++ textBytes file text;

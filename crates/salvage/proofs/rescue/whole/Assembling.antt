@@ -28,7 +28,8 @@ module _ (file : List ℕ) (head : Head) where
   long-data [] e = differ (sym e)
   long-data (r ∷ rows) e = go (ltb (length (borderBytes file head r)) cap) refl e (long-data rows)
     where
-      go : (t : Bool) → ltb (length (borderBytes file head r)) cap ≡ t → (t && allShort file head rows) ≡ false → (allShort file head rows ≡ false → cap ≤ length (flatMap (borderBytes file head) rows))
+      go : (t : Bool) → ltb (length (borderBytes file head r)) cap ≡ t → (t && allShort file head rows) ≡ false →
+          (allShort file head rows ≡ false → cap ≤ length (flatMap (borderBytes file head) rows))
           → cap ≤ length (borderBytes file head r ++ flatMap (borderBytes file head) rows)
       go true is all rest = omega (arith, length-append (borderBytes file head r) (flatMap (borderBytes file head) rows), rest all)
       go false is all rest = omega (arith, length-append (borderBytes file head r) (flatMap (borderBytes file head) rows), ltb-false (length (borderBytes file head r)) cap is)
@@ -44,7 +45,8 @@ module _ (file : List ℕ) (head : Head) where
       go false is c = absurd (omega (arith, long-data kept is, short))
 
   -- the three sections
-  pub sections-laid : (before : List ℕ) (at : ℕ) {one two after : List ℕ} {p q next : ℕ} → Tabled (allShort file head kept) before at (newTable file head) one p → Capped one p (metadataOf file head) two q → Capped two q (newData file head) after next
+  pub sections-laid : (before : List ℕ) (at : ℕ) {one two after : List ℕ} {p q next : ℕ} → Tabled (allShort file head kept) before at (newTable file head) one p →
+      Capped one p (metadataOf file head) two q → Capped two q (newData file head) after next
       → length one ≡ length before → Capped before at (newTable file head ++ (metadataOf file head ++ newData file head)) after next
   sections-laid before at {one} {two} {after} {p} {q} {next} t m d same = go (allShort file head kept) refl t
     where
@@ -96,7 +98,8 @@ module _ (front table metadata bytes : List ℕ) where
   long : cap ≤ length sections → cap ≤ length (assembled front table metadata bytes)
   long h = omega (arith, ap length (sym parts), length-append front (sizesOf table metadata bytes ++ sections), length-append (sizesOf table metadata bytes) sections)
 
-  pub whole-laid : {before one two after : List ℕ} {p q next : ℕ} → Capped before 0 front one p → Sizes table metadata bytes one p two q → Capped two q sections after next → Capped before 0 (assembled front table metadata bytes) after next
+  pub whole-laid : {before one two after : List ℕ} {p q next : ℕ} → Capped before 0 front one p → Sizes table metadata bytes one p two q → Capped two q sections after next →
+      Capped before 0 (assembled front table metadata bytes) after next
   whole-laid {before} {one} {two} {after} {p} {q} {next} h s c = go (ltb (length table) cap) (ltb (length metadata) cap) (ltb (length bytes) cap) refl refl refl
     where
       past : cap ≤ length sections → Capped before 0 (assembled front table metadata bytes) after next
@@ -111,7 +114,8 @@ module _ (front table metadata bytes : List ℕ) where
       go true true false x y z = past (omega (arith, sum, ltb-false (length bytes) cap z))
 
 module _ (file : List ℕ) (head : Head) where
-  pub whole-refused : (r : Reply (List ℕ)) → r ≡ headTexts file head → (before after after′ : List ℕ) (why : Refusal) → Inlined (behind (take 7 file) r) before 0 after (P.Refused why) → Inlined (wholeOf file head) before 0 after′ (P.Refused why)
+  pub whole-refused : (r : Reply (List ℕ)) → r ≡ headTexts file head → (before after after′ : List ℕ) (why : Refusal) → Inlined (behind (take 7 file) r) before 0 after (P.Refused why) →
+      Inlined (wholeOf file head) before 0 after′ (P.Refused why)
   whole-refused (given bytes) e before after after′ told i = absurd i
   whole-refused (refused why) e before after after′ told i = rw (← e) i
 

@@ -5,11 +5,8 @@ use Rattle.salvage.specs.Kept.{goodness}
 use Rattle.salvage.proofs.walk.is_good.Statement.{statement}
 use Rattle.salvage.proofs.walk.is_good.Tie as tie
 
-returns : tie.Need-returns
-returns c = ap goodness (rw (c .enum-told .given .1) at (c .before .before .entry-good .ensures))
-
-returns-2 : tie.Need-returns-2
-returns-2 c = ap goodness (rw (c .enum-told2 .given .1) at (c .before .before .entry-good .ensures))
-
 pub is-good-spec : {M : Type 1} → statement M
-is-good-spec = tie.close (tie.spec (λ c κs. search needs) (λ c. search needs) (λ c. search needs) returns returns-2)
+is-good-spec = tie.close (tie.spec
+    (λ c κs. search needs) (λ c. search needs) (λ c. search needs)
+    (λ c. ap goodness (rw (c .enum-told .given .1) at (c .before .before .entry-good .ensures)))
+    (λ c. ap goodness (rw (c .enum-told2 .given .1) at (c .before .before .entry-good .ensures))))

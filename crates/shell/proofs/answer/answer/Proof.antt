@@ -9,17 +9,16 @@ use Rattle.shell.proofs.answer.answer.Statement.{statement}
 use Rattle.shell.specs.Answer.{lineRoom}
 use Rattle.shell.proofs.answer.answer.Tie as tie
 
-slice-aggregate-slip : tie.Need-slice-aggregate-slip
-slice-aggregate-slip c =
-    let args = c .before .before .before .before .before .before .before .before .before .args in
-    let pre = c .before .before .before .before .before .before .before .before .before .pre in
+slice-aggregate-slip-2 : tie.Need-slice-aggregate-slip-2
+slice-aggregate-slip-2 c =
+    let args = c .before .before .before .before .before .before .before .before .before .before .args in
+    let pre = c .before .before .before .before .before .before .before .before .before .before .pre in
     sym (length-take-le {A = ℕ} lineRoom (args .out .now) (line-in pre))
 
 returns : tie.Need-returns
 returns c =
-    let far = c .before .before .before .before .before .before .before .before .before .before .before .before in
-    let args = far .before .before .before .before .before .before .before .before .before .before .before .before .before .args in
-    let pre = far .before .before .before .before .before .before .before .before .before .before .before .before .before .pre in
+    let args = c .before .before .before .before .before .before .before .before .before .before .before .before .before .before .before .before .before .before .before .before .before .before .before .before .before .before .args in
+    let pre = c .before .before .before .before .before .before .before .before .before .before .before .before .before .before .before .before .before .before .before .before .before .before .before .before .before .before .pre in
     let why = c .before .before .before .before .before .before .before .why in
     let slip = c .before .before .before .before .before .before .before .before .before .before .before .before .before .before .before .slip in
     let refuse = c .before .before .refuse in
@@ -28,10 +27,10 @@ returns c =
 
 slice-write-out : tie.Need-slice-write-out
 slice-write-out c =
-    let args = c .before .before .before .before .before .before .before .before .before .before .before .before .before .before .before .before .before .before .before .args in
+    let args = c .before .before .before .before .before .before .before .before .before .before .before .before .before .before .before .before .before .before .before .before .args in
     let stamped = c .before .stamped in
     let slip = c .before .before .before .before .before .before .before .before .before .slip in
-    let pre = c .before .before .before .before .before .before .before .before .before .before .before .before .before .before .before .before .before .before .before .pre in
+    let pre = c .before .before .before .before .before .before .before .before .before .before .before .before .before .before .before .before .before .before .before .before .pre in
     let out = c .before .before .before .before .out in
     let room = length-take-le lineRoom (args .out .now) (line-in pre) in
     let st =
@@ -39,13 +38,13 @@ slice-write-out c =
     (stamped .given .1) (slip .ensures) in
     stood-in st (args .out .now) (pre .line-room) (out .given .0) room
 
-add-t26 : tie.Need-add-t26
-add-t26 c =
-    let args = c .before .before .before .before .before .before .before .before .before .before .before .before .before .before .before .before .before .before .before .args in
+add-t29 : tie.Need-add-t29
+add-t29 c =
+    let args = c .before .before .before .before .before .before .before .before .before .before .before .before .before .before .before .before .before .before .before .before .args in
     let stamped = c .before .stamped in
     let slip = c .before .before .before .before .before .before .before .before .before .slip in
     let out = c .before .before .before .before .out in
-    let pre = c .before .before .before .before .before .before .before .before .before .before .before .before .before .before .before .before .before .before .before .pre in
+    let pre = c .before .before .before .before .before .before .before .before .before .before .before .before .before .before .before .before .before .before .before .before .pre in
     let room = length-take-le lineRoom (args .out .now) (line-in pre) in
     let st =
     stood (args .request .now) (args .map .now) (args .zones .now) (length (args .hits .now)) (length (args .text .now)) (length (take lineRoom (args .out .now)))
@@ -54,8 +53,8 @@ add-t26 c =
 
 returns-2 : tie.Need-returns-2
 returns-2 c =
-    let args = c .before .before .before .before .before .before .before .before .before .before .before .before .before .before .before .before .before .before .before .args in
-    let pre = c .before .before .before .before .before .before .before .before .before .before .before .before .before .before .before .before .before .before .before .pre in
+    let args = c .before .before .before .before .before .before .before .before .before .before .before .before .before .before .before .before .before .before .before .before .args in
+    let pre = c .before .before .before .before .before .before .before .before .before .before .before .before .before .before .before .before .before .before .before .before .pre in
     let hits = c .before .before .before .before .before .before .before .before .hits in
     let text = c .before .before .before .before .before .before .text in
     let out = c .before .before .before .before .out in
@@ -72,7 +71,8 @@ answer-spec =
     tie.close
     (tie.spec
     (λ c. search needs)
-    slice-aggregate-slip
+    (λ c. search needs)
+    slice-aggregate-slip-2
     (λ c κs. search needs)
     (λ c. search needs)
     (λ c. search needs)
@@ -82,7 +82,7 @@ answer-spec =
     (λ c. search needs)
     returns
     slice-write-out
-    add-t26
+    add-t29
     (λ c. search needs)
     (λ c. search needs)
     (λ c. search needs)

@@ -8,30 +8,29 @@ use Rattle.slip.proofs.slip.fill.Tie as tie
 
 returns : tie.Need-returns
 returns c =
-    let args = c .before .before .before .before .before .before .before .before .args in
+    let args = c .before .before .before .before .before .before .before .before .before .args in
     let is-on-globe = c .before .before .is-on-globe in
     let if1 = c .before .if1 in
-    not-placed (args .fix) _ _ _ _ _ _ _ _ (sym (is-on-globe .ensures) ∙ false-of _ (if1 .taken)) (c .plain .ensures)
+    not-placed (args .fix) _ _ _ _ _ _ _ _ _ (sym (is-on-globe .ensures) ∙ false-of _ (if1 .taken)) (c .plain .ensures)
 
 returns-2 : tie.Need-returns-2
 returns-2 c =
-    let args = c .before .before .before .before .before .before .before .before .before .before .before .args in
+    let args = c .before .before .before .before .before .before .before .before .before .before .before .before .args in
     let is-on-globe = c .before .before .before .before .before .is-on-globe in
     let if1 = c .before .before .before .before .if1 in
     let why = c .before .why in
     let head-of = c .before .before .before .head-of in
-    not-opened (args .fix) _ _ _ _ _ (sym (is-on-globe .ensures) ∙ true-of _ (if1 .left)) _ _ _ (sym (ap toldHead (why .given .1)) ∙ head-of .ensures)
+    not-opened (args .fix) _ _ _ _ _ _ (sym (is-on-globe .ensures) ∙ true-of _ (if1 .left)) _ _ _ (sym (ap toldHead (why .given .1)) ∙ head-of .ensures)
 
 returns-3 : tie.Need-returns-3
 returns-3 c =
-    let args = c .before .before .before .before .before .before .before .before .before .before .before .before .before .before .before .before .before .before .before .before .before
-    .args in
+    let args = c .before .before .before .before .before .before .before .before .before .before .before .before .before .before .before .before .before .before .before .before .before .before .args in
     let is-on-globe = c .before .before .before .before .before .before .before .before .before .before .before .before .before .before .before .is-on-globe in
     let if1 = c .before .before .before .before .before .before .before .before .before .before .before .before .before .before .if1 in
     let head = c .before .before .before .before .before .before .before .before .before .before .before .head in
     let head-of = c .before .before .before .before .before .before .before .before .before .before .before .before .before .head-of in
     let slip-in = c .before .before .before .before .before .before .slip-in in
-    opened (args .fix) _ _ _ _ _ (sym (is-on-globe .ensures) ∙ true-of _ (if1 .left)) _ _ _ _ (sym (ap toldHead (head .given .1)) ∙ head-of .ensures) (slip-in .ensures)
+    opened (args .fix) _ _ _ _ _ _ (sym (is-on-globe .ensures) ∙ true-of _ (if1 .left)) _ _ _ _ (sym (ap toldHead (head .given .1)) ∙ head-of .ensures) (slip-in .ensures)
 
 pub fill-spec : {M : Type 1} → statement M
 fill-spec =

@@ -12,14 +12,14 @@ returns c =
     let read-request = c .before .before .before .before .before .before .before .before .before .before .before .before .before .before .read-request in
     let zero-both = c .before .before .before .before .before .before .before .before .zero-both in
     let zero = c .before .before .zero in
-    no-request _ _ _ _ _ _ (sym (ap R.told (why .given .1)) ∙ read-request .ensures) (zero-both .ensures .0) (zero-both .ensures .1) (zero .ensures)
+    no-request _ _ _ _ _ _ _ (sym (ap R.told (why .given .1)) ∙ read-request .ensures) (zero-both .ensures .0) (zero-both .ensures .1) (zero .ensures)
 
 returns-2 : tie.Need-returns-2
 returns-2 c =
     let slip-at = c .before .before .before .before .before .before .slip-at in
     let fix = c .before .before .before .before .before .before .before .before .before .before .before .fix in
     let read-request = c .before .before .before .before .before .before .before .before .before .before .before .before .before .read-request in
-    slip-at .ensures ∙ asked-so _ _ _ _ _ _ (sym (ap R.told (fix .given .1)) ∙ read-request .ensures)
+    slip-at .ensures ∙ asked-so _ _ _ _ _ _ _ (sym (ap R.told (fix .given .1)) ∙ read-request .ensures)
 
 pub slip-spec : {M : Type 1} → statement M
 slip-spec =

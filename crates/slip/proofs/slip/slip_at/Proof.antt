@@ -12,7 +12,7 @@ use Rattle.slip.proofs.slip.slip_at.Tie as tie
 
 fill-requires : tie.Need-fill-requires
 fill-requires c κs =
-    let args = c .before .before .before .before .before .before .before .before .before .before .before .before .args in
+    let args = c .before .before .before .before .before .before .before .before .before .before .before .before .before .args in
     let zero = c .before .before .before .before .before .zero in
     all-zero _ (length (args .out .now)) (zero .ensures)
 
@@ -28,30 +28,25 @@ same-length-3 c = search needs
 returns : tie.Need-returns
 unfolding slippedAt
 returns c =
-    let args = c .before .before .before .before .before .before .before .before .before .before .before .before .before .before .before .before .before .before .before .before .before
-    .before .before .before .before .before .before .before .before .before .before .before .before .args in
+    let args = c .before .before .before .before .before .before .before .before .before .before .before .before .before .before .before .before .before .before .before .before .before .before .before .before .before .before .before .before .before .before .before .before .before .before .args in
     let fill = c .before .before .before .before .before .before .before .before .before .before .before .before .before .before .before .before .before .before .before .before .fill in
-    let zero = c .before .before .before .before .before .before .before .before .before .before .before .before .before .before .before .before .before .before .before .before .before
-    .before .before .before .before .before .zero in
+    let zero = c .before .before .before .before .before .before .before .before .before .before .before .before .before .before .before .before .before .before .before .before .before .before .before .before .before .before .zero in
     let why = c .before .before .before .before .before .before .before .before .before .before .before .before .why in
     let zero-both = c .before .before .before .before .before .before .before .before .zero-both in
     let zero2 = c .before .before .zero2 in
-    let args = args in
-    let fill = fill in
-    refused-reply (slipAt (args .fix) (args .map .now) (args .zones .now)) (told (fill .result)) _ _ _ refl refl (of-length _ (length (args .out .now)) (zero .ensures)) (fill .ensures)
+    refused-reply (slipAt (args .fix) (args .map .now) (args .atlas .now) (args .zones .now)) (told (fill .result)) _ _ _ refl refl (of-length _ (length (args .out .now)) (zero .ensures)) (fill .ensures)
     (ap told (why .given .1))
-    (all-zero _ (length (fill .last .1 .1 .1 .0)) (zero-both .ensures .0) ∙ ap zeros (same-length c)) (all-zero _ (length (fill .last .1 .1 .1 .1 .0)) (zero-both .ensures .1) ∙ ap zeros
-    (same-length-2 c)) (all-zero _ (length (fill .last .1 .1 .1 .1 .1 .0)) (zero2 .ensures) ∙ ap zeros (same-length-3 c))
+    (all-zero _ (length (fill .last .1 .1 .1 .1 .0)) (zero-both .ensures .0) ∙ ap zeros (same-length c)) (all-zero _ (length (fill .last .1 .1 .1 .1 .1 .0)) (zero-both .ensures .1) ∙ ap zeros
+    (same-length-2 c)) (all-zero _ (length (fill .last .1 .1 .1 .1 .1 .1 .0)) (zero2 .ensures) ∙ ap zeros (same-length-3 c))
 
 returns-2 : tie.Need-returns-2
 unfolding slippedAt
 returns-2 c =
-    let args = c .before .before .before .before .before .before .before .before .before .before .before .before .before .before .before .before .before .before .before .before .before
-    .before .args in
+    let args = c .before .before .before .before .before .before .before .before .before .before .before .before .before .before .before .before .before .before .before .before .before .before .before .args in
     let fill = c .before .before .before .before .before .before .before .before .before .fill in
     let zero = c .before .before .before .before .before .before .before .before .before .before .before .before .before .before .before .zero in
     let stamped = c .before .stamped in
-    given-reply (slipAt (args .fix) (args .map .now) (args .zones .now)) (told (fill .result)) _ _ _ refl refl (of-length _ (length (args .out .now)) (zero .ensures)) (fill .ensures)
+    given-reply (slipAt (args .fix) (args .map .now) (args .atlas .now) (args .zones .now)) (told (fill .result)) _ _ _ refl refl (of-length _ (length (args .out .now)) (zero .ensures)) (fill .ensures)
     (ap told (stamped .given .1))
 
 pub slip-at-spec : {M : Type 1} → statement M

@@ -10,15 +10,15 @@ use Rattle.table.proofs.marked.judge_marked.Tie as tie
 returns : tie.Need-returns
 unfolding judgeMarked
 returns c =
-    let none = eq-eqb (markFor (c .before .before .before .before .before .args .marks .now) (c .before .before .before .before .before .args .asked) (c .before .before .before .before .before .args .k)) 0 (sym (c .before .before .mark-for .ensures) ∙ c .before .if1 .taken) in
+    let none = eq-eqb (markFor (c .before .before .before .before .before .args .marks .now) (c .before .before .before .before .before .args .k)) 0 (sym (c .before .before .mark-for .ensures) ∙ c .before .if1 .taken) in
     c .judge .ensures ∙ rw none
 
 returns-2 : tie.Need-returns-2
 unfolding judgeMarked
 returns-2 c =
-    let some = ne-eqb (markFor (c .before .before .before .before .before .before .args .marks .now) (c .before .before .before .before .before .before .args .asked) (c .before .before .before .before .before .before .args .k)) 0 (λ e. c .before .before .if1 .left (c .before .before .before .mark-for .ensures ∙ e)) in
+    let some = ne-eqb (markFor (c .before .before .before .before .before .before .args .marks .now) (c .before .before .before .before .before .before .args .k)) 0 (λ e. c .before .before .if1 .left (c .before .before .before .mark-for .ensures ∙ e)) in
     c .judge-by .ensures
-    ∙ (λ i. judgedBy (c .before .before .before .before .before .before .args .file .now) (c .before .encoding-of .ensures i) (c .before .before .before .before .before .before .args .marks .now) (c .before .before .before .mark-for .ensures i) (c .before .before .before .before .before .before .args .fix .lat) (c .before .before .before .before .before .before .args .fix .lon) (c .before .before .before .before .before .before .args .least))
+    ∙ (λ i. judgedBy (c .before .before .before .before .before .before .args .file .now) (c .before .encoding-of .ensures i) (c .before .before .before .before .before .before .args .marks .now) (c .before .before .before .mark-for .ensures i) (c .before .before .before .before .before .before .args .fix .lat) (c .before .before .before .before .before .before .args .fix .lon) (c .before .before .before .before .before .before .args .asked) (c .before .before .before .before .before .before .args .least))
     ∙ rw some
 
 pub judge-marked-spec : {M : Type 1} → statement M

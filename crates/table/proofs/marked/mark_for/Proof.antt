@@ -6,11 +6,7 @@ use Rattle.table.proofs.marked.mark_for.Statement.{statement}
 use Rattle.table.proofs.marked.mark_for.Tie as tie
 
 returns-2 : tie.Need-returns-2
-returns-2 c = rw (c .before .before .before .if1 .left) (c .wide .ensures .0)
-
-returns-3 : tie.Need-returns-3
-returns-3 c = rw (c .before .if1 .left) (sym (List·getD-eq-default (c .before .before .before .args .marks .now) 0 (c .if2 .left)))
+returns-2 c = sym (List·getD-eq-default (c .before .before .args .marks .now) 0 (c .if1 .left))
 
 pub mark-for-spec : {M : Type 1} → statement M
-mark-for-spec =
-    tie.close (tie.spec (λ c. search needs) (λ c. search needs) (λ c. search needs) (λ c κs. search needs) returns-2 returns-3)
+mark-for-spec = tie.close (tie.spec (λ c. search needs) (λ c. search needs) (λ c κs. search needs) (λ c. c .wide .ensures .0) returns-2)

@@ -1,7 +1,7 @@
 -- `uskelzar::many::say_many` meets its contract. Assumes nothing.
 use borrow.Author.Needs.{needs}
 use mathlib.Core.Path.{sym, ap}
-use Rattle.zones.specs.{Batch.Many.{toldMany}, declared.batch.many.Many.{Many}}
+use Rattle.batch.specs.{Many.{toldMany}, declared.many.Many.{Many}}
 use Rattle.uskelzar.proofs.many.say_many.Statement.{statement}
 use Rattle.uskelzar.specs.Many.{manySaid}
 use Rattle.uskelzar.proofs.many.say_many.Tie as tie

@@ -10,4 +10,4 @@ returns : tie.Need-returns
 returns c = beside _ (c .speak .ensures) (c .before .before .say-slipped .ensures) ∙ ap slipSpoken (c .before .before .before .before .before .before .before .before .before .slip .ensures)
 
 pub uskelzar-slip-spec : {M : Type 1} → statement M
-uskelzar-slip-spec = tie.close (tie.spec (λ c κs. search needs) (λ c κs. search needs) (λ c κs. search needs) (λ c. search needs) (λ c. search needs) (λ c. search needs) returns)
+uskelzar-slip-spec = tie.close (tie.spec (λ c. search needs) (λ c κs. search needs) (λ c κs. search needs) (λ c κs. search needs) (λ c. search needs) (λ c. search needs) (λ c. search needs) returns)

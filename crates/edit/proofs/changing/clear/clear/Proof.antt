@@ -5,15 +5,12 @@ use Rattle.edit.proofs.changing.clear.clear.Tie as tie
 
 returns : tie.Need-returns
 returns c =
-    let stands = c .before .before .stands in
-    let if1 = c .before .if1 in
-    clear-refused _ _ _ (stands .ensures) (if1 .taken) _ (c .refused .ensures)
+    let stands = c .before .before .stands in let if1 = c .before .if1 in clear-refused _ _ _ (stands .ensures) (if1 .taken) _ (c .refused .ensures)
 
 cut-lists-requires : tie.Need-cut-lists-requires
 cut-lists-requires c κs =
     let stands = c .before .before .before .before .before .before .before .stands in
-    let if1 = c .before .before .before .before .before .before .if1 in
-    clear-inside _ _ _ (stands .ensures) (if1 .left)
+    let if1 = c .before .before .before .before .before .before .if1 in clear-inside _ _ _ (stands .ensures) (if1 .left)
 
 returns-2 : tie.Need-returns-2
 returns-2 c =
@@ -26,16 +23,5 @@ pub clear-spec : {M : Type 1} → statement M
 clear-spec =
     tie.close
     (tie.spec
-    (λ c κs. search needs)
-    (λ c κs. search needs)
-    returns
-    (λ c. search needs)
-    (λ c. search needs)
-    cut-lists-requires
-    (λ c κs. search needs)
-    (λ c. search needs)
-    (λ c. search needs)
-    (λ c. search needs)
-    (λ c. search needs)
-    (λ c. search needs)
-    returns-2)
+    (λ c κs. search needs) (λ c κs. search needs) returns (λ c. search needs) (λ c. search needs) cut-lists-requires (λ c κs. search needs)
+    (λ c. search needs) (λ c. search needs) (λ c. search needs) (λ c. search needs) (λ c. search needs) returns-2)

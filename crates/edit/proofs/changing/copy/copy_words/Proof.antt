@@ -16,49 +16,27 @@ abbrev μ-loop : tie.MeasureT-loop
 
 slice-write-list : tie.Need-slice-write-list Inv-loop μ-loop
 slice-write-list c =
-    let loop = c .before .before .loop in
-    let args = c .before .before .before .args in
-    let loop = loop in
-    let args = args in
+    let loop = c .before .before .loop in let args = c .before .before .before .args in let loop = loop in let args = args in
     omega (arith, ap length (loop .inv .2) ∙ copied-length (args .words .now) (args .list .now) (loop .i) (omega arith) (omega arith))
 
 loop-again : tie.Need-loop-again Inv-loop μ-loop
 loop-again c =
-    let loop = c .before .before .loop in
-    let args = c .before .before .before .args in
-    let loop = loop in
-    let args = args in
+    let loop = c .before .before .loop in let args = c .before .before .before .args in let loop = loop in let args = args in
     (omega arith, loop .inv .1, rw (loop .inv .2) (copied-suc (args .words .now) (args .list .now) (loop .i) (omega arith) (omega arith)))
 
 same-length : tie.Need-same-length Inv-loop μ-loop
 same-length c =
-    let loop = c .before .loop in
-    let args = c .before .before .args in
-    let loop = loop in
-    let args = args in
+    let loop = c .before .loop in let args = c .before .before .args in let loop = loop in let args = args in
     ap length (loop .inv .2) ∙ copied-length (args .words .now) (args .list .now) (loop .i) (omega arith) (omega arith)
 
 returns : tie.Need-returns Inv-loop μ-loop
 returns c =
-    let loop = c .before .loop in
-    let args = c .before .before .args in
-    let loop = loop in
-    let args = args in
+    let loop = c .before .loop in let args = c .before .before .args in let loop = loop in let args = args in
     loop .inv .2 ∙ copied-all (args .words .now) (args .list .now) (loop .i) (omega arith) (omega arith)
 
 pub copy-words-spec : {M : Type 1} → statement M
 copy-words-spec =
     tie.close
     (tie.spec
-    Inv-loop
-    μ-loop
-    (λ c. (omega arith, c .pre, refl))
-    (λ c. search needs)
-    (λ c. omega arith)
-    (λ c. search needs)
-    slice-write-list
-    (λ c. omega arith)
-    (λ c. omega arith)
-    loop-again
-    same-length
-    returns)
+    Inv-loop μ-loop (λ c. (omega arith, c .pre, refl)) (λ c. search needs) (λ c. omega arith) (λ c. search needs) slice-write-list (λ c. omega arith)
+    (λ c. omega arith) loop-again same-length returns)

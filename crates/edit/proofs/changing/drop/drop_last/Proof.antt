@@ -4,102 +4,61 @@ use mathlib.Core.Path.{_∙_}
 use Rattle.edit.proofs.changing.{Dropping.{idle-as}, drop.drop_last.Statement.{statement}}
 use Rattle.edit.proofs.changing.drop.drop_last.Tie as tie
 
-same-length : tie.Need-same-length
-same-length c =
-    let boxes = c .before .before .before .before .before .before .before .before .before .before .before .before .before .before .before .before .before .before .before .before .before .before .before .before .before .before .before .before .before .before .before .before .before .before .before .before .before .before .before .before .before .before .before .before .boxes in
-    boxes .given
+-- ---- the places that the answers speak of
+abbrev at-spare2 : tie.After-slice-known29 → tie.After-spare2
+at-spare2 c = c .before .before .before .before .before .before .before .before .before
 
-same-length-2 : tie.Need-same-length-2
-same-length-2 c =
-    let borders = c .before .before .before .before .before .before .before .before .before .before .before .before .before .before .before .before .before .before .before .before .before .before .before .before .before .before .before .before .before .before .before .before .before .before .before .before .before .before .before .before .before .before .before .borders in
-    borders .given
+abbrev at-places : tie.After-slice-known29 → tie.After-places
+at-places c = at-spare2 c .before .before .before .before .before .before .before .before .before .before .before .before .before .before
 
-same-length-3 : tie.Need-same-length-3
-same-length-3 c =
-    let lengths = c .before .before .before .before .before .before .before .before .before .before .before .before .before .before .before .before .before .before .before .before .before .before .before .before .before .before .before .before .before .before .before .before .before .before .before .before .before .before .before .before .before .lengths in
-    lengths .given
+abbrev at-held : tie.After-slice-known29 → tie.After-held
+at-held c = at-places c .before .before .before .before
 
-same-length-4 : tie.Need-same-length-4
-same-length-4 c =
-    let texts = c .before .before .before .before .before .before .before .before .before .before .before .before .before .before .before .before .before .before .before .before .before .before .before .before .before .before .before .before .before .before .before .before .before .before .before .before .before .before .before .texts in
-    texts .given
+abbrev at-keys : tie.After-slice-known29 → tie.After-keys
+at-keys c = at-held c .before .before .before .before .before .before
 
-same-length-5 : tie.Need-same-length-5
-same-length-5 c =
-    let bytes = c .before .before .before .before .before .before .before .before .before .before .before .before .before .before .before .before .before .before .before .before .before .before .before .before .before .before .before .before .before .before .before .before .before .before .before .before .before .bytes in
-    bytes .given
+abbrev at-texts : tie.After-slice-known29 → tie.After-texts
+at-texts c = at-keys c .before .before .before .before .before .before
 
 same-length-6 : tie.Need-same-length-6
 same-length-6 c =
-    let starts2 = c .before .before .before .before .before .before .before .before .before .before .before .before .before .starts2 in
-    let starts = c .before .before .before .before .before .before .before .before .before .before .before .before .before .before .before .before .before .before .before .before .before .before .before .before .before .before .before .before .before .before .before .before .before .before .before .starts in
+    let starts2 = at-spare2 c .before .before .before .before .starts2 in let starts = at-keys c .before .before .starts in
     starts2 .given ∙ starts .given
 
 same-length-7 : tie.Need-same-length-7
-same-length-7 c =
-    let keys2 = c .before .before .before .before .before .before .before .before .before .before .before .keys2 in
-    let keys = c .before .before .before .before .before .before .before .before .before .before .before .before .before .before .before .before .before .before .before .before .before .before .before .before .before .before .before .before .before .before .before .before .before .keys in
-    keys2 .given ∙ keys .given
+same-length-7 c = let keys2 = at-spare2 c .before .before .keys2 in let keys = at-keys c .keys in keys2 .given ∙ keys .given
 
 same-length-8 : tie.Need-same-length-8
-same-length-8 c =
-    let spare2 = c .before .before .before .before .before .before .before .before .before .spare2 in
-    let spare = c .before .before .before .before .before .before .before .before .before .before .before .before .before .before .before .before .before .before .before .before .before .before .before .before .before .before .before .before .before .before .before .spare in
-    spare2 .given ∙ spare .given
+same-length-8 c = let spare2 = at-spare2 c .spare2 in let spare = at-held c .before .before .before .before .spare in spare2 .given ∙ spare .given
 
 same-length-9 : tie.Need-same-length-9
 same-length-9 c =
-    let kept2 = c .before .before .before .before .before .before .before .kept2 in
-    let kept = c .before .before .before .before .before .before .before .before .before .before .before .before .before .before .before .before .before .before .before .before .before .before .before .before .before .before .before .before .before .kept in
+    let kept2 = c .before .before .before .before .before .before .before .kept2 in let kept = at-held c .before .before .kept in
     kept2 .given ∙ kept .given
 
 same-length-10 : tie.Need-same-length-10
-same-length-10 c =
-    let held2 = c .before .before .before .before .before .held2 in
-    let held = c .before .before .before .before .before .before .before .before .before .before .before .before .before .before .before .before .before .before .before .before .before .before .before .before .before .before .before .held in
-    held2 .given ∙ held .given
+same-length-10 c = let held2 = c .before .before .before .before .before .held2 in let held = at-held c .held in held2 .given ∙ held .given
 
 same-length-11 : tie.Need-same-length-11
-same-length-11 c =
-    let words2 = c .before .before .before .words2 in
-    let words = c .before .before .before .before .before .before .before .before .before .before .before .before .before .before .before .before .before .before .before .before .before .before .before .before .before .words in
-    words2 .given ∙ words .given
+same-length-11 c = let words2 = c .before .before .before .words2 in let words = at-places c .before .before .words in words2 .given ∙ words .given
 
 same-length-12 : tie.Need-same-length-12
-same-length-12 c =
-    let places2 = c .before .places2 in
-    let places = c .before .before .before .before .before .before .before .before .before .before .before .before .before .before .before .before .before .before .before .before .before .before .before .places in
-    places2 .given ∙ places .given
+same-length-12 c = let places2 = c .before .places2 in let places = at-places c .places in places2 .given ∙ places .given
 
 returns : tie.Need-returns
 returns c =
-    let drop-yard = c .before .before .before .before .before .before .before .before .before .before .before .before .before .before .before .before .before .before .before .before .before .before .before .before .before .before .before .before .before .before .before .before .before .before .before .before .before .before .before .before .before .before .before .before .before .drop-yard in
-    let starts = c .before .before .before .before .before .before .before .before .before .before .before .before .before .before .before .before .before .before .before .before .before .before .before .before .before .before .before .before .before .before .before .before .before .before .before .starts in
-    let keys = c .before .before .before .before .before .before .before .before .before .before .before .before .before .before .before .before .before .before .before .before .before .before .before .before .before .before .before .before .before .before .before .before .before .keys in
-    let spare = c .before .before .before .before .before .before .before .before .before .before .before .before .before .before .before .before .before .before .before .before .before .before .before .before .before .before .before .before .before .before .before .spare in
-    let kept = c .before .before .before .before .before .before .before .before .before .before .before .before .before .before .before .before .before .before .before .before .before .before .before .before .before .before .before .before .before .kept in
-    let held = c .before .before .before .before .before .before .before .before .before .before .before .before .before .before .before .before .before .before .before .before .before .before .before .before .before .before .before .held in
-    let words = c .before .before .before .before .before .before .before .before .before .before .before .before .before .before .before .before .before .before .before .before .before .before .before .before .before .words in
-    let places = c .before .before .before .before .before .before .before .before .before .before .before .before .before .before .before .before .before .before .before .before .before .before .before .places in
-    let rest-work = c .before .before .before .before .before .before .before .before .before .before .before .before .before .before .rest-work in
+    let drop-yard = at-texts c .before .before .before .before .before .before .drop-yard in let starts = at-keys c .before .before .starts in
+    let keys = at-keys c .keys in let spare = at-held c .before .before .before .before .spare in let kept = at-held c .before .before .kept in
+    let held = at-held c .held in let words = at-places c .before .before .words in let places = at-places c .places in
+    let rest-work = at-spare2 c .before .before .before .before .before .rest-work in
     (drop-yard .ensures, idle-as _ _ _ _ _ _ _ _ _ _ _ _ _ _ _ _ _ _ _ _ _ (starts .given) (keys .given) (spare .given) (kept .given) (held .given) (words .given) (places .given) (rest-work .ensures))
 
 pub drop-last-spec : {M : Type 1} → statement M
 drop-last-spec =
     tie.close
     (tie.spec
-    (λ c κs. search needs)
-    (λ c κs. search needs)
-    same-length
-    same-length-2
-    same-length-3
-    same-length-4
-    same-length-5
-    same-length-6
-    same-length-7
-    same-length-8
-    same-length-9
-    same-length-10
-    same-length-11
-    same-length-12
-    returns)
+    (λ c κs. search needs) (λ c κs. search needs) (λ c. let boxes = at-texts c .before .before .before .before .before .boxes in boxes .given)
+    (λ c. let borders = at-texts c .before .before .before .before .borders in borders .given)
+    (λ c. let lengths = at-texts c .before .before .lengths in lengths .given) (λ c. let texts = at-texts c .texts in texts .given)
+    (λ c. let bytes = at-keys c .before .before .before .before .bytes in bytes .given) same-length-6 same-length-7 same-length-8 same-length-9
+    same-length-10 same-length-11 same-length-12 returns)

@@ -16,32 +16,28 @@ abbrev μ-loop : tie.MeasureT-loop
 
 returns : tie.Need-returns Inv-loop μ-loop
 returns c =
-    let rest = traceOf (now (c .before .before .before .before .before .before .args .file)) (c .before .before .before .before .before .before .args .encoding) in
+    let args = c .before .before .before .before .before .before .args in let loop = c .before .before .before .loop in
+    let rest = traceOf (now (args .file)) (args .encoding) in
     c .ended .ensures
     ∙ end-stops (c .before .before .next-point .result) rest (c .before .match .keys2)
     ∙ ap (λ (n : Answer Given). endOf (traceThen n rest)) (c .before .before .next-point .ensures)
-    ∙ ap endOf (sym (trace-step (now (c .before .before .before .before .before .before .args .file)) (c .before .before .before .before .before .before .args .encoding) (c .before .before .before .loop .reader)))
-    ∙ c .before .before .before .loop .inv
+    ∙ ap endOf (sym (trace-step (now (args .file)) (args .encoding) (loop .reader)))
+    ∙ loop .inv
 
 loop-less : tie.Need-loop-less Inv-loop μ-loop
 loop-less c =
-    point-less (now (c .before .before .before .before .before .before .before .args .file)) (c .before .before .before .before .before .before .before .args .encoding) (c .before .before .before .before .loop .reader) (c .before .n .given .0 .0) (rw (c .before .n .given .1) at (c .before .before .before .next-point .ensures))
+    let args = c .before .before .before .before .before .before .before .args in
+    point-less (now (args .file)) (args .encoding) (c .before .before .before .before .loop .reader) (c .before .n .given .0 .0)
+    (rw (c .before .n .given .1) at (c .before .before .before .next-point .ensures))
 
 loop-again : tie.Need-loop-again Inv-loop μ-loop
 loop-again c =
-    end-goes (now (c .before .before .before .before .before .before .before .args .file)) (c .before .before .before .before .before .before .before .args .encoding) (c .before .before .before .before .loop .reader) (c .before .n .given .0 .0) (rw (c .before .n .given .1) at (c .before .before .before .next-point .ensures)) ∙ c .before .before .before .before .loop .inv
+    let args = c .before .before .before .before .before .before .before .args in let loop = c .before .before .before .before .loop in
+    end-goes (now (args .file)) (args .encoding) (loop .reader) (c .before .n .given .0 .0) (rw (c .before .n .given .1) at (c .before .before .before .next-point .ensures)) ∙ loop .inv
 
 pub border-end-spec : {M : Type 1} → statement M
 border-end-spec =
     tie.close
     (tie.spec
-    Inv-loop
-    μ-loop
-    (λ c κs. search needs)
-    (λ c. rw (c .open-border .ensures))
-    (λ c κs. search needs)
-    (λ c. search needs)
-    (λ c κs. search needs)
-    returns
-    loop-less
-    loop-again)
+    Inv-loop μ-loop (λ c κs. search needs) (λ c. rw (c .open-border .ensures)) (λ c κs. search needs) (λ c. search needs) (λ c κs. search needs)
+    returns loop-less loop-again)

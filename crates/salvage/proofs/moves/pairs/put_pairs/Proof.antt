@@ -18,25 +18,18 @@ same-length-2 : tie.Need-same-length-2 Inv-loop μ-loop
 same-length-2 c = c .before .before .before .put-move .ensures .size ∙ c .before .before .before .before .before .before .before .before .before .before .loop .inv .laid .size
 
 returns-2 : tie.Need-returns-2 Inv-loop μ-loop
-returns-2 c = pair-ends _ _ _ _ _ (rw (c .if1 .taken) at (c .before .before .before .before .before .before .before .before .before .before .loop .inv)) (rw (c .before .before .before .before .before .before .before .pair .given .1) at (c .before .before .before .before .before .before .before .before .before .read-pair .ensures)) (c .before .before .before .put-move .ensures)
+returns-2 c = pair-ends _ _ _ _ _ (rw (c .if1 .taken) at (c .before .before .before .before .before .before .before .before .before .before .loop .inv))
+    (rw (c .before .before .before .before .before .before .before .pair .given .1) at (c .before .before .before .before .before .before .before .before .before .read-pair .ensures))
+    (c .before .before .before .put-move .ensures)
 
 loop-again : tie.Need-loop-again Inv-loop μ-loop
-loop-again c = pair-goes _ _ _ _ _ _ (c .if1 .left) (c .before .before .before .before .before .before .before .before .before .before .loop .inv) (rw (c .before .before .before .before .before .before .before .pair .given .1) at (c .before .before .before .before .before .before .before .before .before .read-pair .ensures)) (c .before .before .before .put-move .ensures)
+loop-again c = pair-goes _ _ _ _ _ _ (c .if1 .left) (c .before .before .before .before .before .before .before .before .before .before .loop .inv)
+    (rw (c .before .before .before .before .before .before .before .pair .given .1) at (c .before .before .before .before .before .before .before .before .before .read-pair .ensures))
+    (c .before .before .before .put-move .ensures)
 
 pub put-pairs-spec : {M : Type 1} → statement M
 put-pairs-spec =
     tie.close
     (tie.spec
-    Inv-loop
-    μ-loop
-    (λ c. pair-starts _ _ _ _ _)
-    (λ c κs. search needs)
-    (λ c. search needs)
-    (λ c. c .before .before .loop .inv .laid .size)
-    returns
-    (λ c κs. search needs)
-    same-length-2
-    returns-2
-    (λ c. search needs)
-    (λ c. search needs)
-    loop-again)
+    Inv-loop μ-loop (λ c. pair-starts _ _ _ _ _) (λ c κs. search needs) (λ c. search needs) (λ c. c .before .before .loop .inv .laid .size) returns
+    (λ c κs. search needs) same-length-2 returns-2 (λ c. search needs) (λ c. search needs) loop-again)

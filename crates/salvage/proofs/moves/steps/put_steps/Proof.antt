@@ -17,38 +17,35 @@ returns : tie.Need-returns Inv-loop μ-loop
 returns c = steps-stop _ _ _ _ _ _ _ _ _ (c .before .before .loop .inv) (c .before .next-point .result) (c .match .keys2) (c .before .next-point .ensures)
 
 same-length-2 : tie.Need-same-length-2 Inv-loop μ-loop
-same-length-2 c = c .before .before .put-number2 .ensures .size ∙ c .before .before .before .before .before .before .put-number .ensures .size ∙ c .before .before .before .before .before .before .before .before .before .before .before .before .before .loop .inv .laid .size
+same-length-2 c = c .before .before .put-number2 .ensures .size ∙ c .before .before .before .before .before .before .put-number .ensures .size ∙
+    c .before .before .before .before .before .before .before .before .before .before .before .before .before .loop .inv .laid .size
 
 returns-2 : tie.Need-returns-2 Inv-loop μ-loop
 returns-2 c =
-    steps-end _ _ _ _ _ _ _ _ (c .before .before .before .before .before .before .before .before .before .before .before .before .before .loop .inv) (rw (c .before .before .before .before .before .before .before .before .before .before .n .given .1) at (c .before .before .before .before .before .before .before .before .before .before .before .before .next-point .ensures)) (c .before .before .before .before .before .before .before .before .if1 .taken) (c .before .before .before .before .before .before .put-number .ensures) (c .before .before .put-number2 .ensures)
+    steps-end _ _ _ _ _ _ _ _ (c .before .before .before .before .before .before .before .before .before .before .before .before .before .loop .inv)
+    (rw (c .before .before .before .before .before .before .before .before .before .before .n .given .1)
+    at (c .before .before .before .before .before .before .before .before .before .before .before .before .next-point .ensures))
+    (c .before .before .before .before .before .before .before .before .if1 .taken) (c .before .before .before .before .before .before .put-number .ensures)
+    (c .before .before .put-number2 .ensures)
 
 loop-less : tie.Need-loop-less Inv-loop μ-loop
 loop-less c =
-    point-less (now (c .before .before .before .before .before .before .before .before .before .before .before .before .before .before .args .file)) (encodedBy (c .before .before .before .before .before .before .before .before .before .before .before .before .before .before .args .strict) Packed (c .before .before .before .before .before .before .before .before .before .before .before .before .before .before .args .«data»)) (c .before .before .before .before .before .before .before .before .before .before .loop .reader) (c .before .before .before .before .before .before .before .n .given .0 .0) (rw (c .before .before .before .before .before .before .before .n .given .1) at (c .before .before .before .before .before .before .before .before .before .next-point .ensures))
+    let args = c .before .before .before .before .before .before .before .before .before .before .before .before .before .before .args in
+    let n = c .before .before .before .before .before .before .before .n in
+    point-less (now (args .file)) (encodedBy (args .strict) Packed (args .«data»)) (c .before .before .before .before .before .before .before .before .before .before .loop .reader)
+    (n .given .0 .0) (rw (n .given .1) at (c .before .before .before .before .before .before .before .before .before .next-point .ensures))
 
 loop-again : tie.Need-loop-again Inv-loop μ-loop
 unfolding stepBytes
 loop-again c =
-    steps-go _ _ _ _ _ _ _ _ (c .before .before .before .before .before .before .before .before .before .before .loop .inv) (rw (c .before .before .before .before .before .before .before .n .given .1) at (c .before .before .before .before .before .before .before .before .before .next-point .ensures)) (c .before .before .before .before .before .if1 .left) (capped-form (c .before .before .before .step-number .ensures) (c .before .before .put-number3 .ensures))
+    steps-go _ _ _ _ _ _ _ _ (c .before .before .before .before .before .before .before .before .before .before .loop .inv)
+    (rw (c .before .before .before .before .before .before .before .n .given .1) at (c .before .before .before .before .before .before .before .before .before .next-point .ensures))
+    (c .before .before .before .before .before .if1 .left) (capped-form (c .before .before .before .step-number .ensures) (c .before .before .put-number3 .ensures))
 
 pub put-steps-spec : {M : Type 1} → statement M
 put-steps-spec =
     tie.close
     (tie.spec
-    Inv-loop
-    μ-loop
-    (λ c κs. search needs)
-    (λ c. rw (c .open-border .ensures) (steps-start _ _ _ _ _ _))
-    (λ c κs. search needs)
-    (λ c. search needs)
-    (λ c. c .before .before .loop .inv .laid .size)
-    returns
-    (λ c κs. search needs)
-    (λ c κs. search needs)
-    same-length-2
-    returns-2
-    (λ c κs. search needs)
-    (λ c κs. search needs)
-    loop-less
-    loop-again)
+    Inv-loop μ-loop (λ c κs. search needs) (λ c. rw (c .open-border .ensures) (steps-start _ _ _ _ _ _)) (λ c κs. search needs) (λ c. search needs)
+    (λ c. c .before .before .loop .inv .laid .size) returns (λ c κs. search needs) (λ c κs. search needs) same-length-2 returns-2
+    (λ c κs. search needs) (λ c κs. search needs) loop-less loop-again)

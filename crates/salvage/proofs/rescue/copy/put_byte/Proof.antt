@@ -5,4 +5,6 @@ use Rattle.salvage.proofs.rescue.copy.{Copying.{capped-in, capped-out},
 use Rattle.salvage.proofs.rescue.copy.put_byte.Tie as tie
 
 pub put-byte-spec : {M : Type 1} → statement M
-put-byte-spec = tie.close (tie.spec (λ c. capped-past _ _ _ (c .if1 .taken)) (λ c. search needs) (λ c. search needs) (λ c. search needs) (λ c. capped-in _ _ _ (c .before .if1 .left)) (λ c. search needs) (λ c. capped-out _ _ _ (c .before .if1 .left) (c .if2 .left)))
+put-byte-spec = tie.close (tie.spec
+    (λ c. capped-past _ _ _ (c .if1 .taken)) (λ c. search needs) (λ c. search needs) (λ c. search needs) (λ c. capped-in _ _ _ (c .before .if1 .left))
+    (λ c. search needs) (λ c. capped-out _ _ _ (c .before .if1 .left) (c .if2 .left)))

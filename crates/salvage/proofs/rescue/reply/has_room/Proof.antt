@@ -6,10 +6,11 @@ returns : tie.Need-returns
 returns c = room-small (c .before .args .size) (c .before .args .room) (c .before .args .words) (c .before .args .list) (c .if1 .taken)
 
 returns-2 : tie.Need-returns-2
-returns-2 c = room-large (c .before .before .args .size) (c .before .before .args .room) (c .before .before .args .words) (c .before .before .args .list) (c .if2 .taken)
+returns-2 c = let args = c .before .before .args in room-large (args .size) (args .room) (args .words) (args .list) (c .if2 .taken)
 
 returns-3 : tie.Need-returns-3
-returns-3 c = room-fits (c .before .before .args .size) (c .before .before .args .room) (c .before .before .args .words) (c .before .before .args .list) (c .before .if1 .left) (c .if2 .left)
+returns-3 c =
+    let args = c .before .before .args in room-fits (args .size) (args .room) (args .words) (args .list) (c .before .if1 .left) (c .if2 .left)
 
 pub has-room-spec : {M : Type 1} → statement M
 has-room-spec = tie.close (tie.spec returns returns-2 returns-3)

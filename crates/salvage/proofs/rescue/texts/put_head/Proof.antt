@@ -6,7 +6,11 @@ use Rattle.salvage.proofs.rescue.texts.{Texting.{inlined-behind}, put_h
 use Rattle.salvage.proofs.rescue.texts.put_head.Tie as tie
 
 returns : tie.Need-returns
-returns c = inlined-behind (take 7 (c .before .before .before .before .before .before .before .before .before .before .args .file .now)) (headTexts (c .before .before .before .before .before .before .before .before .before .before .args .file .now) (c .before .before .before .before .before .before .before .before .before .before .args .head)) (c .before .before .put-texts .result) (c .before .before .put-texts .last .1 .1 .0) (c .before .before .before .before .before .before .put-span .ensures) (c .before .before .put-texts .ensures)
+returns c =
+    let args = c .before .before .before .before .before .before .before .before .before .before .args in
+    let put-texts = c .before .before .put-texts in
+    inlined-behind (take 7 (args .file .now)) (headTexts (args .file .now) (args .head)) (put-texts .result) (put-texts .last .1 .1 .0)
+    (c .before .before .before .before .before .before .put-span .ensures) (put-texts .ensures)
 
 pub put-head-spec : {M : Type 1} → statement M
 put-head-spec = tie.close (tie.spec (λ c κs. search needs) (λ c κs. search needs) (λ c. search needs) returns)

@@ -6,7 +6,8 @@ use Rattle.salvage.proofs.rescue.texts.{Texting.{short-fits, short-long
 use Rattle.salvage.proofs.rescue.texts.short_text.Tie as tie
 
 returns : tie.Need-returns
-returns c = ap refused (c .plain .ensures) ∙ short-long _ _ _ (rw (c .before .before .before .before .text .given .1) at (c .before .before .before .before .before .before .read-string .ensures)) (c .before .if1 .taken)
+returns c = ap refused (c .plain .ensures) ∙
+    short-long _ _ _ (rw (c .before .before .before .before .text .given .1) at (c .before .before .before .before .before .before .read-string .ensures)) (c .before .if1 .taken)
 
 returns-2 : tie.Need-returns-2
 returns-2 c = short-fits _ _ _ (rw (c .before .before .before .text .given .1) at (c .before .before .before .before .before .read-string .ensures)) (c .if1 .left)
@@ -21,14 +22,5 @@ pub short-text-spec : {M : Type 1} → statement M
 short-text-spec =
     tie.close
     (tie.spec
-    (λ c κs. search needs)
-    (λ c. search needs)
-    (λ c κs. search needs)
-    returns
-    (λ c. search needs)
-    (λ c κs. search needs)
-    (λ c. search needs)
-    (λ c κs. search needs)
-    returns-2
-    returns-3
-    returns-4)
+    (λ c κs. search needs) (λ c. search needs) (λ c κs. search needs) returns (λ c. search needs) (λ c κs. search needs) (λ c. search needs)
+    (λ c κs. search needs) returns-2 returns-3 returns-4)

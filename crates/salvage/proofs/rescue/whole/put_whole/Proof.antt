@@ -7,24 +7,22 @@ use Rattle.salvage.proofs.rescue.whole.put_whole.Tie as tie
 
 returns : tie.Need-returns
 returns c =
-    whole-refused (c .before .before .before .before .before .before .before .before .before .args .file .now) (c .before .before .before .before .before .before .before .before .before .args .head) (headTexts (c .before .before .before .before .before .before .before .before .before .args .file .now) (c .before .before .before .before .before .before .before .before .before .args .head)) refl (c .before .before .before .before .before .before .before .before .before .args .out .now) (c .before .before .before .before .before .put-head .last .1 .1 .0) (c .before .before .before .before .before .put-head .last .1 .1 .0) (c .before .why .given .0 .0)
-    (rw (c .before .why .given .1) at (c .before .before .before .before .before .put-head .ensures))
+    let args = c .before .before .before .before .before .before .before .before .before .args in
+    let put-head = c .before .before .before .before .before .put-head in
+    whole-refused (args .file .now) (args .head) (headTexts (args .file .now) (args .head)) refl (args .out .now) (put-head .last .1 .1 .0) (put-head .last .1 .1 .0) (c .before .why .given .0 .0)
+    (rw (c .before .why .given .1) at (put-head .ensures))
 
 returns-2 : tie.Need-returns-2
 returns-2 c =
-    whole-given (c .before .before .before .before .before .before .before .before .before .before .before .before .before .before .before .before .before .args .file .now) (c .before .before .before .before .before .before .before .before .before .before .before .before .before .before .before .before .before .args .head) (headTexts (c .before .before .before .before .before .before .before .before .before .before .before .before .before .before .before .before .before .args .file .now) (c .before .before .before .before .before .before .before .before .before .before .before .before .before .before .before .before .before .args .head)) refl (c .before .before .before .before .before .before .before .before .before .before .before .before .before .before .before .before .before .args .out .now)
-    (rw (c .before .before .before .before .before .before .before .before .before .place .given .1) at (c .before .before .before .before .before .before .before .before .before .before .before .before .before .put-head .ensures)) (c .before .before .before .before .before .before .put-sizes .ensures) (c .before .before .put-sections .ensures)
+    let args = c .before .before .before .before .before .before .before .before .before .before .before .before .before .before .before .before .before .args in
+    whole-given (args .file .now) (args .head) (headTexts (args .file .now) (args .head)) refl (args .out .now)
+    (rw (c .before .before .before .before .before .before .before .before .before .place .given .1)
+    at (c .before .before .before .before .before .before .before .before .before .before .before .before .before .put-head .ensures))
+    (c .before .before .before .before .before .before .put-sizes .ensures) (c .before .before .put-sections .ensures)
 
 pub put-whole-spec : {M : Type 1} → statement M
 put-whole-spec =
     tie.close
     (tie.spec
-    (λ c κs. search needs)
-    (λ c. search needs)
-    (λ c. search needs)
-    (λ c. search needs)
-    returns
-    (λ c κs. search needs)
-    (λ c κs. search needs)
-    (λ c. search needs)
-    returns-2)
+    (λ c κs. search needs) (λ c. search needs) (λ c. search needs) (λ c. search needs) returns (λ c κs. search needs) (λ c κs. search needs)
+    (λ c. search needs) returns-2)
