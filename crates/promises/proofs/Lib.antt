@@ -1,3 +1,4 @@
+pub mod AtlasNumbers
 pub mod Built
 pub mod Salvaged
 pub mod Page

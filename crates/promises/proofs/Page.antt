@@ -1,8 +1,8 @@
 -- The page of promises: the questions of README in its order, each with the theorem that answers it, over what the entry points promise. A statement stands here in full, so that a reader looks up
 -- definitions alone (`tools/floor` lists them); its proof is the law of the crate where it belongs.
 use Prim.Native.Nat.{ℕ, _+_, _*_, _-_, _<_, _≤_}
-use lib.{Ieee.{Float}, IntN.{ℤ}, ListN.{length, getD, take}, Signed.{mag, ltZ}}
-use mathlib.Core.{Bool.{Bool, true, false}, List.{List, [], _∷_}, Logic.{_↔_, _⊎_}, Path.{_≡_}}
+use lib.{Dec.{eqb}, Ieee.{Float}, IntN.{ℤ}, ListN.{length, getD, take}, Signed.{mag, ltZ}}
+use mathlib.Core.{Bool.{Bool, true, false, _||_}, List.{List, [], _∷_}, Logic.{_↔_, _⊎_}, Path.{_≡_}}
 use mir.{Syntax.{w64}, Val.{SFits}}
 use Rattle.atlas.specs.{Atlas.{atlasMade, isAtlasOf}, Beside.{NoneOrAtlas, simplyBeside}, Looked.{lookedAtlas}}
 use Rattle.batch.specs.{Many.{isTaken, fixesOf, manyBeside, lookedUpMany}, OneByOne.{oneByOne}}
@@ -14,7 +14,7 @@ use Rattle.bundle.specs.declared.find.Found.the-variants as F
 use Rattle.calendar.specs.{Calendar.{daysOfYears}, Civil.{CivilOf}, Epoch.{forwards, backwards}, declared.civil.Civil.{Civil}}
 use Rattle.draft.specs.Held.{Builder.{Builder, finish, holding}, Sound.{Sound, roomFor}, Space.{Space}, Totals.{totalsOf}}
 use Rattle.header.specs.{Header.{headBy, headOf}, declared.header.Head.{Head}}
-use Rattle.index.specs.{Index.{indexed, indexedOf}, Own.{isIndexOf}, Through.{lookedIndexed}}
+use Rattle.index.specs.{Index.{indexed, indexedOf, toldBuilt}, Own.{isIndexOf}, Through.{lookedIndexed}, Tied.{toldTied}, declared.{build.Built.{Built}, tied.Tied.{Tied}}}
 use Rattle.localtime.specs.{Found.{foundOf}, Local.{rulesIn, localTime}}
 use Rattle.localtime.specs.declared.rule.Rules.the-variants as R
 use Rattle.numbers.specs.{Lists.{zeros}, Reply.{given, refused}, declared.refusal.Refusal.{Refusal}}
@@ -23,7 +23,7 @@ use Rattle.request.specs.{Clock.{Date, Time, utc}, Nearest.{Nearest}, Only.{Onl
 use Rattle.request.specs.Told as Q
 use Rattle.request.specs.declared.read.Asked.the-variants as A
 use Rattle.salvage.specs.{Kept.{keptOf}, Promises.{ListOf, KeptFile}, Salvage.{Counts, salvaged}}
-use Rattle.slip.specs.{Says.{Meant, Whole, Agreed, Clocked, Short, isAtNumber, isSlipNumber}, Slip.{slippedAt, slipped}, declared.slip.{Stamped.{Stamped}, Slipped.{Slipped}}}
+use Rattle.slip.specs.{Says.{from, Meant, Whole, Agreed, Clocked, Short, isAtNumber, isSlipNumber}, Slip.{slippedAt, slipped}, declared.slip.{Stamped.{Stamped}, Slipped.{Slipped}}}
 use Rattle.slip.specs.Slip as Z
 use Rattle.slip.specs.Told as K
 use Rattle.table.specs.{Rows.{rowsIn}, declared.location.Location.{Location}}
@@ -48,6 +48,7 @@ use Rattle.calendar.proofs.SameCivil as calendar
 use Rattle.draft.proofs.held.Ends as draft
 use Rattle.index.proofs.Owned as index
 use Rattle.localtime.proofs.Theorems as localtime
+use Rattle.promises.proofs.AtlasNumbers as ranges
 use Rattle.promises.proofs.Built.BuiltLookup as built
 use Rattle.promises.proofs.Salvaged.Answered as salvage
 use Rattle.request.proofs.Theorems as request
@@ -132,7 +133,17 @@ pub atlas-safe : (file words : List ℕ) (location : Location) (asked : Bool) (n
     → (r ≡ r′) × (hs ≡ hs′) × (ts ≡ ts′)
 atlas-safe = theorems.atlas-safe
 
--- Where it is refused, all lent output is zero.
+-- So is what `build_atlas` and `is_atlas` answer and leave.
+pub same-atlas : (file words : List ℕ) (n : ℕ) → ((r r′ : Built) (ws ws′ : List ℕ) → indexed (toldBuilt r) ws ≡ atlasMade file n → indexed (toldBuilt r′) ws′ ≡ atlasMade file n → (r ≡ r′) × (ws ≡ ws′))
+    × ((r r′ : Tied) → toldTied r ≡ isAtlasOf file words → toldTied r′ ≡ isAtlasOf file words → r ≡ r′)
+same-atlas file words n = (theorems.same-atlas-built file n, theorems.same-atlas-held file words)
+
+-- Where it is refused, then with 1 to 18, as a plain lookup, or with 36,
+pub atlas-refusals : (file words : List ℕ) (location : Location) (asked : Bool) (n room : ℕ) (why : Refusal) → lookedAtlas file words location asked n room .reply ≡ refused why
+    → (from 1 18 (why .number) || eqb (why .number) 36) ≡ true
+atlas-refusals = ranges.by-ranges
+
+-- and all lent output is zero.
 pub atlas-refusal-zeroes : (file words : List ℕ) (location : Location) (asked : Bool) (n room : ℕ) (why : Refusal) → lookedAtlas file words location asked n room .reply ≡ refused why
     → (lookedAtlas file words location asked n room .hits ≡ zeros n) × (lookedAtlas file words location asked n room .text ≡ zeros room)
 atlas-refusal-zeroes = theorems.atlas-refusal-zeroes
