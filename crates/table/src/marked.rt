@@ -1,5 +1,5 @@
-// The search of rows that are given as words, with marks along their borders (document 04). It stands apart from listed.rt, so that a program without marks has
-// one call of the reader less.
+// The search of rows that are given as words, with marks along their borders (document 04). It stands apart from listed.rt, so that a program without marks does
+// not carry it.
 ghost use mathlib.Core.Path.{_≡_};
 ghost use Prim.Native.Nat.{_/_, _^_, _<_};
 ghost use lib.ListN.{length};
