@@ -13,7 +13,7 @@ const BYTES: usize = 1024;
 mod library;
 
 #[link(name = "uskelzar", kind = "static")]
-#[link(name = "office", kind = "static")]
+#[link(name = "uskelzar-office", kind = "static")]
 extern "C" {}
 
 /// What builds words beside a file, and what says that they go with it.

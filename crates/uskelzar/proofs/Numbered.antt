@@ -1,5 +1,5 @@
 -- What a returned 0 means to firmware: the call was answered, whatever it was given. Each exported function's contract fixes what it returns,
--- the number said in `openingSpoken`, `foundSpoken`, `manySpoken`, `writtenSpoken`, `builtSpoken`, `salvageSpoken` or `localSpoken`; here, that this number is 0 exactly where the definition gives an answer. Assumes nothing.
+-- the number said in `openingSpoken`, `foundSpoken`, `manySpoken` or `localSpoken`; here, that this number is 0 exactly where the definition gives an answer. Assumes nothing.
 use Prim.Native.Nat.{ℕ}
 use mathlib.Core.{Bool.{Bool, true, false}, List.{List, [], _∷_, _++_}, Logic.{_↔_}, Path.{_≡_, refl, sym, subst}}
 use native.Mathlib.Omega.{arith}
@@ -8,6 +8,8 @@ use Rattle.atlas.{proofs.BesideIsPlain.{simple-beside-is-plain}, specs.Beside.{
 use Rattle.batch.proofs.{ManyIsPlain.{many-beside-is-plain}, NumberedMany.{manyNumbers, many-refusals}}
 use Rattle.batch.specs.{Many.{Batch, Left, manyBeside, lookedUpMany}, declared.many.Totals.{Totals}}
 use Rattle.batch.specs.Many as B
+use Rattle.index.proofs.{NumberedThrough.{throughNumbers, through-refusals, indexed-refusals}, Refusing.{tyingNumbers, tied-refusals}}
+use Rattle.index.specs.{Through.{lookedThrough, lookedIndexed}, Tied.{tiedOf}}
 use Rattle.numbers.{proofs.Refusals.{Listed}, specs.{Reply.{Reply, given, refused}, declared.refusal.Refusal.{Refusal}}}
 use Rattle.localtime.{proofs.Numbered.{footerNumbers, local-time-refusals}, specs.Local.{localTime, scaleAt}}
 use Rattle.tzif.specs.declared.local.LocalTime.{LocalTime}
@@ -18,7 +20,7 @@ use Rattle.zones.proofs.NumberedLookup.{lookupNumbers, lookup-refusals, strict-
 use Rattle.zones.specs.{Lent.{Replied}, Lookup.{lookedUp, lookedStrictly}, Simple.{simplyLooked}, declared.simple.Described.{Described}}
 use Rattle.table.specs.declared.location.Location.{Location}
 use Rattle.uskelzar.specs.{Many.{manySaid, manySpoken}}
-use Rattle.uskelzar.specs.Spoken.{saidOf, openingValues, zonesValues, describedValues, localValues, localReply, openingSpoken, foundSpoken, localSpoken}
+use Rattle.uskelzar.specs.Spoken.{saidOf, openingValues, zonesValues, noValues, describedValues, localValues, localReply, openingSpoken, foundSpoken, localSpoken}
 
 -- the reply is an answer, and no refusal
 abbrev pub Answered : {A : Type 0} → Reply A → Type 0
@@ -95,6 +97,24 @@ pub many-atlas-zero : (file words : List ℕ) → NoneOrAtlas file words → (la
 many-atlas-zero file words so lats lons asked n room third =
     subst (λ (left : Left). (manySpoken left .said .number ≡ 0) ↔ AnsweredMany (left .reply)) (sym (many-beside-is-plain file words so lats lons asked n room third))
     (many-zero file lats lons asked n room third)
+
+-- `uskelzar_index_tied`
+pub index-tied-zero : (file words : List ℕ) → (saidOf noValues (tiedOf file words) .number ≡ 0) ↔ Answered (tiedOf file words)
+index-tied-zero file words = zero-said noValues (tiedOf file words) (λ why is. never-zero tyingNumbers (λ z. z) (why .number) (tied-refusals file words why is))
+
+-- `uskelzar_lookup_through`
+pub lookup-through-zero : (file words : List ℕ) (location : Location) (asked : Bool) (n room : ℕ)
+    → (foundSpoken zonesValues (lookedThrough file words location asked n room) .said .number ≡ 0) ↔ Answered (lookedThrough file words location asked n room .reply)
+lookup-through-zero file words location asked n room =
+    zero-said zonesValues (lookedThrough file words location asked n room .reply)
+    (λ why is. never-zero throughNumbers (λ z. z) (why .number) (through-refusals file words location asked n room why is))
+
+-- `uskelzar_lookup_indexed`
+pub lookup-indexed-zero : (file words : List ℕ) (location : Location) (asked : Bool) (n room : ℕ)
+    → (foundSpoken zonesValues (lookedIndexed file words location asked n room) .said .number ≡ 0) ↔ Answered (lookedIndexed file words location asked n room .reply)
+lookup-indexed-zero file words location asked n room =
+    zero-said zonesValues (lookedIndexed file words location asked n room .reply)
+    (λ why is. never-zero throughNumbers (λ z. z) (why .number) (indexed-refusals file words location asked n room why is))
 
 -- `uskelzar_local_time`, answered with a local time or with unknown
 of-local : (time : LocalTime) (why : Refusal) → localReply time ≡ refused why → ((told : T.Refusal) → time ≡ L.Refused told → Listed footerNumbers (told .number)) → Listed footerNumbers (why .number)

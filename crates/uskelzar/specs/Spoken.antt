@@ -29,6 +29,10 @@ openingValues o = o .kind ∷ o .version ∷ o .precision ∷ o .count ∷ o .us
 abbrev pub zonesValues : Zones → List ℕ
 zonesValues z = z .matches ∷ z .mark ∷ z .safezone ∷ z .used ∷ []
 
+-- that it is so has no value
+abbrev pub noValues : Unit {0} → List ℕ
+noValues u = []
+
 -- 1 and its length where there is a description, else 0
 abbrev pub descriptionValues : Description → List ℕ
 descriptionValues (D.Length length) = 1 ∷ length ∷ []

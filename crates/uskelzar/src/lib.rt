@@ -3,6 +3,7 @@
 pub mod civil;
 pub mod many;
 pub mod slips;
+pub mod tiles;
 
 ghost use mathlib.Core.{Path.{_≡_}, List.{[], _∷_}};
 ghost use lib.ListN.{length};

@@ -3,8 +3,7 @@ use borrow.Author.Needs.{needs}
 use mathlib.Core.{List.{[]}, Path.{ap, _∙_}}
 use Rattle.uskelzar.proofs.Saying.{beside}
 use Rattle.office.proofs.tiles.uskelzar_is_atlas.Statement.{statement}
-use Rattle.uskelzar.specs.Spoken.{saidOf}
-use Rattle.office.specs.Written.{noValues}
+use Rattle.uskelzar.specs.Spoken.{saidOf, noValues}
 use Rattle.office.proofs.tiles.uskelzar_is_atlas.Tie as tie
 
 returns : tie.Need-returns

@@ -1,11 +1,10 @@
--- `office::tiles::uskelzar_index_tied` meets its contract. Assumes nothing.
+-- `uskelzar::tiles::uskelzar_index_tied` meets its contract. Assumes nothing.
 use borrow.Author.Needs.{needs}
 use mathlib.Core.{List.{[]}, Path.{ap, _∙_}}
 use Rattle.uskelzar.proofs.Saying.{beside}
-use Rattle.office.proofs.tiles.uskelzar_index_tied.Statement.{statement}
-use Rattle.uskelzar.specs.Spoken.{saidOf}
-use Rattle.office.specs.Written.{noValues}
-use Rattle.office.proofs.tiles.uskelzar_index_tied.Tie as tie
+use Rattle.uskelzar.proofs.tiles.uskelzar_index_tied.Statement.{statement}
+use Rattle.uskelzar.specs.Spoken.{saidOf, noValues}
+use Rattle.uskelzar.proofs.tiles.uskelzar_index_tied.Tie as tie
 
 returns : tie.Need-returns
 returns c = beside [] (c .speak .ensures) (c .before .before .say-tied .ensures ∙ ap (saidOf noValues) (c .before .before .before .index-tied .ensures))
