@@ -6,3 +6,4 @@ pub mod Varint
 pub mod Point
 pub mod Spelling
 pub mod Float
+pub mod Spoken

@@ -11,7 +11,7 @@ use Rattle.draft.specs.declared.held.state.{Held.{Held}, Changed.{Changed}}
 use Rattle.index.proofs.Numbering.{read-back}
 use Rattle.numbers.specs.{Point.{readI32, signedOf}, declared.refusal.Refusal.{Refusal}}
 use Rattle.office.specs.Draft.{heldOf, notedIn, wordsOf, Kept, Spoke, Speaks, SpeaksNoted, Ends}
-use Rattle.uskelzar.specs.Spoken.{saidOf}
+use Rattle.numbers.specs.Spoken.{saidOf}
 use Rattle.office.specs.Written.{lengthValue}
 use Rattle.draft.specs.declared.held.state.Changed.the-variants as C
 

@@ -18,10 +18,10 @@ use Rattle.draft.specs.declared.held.state.Changed.the-variants as C
 use Rattle.numbers.{proofs.Replies.{demanded}, specs.{Lists.{zeros}, Reply.{Reply, given, refused, plain}, declared.refusal.Refusal.{Refusal}}}
 use Rattle.edit.specs.Replacing.Replaced as Replacing
 use Rattle.office.proofs.{NotedDrafts.{Lasts, LastsOn, add-lasts, kept-lasts, noted-back}, NumberedDrafts.{add-zero, begin-zero, drop-zero, replace-zero}}
-use Rattle.uskelzar.proofs.Numbered.{Answered}
+use Rattle.numbers.proofs.Saying.{Answered}
 use Rattle.office.specs.{Calls.{Called, Made, Shelf, TotalsIn, adds, begun, called, clears, drops, grown, replaces, yardsAfter}, Draft.{Kept, Speaks, Spoke, heldOf, notedIn, toldChanged, totalsValues, wordsOf}}
-use Rattle.uskelzar.specs.Spoken.{saidOf}
-use Rattle.uskelzar.specs.declared.Said.{Said}
+use Rattle.numbers.specs.Spoken.{saidOf}
+use Rattle.numbers.specs.declared.said.Said.{Said}
 
 -- ---- what the definition's calls give, where they give a builder
 module _ (b : Builder) where

@@ -14,7 +14,7 @@ use Rattle.index.specs.{Index.{indexedOf}, Own.{isIndexOf}}
 use Rattle.salvage.proofs.rescue.NumberedSalvage.{salvageNumbers, salvage-refusals}
 use Rattle.salvage.specs.Salvage.{salvaged}
 use Rattle.office.specs.{Built.{builtFor, builtSpoken}, Salvaged.{countsValues, salvageSpoken}}
-use Rattle.uskelzar.{proofs.Numbered.{Answered, never-zero, zero-said}, specs.Spoken.{saidOf, noValues}}
+use Rattle.numbers.{proofs.Saying.{Answered, never-zero, zero-said}, specs.Spoken.{saidOf, noValues}}
 use Rattle.office.specs.Written.{lengthValue, writtenSpoken, indexSpoken}
 
 -- ---- for each exported function

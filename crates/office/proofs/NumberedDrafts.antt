@@ -16,13 +16,13 @@ use Rattle.numbers.{proofs.Refusals.{Listed, oneOf}, specs.{Reply.{Reply, given
 use Rattle.edit.specs.Replacing.Replaced.{Replaces}
 use Rattle.edit.specs.Replacing.Replaced as Replacing
 use Rattle.draft.specs.Summed.Ends.{Finishes, spaceOf}
-use Rattle.uskelzar.proofs.Numbered.{Answered, never-zero, zero-said}
+use Rattle.numbers.proofs.Saying.{Answered, never-zero, zero-said}
 use Rattle.office.proofs.NumberedCalls.{addNumbers, add-refusals, beginNumbers, begin-refusals, dropNumbers, drop-refusals, finishNumbers, finish-refusals, replaceNumbers, replace-refusals}
 use Rattle.office.proofs.SameCalls.{Told, ToldNoted}
 use Rattle.office.specs.Draft.{Ends, Files, Speaks, SpeaksNoted, heldOf, notedIn, toldChanged, totalsValues}
-use Rattle.uskelzar.specs.Spoken.{saidOf}
+use Rattle.numbers.specs.Spoken.{saidOf}
 use Rattle.office.specs.Written.{lengthValue}
-use Rattle.uskelzar.specs.declared.Said.{Said}
+use Rattle.numbers.specs.declared.said.Said.{Said}
 
 -- ---- what is said of a reply
 -- a builder's totals, a file's length

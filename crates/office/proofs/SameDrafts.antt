@@ -11,9 +11,9 @@ use Rattle.draft.specs.declared.held.state.Changed.the-variants as C
 use Rattle.edit.specs.Replacing.Replaced.{Replaces}
 use Rattle.office.proofs.SameCalls.{Told, ToldNoted, same-added, same-begun, same-cleared, same-dropped, same-finished, same-replaced}
 use Rattle.office.specs.Draft.{Ends, Files, Kept, Speaks, SpeaksNoted, Spoke, heldOf, notedIn, toldChanged, totalsValues}
-use Rattle.uskelzar.specs.Spoken.{saidOf}
+use Rattle.numbers.specs.Spoken.{saidOf}
 use Rattle.office.specs.Written.{lengthValue}
-use Rattle.uskelzar.specs.declared.Said.{Said}
+use Rattle.numbers.specs.declared.said.Said.{Said}
 
 -- two calls that make the same of a builder
 same-kept : (noted : ℕ) (before after after′ : List ℕ) (changed : Changed) → Kept noted before after changed → Kept noted before after′ changed → after ≡ after′

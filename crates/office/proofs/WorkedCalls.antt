@@ -12,7 +12,7 @@ use Rattle.draft.specs.declared.held.state.Changed.the-variants as C
 use Rattle.numbers.specs.{Lists.{padded}, Reply.{refused, plain}}
 use Rattle.office.proofs.WorkedDraft.{begun, begun-back, begun-holds, lists, plan}
 use Rattle.office.specs.{Calls.{Called, Made, Shelf, drops}, Draft.{Kept, heldOf, toldChanged, totalsValues, wordsOf}}
-use Rattle.uskelzar.specs.Spoken.{saidOf}
+use Rattle.numbers.specs.Spoken.{saidOf}
 use Rattle.office.specs.Calls as K
 
 -- what is kept of it

@@ -10,9 +10,9 @@ use Rattle.draft.specs.declared.held.state.Changed.the-variants as C
 use Rattle.build.specs.declared.file.Built.the-variants as W
 use Rattle.numbers.specs.{Lists.{zeros}, Point.{readI32}, Reply.{Reply, given, refused, plain}, declared.refusal.Refusal.{Refusal}}
 use Rattle.draft.specs.Summed.Ends.{Finishes, spaceOf}
-use Rattle.uskelzar.specs.Spoken.{saidOf}
+use Rattle.numbers.specs.Spoken.{saidOf}
 use Rattle.office.specs.Written.{lengthValue}
-use Rattle.uskelzar.specs.declared.Said.{Said}
+use Rattle.numbers.specs.declared.said.Said.{Said}
 
 -- of fourteen words thirteen, one for each number of a builder; of the first four and the thirteenth only the low bits count
 unfoldable pub heldOf : List ℕ → Held

@@ -2,7 +2,7 @@
 use Prim.Native.Nat.{ℕ}
 use mathlib.Core.List.{List, [], _∷_}
 use Rattle.salvage.specs.Salvage.{Counts, Replied}
-use Rattle.uskelzar.specs.Spoken.{saidOf, Spoken}
+use Rattle.numbers.specs.Spoken.{saidOf, Spoken}
 
 -- the new file's length, the list's lines, the entries kept
 abbrev pub countsValues : Counts → List ℕ

@@ -3,7 +3,7 @@ use mathlib.Core.List.{List, [], _∷_}
 use Prim.Native.Nat.{ℕ}
 use Rattle.writer.specs.Writer as W
 use Rattle.index.specs.Index.{Indexed}
-use Rattle.uskelzar.specs.Spoken.{Spoken, saidOf}
+use Rattle.numbers.specs.Spoken.{Spoken, saidOf}
 
 -- how long what was written is
 abbrev pub lengthValue : ℕ → List ℕ

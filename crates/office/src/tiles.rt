@@ -3,17 +3,17 @@ ghost use mathlib.Core.{Path.{_≡_}, List.{[], _∷_}};
 ghost use lib.ListN.{length};
 ghost use Rattle.atlas.specs.Atlas.{atlasMade, isAtlasOf};
 ghost use Rattle.index.specs.{Index.{indexedOf, toldBuilt}, Own.{isIndexOf}};
-ghost use Rattle.uskelzar.specs.Spoken.{saidOf, noValues, spoken};
+ghost use Rattle.numbers.specs.Spoken.{saidOf, noValues, spoken};
 ghost use Rattle.office.specs.Written.{lengthValue, indexSpoken};
 use atlas::build::build_atlas;
 use atlas::own::is_atlas;
 use index::build::Built;
 use index::build::build_index;
 use index::own::is_index;
-use uskelzar::Said;
-use uskelzar::say_refused;
-use uskelzar::speak;
-use uskelzar::tiles::say_tied;
+use index::tied::say_tied;
+use numbers::said::Said;
+use numbers::said::say_refused;
+use numbers::said::speak;
 
 fn say_built(built: Built) -> Said
     ensures { λ r. ⌜ r ≡ saidOf lengthValue (toldBuilt built) ⌝ }

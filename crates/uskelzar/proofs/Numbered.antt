@@ -10,7 +10,7 @@ use Rattle.batch.specs.{Many.{Batch, Left, manyBeside, lookedUpMany}, declared.
 use Rattle.batch.specs.Many as B
 use Rattle.index.proofs.{NumberedThrough.{throughNumbers, through-refusals, indexed-refusals}, Refusing.{tyingNumbers, tied-refusals}}
 use Rattle.index.specs.{Through.{lookedThrough, lookedIndexed}, Tied.{tiedOf}}
-use Rattle.numbers.{proofs.Refusals.{Listed}, specs.{Reply.{Reply, given, refused}, declared.refusal.Refusal.{Refusal}}}
+use Rattle.numbers.{proofs.Saying.{Answered, never-zero, zero-said}, specs.{Reply.{Reply, given, refused}, Spoken.{noValues}, declared.refusal.Refusal.{Refusal}}}
 use Rattle.localtime.{proofs.Numbered.{footerNumbers, local-time-refusals}, specs.Local.{localTime, scaleAt}}
 use Rattle.tzif.specs.declared.local.LocalTime.{LocalTime}
 use Rattle.tzif.specs.declared.local.LocalTime.the-variants as L
@@ -20,22 +20,7 @@ use Rattle.zones.proofs.NumberedLookup.{lookupNumbers, lookup-refusals, strict-
 use Rattle.zones.specs.{Lent.{Replied}, Lookup.{lookedUp, lookedStrictly}, Simple.{simplyLooked}, declared.simple.Described.{Described}}
 use Rattle.table.specs.declared.location.Location.{Location}
 use Rattle.uskelzar.specs.{Many.{manySaid, manySpoken}}
-use Rattle.uskelzar.specs.Spoken.{saidOf, openingValues, zonesValues, noValues, describedValues, localValues, localReply, openingSpoken, foundSpoken, localSpoken}
-
--- the reply is an answer, and no refusal
-abbrev pub Answered : {A : Type 0} → Reply A → Type 0
-Answered {A} reply = (answer : A) × (reply ≡ given answer)
-
--- a number of a list without 0 is not 0
-pub never-zero : (numbers : List ℕ) → (Listed numbers 0 → false ≡ true) → (n : ℕ) → Listed numbers n → n ≡ 0 → ⊥
-never-zero numbers without n listed is = let no-zero = without (subst (Listed numbers) is listed) in let z : _≡_ {A = ℕ} 0 1 = cc in omega arith
-
--- where no refusal has the number 0, that number is said for an answer alone
-module _ {A : Type 0} (values : A → List ℕ) where
-  pub zero-said : (reply : Reply A) → ((why : Refusal) → reply ≡ refused why → why .number ≡ 0 → ⊥) → (saidOf values reply .number ≡ 0) ↔ Answered reply
-  unfolding saidOf
-  zero-said (given a) never = ((λ zero. (a, refl)), (λ answered. refl))
-  zero-said (refused why) never = ((λ zero. absurd (never why refl zero)), (λ answered. cc))
+use Rattle.uskelzar.specs.Spoken.{openingValues, zonesValues, describedValues, localValues, localReply, openingSpoken, foundSpoken, localSpoken}
 
 -- ---- for each exported function
 -- `uskelzar_open`

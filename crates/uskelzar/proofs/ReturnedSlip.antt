@@ -9,7 +9,8 @@ use Rattle.request.{proofs.{Refusing.{fiveNumbers}, Theorems.{request-refusals}
 use Rattle.slip.proofs.{Theorems.{slip-refusals, slip-at-refusals}, Worked.{sentence, square, berlin, texts, line, stamped}}
 use Rattle.slip.specs.{Says.{isAtNumber, isSlipNumber}, Slip.{Replied, replied, slippedAt, slipped}, declared.slip.Stamped.{Stamped}}
 use Rattle.uskelzar.proofs.Numbered.{Answered, never-zero, zero-said}
-use Rattle.uskelzar.specs.{Slips.{Printed, fixValues, fileValues, stampedValues, replySpoken, slipSpoken}, Spoken.{Spoken, saidOf, spoken}}
+use Rattle.numbers.specs.Spoken.{Spoken, saidOf, spoken}
+use Rattle.uskelzar.specs.Slips.{Printed, fixValues, fileValues, stampedValues, replySpoken, slipSpoken}
 
 -- the reply is refused, and so all of it
 whole : (left : Replied) {why : Refusal} → left .reply ≡ refused why → replied (refused why) (left .hits) (left .text) (left .out) ≡ left

@@ -7,7 +7,8 @@ use Rattle.table.specs.declared.location.Location.{Location}
 use Rattle.zones.proofs.{WholeMeansWhole.{whole-means-whole, simple-whole-means-whole}, WorkedEnding.{printed, inTheZone, answered}}
 use Rattle.zones.specs.{Lent.{Replied}, Lookup.{lookedUp}, Simple.{simplyLooked}, Unstopped.{lookedThroughAll, simplyLookedThroughAll}, declared.{lookup.Zones.{Zones}, simple.Described.{Described}}}
 use Rattle.uskelzar.proofs.Numbered.{lookup-zero, simple-lookup-zero}
-use Rattle.uskelzar.specs.Spoken.{saidOf, zonesValues, describedValues, Spoken, spoken, foundSpoken}
+use Rattle.numbers.specs.Spoken.{saidOf, Spoken, spoken}
+use Rattle.uskelzar.specs.Spoken.{zonesValues, describedValues, foundSpoken}
 
 -- the second word of an answer's reply is its mark
 lookup-mark : (reply : Reply Zones) (zones : Zones) → reply ≡ given zones → getD (saidOf zonesValues reply .words) 1 0 ≡ zones .mark

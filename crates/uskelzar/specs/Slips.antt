@@ -7,7 +7,7 @@ use Rattle.bundle.specs.declared.find.File.{File}
 use Rattle.numbers.specs.{Lists.{padded}, Reply.{Reply, given}}
 use Rattle.request.specs.declared.read.Fix.{Fix}
 use Rattle.slip.specs.{Slip.{Replied, replied}, declared.slip.Stamped.{Stamped}}
-use Rattle.uskelzar.specs.Spoken.{Spoken, saidOf}
+use Rattle.numbers.specs.Spoken.{Spoken, saidOf}
 
 -- the 32 bits of latitude and longitude, the 64 of the instant
 abbrev pub fixValues : Fix → List ℕ

@@ -1,29 +1,16 @@
 // The tile index at a fix, for C: held against the file, and lookups through it.
 ghost use mathlib.Core.{Path.{_≡_}, List.{[], _∷_}};
 ghost use lib.ListN.{length};
-ghost use Rattle.index.specs.{Through.{lookedThrough, lookedIndexed}, Tied.{tiedOf, toldTied}};
-ghost use Rattle.uskelzar.specs.Spoken.{saidOf, zonesValues, noValues, spoken, foundSpoken};
-use crate::Said;
+ghost use Rattle.index.specs.{Through.{lookedThrough, lookedIndexed}, Tied.{tiedOf}};
+ghost use Rattle.numbers.specs.Spoken.{saidOf, noValues, spoken};
+ghost use Rattle.uskelzar.specs.Spoken.{zonesValues, foundSpoken};
 use crate::say_looked;
-use crate::say_refused;
-use crate::speak;
 use index::lookup::lookup_indexed;
 use index::lookup::lookup_through;
-use index::tied::Tied;
 use index::tied::index_tied;
+use index::tied::say_tied;
+use numbers::said::speak;
 use table::location::Location;
-
-pub fn say_tied(tied: Tied) -> Said
-    ensures { λ r. ⌜ r ≡ saidOf noValues (toldTied tied) ⌝ }
-{
-    match tied {
-        Tied::Yes => Said {
-            number: 0,
-            words: [0; 5],
-        },
-        Tied::Refused(why) => say_refused(why),
-    }
-}
 
 // Holds an index against a file: 0 where it keeps the file's length, header and table; records, starts and lists are believed. No values.
 #[no_mangle]

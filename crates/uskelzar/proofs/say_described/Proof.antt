@@ -3,12 +3,13 @@ use Rattle.numbers.specs.Lists.{padded}
 use Rattle.zones.specs.{Simple.{toldSimple}, declared.simple.{Described.{Described}, Description.{Description}, Simple.{Simple}}}
 use Rattle.zones.specs.declared.simple.Simple.the-variants as S
 use Rattle.uskelzar.proofs.{Saying.{said-given, said-refused}, say_described.Statement.{statement}}
-use Rattle.uskelzar.specs.Spoken.{saidOf, describedValues, descriptionValues}
+use Rattle.numbers.specs.Spoken.{saidOf}
+use Rattle.uskelzar.specs.Spoken.{describedValues, descriptionValues}
 use borrow.Author.Needs.{needs}
 use Rattle.uskelzar.proofs.say_described.Tie as tie
 use Rattle.uskelzar.proofs.say_described.Reads as reads
 use Rattle.uskelzar.proofs.say_described.Lts as lts
-use Rattle.uskelzar.proofs.say_refused.Reads as say-refused-reads
+use Rattle.numbers.proofs.said.say_refused.Reads as say-refused-reads
 
 -- an answer whose description is known
 described : {simple : Simple} {found : Described} {description : Description} → simple ≡ S.Described found → found .description ≡ description

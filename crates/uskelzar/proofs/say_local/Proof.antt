@@ -3,7 +3,8 @@ use Prim.Native.Nat.{ℕ}
 use Rattle.localtime.specs.declared.scale.Scale.{Scale}
 use Rattle.numbers.specs.Reply.{refused}
 use Rattle.uskelzar.proofs.{Saying.{said-given, said-refused}, say_local.Statement.{statement}}
-use Rattle.uskelzar.specs.{Spoken.{localValues, localReply}, declared.Said.{Said}}
+use Rattle.numbers.specs.declared.said.Said.{Said}
+use Rattle.uskelzar.specs.Spoken.{localValues, localReply}
 use borrow.Author.Needs.{needs}
 use Rattle.uskelzar.proofs.say_local.Tie as tie
 

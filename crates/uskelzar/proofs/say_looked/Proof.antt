@@ -6,7 +6,7 @@ use borrow.Author.Needs.{needs}
 use Rattle.uskelzar.proofs.say_looked.Tie as tie
 use Rattle.uskelzar.proofs.say_looked.Reads as reads
 use Rattle.uskelzar.proofs.say_looked.Lts as lts
-use Rattle.uskelzar.proofs.say_refused.Reads as say-refused-reads
+use Rattle.numbers.proofs.said.say_refused.Reads as say-refused-reads
 
 returns : tie.Need-returns
 returns c = said-given zonesValues (ap toldLooked (c .before .before .before .looked .given .1))

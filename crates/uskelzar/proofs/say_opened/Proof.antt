@@ -6,7 +6,7 @@ use borrow.Author.Needs.{needs}
 use Rattle.uskelzar.proofs.say_opened.Tie as tie
 use Rattle.uskelzar.proofs.say_opened.Reads as reads
 use Rattle.uskelzar.proofs.say_opened.Lts as lts
-use Rattle.uskelzar.proofs.say_refused.Reads as say-refused-reads
+use Rattle.numbers.proofs.said.say_refused.Reads as say-refused-reads
 
 returns : tie.Need-returns
 returns c = said-given openingValues (ap toldOpened (c .before .before .before .before .before .opened .given .1))

@@ -6,7 +6,7 @@ use Rattle.uskelzar.proofs.uskelzar_lookup.Tie as tie
 use Rattle.uskelzar.proofs.uskelzar_lookup.Reads as reads
 use Rattle.uskelzar.proofs.uskelzar_lookup.Lts as lts
 use Rattle.uskelzar.proofs.say_looked.Reads as say-looked-reads
-use Rattle.uskelzar.proofs.speak.Reads as speak-reads
+use Rattle.numbers.proofs.said.speak.Reads as speak-reads
 use Rattle.zones.proofs.lookup.lookup.Reads as lookup-reads
 
 returns : tie.Need-returns

@@ -6,7 +6,7 @@ use Rattle.uskelzar.proofs.uskelzar_open.Tie as tie
 use Rattle.uskelzar.proofs.uskelzar_open.Reads as reads
 use Rattle.uskelzar.proofs.uskelzar_open.Lts as lts
 use Rattle.uskelzar.proofs.say_opened.Reads as say-opened-reads
-use Rattle.uskelzar.proofs.speak.Reads as speak-reads
+use Rattle.numbers.proofs.said.speak.Reads as speak-reads
 use Rattle.header.proofs.opening.open.Reads as open-reads
 
 returns : tie.Need-returns

@@ -6,7 +6,7 @@ use Rattle.uskelzar.proofs.uskelzar_simple_lookup.Tie as tie
 use Rattle.uskelzar.proofs.uskelzar_simple_lookup.Reads as reads
 use Rattle.uskelzar.proofs.uskelzar_simple_lookup.Lts as lts
 use Rattle.uskelzar.proofs.say_described.Reads as say-described-reads
-use Rattle.uskelzar.proofs.speak.Reads as speak-reads
+use Rattle.numbers.proofs.said.speak.Reads as speak-reads
 use Rattle.zones.proofs.simple.simple_lookup.Reads as simple-lookup-reads
 
 returns : tie.Need-returns

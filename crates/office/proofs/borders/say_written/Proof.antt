@@ -1,14 +1,14 @@
 use mathlib.Core.Path.{ap, sym, _∙_}
 use Rattle.writer.specs.{Writer.{told}, declared.write.Written.{Written}}
 use Rattle.numbers.specs.Reply.{refused}
-use Rattle.uskelzar.proofs.Saying.{said-given, said-refused}
+use Rattle.numbers.proofs.Saying.{said-given, said-refused}
 use Rattle.office.proofs.borders.say_written.Statement.{statement}
 use Rattle.office.specs.Written.{lengthValue}
 use borrow.Author.Needs.{needs}
 use Rattle.office.proofs.borders.say_written.Tie as tie
 use Rattle.office.proofs.borders.say_written.Reads as reads
 use Rattle.office.proofs.borders.say_written.Lts as lts
-use Rattle.uskelzar.proofs.say_refused.Reads as say-refused-reads
+use Rattle.numbers.proofs.said.say_refused.Reads as say-refused-reads
 use Rattle.numbers.proofs.refusal.refuse.Reads as refuse-reads
 
 returns : tie.Need-returns

@@ -2,15 +2,15 @@ use borrow.Author.Needs.{needs}
 use mathlib.Core.{List.{[], _∷_}, Path.{ap, _∙_}}
 use Prim.Native.Nat.{ℕ}
 use Rattle.draft.specs.declared.held.state.{Held.{Held}, Changed.{Changed}}
-use Rattle.uskelzar.proofs.Saying.{said-given, said-refused}
+use Rattle.numbers.proofs.Saying.{said-given, said-refused}
 use Rattle.office.specs.Draft.{totalsValues, toldChanged}
-use Rattle.uskelzar.specs.declared.Said.{Said}
+use Rattle.numbers.specs.declared.said.Said.{Said}
 use Rattle.office.proofs.calls.say_changed.Statement.{statement}
 use Rattle.office.proofs.calls.say_changed.Tie as tie
 use Rattle.office.proofs.calls.say_changed.Reads as reads
 use Rattle.office.proofs.calls.say_changed.Lts as lts
 use Rattle.office.proofs.calls.greatest_bits.Reads as greatest-bits-reads
-use Rattle.uskelzar.proofs.say_refused.Reads as say-refused-reads
+use Rattle.numbers.proofs.said.say_refused.Reads as say-refused-reads
 
 abbrev saying : Held → ℕ → Said
 saying held bits = record { number = 0; words = held .table ∷ held .metadata ∷ held .bytes ∷ held .yards ∷ bits ∷ [] }

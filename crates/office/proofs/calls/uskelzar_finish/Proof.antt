@@ -2,7 +2,7 @@
 use borrow.Author.Needs.{needs}
 use mathlib.Core.Path.{ap, _∙_}
 use Rattle.office.proofs.{Drafts.{ends}, calls.uskelzar_finish.Statement.{statement}}
-use Rattle.uskelzar.specs.Spoken.{Spoken}
+use Rattle.numbers.specs.Spoken.{Spoken}
 use Rattle.office.proofs.calls.uskelzar_finish.Tie as tie
 
 returns : tie.Need-returns

@@ -2,7 +2,7 @@
 use borrow.Author.Needs.{needs}
 use mathlib.Core.Path.{ap}
 use Rattle.salvage.specs.inner.Rescue.Told.{toldRescued}
-use Rattle.uskelzar.proofs.Saying.{said-given, said-refused}
+use Rattle.numbers.proofs.Saying.{said-given, said-refused}
 use Rattle.office.proofs.salvaged.say_rescued.Statement.{statement}
 use Rattle.office.specs.Salvaged.{countsValues}
 use Rattle.office.proofs.salvaged.say_rescued.Tie as tie

@@ -1,7 +1,7 @@
 -- `office::salvaged::uskelzar_salvage` meets its contract. Assumes nothing.
 use borrow.Author.Needs.{needs}
 use mathlib.Core.Path.{ap, _∙_}
-use Rattle.uskelzar.proofs.Saying.{beside}
+use Rattle.numbers.proofs.Saying.{beside}
 use Rattle.office.proofs.salvaged.uskelzar_salvage.Statement.{statement}
 use Rattle.office.specs.Salvaged.{salvageSpoken}
 use Rattle.office.proofs.salvaged.uskelzar_salvage.Tie as tie

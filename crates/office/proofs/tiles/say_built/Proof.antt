@@ -2,7 +2,7 @@
 use borrow.Author.Needs.{needs}
 use mathlib.Core.Path.{ap}
 use Rattle.index.specs.Index.{toldBuilt}
-use Rattle.uskelzar.proofs.Saying.{said-given, said-refused}
+use Rattle.numbers.proofs.Saying.{said-given, said-refused}
 use Rattle.office.proofs.tiles.say_built.Statement.{statement}
 use Rattle.office.specs.Written.{lengthValue}
 use Rattle.office.proofs.tiles.say_built.Tie as tie

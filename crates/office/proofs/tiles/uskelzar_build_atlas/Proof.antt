@@ -1,7 +1,7 @@
 -- `office::tiles::uskelzar_build_atlas` meets its contract. Assumes nothing.
 use borrow.Author.Needs.{needs}
 use mathlib.Core.Path.{ap, _∙_}
-use Rattle.uskelzar.proofs.Saying.{beside}
+use Rattle.numbers.proofs.Saying.{beside}
 use Rattle.office.proofs.tiles.uskelzar_build_atlas.Statement.{statement}
 use Rattle.office.specs.Written.{indexSpoken}
 use Rattle.office.proofs.tiles.uskelzar_build_atlas.Tie as tie

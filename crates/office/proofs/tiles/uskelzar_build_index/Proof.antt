@@ -1,7 +1,7 @@
 -- `office::tiles::uskelzar_build_index` meets its contract. Assumes nothing.
 use borrow.Author.Needs.{needs}
 use mathlib.Core.Path.{ap, _∙_}
-use Rattle.uskelzar.proofs.Saying.{beside}
+use Rattle.numbers.proofs.Saying.{beside}
 use Rattle.office.proofs.tiles.uskelzar_build_index.Statement.{statement}
 use Rattle.office.specs.Written.{indexSpoken}
 use Rattle.office.proofs.tiles.uskelzar_build_index.Tie as tie

@@ -1,9 +1,9 @@
 -- `office::tiles::uskelzar_is_index` meets its contract. Assumes nothing.
 use borrow.Author.Needs.{needs}
 use mathlib.Core.{List.{[]}, Path.{ap, _∙_}}
-use Rattle.uskelzar.proofs.Saying.{beside}
+use Rattle.numbers.proofs.Saying.{beside}
 use Rattle.office.proofs.tiles.uskelzar_is_index.Statement.{statement}
-use Rattle.uskelzar.specs.Spoken.{saidOf, noValues}
+use Rattle.numbers.specs.Spoken.{saidOf, noValues}
 use Rattle.office.proofs.tiles.uskelzar_is_index.Tie as tie
 
 returns : tie.Need-returns

@@ -2,7 +2,7 @@
 use borrow.Author.Needs.{needs}
 use mathlib.Core.Path.{ap, _∙_}
 use Rattle.build.specs.{Room.{roomOf}, Whole.{Builds}}
-use Rattle.uskelzar.proofs.Saying.{beside}
+use Rattle.numbers.proofs.Saying.{beside}
 use Rattle.office.proofs.yards.uskelzar_build.Statement.{statement}
 use Rattle.office.specs.Built.{builtSpoken}
 use Rattle.office.proofs.yards.uskelzar_build.Tie as tie

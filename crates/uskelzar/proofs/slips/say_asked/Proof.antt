@@ -4,8 +4,9 @@ use mathlib.Core.{List.{List, [], _∷_}, Path.{_≡_, ap, _∙_}}
 use mir.{Syntax.{w64}, Val.{SFits, ofZ}, ValLaws.{toZ-ofZ}}
 use Prim.Native.Nat.{ℕ}
 use Rattle.request.specs.Told.{told}
-use Rattle.uskelzar.proofs.Saying.{said-given, said-refused}
-use Rattle.uskelzar.specs.{Slips.{fixValues}, declared.Said.{Said}}
+use Rattle.numbers.proofs.Saying.{said-given, said-refused}
+use Rattle.numbers.specs.declared.said.Said.{Said}
+use Rattle.uskelzar.specs.Slips.{fixValues}
 use Rattle.uskelzar.proofs.slips.say_asked.Statement.{statement}
 use Rattle.uskelzar.proofs.slips.say_asked.Tie as tie
 

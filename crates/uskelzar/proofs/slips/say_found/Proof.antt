@@ -2,7 +2,7 @@
 use borrow.Author.Needs.{needs}
 use mathlib.Core.Path.{ap}
 use Rattle.bundle.specs.Told.{told}
-use Rattle.uskelzar.proofs.Saying.{said-given, said-refused}
+use Rattle.numbers.proofs.Saying.{said-given, said-refused}
 use Rattle.uskelzar.specs.Slips.{fileValues}
 use Rattle.uskelzar.proofs.slips.say_found.Statement.{statement}
 use Rattle.uskelzar.proofs.slips.say_found.Tie as tie

@@ -4,8 +4,9 @@ use mathlib.Core.{List.{List, [], _∷_}, Path.{ap, _∙_}}
 use mir.{Syntax.{w32}, Val.{SFits, ofZ}, ValLaws.{toZ-ofZ}}
 use Prim.Native.Nat.{ℕ}
 use Rattle.slip.specs.Told.{told}
-use Rattle.uskelzar.proofs.Saying.{said-given, said-refused}
-use Rattle.uskelzar.specs.{Slips.{stampedValues}, declared.Said.{Said}}
+use Rattle.numbers.proofs.Saying.{said-given, said-refused}
+use Rattle.numbers.specs.declared.said.Said.{Said}
+use Rattle.uskelzar.specs.Slips.{stampedValues}
 use Rattle.uskelzar.proofs.slips.say_slipped.Statement.{statement}
 use Rattle.uskelzar.proofs.slips.say_slipped.Tie as tie
 

@@ -3,7 +3,7 @@ use borrow.Author.Needs.{needs}
 use mathlib.Core.{List.{List}, Path.{ap, _∙_}}
 use Prim.Native.Nat.{ℕ}
 use Rattle.bundle.{proofs.Theorems.{xored-zero}, specs.Bundle.{findOf}}
-use Rattle.uskelzar.proofs.Saying.{beside}
+use Rattle.numbers.proofs.Saying.{beside}
 use Rattle.uskelzar.specs.Slips.{fileValues, replySpoken}
 use Rattle.uskelzar.proofs.slips.uskelzar_bundle_find.Statement.{statement}
 use Rattle.uskelzar.proofs.slips.uskelzar_bundle_find.Tie as tie

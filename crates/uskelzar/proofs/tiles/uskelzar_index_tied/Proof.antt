@@ -1,9 +1,9 @@
 -- `uskelzar::tiles::uskelzar_index_tied` meets its contract. Assumes nothing.
 use borrow.Author.Needs.{needs}
 use mathlib.Core.{List.{[]}, Path.{ap, _∙_}}
-use Rattle.uskelzar.proofs.Saying.{beside}
+use Rattle.numbers.proofs.Saying.{beside}
 use Rattle.uskelzar.proofs.tiles.uskelzar_index_tied.Statement.{statement}
-use Rattle.uskelzar.specs.Spoken.{saidOf, noValues}
+use Rattle.numbers.specs.Spoken.{saidOf, noValues}
 use Rattle.uskelzar.proofs.tiles.uskelzar_index_tied.Tie as tie
 
 returns : tie.Need-returns

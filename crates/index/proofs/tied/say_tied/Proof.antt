@@ -1,11 +1,11 @@
--- `uskelzar::tiles::say_tied` meets its contract, by the answer's cases. Assumes nothing.
+-- `index::tied::say_tied` meets its contract, by the answer's cases. Assumes nothing.
 use borrow.Author.Needs.{needs}
 use mathlib.Core.Path.{ap}
 use Rattle.index.specs.Tied.{toldTied}
-use Rattle.uskelzar.proofs.Saying.{said-given, said-refused}
-use Rattle.uskelzar.proofs.tiles.say_tied.Statement.{statement}
-use Rattle.uskelzar.specs.Spoken.{noValues}
-use Rattle.uskelzar.proofs.tiles.say_tied.Tie as tie
+use Rattle.numbers.proofs.Saying.{said-given, said-refused}
+use Rattle.index.proofs.tied.say_tied.Statement.{statement}
+use Rattle.numbers.specs.Spoken.{noValues}
+use Rattle.index.proofs.tied.say_tied.Tie as tie
 
 returns-2 : tie.Need-returns-2
 returns-2 c = said-refused noValues (c .say-refused .ensures) (ap toldTied (c .before .before .tied .given .1))
