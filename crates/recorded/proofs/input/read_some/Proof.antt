@@ -4,8 +4,8 @@ use lib.{ListN.{length, take, drop, length-append}, Seq.{length-take-le}}
 use mathlib.Core.{List.{List, _++_}, Path.{_≡_, _∙_, sym}}
 use native.Mathlib.Omega.{arith}
 use Rattle.io.{proofs.Counting.{counts}, specs.Counts.{Counts}}
-use Rattle.replay.proofs.read_some.Statement.{statement}
-use Rattle.replay.proofs.read_some.Tie as tie
+use Rattle.recorded.proofs.input.read_some.Statement.{statement}
+use Rattle.recorded.proofs.input.read_some.Tie as tie
 
 -- what came, of what was lent of the space
 some : {size : ℕ} (step got : ℕ) (space last : List ℕ) → (step ≤ size) × (step ≤ length space) → length last ≡ length (take step space) → got ≤ length last

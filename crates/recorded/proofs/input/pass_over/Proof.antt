@@ -1,9 +1,9 @@
--- `replay::pass_over` is safe and ends: what is left falls. Assumes nothing.
+-- `recorded::input::pass_over` is safe and ends: what is left falls. Assumes nothing.
 use lib.ListN.{length}
 use mathlib.Core.Path.{_≡_, refl}
 use native.Mathlib.Omega.{arith}
-use Rattle.replay.proofs.pass_over.Statement.{statement}
-use Rattle.replay.proofs.pass_over.Tie as tie
+use Rattle.recorded.proofs.input.pass_over.Statement.{statement}
+use Rattle.recorded.proofs.input.pass_over.Tie as tie
 
 abbrev Inv-loop : tie.InvT-loop
 Inv-loop space₀ size left₀ space left = length space ≡ length space₀
