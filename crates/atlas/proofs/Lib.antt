@@ -16,4 +16,4 @@ pub mod Behind
 pub mod Owned
 pub mod NumberedAtlas
 pub mod Theorems
-mod WorkedAtlas
+pub mod WorkedAtlas

@@ -75,10 +75,10 @@ square =
     229 ∷ 201 ∷ 228 ∷ 0 ∷ 6 ∷ 15 ∷ 14 ∷ 81 ∷ 81 ∷ 80 ∷ 80 ∷ 0 ∷ 1 ∷ 7 ∷ 197 ∷ 245 ∷ 242 ∷ 239 ∷ 240 ∷ 229 ∷ 175 ∷ 6 ∷ 194 ∷ 229 ∷ 242 ∷ 236 ∷ 233 ∷ 238 ∷ 0 ∷ 131 ∷ 102 ∷ 128 ∷
     136 ∷ 1 ∷ 128 ∷ 144 ∷ 2 ∷ 129 ∷ 136 ∷ 1 ∷ 0 ∷ 0 ∷ []
 
-abbrev head : Head
+abbrev pub head : Head
 head = record { preamble = record { kind = 84; version = 1; precision = 7; count = 2 }; sections = record { table = 39; metadata = 45; «data» = 60 }; strict = false }
 
-opened : given head ≡ headOf square
+pub opened : given head ≡ headOf square
 unfolding readingOf forwardAt valueOf sizeOf tooLong signedOf evenBits pointOf fixedPoint oneShifted checked movedBy advanced marker packedTurn turnOf roundAgain nextWithin nextPoint traceThen traceWithin traceOf along passing closedAt thenOn judge judgedAt fieldAt fieldsFrom fieldsOf fixOf matchedWith preambleOf textsFrom sectionsFrom sectionsAt contentsBy headBy safezoneBits zonesBeside matchedBeside summary seen mergedAfter merged rowsThen rowBy rowsWithin rowsFrom rowsIn judgedTurn rowTurn seek searched stepsBy entryBy H.within remoteAt stringAt bytesOf textAt characters startedBy begunBy followed goesOn isUtf8 samePoint E.between inBox quadrantOf slopeOf edgeOf straight closestOn turned quarterBy halfTurn turnAt crossingOf acrossBy clearOf woundBy measured S.checked restMark ofInt add sub mul div toSigned
 opened = refl
 
