@@ -20,6 +20,7 @@ use Rattle.atlas.proofs.Beside.{marks-stand, marks-inside, entry-there,
 use Rattle.atlas.proofs.Beside as S
 use Rattle.atlas.specs.Atlas.{marksFor, marksIn, entryOf, besideOf, wholeOf, atlasOf, atlasWith, atlasIn, atlasMade, isMade, isAtlasOf}
 use Rattle.atlas.specs.{Looked.{isWhole, partsOf, partIn, matchedAtlas, zonesAtlas, lookedAtlas}, declared.parts.Parts.{Parts}}
+use Rattle.numbers.proofs.Replies.{demand-met}
 
 -- ---- each border is judged by its marks as it is without them
 module _ (file : List ℕ) (head : Head) (fix : Point) (asked : Bool) (marks : List ℕ) (polygon least : ℕ) where
@@ -129,10 +130,6 @@ module _ (file : List ℕ) (head : Head) (rows : List Row) (tail : List ℕ) (op
 
 -- ---- exactly the words that building leaves
 module _ (words : List ℕ) where
-  tested : (test : Bool) → demand test (plain 36) ≡ given tt → test ≡ true
-  tested true e = refl
-  tested false e = let z : _≡_ {A = ℕ} 0 1 = cc in absurd (omega arith)
-
   made-is : (reply : Reply ℕ) (built : List ℕ) → isMade words reply built ≡ true → (used : ℕ) × (indexed reply built ≡ indexed (given used) words)
   unfolding isMade
   made-is (given used) built e = (used, ap (indexed (given used)) (sym (same-words words built e)))
@@ -146,7 +143,7 @@ module _ (words : List ℕ) where
 pub is-atlas-exactly : (file words : List ℕ) → (isAtlasOf file words ≡ given tt) ↔ ((used : ℕ) × (atlasMade file (length words) ≡ indexed (given used) words))
 unfolding isAtlasOf
 is-atlas-exactly file words = (
-  (λ e. made-is words (atlasMade file (length words) .reply) (atlasMade file (length words) .words) (tested words _ e)),
+  (λ e. made-is words (atlasMade file (length words) .reply) (atlasMade file (length words) .words) (demand-met _ (plain 36) e)),
   (λ built. ap (λ (i : Indexed). demand (isMade words (i .reply) (i .words)) (plain 36)) (built .1) ∙ ap (λ (b : Bool). demand b (plain 36)) (is-made words (built .0))),
 )
 

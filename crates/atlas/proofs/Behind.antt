@@ -14,10 +14,12 @@ use Rattle.marks.{proofs.Marked.{marks-length}, specs.Marks.{low, marksAt, mark
 use Rattle.numbers.{proofs.{Lists.{zeros-drop}, Replies.{carried, onward, met, unmet, given-from, given-one, demanded}, Tests.{both}}, specs.Lists.{zeros, padded}}
 use Rattle.numbers.specs.{Answer.{if_then_else_}, Reply.{Reply, given, refused, plain, demand, _>>=_, _>>_}, declared.refusal.Refusal.{Refusal}}
 use Rattle.table.specs.{Find.{isPrecision}, MarkedRows.{encodingIn}, declared.rows.Row.{Row}}
-use Rattle.writer.{specs.inner.Stored.{Stored}, proofs.Stores.{sets-append}}
-use Rattle.atlas.proofs.{Beside.{entries-length, index-long, rows-there, marks-by-words}, Writing.{same-word}}
+use Rattle.atlas.proofs.{Beside.{entries-length, index-long, rows-there, marks-by-words}}
 use Rattle.atlas.specs.Atlas.{marksFor, marksIn, entryOf, entriesFrom, besideOf, wholeOf, atlasOf, atlasWith, atlasIn, atlasMade}
 use Rattle.atlas.specs.{inner.{Building.{marksAtRecord, marksBy, behindBy, behindOf, sizeOf, entryFor, PutOne}, Marking.{marksOf}}, declared.course.Course.{Course}}
+use Rattle.numbers.proofs.Lists.{sets-append}
+use Rattle.index.proofs.Stores.{same-word}
+use Rattle.writer.specs.inner.Stored.{Stored}
 
 -- ---- the word of an entry
 pub entry-is : (at next first : ℕ) (list : List ℕ) → next ≡ at + length list → first ≤ at → entryFor (at - first) (next - first) ≡ entryOf (at - first) list

@@ -6,7 +6,6 @@ pub mod Spanning
 pub mod Standing
 pub mod Writing
 pub mod Courses
-pub mod HeldIsPlain
 pub mod Beside
 pub mod AtlasIsPlain
 pub mod BesideIsPlain

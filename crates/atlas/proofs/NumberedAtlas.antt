@@ -4,7 +4,7 @@ use lib.{Dec.{eqb}, ListN.{length}}
 use mathlib.Core.{Bool.{Bool, false}, List.{List, []}, Path.{_≡_, refl}}
 use Rattle.border.specs.declared.place.Point.{Point}
 use Rattle.header.specs.declared.header.Head.{Head}
-use Rattle.index.proofs.NumberedThrough.{throughNumbers, Known, Numbered, place-numbered, seeks, cut, fields, replied-numbered, opened}
+use Rattle.index.proofs.NumberedThrough.{throughNumbers, Known, Numbered, place-numbered, seeks, cut, opened}
 use Rattle.marks.proofs.NumberedMarks.{marked-numbered}
 use Rattle.numbers.proofs.{Refusals.{Listed, either}, Replies.{answers, then-reply, and-then, demands, number-of}}
 use Rattle.numbers.specs.{Reply.{refused, plain}, declared.refusal.Refusal.{Refusal}}
@@ -12,6 +12,7 @@ use Rattle.table.specs.{Find.{fixOf, isPrecision}, Hits.{width}, MarkedRows.{ma
 use Rattle.table.specs.declared.location.Location.{Location}
 use Rattle.verdict.proofs.Numbered.{NumberedJudgement, judged-numbered}
 use Rattle.atlas.specs.Looked.{isWhole, partsOf, matchedAtlas, zonesAtlas, lookedAtlas}
+use Rattle.zones.proofs.NumberedLookup.{fields, replied-numbered}
 
 parts-numbered : (file : List ℕ) (head : Head) (words : List ℕ) (location : Location) → Numbered (partsOf (length file) head words location)
 unfolding partsOf
@@ -36,7 +37,7 @@ module _ (file : List ℕ) (head : Head) (plainly : head .strict ≡ false) wher
   unfolding zonesAtlas matchedAtlas
   zones-numbered words location asked n room =
       then-reply (then-reply (parts-numbered file head words location) (λ parts. matched location asked _ _ _ (n / width)))
-      (λ found. then-reply (fields file head plainly room (found .matches) []) (λ text. answers))
+      (λ found. then-reply (fields refl refl refl refl file head (cut file head plainly) room (found .matches) []) (λ text. answers))
 
 -- A lookup through any words that is not answered is refused with a plain lookup's numbers, or 36.
 pub atlas-refusals : (file words : List ℕ) (location : Location) (asked : Bool) (n room : ℕ) (why : Refusal) → lookedAtlas file words location asked n room .reply ≡ refused why

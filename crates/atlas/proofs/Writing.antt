@@ -7,10 +7,6 @@ use Rattle.writer.{specs.inner.Stored.{Stored}, proofs.Stores.{Left, left-step,
 use Rattle.marks.specs.Marks.{Span, spanFrom, markOf, marksFrom, counted}
 use Rattle.atlas.proofs.Standing.{next-marks, no-marks, counted-some}
 
--- a word by another name
-pub same-word : {before after : List ℕ} {at next v w : ℕ} → v ≡ w → Stored before at (v ∷ []) after next → Stored before at (w ∷ []) after next
-same-word {before} {after} {at} {next} e s = subst (λ (x : ℕ). Stored before at (x ∷ []) after next) e s
-
 module _ (edges : ℕ) (file : List ℕ) (encoding : Encoding) (before : List ℕ) (place : ℕ) (all : List ℕ) where
   -- the marks of so many stretches are left to store of all
   pub record Writing (now : List ℕ) (left at : ℕ) (reader : Reader) : Type 0 where

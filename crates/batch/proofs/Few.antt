@@ -9,7 +9,7 @@ use Rattle.border.specs.declared.place.Point.{Point}
 use Rattle.numbers.{proofs.Replies.{given-from, demanded}, specs.{Answer.{Answer, if_then_else_}, Reply.{Reply, given, plain}, Varint.{Numeral, readingOf}}}
 use Rattle.numbers.specs.Answer as A
 use Rattle.numbers.specs.Reply as R
-use Rattle.table.proofs.TableRows.{Grows, reading-grows, rows-step, at-end, row-less}
+use Rattle.table.proofs.TableRows.{rows-step, at-end, row-less}
 use Rattle.atlas.{proofs.Parting.{list-end}, specs.{Beside.{matchedBeside}, Looked.{partsOf, partIn, matchedAtlas}}}
 use Rattle.index.specs.Index.{recordsAt}
 use Rattle.table.specs.{GivenRows.{rowsBy}, MarkedRows.{judgeNumbered, rowNumbered, rowsNumbered, searchedMarked, matchedMarked}, Unstopped.{seekAll}}
@@ -20,6 +20,7 @@ use Rattle.table.specs.declared.{hits.Hit.{Hit}, location.Location.{Location}, 
 use Rattle.table.specs.Rows as T
 use Rattle.header.specs.declared.header.Head.{Head}
 use Rattle.numbers.proofs.Replies.{given-one}
+use Rattle.numbers.proofs.Readings.{Grows, reading-grows}
 
 -- each word has 32 bits
 abbrev pub Words32 : List ℕ → Type 0

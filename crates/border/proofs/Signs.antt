@@ -7,12 +7,9 @@ use mir.{Syntax.{w32, w64}, Val.{SFits, toZ, ofZ}, Facts.{toZ-ofZ}}
 use borrow.Author.Tests.{ltb-true, leb-true, lt-ltb, le-leb}
 use Rattle.numbers.proofs.write.Gaps.{widened}
 use Rattle.border.proofs.place.Whole.{sum-fits, difference-fits}
+use mathlib.Core.Bool.{and-true}
 
 -- ---- tests
-
-pub and-true : (t : Bool) → (t && true) ≡ t
-and-true true = refl
-and-true false = refl
 
 -- two tests of the same
 pub by-test : (t u : Bool) → (t ≡ true → u ≡ true) → (u ≡ true → t ≡ true) → t ≡ u

@@ -19,9 +19,9 @@ use Rattle.build.proofs.recording.Written.{recorded-few, recorded-lengt
 use Rattle.build.specs.inner.Recording.Recorded.{Laying, Recorded}
 use Rattle.numbers.proofs.Tests.{both}
 use Rattle.build.proofs.{Planned.{all-lengths, few-names}, Slices.{texts-few, value-all, value-bound, value-few, value-whole, plan-values, told, sums}}
-use Rattle.build.proofs.Valued.{cut-take}
 use Rattle.build.specs.{Checked.{lentAs}, inner.{Puts.{Headed, SectionIn, sectionFrom}, Whole.{Drew, Filling, fileFor}}, Room.{enough, enoughFor, needOf}}
 use Rattle.build.specs.declared.room.{Need.{Need}, Work.{Work}}
+use Rattle.builder.proofs.Counting.{cut-take}
 
 -- ---- long enough
 pub record Reach (work : Work) (count fields bytes : ℕ) : Type 0 where

@@ -14,6 +14,7 @@ use Rattle.header.specs.Header.{isKind}
 use Rattle.numbers.proofs.{Refusals.{Listed, either}, Replies.{NumberedReply, answers, refuses, then-reply, and-then, demands, number-of}}
 use Rattle.numbers.specs.{Answer.{if_then_else_}, Reply.{Reply, given, refused, refusal, plain, demand, _>>=_, _>>_}}
 use Rattle.numbers.specs.declared.{refusal.Refusal.{Refusal}, point.RawPoint.{RawPoint}}
+use Rattle.numbers.proofs.Replies.{demand-met}
 
 -- the numbers that document 02 gives to the builder
 abbrev pub buildNumbers : List ℕ
@@ -36,17 +37,13 @@ both-given : (r k : Reply (Unit {0})) → (r >> k) ≡ given tt → (r ≡ given
 both-given (given tt) k e = (refl, e)
 both-given (refused why) k e = absurd (never-given why tt e)
 
-demand-met : (b : Bool) (why : Refusal) → demand b why ≡ given tt → b ≡ true
-demand-met true why e = refl
-demand-met false why e = absurd (never-given why tt e)
-
 -- ---- the checks of a border: those that ask neither for a version nor for earlier data
-abbrev shaped : List ℤ → List ℤ → Reply (Unit {0})
+abbrev pub shaped : List ℤ → List ℤ → Reply (Unit {0})
 shaped lats lons =
     demand (sized lats lons) (plain 19)
     >> (demand (every near lats && every near lons) (plain 20) >> (demand (every isMove (drop 1 (movesOf lats lons))) (plain 21) >> demand (every isMove (take 1 (movesOf lats lons))) (plain 22)))
 
-shape-alone : (lats lons : List ℤ) → checks 0 lats lons [] ≡ shaped lats lons
+pub shape-alone : (lats lons : List ℤ) → checks 0 lats lons [] ≡ shaped lats lons
 unfolding checks
 shape-alone lats lons = refl
 

@@ -14,9 +14,6 @@ use Rattle.header.specs.Header.{isKind}
 use Rattle.build.specs.Checked.{checked, lentAs}
 use Rattle.numbers.proofs.Tests.{both}
 
-never : false ≡ true → ⊥
-never e = let z : _≡_ {A = ℕ} 0 1 = cc in omega arith
-
 module _ (names : ℕ) (yards : List ℕ) (lengths : ℕ) (good : countsGood names yards lengths ≡ true) where
   abbrev count : ℕ
   count = length yards / 4

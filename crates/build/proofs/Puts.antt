@@ -9,14 +9,9 @@ use Rattle.builder.specs.{Entries.{Entry, boxBytes, entryBytes, tableFrom, entr
 use Rattle.builder.specs.Yards.{Text, cutBy, sumOf}
 use Rattle.numbers.{proofs.Spelling.{varint-few}, specs.Spelling.{varintOf, signedForm}}
 use Rattle.build.specs.inner.Puts.{sectionFrom, Sectioned, Headed}
+use Rattle.builder.proofs.Tables.{entry-few}
 
 -- ---- how long each part can be
-entry-few : (r b : ℕ) (e : Entry) → length (entryBytes r b e) ≤ 60
-unfolding entryBytes
-entry-few r b e =
-    let step = signedForm (pos (e .record′) -ℤ pos r) in
-    omega (arith, length-append (boxBytes (e .bounds)) (varintOf step ++ varintOf ((e .border + 2 ^ 32 - b) % 2 ^ 32)), length-append (varintOf step) (varintOf ((e .border + 2 ^ 32 - b) % 2 ^ 32)), box-few (e .bounds), varint-few step, varint-few ((e .border + 2 ^ 32 - b) % 2 ^ 32))
-
 pub table-few : (r b : ℕ) (es : List Entry) → length (tableFrom r b es) ≤ 60 * length es
 unfolding tableFrom
 table-few r b [] = omega arith

@@ -6,6 +6,7 @@ use mathlib.Core.{Bool.{Bool, true, false, _&&_}, List.{List, [], _∷_}, Path.{
 use native.Mathlib.{Numerals.{add-one}, Omega.{arith}}
 use Rattle.builder.specs.Yards.{sumOf}
 use Rattle.build.specs.{Room.{enough, needOf}, declared.room.{Work.{Work}, Need.{Need}}}
+use Rattle.builder.proofs.Sums.{sum-next}
 
 module _ (w : Work) (count fields bytes : ℕ) where
   pub no-starts : w .starts ≤ fields → false ≡ enough w count fields bytes
@@ -67,15 +68,11 @@ sum-starts lengths = record { index = omega arith; left = omega arith }
 
 module _ (lengths : List ℕ) (sum i : ℕ) (s : Summing lengths sum i) where
   module _ (more : i < length lengths) where
-    next : sumOf (drop i lengths) ≡ getD lengths i 0 + sumOf (drop (suc i) lengths)
-    unfolding sumOf
-    next = ap sumOf (drop-cons lengths i 0 more)
-
     pub sum-room : sum + getD lengths i 0 ≤ sumOf lengths
-    sum-room = omega (arith, s .left, next)
+    sum-room = omega (arith, s .left, sum-next lengths i more)
 
     pub sum-goes : Summing lengths (sum + getD lengths i 0) (i + 1)
-    sum-goes = rw (add-one i) (record { index = omega arith; left = omega (arith, s .left, next) })
+    sum-goes = rw (add-one i) (record { index = omega arith; left = omega (arith, s .left, sum-next lengths i more) })
 
   pub sum-ends : length lengths ≤ i → sum ≡ sumOf lengths
   unfolding sumOf

@@ -91,9 +91,6 @@ module _ (names : ℕ) (yards lengths texts : List ℕ) (good : countsGood names
     abbrev pub valueTexts : List ℕ
     valueTexts = take (sum - behind) (drop behind texts)
 
-    pub value-order : behind ≤ sum
-    value-order = omega (arith, eb, es, sums)
-
     pub value-end : sum ≤ length texts
     value-end = omega (arith, es, told .0)
 

@@ -10,6 +10,7 @@ use Rattle.builder.{proofs.grouping.{Meant.{item-part}, Walks.{item-among}}, sp
 use Rattle.build.specs.Metadata.Kept.{valuesTo}
 use Rattle.build.proofs.recording.Fewer.{map-same}
 use Rattle.numbers.proofs.Tests.{both}
+use Rattle.builder.proofs.Counting.{cut-take}
 
 -- ---- yard by yard, so many values each
 abbrev pub part : ℕ → List Text → ℕ → List Text
@@ -64,12 +65,6 @@ cut-front (l ∷ ls) n xs h =
     drop-take (suc l) zero xs h = absurd (omega arith)
     drop-take (suc l) (suc n) [] h = sym (take-nil (suc n - suc l))
     drop-take (suc l) (suc n) (x ∷ xs) h = let e : n - l ≡ suc n - suc l = omega arith in drop-take l n xs (omega arith) ∙ ap (λ (k : ℕ). take k (drop l xs)) e
-
-pub cut-take : (n : ℕ) (ls xs : List ℕ) → cutBy (take n ls) xs ≡ take n (cutBy ls xs)
-unfolding cutBy
-cut-take zero ls xs = refl
-cut-take (suc n) [] xs = refl
-cut-take (suc n) (l ∷ ls) xs = ap (λ (r : List Text). take l xs ∷ r) (cut-take n ls (drop l xs))
 
 part-of-front : (a b n : ℕ) (l : List Text) → b + a ≤ n → take a (drop b (take n l)) ≡ take a (drop b l)
 part-of-front a zero n l h = take-take a n l (omega arith)

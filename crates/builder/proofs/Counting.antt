@@ -9,6 +9,7 @@ use Rattle.writer.specs.Writer.{every}
 use Rattle.builder.proofs.Checking.{four-words}
 use Rattle.builder.specs.File.{isText, areTexts, counted, readable}
 use Rattle.builder.specs.Yards.{Text, Yard, Lent, cutBy, sumOf, yardsFrom, valuesFrom, countedLengths, planOf, lengthsGood, countsGood}
+use mathlib.Core.Bool.{and-false, and-assoc}
 
 -- ---- a value for each name
 pub record Numbering (names : ℕ) (yards : List ℕ) (i : ℕ) : Type 0 where
@@ -52,10 +53,6 @@ module _ (names : ℕ) (yards : List ℕ) (i : ℕ) (n : Numbering names yards i
       sym (none-valued names (drop i yards) short) ∙ n .same
 
 -- ---- 25
-and-false : (b : Bool) → (b && false) ≡ false
-and-false true = refl
-and-false false = refl
-
 at-most : (product count : ℕ) → product ≤ 255 * count → count ≤ 4096 → product ≤ 1044480
 at-most product count h few = omega (arith, h, few)
 
@@ -111,7 +108,7 @@ module _ (names : ℕ) (yards : List ℕ) (lengths : ℕ) where
         counts-all numbered r is = is ∙ sym (third ∙ ap (λ (b : Bool). b && lengthsGood names count lengths) numbered)
 
 -- four words are a yard, and a number of values
-four-more : (n : ℕ) → suc (suc (suc (suc n))) / 4 ≡ suc (n / 4)
+pub four-more : (n : ℕ) → suc (suc (suc (suc n))) / 4 ≡ suc (n / 4)
 four-more n = omega arith
 
 pub yards-many : (ns : List ℕ) (ys xs : List ℤ) (w : List ℕ) (t : List Text) → length (yardsFrom ns ys xs w t) ≡ length ns / 4
@@ -172,20 +169,16 @@ counted-is lent =
     ∙ ap (λ (b : Bool). ltb 0 many && (leb many 4096 && b)) (names-by n k many valued (leb (n + 1 + n * many) k) refl)))
 
 -- ---- 26
-cut-take : (m : ℕ) (ns xs : List ℕ) → cutBy (take m ns) xs ≡ take m (cutBy ns xs)
+pub cut-take : (m : ℕ) (ns xs : List ℕ) → cutBy (take m ns) xs ≡ take m (cutBy ns xs)
 unfolding cutBy
 cut-take zero ns xs = refl
 cut-take (suc m) [] xs = refl
 cut-take (suc m) (n ∷ ns) xs = ap (λ (ts : List Text). take n xs ∷ ts) (cut-take m ns (drop n xs))
 
-and-assoc : (a b c : Bool) → (a && (b && c)) ≡ ((a && b) && c)
-and-assoc true b c = refl
-and-assoc false b c = refl
-
 every-append : {A : Type 0} (good : A → Bool) (xs ys : List A) → every good (xs ++ ys) ≡ (every good xs && every good ys)
 unfolding every
 every-append good [] ys = refl
-every-append good (x ∷ xs) ys = ap (λ (b : Bool). good x && b) (every-append good xs ys) ∙ and-assoc (good x) (every good xs) (every good ys)
+every-append good (x ∷ xs) ys = ap (λ (b : Bool). good x && b) (every-append good xs ys) ∙ sym (and-assoc (good x) (every good xs) (every good ys))
 
 mul-more : (n m : ℕ) → n * suc m ≡ n + n * m
 mul-more n m = let e : n * suc m ≡ n * m + n = mul-suc n m in omega (arith, e)

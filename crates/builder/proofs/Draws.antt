@@ -11,34 +11,18 @@ use Rattle.writer.specs.declared.write.Written.the-variants as W
 use Rattle.numbers.proofs.{Refusals.{Listed, either}, Replies.{NumberedReply, answers, refuses, and-then, demands}}
 use Rattle.numbers.specs.{Answer.{if_then_else_}, Lists.{zeros, padded}, Reply.{Reply, given, refused, refusal, plain, _>>_}, Spelling.{varintOf}}
 use Rattle.builder.specs.{Borders.{appended, unwrittenAs, Draws, Lends, goodIf, passed}, declared.borders.Border.{Border}}
+use Rattle.writer.proofs.NumberedWriter.{borderNumbers, border-numbered}
 use Rattle.builder.specs.declared.borders.Border.the-variants as B
 
 -- ---- a border is never refused with 24: that is the output's
 abbrev Known : {A : Type 0} → Reply A → Type 0
-Known reply = NumberedReply (Listed (1 ∷ 5 ∷ 19 ∷ 20 ∷ 21 ∷ 22 ∷ 23 ∷ [])) reply
-
-checks-known : (version : ℕ) (lats lons : List ℤ) (earlier : List ℕ) → Known (checks version lats lons earlier)
-unfolding checks
-checks-known version lats lons earlier =
-    and-then (demands (leb (length earlier) (2 ^ 30)) (plain 1) refl)
-    (and-then (demands (ltb version 2) (refusal 5 0 version) refl)
-    (and-then (demands (sized lats lons) (plain 19) refl)
-    (and-then (demands (every near lats && every near lons) (plain 20) refl)
-    (and-then (demands (every isMove (drop 1 (movesOf lats lons))) (plain 21) refl)
-    (demands (every isMove (take 1 (movesOf lats lons))) (plain 22) refl)))))
+Known reply = NumberedReply (Listed borderNumbers) reply
 
 pub border-known : (version : ℕ) (lats lons : List ℤ) (pieces : List Piece) (earlier : List ℕ) → Known (borderOf version lats lons pieces earlier)
-unfolding borderOf plainBorder packedBorder
-border-known version lats lons pieces earlier =
-    let moves = movesOf lats lons in
-    and-then (checks-known version lats lons earlier)
-    (either (λ (r : Reply (List ℕ)). Known r) (eqb version 0)
-    (and-then (demands (eqb (length pieces) 0) (plain 23) refl) answers)
-    (and-then (demands (leb (length pieces) 16) (refusal 23 0 16) refl)
-    (and-then (demands (eqb (goodPieces earlier moves 0 pieces) (length pieces)) (refusal 23 0 (goodPieces earlier moves 0 pieces)) refl) answers)))
+border-known = border-numbered
 
-not-listed : (n : ℕ) → Listed (1 ∷ 5 ∷ 19 ∷ 20 ∷ 21 ∷ 22 ∷ 23 ∷ []) n → n ≡ 24 → ⊥
-not-listed n h e = let l : Listed (1 ∷ 5 ∷ 19 ∷ 20 ∷ 21 ∷ 22 ∷ 23 ∷ []) 24 = rw e at h in let z : _≡_ {A = ℕ} 0 1 = cc in omega arith
+not-listed : (n : ℕ) → Listed borderNumbers n → n ≡ 24 → ⊥
+not-listed n h e = let l : Listed borderNumbers 24 = rw e at h in let z : _≡_ {A = ℕ} 0 1 = cc in omega arith
 
 -- ---- what was written
 pub record Got (n : ℕ) (border : Reply (List ℕ)) (size : ℕ) (out : List ℕ) : Type 0 where

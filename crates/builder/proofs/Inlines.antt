@@ -8,6 +8,7 @@ use Rattle.writer.{proofs.Stores.{Left, left-all, left-step, left-none}, specs.
 use Rattle.numbers.{proofs.Spelling.{varint-few}, specs.{Spelling.{varintOf}, Answer.{if_then_else_}}}
 use Rattle.header.specs.Utf8.{unmasked}
 use Rattle.builder.specs.{Metadata.{inlined, joinedFrom, wordBytes}, Yards.{Text, cutBy, sumOf}}
+use Rattle.builder.proofs.Sums.{sum-next}
 
 -- a length takes at most ten bytes
 pub inlined-few : (text : List ℕ) → length (inlined text) ≤ 10 + length text
@@ -45,22 +46,18 @@ module _ (bytes : ℕ → Text → List ℕ) where
     rest : drop i lengths ≡ getD lengths i 0 ∷ drop (suc i) lengths
     rest = drop-cons lengths i 0 more
 
-    sums : sumOf (drop i lengths) ≡ getD lengths i 0 + sumOf (drop (suc i) lengths)
-    unfolding sumOf
-    sums = ap sumOf rest
-
     counts : length (drop i lengths) ≡ suc (length (drop (suc i) lengths))
     counts = ap length rest
 
     -- the text lies within the list
     pub text-in : at + getD lengths i 0 ≤ length texts
-    text-in = omega (arith, l .there, sums)
+    text-in = omega (arith, l .there, sum-next lengths i more)
 
     pub text-size : length (take (at + getD lengths i 0 - at) (drop at texts)) ≡ getD lengths i 0
     text-size = length-take-le (at + getD lengths i 0 - at) (drop at texts) (omega (arith, text-in, length-drop at texts)) ∙ omega arith
 
     pub text-room : next + length (take (at + getD lengths i 0 - at) (drop at texts)) < 2 ^ 61
-    text-room = omega (arith, text-size, l .bound, sums)
+    text-room = omega (arith, text-size, l .bound, sum-next lengths i more)
 
     cuts : joinedFrom bytes i (cutBy (drop i lengths) (drop at texts)) ≡ bytes i (take (at + getD lengths i 0 - at) (drop at texts)) ++ joinedFrom bytes (suc i) (cutBy (drop (suc i) lengths) (drop (at + getD lengths i 0) texts))
     unfolding cutBy joinedFrom
@@ -75,8 +72,8 @@ module _ (bytes : ℕ → Text → List ℕ) where
         rw (add-one i) (record {
           index = omega arith;
           left = left-step (bytes i t) (subst (λ (r : List ℕ). Left before place (joinedFrom bytes 0 (cutBy lengths texts)) now next r) cuts (l .left)) s;
-          there = omega (arith, l .there, sums);
-          bound = omega (arith, l .bound, sums, counts, s .place-after, few i t, text-size);
+          there = omega (arith, l .there, sum-next lengths i more);
+          bound = omega (arith, l .bound, sum-next lengths i more, counts, s .place-after, few i t, text-size);
         })
 
   pub inlines-end : (before : List ℕ) (place : ℕ) (lengths texts now : List ℕ) (next at i : ℕ) → Inlining before place lengths texts now next at i → length lengths ≤ i → Stored before place (joinedFrom bytes 0 (cutBy lengths texts)) now next

@@ -6,10 +6,10 @@ use native.Mathlib.Omega.{arith}
 use Rattle.layout.{proofs.Orders.{sorted-map}, specs.Order.{sortedBy, keyOf}}
 use Rattle.builder.specs.Entries.{Entry, entryAt, boundsAt, placesAt, fromSouth, entryOfWord, wordOfYard, tableFrom, tableOf}
 
-upper : (k j : ℕ) → (k * 2 ^ 32 + j % 2 ^ 32) / 2 ^ 32 ≡ k
+pub upper : (k j : ℕ) → (k * 2 ^ 32 + j % 2 ^ 32) / 2 ^ 32 ≡ k
 upper k j = omega arith
 
-lower : (k j : ℕ) → (k * 2 ^ 32 + j % 2 ^ 32) % 2 ^ 32 ≡ j % 2 ^ 32
+pub lower : (k j : ℕ) → (k * 2 ^ 32 + j % 2 ^ 32) % 2 ^ 32 ≡ j % 2 ^ 32
 lower k j = omega arith
 
 module _ (boxes : List ℤ) (places : List ℕ) where

@@ -6,6 +6,8 @@ use mathlib.Core.{Bool.{Bool, true, false, not, _&&_}, List.{List, [], _∷_}, P
 use native.Mathlib.{Numerals.{add-one}, Omega.{arith}}
 use Rattle.writer.specs.Writer.{every}
 use Rattle.builder.specs.{File.{isText, areTexts}, Yards.{cutBy, sumOf}}
+use Rattle.builder.proofs.Sums.{sum-next}
+use mathlib.Core.Bool.{and-false}
 
 -- what is left to test: the texts from the ith on, whose bytes begin at a place
 abbrev left : List ℕ → List ℕ → ℕ → ℕ → Bool
@@ -22,17 +24,9 @@ test-starts lengths texts =
     let e : 0 + sumOf lengths ≡ sumOf lengths = omega arith in
     record { index = omega arith; inside = omega arith; same = ap (λ (n : ℕ). leb n (length texts) && every isText (cutBy lengths texts)) e }
 
-and-false : (b : Bool) → (b && false) ≡ false
-and-false true = refl
-and-false false = refl
-
 module _ (lengths texts : List ℕ) (at i : ℕ) (t : Testing lengths texts at i) (more : i < length lengths) where
   rest : drop i lengths ≡ getD lengths i 0 ∷ drop (suc i) lengths
   rest = drop-cons lengths i 0 more
-
-  sums : sumOf (drop i lengths) ≡ getD lengths i 0 + sumOf (drop (suc i) lengths)
-  unfolding sumOf
-  sums = ap sumOf rest
 
   cuts : every isText (cutBy (drop i lengths) (drop at texts)) ≡ (isText (take (at + getD lengths i 0 - at) (drop at texts)) && every isText (cutBy (drop (suc i) lengths) (drop (at + getD lengths i 0) texts)))
   unfolding cutBy every
@@ -42,7 +36,7 @@ module _ (lengths texts : List ℕ) (at i : ℕ) (t : Testing lengths texts at i
 
   pub test-missing : length texts - at < getD lengths i 0 → false ≡ areTexts lengths texts
   test-missing h =
-      let l : leb (at + sumOf (drop i lengths)) (length texts) ≡ false = lt-leb (at + sumOf (drop i lengths)) (length texts) (omega (arith, sums, t .inside)) in
+      let l : leb (at + sumOf (drop i lengths)) (length texts) ≡ false = lt-leb (at + sumOf (drop i lengths)) (length texts) (omega (arith, sum-next lengths i more, t .inside)) in
       let e : left lengths texts at i ≡ false = rw l in
       sym e ∙ t .same
 
@@ -57,7 +51,7 @@ module _ (lengths texts : List ℕ) (at i : ℕ) (t : Testing lengths texts at i
   test-good r is good h =
       let b : isText (take (at + getD lengths i 0 - at) (drop at texts)) ≡ true = sym is ∙ not-false r good in
       let n : every isText (cutBy (drop i lengths) (drop at texts)) ≡ every isText (cutBy (drop (suc i) lengths) (drop (at + getD lengths i 0) texts)) = cuts ∙ rw b in
-      let s : at + sumOf (drop i lengths) ≡ at + getD lengths i 0 + sumOf (drop (suc i) lengths) = omega (arith, sums) in
+      let s : at + sumOf (drop i lengths) ≡ at + getD lengths i 0 + sumOf (drop (suc i) lengths) = omega (arith, sum-next lengths i more) in
       let e : left lengths texts at i ≡ left lengths texts (at + getD lengths i 0) (suc i) = rw (s, n) in
       rw (add-one i) (record { index = omega arith; inside = omega (arith, t .inside); same = sym e ∙ t .same })
 

@@ -10,7 +10,7 @@ use Rattle.builder.specs.Entries.{Entry, boxBytes, entryAt, entryBytes, 
 use Rattle.builder.specs.declared.{boxes.Bounds.{Bounds}, entry.Places.{Places}}
 
 -- at most ten bytes a number
-entry-few : (r b : ℕ) (e : Entry) → length (entryBytes r b e) ≤ 60
+pub entry-few : (r b : ℕ) (e : Entry) → length (entryBytes r b e) ≤ 60
 unfolding entryBytes
 entry-few r b e =
     let step = signedForm (pos (e .record′) -ℤ pos r) in

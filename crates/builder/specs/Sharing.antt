@@ -51,8 +51,3 @@ goodOnes good (x ∷ xs) = if good x then (x ∷ goodOnes good xs) else goodOnes
 unfoldable pub firstWith : {A : Type 0} → (A → Bool) → A → List A → A
 firstWith good other [] = other
 firstWith good other (x ∷ xs) = if good x then x else firstWith good other xs
-
--- those at the front that have this key
-unfoldable pub frontBy : {A : Type 0} → (A → ℕ) → ℕ → List A → List A
-frontBy key k [] = []
-frontBy key k (x ∷ xs) = if eqb (key x) k then (x ∷ frontBy key k xs) else []

@@ -8,14 +8,12 @@ use Rattle.calendar.proofs.{Months.{month-short, months-up, year-length
 use Rattle.calendar.specs.{Calendar.{isLeap, monthLength, daysOfYears, daysOfMonths}, Rules.{leapDay, lastOn, firstOf, weeksOf, dayOf, IsMonth, IsWhen}}
 use Rattle.calendar.specs.declared.rule.When.{When, the-variants.{Julian, Zero, Month}}
 use Rattle.numbers.specs.Answer.{if_then_else_}
-
-next : (year : ℕ) → year + 1 ≡ suc year
-next year = omega arith
+use native.Mathlib.Numerals.{add-one}
 
 -- the year that follows so many is a leap year, as the code finds
 module _ (year : ℕ) {leap : Bool} (kind : leap ≡ isLeap (year + 1)) where
   leap-next : isLeap (suc year) ≡ leap
-  leap-next = sym (kind ∙ ap isLeap (next year))
+  leap-next = sym (kind ∙ ap isLeap (add-one year))
 
   -- the three ways to the leap day
   pub leap-early : (n : ℕ) → leap ≡ true → n < 60 → 0 ≡ leapDay year n

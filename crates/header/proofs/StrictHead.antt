@@ -10,6 +10,7 @@ use Rattle.header.proofs.Unless.{shown, Unless, refuses, alike, unless-
 use Rattle.header.specs.Header.{preambleOf, blameOf, textsFrom, textsOf, sizeAt, sectionsFrom, sectionsAt, Contents, contentsBy, headBy, headOf, headStrictly}
 use Rattle.header.specs.{Opening.{fittingOf, repliedOf, openedBy, openedOf, openedStrictly}, Text.{remoteAt, stringAt, orBlamed, textAt}}
 use Rattle.header.specs.declared.{header.{Head.{Head}, Sections.{Sections}}, text.{Blame.{Blame}, Text.{Text}}}
+use Rattle.header.proofs.ReadFrom.{read-from, sized}
 
 -- refused 31, or the same
 abbrev pub Or31 : {A : Type 0} → Reply A → Reply A → Type 0
@@ -25,15 +26,7 @@ shown-same (refused why) = refl
 
 -- a header says how it was read
 pub head-strict : (strict : Bool) (file : List ℕ) {head : Head} → headBy strict file ≡ given head → head .strict ≡ strict
-unfolding headBy contentsBy
-head-strict strict file {head} e =
-    let c = given-from (contentsBy strict file) _ (sym e) in
-    let p = given-from (preambleOf file) _ (c .is) in
-    let t = given-from (textsOf strict file (p .it .count)) _ (p .onto) in
-    let s = given-from (sectionsAt strict file (t .it .place)) _ (t .onto) in
-    let same : c .it .head ≡ head = cc (c .onto) in
-    let made : record { head = record { preamble = p .it; sections = s .it; strict = strict }; bytes = t .it .bytes } ≡ c .it = cc (s .onto) in
-    rw (← same, ← made) refl
+head-strict strict file e = read-from strict file (sym e) .strictly
 
 -- ---- strings
 module _ (file : List ℕ) where
@@ -115,35 +108,9 @@ module _ (file : List ℕ) where
       go (refuses e) = inl (ap (repliedOf room) e)
       go {r = r} {s = s} (alike e) = inr (replied-unstrict room r ∙ ap (repliedOf room) e ∙ sym (replied-unstrict room s))
 
--- ---- a file that opens holds its whole table
-abbrev metadataIn : Reply Sections → ℕ
-metadataIn (given sections) = sections .metadata
-metadataIn (refused why) = 0
-
-within-whole : {metadata length : ℕ} (rest end start more : ℕ) → metadata ≡ end + start → rest + (end + (start + more)) ≡ length → metadata ≤ length
-within-whole rest end start more at exact = omega arith
-
+-- a file that opens holds its whole table
 pub table-within : (strict : Bool) (file : List ℕ) {head : Head} → headBy strict file ≡ given head → head .sections .metadata ≤ length file
-unfolding headBy contentsBy sectionsAt sectionsFrom
-table-within strict file {head} e =
-    let c = given-from (contentsBy strict file) _ (sym e) in
-    let p = given-from (preambleOf file) _ (c .is) in
-    let t = given-from (textsOf strict file (p .it .count)) _ (p .onto) in
-    let s = given-from (sectionsAt strict file (t .it .place)) _ (t .onto) in
-    let made : record { head = record { preamble = p .it; sections = s .it; strict = strict }; bytes = t .it .bytes } ≡ c .it = cc (s .onto) in
-    let head-is : c .it .head ≡ head = cc (c .onto) in
-    let first = given-from (sizeAt strict file (t .it .place) 8) _ (s .is) in
-    let second = given-from (sizeAt strict file (first .it .place) 9) _ (first .onto) in
-    let start = first .it .value % 2 ^ 32 in
-    let sum = start + second .it .value % 2 ^ 32 in
-    let small = demanded (ltb sum (2 ^ 32)) (plain 13) (second .onto) in
-    let third = given-from (sizeAt strict file (second .it .place) 10) _ (small .1) in
-    let end = third .it .place in
-    let whole = third .it .value + (end + sum) in
-    let one = demanded (ltb (end + sum) (2 ^ 32)) (plain 13) (third .onto) in
-    let two = demanded (ltb whole (2 ^ 64)) (plain 13) (one .1) in
-    let three = demanded (eqb whole (length file)) (refusal 11 0 whole) (two .1) in
-    let at : s .it .metadata ≡ end + start = ap metadataIn (three .1) in
-    let exact : whole ≡ length file = eqb-true whole (length file) (three .0) in
-    let within : s .it .metadata ≤ length file = within-whole (third .it .value) end start (second .it .value % 2 ^ 32) at exact in
-    rw (← head-is, ← made) within
+table-within strict file e =
+    let o = read-from strict file (sym e) in
+    let a = sized strict file (o .texts .place) (o .sections) in
+    omega (arith, a .metadata, a .data-place, a .exact)

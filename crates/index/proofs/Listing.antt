@@ -5,9 +5,10 @@ use mathlib.Core.{Bool.{Bool, true, false}, List.{List, [], _∷_, _++_, map}, P
 use native.Mathlib.Omega.{arith}
 use Rattle.writer.specs.inner.Stored.{Stored}
 use Rattle.numbers.specs.Answer.{if_then_else_}
-use Rattle.writer.proofs.Stores.{sets-append, stored-length, Left, left-all, left-step}
+use Rattle.writer.proofs.Stores.{stored-length, Left, left-all, left-step}
 use Rattle.index.proofs.Stores.{set-before, read-below, left-below}
 use Rattle.index.specs.{inner.Building.{isMetIn, listIn, listsIn, low, Listed}, Index.{recordsAt, joined, startsFrom, tiles}, Tiles.{tileAt}, declared.tiles.Tile.{Tile}}
+use Rattle.numbers.proofs.Lists.{sets-append}
 
 -- two lists of words have the same records up to a place
 abbrev pub Same : ℕ → List ℕ → List ℕ → Type 0

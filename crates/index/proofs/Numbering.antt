@@ -5,43 +5,19 @@ use lib.{Dec.{ltb}, IntN.{ℤ, pos, negsuc, _-ℤ_}}
 use mathlib.Core.{Bool.{Bool, true, false}, List.{List, [], _∷_}, Path.{_≡_, refl, sym, ap, subst}}
 use mir.{Syntax.{w32}, Val.{SFits, ofZ}}
 use native.Mathlib.Omega.{arith}
-use Rattle.numbers.proofs.{Answers.{found-one}, Replies.{given-from, demanded}}
+use Rattle.numbers.proofs.{Answers.{found-one, found-from}, Replies.{given-from, demanded}}
 use Rattle.numbers.specs.{Answer.{Answer, found, if_then_else_}, Point.{low32, readI32, halfOf, signedOf}, Reply.{given, plain}, Varint.{Numeral, readingOf}}
-use Rattle.table.proofs.TableRows.{Grows, reading-grows, row-less}
+use Rattle.table.proofs.TableRows.{row-less}
 use Rattle.table.specs.{Ordered.{lowest}, Rows.{tableEnd, after, startAt, rowsThen, rowBy, rowsWithin, rowsFrom, rowsIn}, Table.{stepsBy, entryBy}}
 use Rattle.table.specs.declared.{rows.{Cursor.{Cursor}, Row.{Row}}, table.{Bounds.{Bounds}, Entry.{Entry}}}
 use Rattle.header.specs.declared.header.Head.{Head}
-use Rattle.index.proofs.SameReading.{found-from}
 use Rattle.index.specs.Table.{isNext, tableFrom, bottom, tableOf}
 use Rattle.numbers.proofs.Replies.{given-one}
+use Rattle.numbers.proofs.Readings.{Grows, reading-grows}
+use Rattle.numbers.proofs.Coordinates.{signed-fits}
 use Rattle.numbers.specs.Answer as A
 
 -- ---- coordinates
-below : (n : ℕ) → n < 2 ^ 32 → pos n -ℤ pos (2 ^ 32) ≡ negsuc (2 ^ 32 - 1 - n)
-below n h = rw (lt-ltb n (2 ^ 32) h) (ap negsuc (omega arith))
-
--- a coordinate is known by its bits
-pub read-back : (z : ℤ) → SFits w32 z → readI32 (ofZ w32 z) ≡ z
-read-back (pos n) h = rw (lt-ltb n (2 ^ 31) (h .sfits))
-read-back (negsuc n) h =
-    let m = 2 ^ 32 - suc n in
-    rw (le-ltb m (2 ^ 31) (omega (arith, h .sfits)), below m (omega arith)) (ap negsuc (omega (arith, h .sfits)))
-
-read-fits : (bits : ℕ) → bits < 2 ^ 32 → SFits w32 (readI32 bits)
-read-fits bits h = go (ltb bits (2 ^ 31)) refl
-  where
-    go : (test : Bool) → ltb bits (2 ^ 31) ≡ test → SFits w32 (if test then pos bits else (pos bits -ℤ pos (2 ^ 32)))
-    go true e = record { sfits = ltb-true bits (2 ^ 31) e }
-    go false e = rw (below bits h) (record { sfits = omega (arith, ltb-false bits (2 ^ 31) e, h) })
-
-low-small : (z : ℤ) → low32 z < 2 ^ 32
-low-small (pos n) = omega arith
-low-small (negsuc n) = omega arith
-
-signed-fits : (value : ℕ) → SFits w32 (signedOf value)
-unfolding signedOf
-signed-fits value = read-fits (low32 (halfOf value)) (low-small (halfOf value))
-
 -- the coordinates of a box
 pub record Fitting (b : Bounds) : Type 0 where
   pub south : SFits w32 (b .«min_lat» .0)

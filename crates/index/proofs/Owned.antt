@@ -18,16 +18,13 @@ use Rattle.index.specs.{Index.{recordsOf, recordsAt, indexOf, hasRoom, i
 use Rattle.index.specs.inner.Own.{isAt, comparedOf, ownWith}
 use Rattle.index.specs.{Table.{bottom, tableOf}, Through.{lookedThrough, lookedIndexed}}
 use Rattle.numbers.proofs.Replies.{given-one}
+use Rattle.numbers.proofs.Replies.{demand-met}
 
 -- ---- exactly the words that building leaves
 module _ (words : List ℕ) where
-  tested : (test : Bool) → demand test (plain 36) ≡ given tt → test ≡ true
-  tested true e = refl
-  tested false e = let z : _≡_ {A = ℕ} 0 1 = cc in absurd (omega arith)
-
   held-is : (reply : Reply ℕ) (built : List ℕ) → heldAgainst words reply built ≡ given tt → (used : ℕ) × (indexed reply built ≡ indexed (given used) words)
   unfolding heldAgainst
-  held-is (given used) built e = (used, ap (indexed (given used)) (sym (same-words words built (tested (isSame words built) e))))
+  held-is (given used) built e = (used, ap (indexed (given used)) (sym (same-words words built (demand-met (isSame words built) (plain 36) e))))
   held-is (refused why) built e = let z : _≡_ {A = ℕ} 0 1 = cc in absurd (omega arith)
 
   is-held : (used : ℕ) → heldAgainst words (given used) words ≡ given tt

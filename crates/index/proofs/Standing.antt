@@ -8,6 +8,7 @@ use Rattle.numbers.proofs.Tests.{differ}
 use Rattle.numbers.proofs.Tests.{both}
 use Rattle.index.proofs.Sides.{and-first, and-rest}
 use Rattle.index.specs.{Own.{isSame}, inner.Own.{isWord, isAt}, Tied.{wordAt}}
+use mathlib.Core.Bool.{and-assoc}
 
 -- ---- tests one after the other
 pub goes : {r : Bool} (a b : Bool) → a ≡ true → r ≡ b → r ≡ (a && b)
@@ -23,10 +24,6 @@ and-end false = refl
 pub and-not : (a b : Bool) → b ≡ false → false ≡ (a && b)
 and-not true b e = sym e
 and-not false b e = refl
-
-and-assoc : (a b c : Bool) → (a && (b && c)) ≡ ((a && b) && c)
-and-assoc true b c = refl
-and-assoc false b c = refl
 
 -- ---- words at a place
 module _ (words : List ℕ) where
@@ -49,7 +46,7 @@ module _ (words : List ℕ) where
   at-append at (x ∷ xs) ys =
       let e : at + 1 + length xs ≡ at + suc (length xs) = omega arith in
       ap (λ (b : Bool). isWord words at x && b) (at-append (at + 1) xs ys)
-      ∙ and-assoc (isWord words at x) (isAt words (at + 1) xs) (isAt words (at + 1 + length xs) ys)
+      ∙ sym (and-assoc (isWord words at x) (isAt words (at + 1) xs) (isAt words (at + 1 + length xs) ys))
       ∙ ap (λ (k : ℕ). (isWord words at x && isAt words (at + 1) xs) && isAt words k ys) e
 
   pub at-read : (xs : List ℕ) (at i : ℕ) → isAt words at xs ≡ true → i < length xs → getD words (at + i) 0 ≡ getD xs i 0

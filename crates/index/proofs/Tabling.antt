@@ -7,20 +7,15 @@ use native.Mathlib.Omega.{arith}
 use Rattle.writer.specs.inner.Stored.{Stored}
 use Rattle.numbers.{proofs.Answers.{found-one}, specs.{Answer.{Answer, found}, Reply.{Reply, given, refused, plain, demand, _>>=_, _>>_}, Varint.{readingOf}}}
 use Rattle.numbers.specs.Answer as A
-use Rattle.table.proofs.TableRows.{reading-grows, at-end, at-row, at-unreadable, at-refused, row-less}
+use Rattle.table.proofs.TableRows.{at-end, at-row, at-unreadable, at-refused, row-less}
 use Rattle.table.specs.{Ordered.{lowest}, Rows.{Rows, rowOf, after, startAt, rowBy, rowsFrom, rowsIn}, Table.{entryBy}}
 use Rattle.table.specs.declared.{table.Entry.{Entry}, rows.{Cursor.{Cursor}, Row.{Row}}}
 use Rattle.header.specs.declared.header.Head.{Head}
-use Rattle.writer.proofs.Stores.{sets-append}
 use Rattle.index.specs.{inner.Building.{Recorded}, Index.{recordOf, recordsAt, recordsOf}, Table.{isNext, tableFrom, bottom, tableOf}}
+use Rattle.numbers.proofs.Readings.{reading-grows}
+use Rattle.numbers.proofs.Lists.{sets-append}
 
 -- ---- order
-pub above-not : (a b : ℤ) → ltZ a b ≡ true → leZ b a ≡ false
-above-not (pos a) (pos b) h = lt-leb b a (ltb-true a b h)
-above-not (pos a) (negsuc b) h = let z : _≡_ {A = ℕ} 0 1 = cc in absurd (omega arith)
-above-not (negsuc a) (pos b) h = refl
-above-not (negsuc a) (negsuc b) h = lt-leb a b (ltb-true b a h)
-
 pub above-so : (a b : ℤ) → ltZ a b ≡ false → leZ b a ≡ true
 above-so (pos a) (pos b) h = le-leb b a (ltb-false a b h)
 above-so (pos a) (negsuc b) h = refl

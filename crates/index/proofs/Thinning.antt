@@ -8,9 +8,10 @@ use native.Mathlib.Omega.{arith}
 use Rattle.border.specs.declared.place.Point.{Point}
 use Rattle.numbers.specs.{Answer.{if_then_else_}, Point.{readI32}}
 use Rattle.table.specs.{GivenRows.{rowAt, rowsBy, rowsListed}, Ordered.{followedAt, Thinned, done, kept, left}, Rows.{row}, Table.{holds}, declared.rows.Row.{Row}}
-use Rattle.index.proofs.{Complete.{holding-meets}, Numbering.{read-back, Fitting, Sound, none, one}, Tabling.{records-length}}
+use Rattle.index.proofs.{Complete.{holding-meets}, Numbering.{Fitting, Sound, none, one}, Tabling.{records-length}}
 use Rattle.table.specs.Rows.{asRows}
 use Rattle.index.specs.{Index.{recordOf, recordsOf, listFrom, listOf}, Tiles.{wordOf, tileOf, tileAt, meets}, declared.tiles.Tile.{Tile}}
+use Rattle.numbers.proofs.Coordinates.{read-back}
 
 module _ (precision : ℕ) (fix : Point) (flat : SFits w32 (fix .lat .0)) (flon : SFits w32 (fix .lon .0)) (records : List ℕ) where
   abbrev tile : Tile

@@ -12,10 +12,11 @@ use Rattle.table.specs.{Find.{fixOf, isPrecision, Matched, matchedWith}, GivenR
 use Rattle.table.specs.{Rows.{Rows}, Search.{Found, judgeIn, farthest, searched}, Unstopped.{seekAll}, declared.{location.Location.{Location}, rows.Row.{Row}}}
 use Rattle.zones.{proofs.RefusalZeroes.{both-zero}, specs.{Lent.{repliedOf}, Lookup.{zonesFrom, zonesWith, zonesIn, zonesListed, lookedUp}}}
 use Rattle.index.proofs.{BuiltIsTied.{index-is-tied}, LaidOut.{records-there, list-stands, list-of-tile}, Numbering.{table-sound}}
-use Rattle.index.proofs.{SameHead.{same-head, metadata-small}, SameIndex.{same-index}, TableInOrder.{table-in-order}, Thinning.{thinned}}
+use Rattle.index.proofs.{SameIndex.{same-index}, TableInOrder.{table-in-order}, Thinning.{thinned}}
 use Rattle.index.proofs.{Through.{through-opened, indexed-tied}, TiedSame.{built-from, tied-same}, Tying.{with-so}}
 use Rattle.index.specs.{Complete.{Bytes, SameFront}, Index.{recordsOf, listOf, indexOf, Indexed, indexedOf}, Table.{tableOf}}
 use Rattle.index.specs.{Through.{recordsIn, numbersIn, zonesThrough, lookedThrough, lookedIndexed}, Tied.{tiedWith, tiedOf}, Tiles.{tileOf}, declared.place.Place.{Place}}
+use Rattle.header.proofs.SameHead.{same-head, metadata-small}
 
 -- ---- fixed coordinates fit
 lat-fits : (location : Location) (precision : ℕ) → SFits w32 (fixOf location precision .lat .0)

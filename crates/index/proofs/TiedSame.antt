@@ -7,12 +7,13 @@ use native.Mathlib.Omega.{arith}
 use Rattle.numbers.{proofs.Replies.{given-from, demanded}, specs.{Answer.{if_then_else_}, Lists.{padded}, Reply.{Reply, given, refused, plain, demand}}}
 use Rattle.table.specs.Find.{isPrecision}
 use Rattle.header.specs.{Header.{headOf}, declared.header.Head.{Head}}
-use Rattle.index.proofs.{BuiltIsTied.{built-is-tied}, SameHead.{same-head}, SameIndex.{same-index}, Tying.{tied-so, tied-not}}
+use Rattle.index.proofs.{BuiltIsTied.{built-is-tied}, SameIndex.{same-index}, Tying.{tied-so, tied-not}}
 use Rattle.numbers.proofs.Tests.{both}
 use Rattle.index.specs.Complete.{Bytes, BuiltFrom, SameFront}
 use Rattle.index.specs.{Index.{fourAt, wordsFor, recordsAt, indexOf, hasRoom, indexWith, indexIn, Indexed, indexedBy, indexedOf}, Table.{tableOf}}
 use Rattle.index.specs.Tied.{wordAt, keepsFrom, isTied, tiedOf}
 use Rattle.numbers.proofs.Replies.{given-one}
+use Rattle.header.proofs.SameHead.{same-head}
 
 -- ---- what building gave came from a table
 words-from : (file : List ℕ) (n : ℕ) {words : List ℕ} → given words ≡ indexIn file n → BuiltFrom file n (padded n words)

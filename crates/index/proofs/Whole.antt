@@ -8,10 +8,11 @@ use Rattle.numbers.{proofs.Replies.{carried, onward, met, unmet}, specs.{Answer
 use Rattle.table.specs.{Find.{isPrecision}, declared.rows.Row.{Row}}
 use Rattle.header.specs.declared.header.Head.{Head}
 use Rattle.index.proofs.{Keeping.{packed-length}, Stores.{sets-before, read-below}, Tabling.{records-length}}
-use Rattle.writer.proofs.Stores.{sets-append}
 use Rattle.index.specs.inner.Building.{isMetIn, listIn, listsIn, low}
 use Rattle.index.specs.Index.{recordOf, recordsOf, wordsFor, keptOf, listFrom, listsFrom, joined, startsFrom, tiles, recordsAt, listsAt, indexOf, hasRoom, indexWith}
 use Rattle.index.specs.{Table.{tableOf}, Tiles.{wordOf, tileAt, meets}, declared.tiles.Tile.{Tile}}
+use Rattle.numbers.proofs.Lists.{sets-append}
+use mathlib.Core.Bool.{and-false}
 
 -- ---- what was stored can be read
 pub read-stored : (vs l : List ℕ) (i k d : ℕ) → k < length vs → i + length vs ≤ length l → getD (sets l i vs) (i + k) d ≡ getD vs k d
@@ -108,10 +109,6 @@ laid z a b c d e k l la lb lk ll =
     ∙ ap (λ (x : List ℕ). sets z 0 x) shape
 
 -- ---- the reply
-hasRoom-not : (a b : Bool) → b ≡ false → (a && b) ≡ false
-hasRoom-not true b e = e
-hasRoom-not false b e = refl
-
 module _ (file : List ℕ) (head : Head) (room : ℕ) where
   -- where the precision is bad
   pub bad-precision : isPrecision (head .preamble .precision) ≡ false → refused (plain 16) ≡ indexWith file head room
@@ -158,7 +155,7 @@ module _ (file : List ℕ) (head : Head) (room : ℕ) where
       no-room h = without (rw (lt-leb _ _ h))
 
       pub too-large : 2 ^ 32 ≤ length (indexOf file head rows) → refused (plain 35) ≡ indexWith file head room
-      too-large h = without (hasRoom-not (leb (length (indexOf file head rows)) room) _ (le-ltb _ _ h))
+      too-large h = without (ap (λ (t : Bool). leb (length (indexOf file head rows)) room && t) (le-ltb _ _ h) ∙ and-false (leb (length (indexOf file head rows)) room))
 
       pub has-room : length (indexOf file head rows) ≤ room → length (indexOf file head rows) < 2 ^ 32 → given (indexOf file head rows) ≡ indexWith file head room
       has-room h k = with-room (rw (le-leb _ _ h, lt-ltb _ _ k))

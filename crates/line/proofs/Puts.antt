@@ -5,22 +5,14 @@ use mathlib.Core.{Path.{_≡_, refl, sym, ap, _∙_, subst}, Bool.{Bool, true, f
 use lib.{Dec.{leb}, ListN.{length, set, getD, take, drop, length-append}, Seq.{sets, length-sets, set-out, sets-eq, take-suc, take-at}}
 use borrow.Author.Tests.{leb-true, leb-false}
 use Rattle.line.specs.Put.{far, Put}
-
-sets-append : (xs ys before : List ℕ) (at : ℕ) → sets before at (xs ++ ys) ≡ sets (sets before at xs) (at + length xs) ys
-sets-append [] ys before at = ap (λ (n : ℕ). sets before n ys) (sym (add-zero at))
-sets-append (x ∷ xs) ys before at = sets-append xs ys (set before at x) (suc at) ∙ ap (λ (n : ℕ). sets (sets (set before at x) (suc at) xs) n ys) (omega arith)
-
--- nothing is stored behind the end
-sets-out : (ys before : List ℕ) (at : ℕ) → length before ≤ at → sets before at ys ≡ before
-sets-out [] before at h = refl
-sets-out (y ∷ ys) before at h = ap (λ (xs : List ℕ). sets xs (suc at) ys) (set-out before at y h) ∙ sets-out ys before (suc at) (omega arith)
+use Rattle.numbers.proofs.Lists.{sets-append, sets-past}
 
 -- from the place that was answered as from the place behind all bytes
 from-there : (ys now : List ℕ) (next far : ℕ) → next ≤ far → (next < length now → next ≡ far) → sets now next ys ≡ sets now far ys
 from-there ys now next far le e = go (leb (length now) next) refl
   where
     go : (t : Bool) → leb (length now) next ≡ t → sets now next ys ≡ sets now far ys
-    go true l = let h = leb-true (length now) next l in sets-out ys now next h ∙ sym (sets-out ys now far (omega (arith, h, le)))
+    go true l = let h = leb-true (length now) next l in sets-past ys now next h ∙ sym (sets-past ys now far (omega (arith, h, le)))
     go false l = ap (λ (n : ℕ). sets now n ys) (e (leb-false (length now) next l))
 
 module _ {before bytes after : List ℕ} {at next : ℕ} (p : Put before at bytes after next) where

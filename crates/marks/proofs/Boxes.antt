@@ -8,17 +8,14 @@ use Rattle.border.specs.{Box.{Box, minZ, maxZ, grown, holds}, declared.place.{F
 use Rattle.numbers.proofs.Tests.{both, differ}
 use Rattle.verdict.specs.Edge.{between, inBox, sameZ, samePoint}
 use Rattle.verdict.proofs.{OutsideBox.{leZ-trans, leZ-total, unless}, AfarBox.{holds-parts}}
-
-leZ-refl : (a : ℤ) → leZ a a ≡ true
-leZ-refl (pos a) = le-leb a a (omega arith)
-leZ-refl (negsuc a) = le-leb a a (omega arith)
+use Rattle.verdict.proofs.{Compared.{same-eq}, Gliding.{le-self}}
 
 min-left : (a b : ℤ) → leZ (minZ a b) a ≡ true
 unfolding minZ
 min-left a b = go (leZ a b) refl
   where
     go : (t : Bool) → leZ a b ≡ t → leZ (if t then a else b) a ≡ true
-    go true e = leZ-refl a
+    go true e = le-self a
     go false e = leZ-total a b e
 
 min-right : (a b : ℤ) → leZ (minZ a b) b ≡ true
@@ -27,7 +24,7 @@ min-right a b = go (leZ a b) refl
   where
     go : (t : Bool) → leZ a b ≡ t → leZ (if t then a else b) b ≡ true
     go true e = e
-    go false e = leZ-refl b
+    go false e = le-self b
 
 max-left : (a b : ℤ) → leZ a (maxZ a b) ≡ true
 unfolding maxZ
@@ -35,14 +32,14 @@ max-left a b = go (leZ a b) refl
   where
     go : (t : Bool) → leZ a b ≡ t → leZ a (if t then b else a) ≡ true
     go true e = e
-    go false e = leZ-refl a
+    go false e = le-self a
 
 max-right : (a b : ℤ) → leZ b (maxZ a b) ≡ true
 unfolding maxZ
 max-right a b = go (leZ a b) refl
   where
     go : (t : Bool) → leZ a b ≡ t → leZ b (if t then b else a) ≡ true
-    go true e = leZ-refl b
+    go true e = le-self b
     go false e = leZ-total a b e
 
 holds-by : (box : Box) (p : Point) → leZ (box .low .lat .0) (p .lat .0) ≡ true → leZ (p .lat .0) (box .high .lat .0) ≡ true → leZ (box .low .lon .0) (p .lon .0) ≡ true
@@ -64,7 +61,7 @@ taken-holds box p =
     (min-right (box .low .lat .0) (p .lat .0)) (max-right (box .high .lat .0) (p .lat .0)) (min-right (box .low .lon .0) (p .lon .0)) (max-right (box .high .lon .0) (p .lon .0))
 
 pub own-holds : (p : Point) → holds (record { low = p; high = p }) p ≡ true
-own-holds p = holds-by (record { low = p; high = p }) p (leZ-refl (p .lat .0)) (leZ-refl (p .lat .0)) (leZ-refl (p .lon .0)) (leZ-refl (p .lon .0))
+own-holds p = holds-by (record { low = p; high = p }) p (le-self (p .lat .0)) (le-self (p .lat .0)) (le-self (p .lon .0)) (le-self (p .lon .0))
 
 -- a box that does not hold a point by either order of its corners does not hold it
 pub out-of-box : (box : Box) (p : Point) → inBox (box .low) p (box .high) ≡ false → holds box p ≡ false
@@ -73,19 +70,10 @@ out-of-box box p = unless (holds box p) (inBox (box .low) p (box .high)) (λ e. 
 
 -- ---- points that are the same
 
-sameZ-is : (a b : ℤ) → sameZ a b ≡ true → a ≡ b
-sameZ-is a b e = let h = both (leZ a b) (leZ b a) e in order a b (h .0) (h .1)
-  where
-    order : (a b : ℤ) → leZ a b ≡ true → leZ b a ≡ true → a ≡ b
-    order (pos a) (pos b) h k = let e : a ≡ b = omega (arith, leb-true a b h, leb-true b a k) in λ i. pos (e i)
-    order (pos a) (negsuc b) h k = differ h
-    order (negsuc a) (pos b) h k = differ k
-    order (negsuc a) (negsuc b) h k = let e : a ≡ b = omega (arith, leb-true b a h, leb-true a b k) in λ i. negsuc (e i)
-
 pub same-point-is : (p q : Point) → samePoint p q ≡ true → p ≡ q
 unfolding samePoint
 same-point-is p q e =
     let h = both (sameZ (p .lat .0) (q .lat .0)) (sameZ (p .lon .0) (q .lon .0)) e in
-    let lat = sameZ-is (p .lat .0) (q .lat .0) (h .0) in
-    let lon = sameZ-is (p .lon .0) (q .lon .0) (h .1) in
+    let lat = same-eq (p .lat .0) (q .lat .0) (h .0) in
+    let lon = same-eq (p .lon .0) (q .lon .0) (h .1) in
     λ i. record { lat = record { 0 = lat i }; lon = record { 0 = lon i } }

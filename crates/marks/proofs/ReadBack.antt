@@ -11,6 +11,8 @@ use Rattle.numbers.proofs.Tests.{both}
 use Rattle.verdict.specs.Edge.{samePoint}
 use Rattle.marks.specs.{Marks.{wordOf, low, kindOf, nextOf, endOf, markOf, isShort, isShortRun, isNarrow, isMarkable}, Words.{pointIn, runOf, lowIn, highIn, startIn, stateIn}}
 use Rattle.marks.proofs.Boxes.{same-point-is}
+use Rattle.numbers.proofs.{Coordinates.{read-back}}
+use borrow.Author.Tests.{not-true}
 
 -- ---- words at a place
 -- these words stand from a place on
@@ -26,32 +28,16 @@ at-right words at xs ys h i l =
     ap (λ (k : ℕ). getD words k 0) e ∙ h (length xs + i) (omega (arith, l, length-append xs ys)) ∙ getD-append-add xs ys i 0
 
 -- ---- coordinates
--- twice a coordinate's word is its signed form
-pub twice-read : (word : ℕ) → word < 2 ^ 32 → signedOf (2 * word) ≡ readI32 word
-unfolding signedOf
-twice-read word h =
-    let even : 2 * word % 2 ≡ 0 = omega arith in
-    let half : 2 * word / 2 ≡ word = omega arith in
-    let low : word % 2 ^ 32 ≡ word = omega arith in
-    rw (eq-eqb (2 * word % 2) 0 even, half, low)
-
-below : (n : ℕ) → n < 2 ^ 32 → pos n -ℤ pos (2 ^ 32) ≡ negsuc (2 ^ 32 - 1 - n)
-below n h = rw (lt-ltb n (2 ^ 32) h) (ap negsuc (omega arith))
-
 -- a coordinate is known by its bits
-read-back : (z : ℤ) → ltb (mag z) (2 ^ 31) ≡ true → readI32 (wordOf z) ≡ z
-read-back (pos n) h = rw h
-read-back (negsuc n) h =
-    let m = 2 ^ 32 - suc n in
-    let small = ltb-true n (2 ^ 31) h in
-    rw (le-ltb m (2 ^ 31) (omega (arith, small)), below m (omega arith)) (ap negsuc (omega (arith, small)))
+narrow-back : (z : ℤ) → ltb (mag z) (2 ^ 31) ≡ true → readI32 (wordOf z) ≡ z
+narrow-back z h = read-back z (record { sfits = ltb-true (mag z) (2 ^ 31) h })
 
 -- a point whose words stand there
 point-back : (words : List ℕ) (at : ℕ) (p : Point) → isNarrow p ≡ true → getD words at 0 ≡ wordOf (p .lat .0) → getD words (at + 1) 0 ≡ wordOf (p .lon .0) → pointIn words at ≡ p
 point-back words at p narrow lat lon =
     let fits = both (ltb (mag (p .lat .0)) (2 ^ 31)) (ltb (mag (p .lon .0)) (2 ^ 31)) narrow in
-    let y = ap readI32 lat ∙ read-back (p .lat .0) (fits .0) in
-    let x = ap readI32 lon ∙ read-back (p .lon .0) (fits .1) in
+    let y = ap readI32 lat ∙ narrow-back (p .lat .0) (fits .0) in
+    let x = ap readI32 lon ∙ narrow-back (p .lon .0) (fits .1) in
     λ i. pointAt (y i) (x i)
 
 short : (n : ℕ) → isShort n ≡ true → low n ≡ n
@@ -97,10 +83,6 @@ pub record Markable (first : Point) (s : Reader) : Type 0 where
   pub moves : isShort (s .moves) ≡ true
   pub run : isShortRun (s .run) ≡ true
   pub narrow : isNarrow (s .point) ≡ true
-
-not-true : (b : Bool) → not b ≡ true → b ≡ false
-not-true true e = sym e
-not-true false e = refl
 
 pub markable : (first : Point) (s : Reader) → isMarkable first s ≡ true → Markable first s
 unfolding isMarkable

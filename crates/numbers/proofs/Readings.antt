@@ -1,5 +1,5 @@
 -- The two readings of a file's numbers (request Q-6): what holds of both, and how the strict one differs from the plain one. Assumes nothing.
-use Prim.Native.Nat.{ℕ, _≤_}
+use Prim.Native.Nat.{ℕ, _≤_, _<_}
 use lib.ListN.{length}
 use mathlib.Core.{Bool.{Bool, true, false}, List.{List}, Path.{_≡_, refl, sym}}
 use native.Mathlib.Omega.{arith}
@@ -116,3 +116,15 @@ refused-incomplete file place e = go (forwardAt file place) refl (forward-number
     go (found number) is h r = chosen number is (isComplete file number) refl r
     go failed is h r = let z : _≡_ {A = ℕ} 0 1 = cc in absurd (omega arith)
     go (refused n) is (as-refused h) r = let z : n ≡ 31 = cc in absurd (omega arith)
+
+-- ---- a reading whose numbers end after their place
+abbrev pub Grows : (ℕ → Answer Numeral) → Type 0
+Grows read = (place : ℕ) → All (λ (number : Numeral). place < number .place) (read place)
+
+pub reading-grows : (strict : Bool) (file : List ℕ) → Grows (readingOf strict file)
+reading-grows strict file place = go (readingOf strict file place) (reading-read strict file place)
+  where
+    go : (answer : Answer Numeral) → All (λ (number : Numeral). Read file place (number .value) (number .place)) answer → All (λ (number : Numeral). place < number .place) answer
+    go (found number) h = h .grows
+    go failed h = tt
+    go (refused n) h = tt

@@ -1,8 +1,10 @@
 -- Which numbers an answer can be refused with. Assumes nothing.
-use mathlib.Core.{Path.{_≡_, refl}, Bool.{Bool, true, false, _&&_, _||_}, List.{List, [], _∷_, _++_}}
+use mathlib.Core.{Path.{_≡_, refl, ap, _∙_}, Bool.{Bool, true, false, _&&_, _||_}, List.{List, [], _∷_, _++_}}
 use Prim.Native.Nat.{ℕ}
 use lib.{Dec.{ltb, eqb}, ListN.{length, getD, drop}}
 use Rattle.numbers.specs.{Answer.{Answer, found, failed, refused, if_then_else_, _>>=_}, Varint.{isLast, tooLong, forwardAt, startOf, backwardAt}}
+use Rattle.numbers.proofs.Tests.{both, differ}
+use borrow.Author.Tests.{eqb-true}
 
 -- ---- lists of numbers
 abbrev pub oneOf : List ℕ → ℕ → Bool
@@ -21,6 +23,19 @@ still-listed (m ∷ ms) more n h = go (eqb n m) (still-listed ms more n) h
     go : (here : Bool) → (Listed ms n → Listed (ms ++ more) n) → (here || oneOf ms n) ≡ true → (here || oneOf (ms ++ more) n) ≡ true
     go true later h = refl
     go false later h = later h
+
+-- where every number of a list passes a test
+abbrev pub all : (ℕ → Bool) → List ℕ → Bool
+all test [] = true
+all test (m ∷ ms) = test m && all test ms
+
+pub listed-so : (test : ℕ → Bool) (ms : List ℕ) (n : ℕ) → all test ms ≡ true → Listed ms n → test n ≡ true
+listed-so test [] n a h = differ h
+listed-so test (m ∷ ms) n a h = go (eqb n m) refl h (listed-so test ms n (both (test m) (all test ms) a .1))
+  where
+    go : (t : Bool) → eqb n m ≡ t → (t || oneOf ms n) ≡ true → (Listed ms n → test n ≡ true) → test n ≡ true
+    go true e h later = ap test (eqb-true n m e) ∙ both (test m) (all test ms) a .0
+    go false e h later = later h
 
 -- ---- answers
 -- a number that it is refused with has the property

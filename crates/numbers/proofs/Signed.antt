@@ -1,9 +1,9 @@
 -- Signed numbers of any width, as the machine reads them back from their bits. Assumes nothing.
-use mathlib.Core.Path.{_≡_, refl, ap, _∙_}
+use mathlib.Core.{Bool.{Bool, true, false, cond}, Path.{_≡_, refl, ap, _∙_}}
 use Prim.Native.Nat.{ℕ, zero, suc, _^_, _≤_, _<_}
 use native.Mathlib.Nat.{zero-add, lt-of-lt-of-le}
 use borrow.Author.Needs.{sfits-of}
-use lib.{IntN.{ℤ, pos, negsuc, _-ℤ_}, Pow.{pow-mono}}
+use lib.{IntN.{ℤ, pos, negsuc, _-ℤ_}, Pow.{pow-mono}, Signed.{mag}}
 use mir.{Syntax.{Width}, Val.{SFits, hbits, toZ}, ValLaws.{toZ-pos}}
 
 -- -1 less a number without a sign is its complement, and fits
@@ -21,3 +21,8 @@ module _ (w : Width) (k : ℕ) (h : k < 2 ^ hbits w) where
 -- what fits a width fits a wider one
 pub widens : (v w : Width) → hbits v ≤ hbits w → (n : ℤ) → SFits v n → SFits w n
 widens v w l n f = sfits-of (lt-of-lt-of-le (f .sfits) (pow-mono l))
+
+-- one of either sign that is small
+pub mag-cond : (t : Bool) (a b m : ℕ) → a < m → b < m → mag (cond t (negsuc a) (pos b)) < m
+mag-cond true a b m h k = h
+mag-cond false a b m h k = k

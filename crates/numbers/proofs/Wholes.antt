@@ -4,7 +4,7 @@ use borrow.Author.Tests.{ltb-true, ltb-false, lt-ltb, le-ltb}
 use lib.{Dec.{ltb}, ListN.{length, getD, drop, length-append, length-drop, List·getD-append}, Seq.{getD-drop, drop-drop, drop-append-seam}}
 use mathlib.Core.{Bool.{Bool, true, false}, List.{List, [], _∷_, _++_}, Path.{_≡_, refl, sym, ap, _∙_}}
 use native.Mathlib.{Nat.{add-suc, add-zero}, Omega.{arith}}
-use Rattle.numbers.proofs.Answers.{found-one, not-failed, not-refused}
+use Rattle.numbers.proofs.{Answers.{found-one, not-failed, not-refused}, Lists.{none-left}}
 use Rattle.numbers.specs.{Answer.{if_then_else_}, Varint.{Numeral, numeral, isLast, valueOf, sizeOf, tooLong, forwardAt, startOf, backwardAt}}
 
 -- the high bit is clear in its last byte and set in the others
@@ -12,17 +12,13 @@ data Digits : List ℕ → Type 0 where
   last : (b : ℕ) → b < 128 → Digits (b ∷ [])
   more : (b : ℕ) {bs : List ℕ} → 128 ≤ b → Digits bs → Digits (b ∷ bs)
 
-empty : (bs : List ℕ) → length bs ≡ 0 → bs ≡ []
-empty [] e = refl
-empty (b ∷ bs) e = absurd (omega arith)
-
 digits : (w : List ℕ) → sizeOf w ≡ length w → Digits w
 unfolding sizeOf
 digits [] e = absurd (omega arith)
 digits (b ∷ bs) e = go (isLast b) refl (digits bs) e
   where
     go : (t : Bool) → isLast b ≡ t → (sizeOf bs ≡ length bs → Digits bs) → 1 + (if t then 0 else sizeOf bs) ≡ suc (length bs) → Digits (b ∷ bs)
-    go true i r e = rw (empty bs (omega arith)) (last b (ltb-true b 128 i))
+    go true i r e = rw (none-left bs (omega arith)) (last b (ltb-true b 128 i))
     go false i r e = more b (ltb-false b 128 i) (r (omega arith))
 
 some-digits : {w : List ℕ} → Digits w → 0 < length w

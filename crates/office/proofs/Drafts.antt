@@ -8,24 +8,15 @@ use native.Mathlib.Omega.{arith}
 use Rattle.build.specs.{Whole.{toldBuilt}, declared.file.Built.{Built}}
 use Rattle.add.specs.declared.growing.grow.Added.{Added}
 use Rattle.draft.specs.declared.held.state.{Held.{Held}, Changed.{Changed}}
-use Rattle.index.proofs.Numbering.{read-back}
 use Rattle.numbers.specs.{Point.{readI32, signedOf}, declared.refusal.Refusal.{Refusal}}
 use Rattle.office.specs.Draft.{heldOf, notedIn, wordsOf, Kept, Spoke, Speaks, SpeaksNoted, Ends}
 use Rattle.numbers.specs.Spoken.{saidOf}
 use Rattle.office.specs.Written.{lengthValue}
+use Rattle.numbers.proofs.Coordinates.{read-back, twice-read}
 use Rattle.draft.specs.declared.held.state.Changed.the-variants as C
 
--- half of twice the bits
-signed-even : (bits : ℕ) → bits < 2 ^ 32 → signedOf (2 * bits) ≡ readI32 bits
-unfolding signedOf
-signed-even bits h =
-    let even : (2 * bits) % 2 ≡ 0 = omega arith in
-    let half : (2 * bits) / 2 ≡ bits = omega arith in
-    let low : bits % 2 ^ 32 ≡ bits = omega (arith, h) in
-    rw (eq-eqb _ _ even) (ap (λ (n : ℕ). readI32 (n % 2 ^ 32)) half ∙ ap readI32 low)
-
 pub greatest-read : (word : ℕ) (greatest : ℤ) → greatest ≡ signedOf (2 * (word % 2 ^ 32)) → greatest ≡ readI32 (word % 2 ^ 32)
-greatest-read word greatest is = is ∙ signed-even (word % 2 ^ 32) (omega arith)
+greatest-read word greatest is = is ∙ twice-read (word % 2 ^ 32) (omega arith)
 
 -- the same numbers but for those of which some bits count
 abbrev rebuilt : Held → ℕ → ℕ → ℕ → ℕ → ℤ → Held

@@ -10,6 +10,7 @@ use Rattle.numbers.{proofs.{Refusals.{Listed, either}, Replies.{NumberedReply, 
 use Rattle.writer.specs.{Moves.{movesOf, isMove}, Pieces.{goodPieces}, Writer.{every, sized, near, checks, plainBorder, packedBorder, borderOf}, declared.write.Piece.{Piece}}
 use Rattle.draft.proofs.held.Redrawn.{data-few}
 use Rattle.draft.specs.Held.{Builder.{Builder, Offered, holding, yardOf, fitting, begin, add, dropLast, replace, finish}, Sound.{Sound}, Space.{Space}, Totals.{dataOf, fileSize}}
+use Rattle.build.proofs.Numbered.{shaped, shape-alone}
 
 -- the numbers that document 02 gives to each
 abbrev pub beginNumbers : List ℕ
@@ -77,16 +78,6 @@ module _ (b : Builder) (space : Space) where
 past : {A : Type 0} {P : ℕ → Type 0} (r : Reply (Unit {0})) (k : Reply A) → NumberedReply P r → (r ≡ given tt → NumberedReply P k) → NumberedReply P (r >> k)
 past (given u) k h next = next refl
 past (refused why) k (refuses h) next = refuses h
-
--- the checks that ask neither for a version nor for earlier data
-abbrev shaped : List ℤ → List ℤ → Reply (Unit {0})
-shaped lats lons =
-    demand (sized lats lons) (plain 19)
-    >> (demand (every near lats && every near lons) (plain 20) >> (demand (every isMove (drop 1 (movesOf lats lons))) (plain 21) >> demand (every isMove (take 1 (movesOf lats lons))) (plain 22)))
-
-shape-alone : (lats lons : List ℤ) → checks 0 lats lons [] ≡ shaped lats lons
-unfolding checks
-shape-alone lats lons = refl
 
 shape-known : (lats lons : List ℤ) → Known addNumbers (checks 0 lats lons [])
 shape-known lats lons =

@@ -8,11 +8,12 @@ use Rattle.header.specs.declared.{header.Head.{Head}, text.Text.{Text}}
 use Rattle.numbers.specs.{Answer.{Answer, found, failed, if_then_else_}, Reply.{Reply, given, refused, plain, demand, _orElse_, _>>=_, _>>_}, Varint.{Numeral, readingOf}}
 use Rattle.numbers.specs.declared.refusal.Refusal.{Refusal}
 use Rattle.numbers.specs.Answer as A
-use Rattle.table.proofs.TableRows.{Grows, reading-grows, at-end, at-row, at-unreadable, at-refused, row-less}
+use Rattle.table.proofs.TableRows.{at-end, at-row, at-unreadable, at-refused, row-less}
 use Rattle.table.specs.{Rows.{Rows, row, tableEnd, after, startAt, rowsThen, rowBy, rowsWithin, rowsFrom, rowsIn}, declared.rows.{Cursor.{Cursor}, Row.{Row}}}
 use Rattle.salvage.specs.Kept.{stringInside, borderGood, fieldGood, fieldsGood, recordPlace, entryGood, lineIf, linesFrom}
 use Rattle.salvage.specs.Promises.{borderEnd, valueAt, Strings, no-more, one-more, BadString, unread, outside, later, Whole, Spoilt, border-fails, border-stops, string-spoilt, entryAt}
 use Rattle.salvage.specs.Promises.{Listed, keeps, drops, table-ends, entry-fails, entry-stops, ListOf}
+use Rattle.numbers.proofs.Readings.{Grows, reading-grows}
 
 -- ---- an entry whose six numbers were read
 -- what is kept, and what is dropped and why

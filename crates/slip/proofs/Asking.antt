@@ -10,6 +10,7 @@ use Rattle.slip.specs.{Hour.{Hour, hourOf, hoursFrom}, Slip.{haveOffset}
 use Rattle.table.{proofs.Agreeing.{agree-given}, specs.inner.Agreeing.{Agrees}}
 use Rattle.verdict.specs.Edge.{sameZ}
 use Rattle.table.specs.{Hits.{noHit}, declared.hits.Hit.{Hit}}
+use Rattle.verdict.proofs.Compared.{same-self}
 
 -- those that came before the rest
 abbrev behind : List Hour → Reply (List Hour) → Reply (List Hour)
@@ -83,10 +84,6 @@ module _ (map : List ℕ) (head : Head) (zones : List ℕ) (instant : ℤ) where
     pub asked : Asked map head zones instant matches i (hourAt map zones first ∷ others)
     pub agrees : agree ≡ haveOffset (first .offset) (hourAt map zones first ∷ others)
     pub stands : Stands (length map) (length zones) first
-
-  same-self : (z : ℤ) → sameZ z z ≡ true
-  same-self (pos n) = rw (le-leb n n (le-refl n))
-  same-self (negsuc n) = rw (le-leb n n (le-refl n))
 
   pub agreeing-one : (matches : List Hit) (first : Spot) {hit : Hit} → 0 < length matches → hit ≡ getD matches 0 noHit → hourOf map head zones instant 1 hit ≡ given (hourAt map zones first)
       → Stands (length map) (length zones) first → Agreeing matches first true 1

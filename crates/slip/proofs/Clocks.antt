@@ -11,6 +11,7 @@ use Rattle.numbers.specs.Answer.{Answer, found, failed, if_then_else_, _>>=_}
 use Rattle.request.specs.{Text.{isDigit, every, digits, formed, until, word}, Number.{digitOf, valueFrom, valueOf, partOf}, Clock.{signedOf}}
 use Rattle.slip.specs.{Line.{clockText}, ReadBack.{Printed, weekdayIn, clockForm, isMinutes, spanIn, offsetIn, readingIn, readBack}}
 use Rattle.zones.specs.Simple.{same}
+use mathlib.Core.Bool.{or-true}
 
 -- ---- digits
 digit-is : (n : ℕ) → isDigit (digit n) ≡ true
@@ -141,10 +142,6 @@ formed-two : (form : List ℕ) (n : ℕ) (more : List ℕ) → formed (48 ∷ 48
 formed-two form n more = formed-digit (48 ∷ form) (n / 10) (digit n ∷ more) ∙ formed-digit form n more
 
 -- ---- hours, minutes and seconds
-or-right : (t : Bool) → (t || true) ≡ true
-or-right true = refl
-or-right false = refl
-
 -- by the bytes before the first ":" and those from it on
 abbrev spanBy : List ℕ → List ℕ → Answer ℕ
 spanBy hours rest = if leb 2 (length hours) && digits hours && isMinutes rest then found (3600 * valueOf hours + 60 * partOf 1 2 rest + partOf 4 2 rest) else failed
@@ -171,7 +168,7 @@ rest-back minutes seconds h k = go (eqb seconds 0) refl
     some : isMinutes (text false) ≡ true
     some =
         ap (λ (t : Bool). formed (58 ∷ 48 ∷ 48 ∷ []) (text false) || t) (formed-two (58 ∷ 48 ∷ 48 ∷ []) minutes (58 ∷ twoDigits seconds) ∙ formed-two [] seconds [])
-        ∙ or-right (formed (58 ∷ 48 ∷ 48 ∷ []) (text false))
+        ∙ or-true (formed (58 ∷ 48 ∷ 48 ∷ []) (text false))
 
     minutes-in : (t : Bool) → partOf 1 2 (text t) ≡ minutes
     minutes-in t = two-value minutes h

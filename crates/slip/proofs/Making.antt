@@ -28,6 +28,7 @@ use Rattle.tzif.specs.declared.local.Answer.the-variants as A
 use Rattle.tzif.specs.Reply as Z
 use Rattle.verdict.specs.Edge.{sameZ}
 use Rattle.zones.specs.{Lent.{Outcome}, declared.lookup.Zones.{Zones}}
+use Rattle.verdict.proofs.Compared.{same-eq}
 
 -- ---- stamped: what it was made of
 abbrev slipWith : Outcome Zones → List Hour → Hour → List ℕ → Slip
@@ -120,12 +121,6 @@ meant request map atlas zones n room size e k =
     record { fix = a .0; asked = a .1; holds = k (a .0) (a .2) }
 
 -- ---- the matches
-same-eq : (a b : ℤ) → sameZ a b ≡ true → a ≡ b
-same-eq (pos a) (pos b) e = let p = both (leb a b) (leb b a) e in ap pos (omega (arith, leb-true a b (p .0), leb-true b a (p .1)))
-same-eq (pos a) (negsuc b) e = let z : _≡_ {A = ℕ} 0 1 = cc in absurd (omega arith)
-same-eq (negsuc a) (pos b) e = let z : _≡_ {A = ℕ} 0 1 = cc in absurd (omega arith)
-same-eq (negsuc a) (negsuc b) e = let p = both (leb b a) (leb a b) e in ap negsuc (omega (arith, leb-true b a (p .0), leb-true a b (p .1)))
-
 -- an hour that was said, with what it rests on
 pub record Hourly (map : List ℕ) (head : Head) (zones : List ℕ) (instant : ℤ) (match : Hit) (hour : Hour) : Type 0 where
   pub says : Says map head zones instant (hour .offset) match

@@ -1,4 +1,4 @@
--- Names of zones: by the map's type, byte by byte, and compared. Assumes nothing.
+-- Names of zones: by the map's type, and byte by byte. Assumes nothing.
 use Prim.Native.Nat.{ℕ, suc, _+_, _-_, _≤_, _<_}
 use borrow.Author.Tests.{eq-eqb, ne-eqb}
 use lib.{Bits.{bitXor}, Dec.{eqb}, ListN.{length, getD, take, drop, length-append, length-map, length-drop, drop-of-length-le, List·getD-append, List·getD-eq-default}}
@@ -11,6 +11,7 @@ use Rattle.numbers.specs.{Reply.{Reply, given, refused, plain, _>>=_}, declared
 use Rattle.slip.specs.{Hour.{named, nameOf}, Told.{nameIn, toldZone, LiesZone}, declared.name.Zone.{Zone}}
 use Rattle.slip.specs.declared.name.Zone.the-variants as Z
 use Rattle.zones.specs.{Simple.{same, descriptionAt, toldNamed, LiesParts, LiesNamed}, declared.simple.{Parts.{Parts}, Named.{Named}}}
+use Rattle.zones.proofs.simple.Joining.{bytes-length}
 use Rattle.zones.specs.declared.simple.Named.the-variants as N
 
 -- ---- the zone of a match, by how far the code came
@@ -41,10 +42,6 @@ module _ (file : List ℕ) (head : Head) (metadata : ℕ) where
 
 -- ---- its bytes
 module _ (file : List ℕ) (text : Text) (inside : text .start + text .size ≤ length file) where
-  pub bytes-length : length (bytesOf file text) ≡ text .size
-  unfolding bytesOf
-  bytes-length = length-map (take (text .size) (drop (text .start) file)) unmasked ∙ length-take-le (text .size) (drop (text .start) file) (rw length-drop (omega arith))
-
   pub byte-at : (at : ℕ) → at < text .size → bitXor (getD file (text .start + at) 0) 0x80 ≡ getD (bytesOf file text) at 0
   unfolding bytesOf
   byte-at at h =
@@ -71,37 +68,3 @@ module _ (file : List ℕ) (name : Parts) (lies : LiesParts (length file) name) 
 
       pub byte-none : name .two .size ≤ at - name .one .size → 0 ≡ getD (nameIn file name) at 0
       byte-none h = sym (List·getD-eq-default (nameIn file name) 0 (omega (arith, h, past, sym name-length)))
-
--- ---- two lists of bytes, compared one by one
-both-false : (t : Bool) {u : Bool} → u ≡ false → (t && u) ≡ false
-both-false true e = e
-both-false false e = refl
-
-pub lengths-differ : (xs ys : List ℕ) → (length xs ≡ length ys → ⊥) → same xs ys ≡ false
-unfolding same
-lengths-differ [] [] h = absurd (h refl)
-lengths-differ [] (y ∷ ys) h = refl
-lengths-differ (x ∷ xs) [] h = refl
-lengths-differ (x ∷ xs) (y ∷ ys) h = both-false (eqb x y) (lengths-differ xs ys (λ e. h (ap suc e)))
-
-module _ (xs ys : List ℕ) (lengths : length xs ≡ length ys) (i : ℕ) {whole : Bool} (so-far : same (drop i xs) (drop i ys) ≡ whole) where
-  pub all-same : length xs ≤ i → true ≡ whole
-  unfolding same
-  all-same h =
-      let one : drop i xs ≡ [] = drop-of-length-le xs {i = i} h in
-      let two : drop i ys ≡ [] = drop-of-length-le ys {i = i} (omega (arith, lengths, h)) in
-      sym (λ j. same (one j) (two j)) ∙ so-far
-
-  module _ (more : i < length xs) where
-    opened : (eqb (getD xs i 0) (getD ys i 0) && same (drop (i + 1) xs) (drop (i + 1) ys)) ≡ whole
-    unfolding same
-    opened =
-        let first : drop i xs ≡ getD xs i 0 ∷ drop (i + 1) xs = drop-cons xs i 0 more ∙ (λ j. getD xs i 0 ∷ drop (sym (add-one i) j) xs) in
-        let second : drop i ys ≡ getD ys i 0 ∷ drop (i + 1) ys = drop-cons ys i 0 (omega (arith, lengths, more)) ∙ (λ j. getD ys i 0 ∷ drop (sym (add-one i) j) ys) in
-        sym (λ j. same (first j) (second j)) ∙ so-far
-
-    pub differs : (getD xs i 0 ≡ getD ys i 0 → ⊥) → false ≡ whole
-    differs n = simp (ne-eqb _ _ n) at opened
-
-    pub goes-on : getD xs i 0 ≡ getD ys i 0 → same (drop (i + 1) xs) (drop (i + 1) ys) ≡ whole
-    goes-on e = simp (eq-eqb _ _ e) at opened

@@ -14,7 +14,7 @@ use Rattle.header.specs.{Header.{headOf}, declared.header.Head.{Head}}
 use Rattle.line.specs.Put.{far}
 use Rattle.localtime.proofs.Numbered.{footerNumbers, local-time-refusals}
 use Rattle.localtime.specs.Local.{scaleAt, answerAt, localTimeBy}
-use Rattle.numbers.proofs.{Refusals.{Listed, oneOf}, Replies.{NumberedReply, answers, refuses, then-reply, and-then, demands}, Tests.{both, differ}}
+use Rattle.numbers.proofs.{Refusals.{Listed, listed-so}, Replies.{NumberedReply, answers, refuses, then-reply, then-with, and-then, demands}, Tests.{both, differ}}
 use Rattle.numbers.specs.{Reply.{Reply, given, refused, refusal, plain, _>>=_}, declared.refusal.Refusal.{Refusal}}
 use Rattle.request.proofs.Refusing.{fiveNumbers, request-told}
 use Rattle.request.specs.declared.read.Fix.{Fix}
@@ -24,24 +24,11 @@ use Rattle.table.specs.declared.{hits.Hit.{Hit}, location.Location.{Location}}
 use Rattle.tzif.specs.{Header.{rfc9636}, Local.{lent}, Text.{slice}, declared.local.Answer.{Answer}}
 use Rattle.tzif.specs.declared.local.Answer.the-variants as A
 use Rattle.tzif.specs.Reply as Z
-use Rattle.zones.proofs.NumberedLookup.{lookupNumbers, Known, then-with, described-at, lookup-refusals}
+use Rattle.zones.proofs.NumberedLookup.{lookupNumbers, Known, described-at, lookup-refusals}
 use Rattle.zones.specs.{Lookup.{zonesWith, zonesIn, lookedUp}, declared.lookup.Zones.{Zones}}
 use Rattle.zones.specs.Lent as L
 
 -- ---- lists of numbers
--- every number of a list passes a test
-abbrev all : (ℕ → Bool) → List ℕ → Bool
-all test [] = true
-all test (m ∷ ms) = test m && all test ms
-
-listed-so : (test : ℕ → Bool) (ms : List ℕ) (n : ℕ) → all test ms ≡ true → Listed ms n → test n ≡ true
-listed-so test [] n a h = differ h
-listed-so test (m ∷ ms) n a h = go (eqb n m) refl h (listed-so test ms n (both (test m) (all test ms) a .1))
-  where
-    go : (t : Bool) → eqb n m ≡ t → (t || oneOf ms n) ≡ true → (Listed ms n → test n ≡ true) → test n ≡ true
-    go true e h later = ap test (eqb-true n m e) ∙ both (test m) (all test ms) a .0
-    go false e h later = later h
-
 -- by each refusal that it can be
 by-refusal : {A : Type 0} {P : ℕ → Type 0} (reply : Reply A) → ((why : Refusal) → refused why ≡ reply → P (why .number)) → NumberedReply P reply
 by-refusal (given a) k = answers

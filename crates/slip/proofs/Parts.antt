@@ -12,6 +12,7 @@ use Rattle.line.specs.Clock.{spanText, offsetText, shown}
 use Rattle.slip.specs.{Line.{between, shownText}, Told.{nameIn}}
 use Rattle.tzif.specs.Text.{slice}
 use Rattle.zones.specs.declared.simple.Parts.{Parts}
+use Rattle.line.proofs.Signs.{is-negative, not-negative}
 
 -- from a start to an end is so many from the start on
 pub part-slice : (xs : List ℕ) (start size : ℕ) → take (start + size - start) (drop start xs) ≡ slice xs start size
@@ -36,25 +37,11 @@ between-more zero h = absurd (h refl)
 between-more (suc i) h = refl
 
 -- ---- the text of an offset, by its bits
-negative : (z : ℤ) → SFits w32 z → ltZ z (pos 0) ≡ true → 45 ∷ spanText (2 ^ 32 - ofZ w32 z) ≡ offsetText z
-unfolding offsetText
-negative (pos n) fits e = absurd (omega (arith, ltb-true n 0 e))
-negative (negsuc k) fits e = ap (λ (n : ℕ). 45 ∷ spanText n) (let s : 2 ^ 32 - (2 ^ 32 - suc k) ≡ suc k = omega (arith, fits .sfits) in s)
-
-other : (z : ℤ) → ltZ z (pos 0) ≡ false → 43 ∷ spanText (ofZ w32 z) ≡ offsetText z
-unfolding offsetText
-other (pos n) e = refl
-other (negsuc k) e = let z : _≡_ {A = ℕ} 0 1 = cc in absurd (omega arith)
-
 module _ (z : ℤ) (fits : SFits w32 z) {bits : ℕ} (e : bits ≡ ofZ w32 z) where
-  pub few-bits : bits ≤ 2 ^ 32
-  few-bits = omega (arith, e, ofZ-fits w32 z fits .fits)
-
-  same : toZ w32 (ofZ w32 z) ≡ z
-  same = toZ-ofZ w32 z fits
-
   pub below-zero : ltZ (toZ w32 (ofZ w32 z)) (pos 0) ≡ true → 45 ∷ spanText (2 ^ 32 - bits) ≡ offsetText z
-  below-zero t = ap (λ (b : ℕ). 45 ∷ spanText (2 ^ 32 - b)) e ∙ negative z fits (rw same at t)
+  unfolding offsetText
+  below-zero t = let n = is-negative z fits e t in ap (λ (k : ℕ). 45 ∷ spanText k) (n .size) ∙ ap offsetText (n .is)
 
   pub from-zero : ltZ (toZ w32 (ofZ w32 z)) (pos 0) ≡ false → 43 ∷ spanText bits ≡ offsetText z
-  from-zero t = ap (λ (b : ℕ). 43 ∷ spanText b) e ∙ other z (rw same at t)
+  unfolding offsetText
+  from-zero t = ap offsetText (not-negative z fits e t)

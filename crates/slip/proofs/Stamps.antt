@@ -15,15 +15,6 @@ use Rattle.slip.specs.{Told.{hourAt, Seen, Inked, Ink, inkOf, slipWith, 
 use Rattle.table.{proofs.Agreeing.{agree-given, agree-refused, gave, refused-so}, specs.{inner.Agreeing.{Agrees}, Hits.{words, slots}, declared.hits.Hit.{Hit}}}
 use Rattle.zones.{proofs.Lent.{Lent}, specs.{Lent.{Outcome}, declared.lookup.Zones.{Zones}}}
 
--- a test that was turned round
-pub true-of : (test : Bool) → not test ≡ false → test ≡ true
-true-of true e = refl
-true-of false e = let z : _≡_ {A = ℕ} 0 1 = cc in absurd (omega arith)
-
-pub false-of : (test : Bool) → not test ≡ true → test ≡ false
-false-of true e = let z : _≡_ {A = ℕ} 0 1 = cc in absurd (omega arith)
-false-of false e = refl
-
 -- an hour for each match
 pub as-many : (map : List ℕ) (head : Head) (zones : List ℕ) (instant : ℤ) (number : ℕ) (matches : List Hit) {hs : List Hour} → given hs ≡ hoursFrom map head zones instant number matches → length hs ≡ length matches
 unfolding hoursFrom

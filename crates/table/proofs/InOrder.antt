@@ -14,6 +14,7 @@ use Rattle.table.specs.Ordered.{lowest, Ordered, ends, next, followedAt,
 use Rattle.table.specs.{Rest.{restMark}, Rows.{Rows, row}, Search.{Found, ended, afterTurn, judgedTurn, rowTurn, seek, judgeIn}, Table.{isAbove, holds}}
 use Rattle.table.specs.{Unstopped.{seekAll}, declared.{hits.Hit.{Hit}, rows.Row.{Row}, search.Turn.{the-variants.{On, Met, Stopped, Refused}, Turn}}}
 use Rattle.header.specs.declared.header.Head.{Head}
+use Rattle.verdict.proofs.Gliding.{less-le-less}
 use Rattle.verdict.specs.Verdict as J
 use Rattle.numbers.specs.Reply as R
 
@@ -26,22 +27,13 @@ turn-alike room go go′ same (Stopped mark least) hits = refl
 turn-alike room go go′ same (Refused n) hits = refl
 
 -- ---- an early stop
-pub rises : (x a b : ℤ) → ltZ x a ≡ true → leZ a b ≡ true → ltZ x b ≡ true
-rises (pos x) (pos a) (pos b) h k = lt-ltb x b (omega (arith, ltb-true x a h, leb-true a b k))
-rises (pos x) (pos a) (negsuc b) h k = differ k
-rises (pos x) (negsuc a) b h k = differ h
-rises (negsuc x) (pos a) (pos b) h k = refl
-rises (negsuc x) (pos a) (negsuc b) h k = differ k
-rises (negsuc x) (negsuc a) (pos b) h k = refl
-rises (negsuc x) (negsuc a) (negsuc b) h k = lt-ltb b x (omega (arith, ltb-true a x h, leb-true b a k))
-
 module _ (end : ℕ) (fix : Point) where
   -- rows in order whose floor is above the location
   rest-clear : {floor : ℤ} {rows : Rows} → ltZ (fix .lat .0) floor ≡ true → Ordered end floor rows → restMark end fix rows ≡ 1
   unfolding restMark
   rest-clear up ends = refl
   rest-clear {floor} up (next {r = r} h within later) =
-      let above = rises (fix .lat .0) floor (lowest r) up h in
+      let above = less-le-less (fix .lat .0) floor (lowest r) up h in
       rw (within, not-held (r .bounds) fix above) (rest-clear above later)
 
   stop-clear : {floor : ℤ} {r : Row} {rows : Rows} → Ordered end floor (row r rows) → isAbove (r .bounds) fix ≡ true → restMark end fix (row r rows) ≡ 1

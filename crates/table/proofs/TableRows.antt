@@ -8,19 +8,8 @@ use Rattle.numbers.proofs.{Answers.{All, then-all}, Laws.{Read}, Readings.{read
 use Rattle.numbers.specs.{Answer.{Answer, found, if_then_else_, _>>=_}, Varint.{Numeral, readingOf}}
 use Rattle.table.specs.{Rows.{after, Rows, row, tableEnd, unreadable, refused, rowsThen, rowBy, rowsWithin, rowsFrom}, Table.{stepsBy, entryBy}}
 use Rattle.table.specs.declared.{rows.{Cursor.{Cursor}, Row.{Row}}, table.Entry.{Entry}}
+use Rattle.numbers.proofs.Readings.{Grows}
 use Rattle.numbers.specs.Answer as A
-
--- a reading whose numbers end after their place
-abbrev pub Grows : (ℕ → Answer Numeral) → Type 0
-Grows read = (place : ℕ) → All (λ (number : Numeral). place < number .place) (read place)
-
-pub reading-grows : (strict : Bool) (file : List ℕ) → Grows (readingOf strict file)
-reading-grows strict file place = go (readingOf strict file place) (reading-read strict file place)
-  where
-    go : (answer : Answer Numeral) → All (λ (number : Numeral). Read file place (number .value) (number .place)) answer → All (λ (number : Numeral). place < number .place) answer
-    go (found number) h = h .grows
-    go A.failed h = tt
-    go (A.refused n) h = tt
 
 less : {place next end n : ℕ} → place < next → place < end → end - place < suc n → end - next < n
 less h k l = omega arith

@@ -5,6 +5,7 @@ use lib.Seq.{length-take-le, drop-cons, take-suc, set-at, append-snoc, take-leng
 use mathlib.Core.{List.{List, [], _∷_, _++_, append-nil}, Path.{_≡_, refl, sym, ap, _∙_}}
 use native.Mathlib.{Numerals.{add-one}, Omega.{arith}}
 use Rattle.numbers.specs.Lists.{zeros, padded}
+use Rattle.numbers.proofs.Lists.{wider-at}
 
 -- what stands after i octets
 abbrev pub over : ℕ → List ℕ → List ℕ → List ℕ
@@ -36,16 +37,6 @@ module _ (n : ℕ) (name : List ℕ) (fits : length name ≤ n) where
   pub padded-length : length (padded n name) ≡ n
   padded-length = simp (length-append, length-replicate) (omega arith)
 
-zeros-at : (m i : ℕ) → getD (zeros m) i 0 ≡ 0
-zeros-at zero i = refl
-zeros-at (suc m) zero = refl
-zeros-at (suc m) (suc i) = zeros-at m i
-
-zeros-behind : (name : List ℕ) (m i : ℕ) → getD (name ++ zeros m) i 0 ≡ getD name i 0
-zeros-behind [] m i = zeros-at m i
-zeros-behind (x ∷ name) m zero = refl
-zeros-behind (x ∷ name) m (suc i) = zeros-behind name m i
-
 -- where the loop stands at an octet
 pub record Lending (name text₀ text : List ℕ) (i : ℕ) : Type 0 where
   pub within : i ≤ length text₀
@@ -62,7 +53,7 @@ module _ {name text₀ text : List ℕ} {i : ℕ} (l : Lending name text₀ text
     fits = l .fits;
     stands =
         ap (λ (t : List ℕ). set t i (getD name i 0)) (l .stands)
-        ∙ ap (set (over i (padded (length text₀) name) text₀) i) (sym (zeros-behind name (length text₀ - length name) i))
+        ∙ ap (set (over i (padded (length text₀) name) text₀) i) (sym (wider-at name (length text₀ - length name) i))
         ∙ over-suc (padded (length text₀) name) text₀ (padded-length (length text₀) name (l .fits)) i (omega (arith, lending-length));
   }
 

@@ -52,7 +52,7 @@ pub record ReadBlock (file : List ℕ) (block : Block) : Type 0 where
   pub some : 0 < block .typecnt
   pub passed : Passed file (isFourth rfc9636 (octet file 4)) block
 
-width-of : (file : List ℕ) (wide : Bool) (at : ℕ) → 4 ≤ blockAt file wide at .width
+pub width-of : (file : List ℕ) (wide : Bool) (at : ℕ) → 4 ≤ blockAt file wide at .width
 unfolding blockAt
 width-of file wide at = four-at-least wide
 

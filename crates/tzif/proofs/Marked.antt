@@ -11,6 +11,7 @@ use Rattle.tzif.specs.Header.{rfc9636, begins, isFourth, isVersion, vers
 use Rattle.tzif.specs.{Local.{byTable, lent, localTimeBy, localTime}, Number.{octet, be32, octets, lift}, Part.{checkPart}}
 use Rattle.tzif.specs.{Reply.{Reply, given, refused, refusal, demand, _>>=_, _>>_}, Zone.{readFooter, readLong, readZoneBy, readZone}}
 use Rattle.tzif.specs.declared.{block.Block.{Block}, local.Answer.{Answer}, refusal.Refusal.{Refusal}, zone.Zone.{Zone}}
+use Rattle.tzif.proofs.Goods.{width-of}
 use Rattle.tzif.specs.declared.part.Part.the-variants as P
 
 -- ---- what is said
@@ -109,10 +110,6 @@ block-at file other wide at same = λ i. record {
 begin-of : (file : List ℕ) (wide : Bool) (at : ℕ) → blockAt file wide at .begin ≡ at + 44
 unfolding blockAt
 begin-of file wide at = refl
-
-width-of : (file : List ℕ) (wide : Bool) (at : ℕ) → 4 ≤ blockAt file wide at .width
-unfolding blockAt
-width-of file wide at = four-at-least wide
 
 -- what a reading gives is the block at the place
 read-is : (file : List ℕ) (wide : Bool) (at : ℕ) {block : Block} → readBlock rfc9636 file wide at ≡ given block → blockAt file wide at ≡ block

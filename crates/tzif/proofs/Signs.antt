@@ -8,6 +8,7 @@ use native.Mathlib.Omega.{arith}
 use Rattle.numbers.proofs.Signed.{complement, complement-fits, widens}
 use Rattle.tzif.specs.{Last.{Octets}, Number.{be32, raised, timeAt, signedAt, lift}}
 use Rattle.numbers.specs.Answer.{if_then_else_}
+use Rattle.numbers.proofs.Tests.{both}
 
 -- ---- an instant of the code
 -- -1 less a negative number is what its form lacks of 2 ^ 63 - 1
@@ -54,14 +55,6 @@ module _ (z : ℤ) (h : SFits w64 z) where
   lifted-above e = from-zero e .lifted ∙ ap lift same
 
 -- ---- a time of the file: the form of its signed value, where octets are below 256
-first-of : (a b : Bool) → (a && b) ≡ true → a ≡ true
-first-of true b e = refl
-first-of false b e = e
-
-rest-of : (a b : Bool) → (a && b) ≡ true → b ≡ true
-rest-of true b e = e
-rest-of false b e = let z : _≡_ {A = ℕ} 0 1 = cc in absurd (omega arith)
-
 -- the octets of a file that is written out
 unfoldable pub allOctets : List ℕ → Bool
 allOctets [] = true
@@ -70,8 +63,8 @@ allOctets (x ∷ xs) = ltb x 256 && allOctets xs
 pub octets-of : (file : List ℕ) → allOctets file ≡ true → Octets file
 unfolding Octets allOctets
 octets-of [] e k = omega arith
-octets-of (x ∷ xs) e zero = ltb-true x 256 (first-of (ltb x 256) (allOctets xs) e)
-octets-of (x ∷ xs) e (suc k) = octets-of xs (rest-of (ltb x 256) (allOctets xs) e) k
+octets-of (x ∷ xs) e zero = ltb-true x 256 (both (ltb x 256) (allOctets xs) e .0)
+octets-of (x ∷ xs) e (suc k) = octets-of xs (both (ltb x 256) (allOctets xs) e .1) k
 
 be32-fits : (file : List ℕ) (place : ℕ) → Octets file → be32 file place < 2 ^ 32
 unfolding be32 Octets

@@ -4,12 +4,13 @@ use borrow.Author.Tests.{ltb-true, leb-true, le-leb, lt-leb, eq-eqb, ne-eqb}
 use lib.{Dec.{eqb}, ListN.{length}}
 use mathlib.Core.{Bool.{Bool, true, false}, List.{List}, Path.{_≡_, refl, sym}}
 use native.Mathlib.Omega.{arith}
-use Rattle.tzif.proofs.{Blocks.{first-true}, Rises.{both-given, held}}
+use Rattle.tzif.proofs.{Rises.{both-given, held}}
 use Rattle.tzif.specs.{Block.{endOf}, Header.{rfc9636, checkHeader, readBlock}, Number.{octet}}
 use Rattle.tzif.specs.{Reply.{Reply, given, refused, refusal, demand, _>>=_, _>>_}, inner.Told.{toldBlock, toldFooter, toldZone}}
 use Rattle.numbers.specs.Answer.{if_then_else_}
 use Rattle.tzif.specs.Zone.{stringSize, newlineAt, readFooter, readShort, readLong, readZoneBy}
 use Rattle.tzif.specs.declared.{block.Block.{Block}, header.Reading.{Reading}, refusal.Refusal.{Refusal}, zone.{Footer.{Footer}, Read.{Read}, Zone.{Zone}}}
+use Rattle.numbers.proofs.Tests.{both}
 use Rattle.tzif.specs.declared.header.Reading.the-variants as R
 use Rattle.tzif.specs.declared.zone.Footer.the-variants as F
 use Rattle.tzif.specs.declared.zone.Read.the-variants as Z
@@ -45,7 +46,7 @@ module _ {zoned : Read} {x : Reply Zone} (e : toldZone zoned ≡ x) where
 -- ---- the footer
 pub newline-within : (file : List ℕ) (at : ℕ) → newlineAt file at ≡ true → at < length file
 unfolding newlineAt
-newline-within file at e = ltb-true _ _ (first-true _ _ e)
+newline-within file at e = ltb-true _ _ (both _ _ e .0)
 
 module _ (file : List ℕ) (at : ℕ) where
   pub no-newline : newlineAt file at ≡ false → toldFooter (F.Refused (refusal 58 at)) ≡ readFooter file at

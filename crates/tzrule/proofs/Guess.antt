@@ -7,9 +7,7 @@ use native.Mathlib.Omega.{arith}
 use Rattle.calendar.{specs.{Rules.{dayOf, IsWhen}, declared.rule.When.{When}}, proofs.{Laws.{mean-low, mean-high}, Within.{day-from, day-to}}}
 use Rattle.tzrule.proofs.Latest.{summer-then, summer-if}
 use Rattle.tzrule.specs.{Summer.{changeOf, startOf, endOf, closeOf, IsSummer, IsChange, IsRule, Says}, declared.rule.{Change.{Change}, Rule.{Rule}}}
-
-next : (year : ℕ) → year + 1 ≡ suc year
-next year = omega arith
+use native.Mathlib.Numerals.{add-one}
 
 -- a day of these years has a small number
 pub day-few : (when : When) (year : ℕ) → year ≤ 11000 → IsWhen when → dayOf when year ≤ 4200000
@@ -46,7 +44,7 @@ module _ (rule : Rule) (good : IsRule rule) where
   answered year instant from to e = rw e (says (ltb instant (closeOf rule year)) refl)
     where
       before : instant < startOf rule (suc year)
-      before = rw next at to
+      before = rw add-one at to
 
       says : (b : Bool) → ltb instant (closeOf rule year) ≡ b → Says (IsSummer rule instant) b
       says true t = summer-if rule good year instant from before (ltb-true instant (closeOf rule year) t)
@@ -56,7 +54,7 @@ module _ (rule : Rule) (good : IsRule rule) where
 module _ (rule : Rule) (year : ℕ) {start end : ℕ} (p : end ≡ endOf rule year) (q : start ≡ startOf rule year) where
   pub close-next : {later : ℕ} → end < start → later ≡ endOf rule (year + 1) → later ≡ closeOf rule year
   unfolding closeOf
-  close-next h e = e ∙ ap (endOf rule) (next year) ∙ simp (lt-ltb (endOf rule year) (startOf rule year) (rw (p, q) at h))
+  close-next h e = e ∙ ap (endOf rule) (add-one year) ∙ simp (lt-ltb (endOf rule year) (startOf rule year) (rw (p, q) at h))
 
   pub close-same : start ≤ end → end ≡ closeOf rule year
   unfolding closeOf

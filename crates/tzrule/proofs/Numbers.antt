@@ -7,15 +7,6 @@ use native.Mathlib.Omega.{arith}
 use Rattle.numbers.specs.Answer.{if_then_else_}
 use Rattle.tzrule.specs.Text.{byteAt, isDigit, digitsOf, tens}
 
--- the other answer
-pub was-false : (b : Bool) → not b ≡ true → b ≡ false
-was-false true e = absurd (subst T (sym e) tt)
-was-false false e = refl
-
-pub was-true : (b : Bool) → not b ≡ false → b ≡ true
-was-true true e = refl
-was-true false e = absurd (subst T e tt)
-
 -- past the end there is no byte
 pub past-end : (text : List ℕ) (at : ℕ) → length text ≤ at → byteAt text at ≡ 0
 unfolding byteAt

@@ -4,20 +4,21 @@ use lib.{IntN.{ℤ, pos, negsuc, natAbs, _-ℤ_, pos-ne-negsuc}, Signed.{mag}}
 use lib.Ieee.{Float, nan, inf, fin, binary32, sub, ofInt, toSigned}
 use mathlib.Core.{Bool.{Bool, true, false}, Path.{_≡_, refl, sym, ap, _∙_}, Logic.{inl, inr}}
 use native.Mathlib.{Omega.{arith}}
-use Rattle.verdict.proofs.{Checks.{checked-fits}, CutDifference.{Close, close, wholePart, abs-neg, less-alike, less-unlike, whole-value, negative-value}, Gliding.{within-both}}
+use Rattle.verdict.proofs.{Checks.{checked-fits}, CutDifference.{Close, close, wholePart, less-alike, less-unlike, whole-value, negative-value}, Gliding.{within-both, field-quadrant, gliding-measures}}
 use Rattle.verdict.proofs.Finite.{closest-number}
-use Rattle.verdict.proofs.Beyond.{between-span, nearby-size, far-size, difference-most, abs-mag, mag-abs, in-both, Further, reached}
+use Rattle.verdict.proofs.Beyond.{between-span, nearby-size, far-size, difference-most, abs-mag, in-both, Further, reached}
 use Rattle.border.specs.declared.place.Point.{Point}
 use Rattle.verdict.specs.{Distance.{toSegment, toVertex, distanceOf, measured}, Edge.{inBox, spotOf, edgeOf, closestOn, cutOf}}
-use Rattle.verdict.specs.{inner.{Gliding.{inSpan, within, nearby, Remote}, Afar.{Reaches, Afar}}, Step.{found}}
+use Rattle.verdict.specs.{inner.{Gliding.{inSpan, aside, within, nearby, Remote, Calm}, Afar.{Reaches, Afar}}, Step.{found}, declared.step.Tally.{Tally}}
 use Rattle.verdict.specs.declared.{edge.Spot.{Spot}, field.{Span.{Span}, Field.{Field}}}
 use Rattle.numbers.specs.{Answer.{if_then_else_}, Float.{toF32, cut32, cut64, _⊟_}}
+use Rattle.numbers.proofs.write.Gaps.{size-neg, mag-size}
 
 -- ---- a float less a whole number, also where it is cut to 0
 
 cut-zero : (s : Bool) (m : ℕ) (e : ℤ) → toSigned 31 (fin s m e) ≡ pos 0 → wholePart m e ≡ 0
 unfolding toSigned
-cut-zero true m e h = let z = sym (abs-neg (min (wholePart m e) (2 ^ 31))) ∙ ap natAbs h in omega (arith, z)
+cut-zero true m e h = let z = sym (size-neg (pos (min (wholePart m e) (2 ^ 31)))) ∙ ap natAbs h in omega (arith, z)
 cut-zero false m e h = let z = ap natAbs h in omega (arith, z)
 
 small-part : (s : Bool) (m : ℕ) (e : ℤ) → wholePart m e ≡ 0 → (z : ℤ) → mag z ≤ 2 ^ 22 → Close (pos 0) z (sub binary32 (fin s m e) (ofInt binary32 z))
@@ -81,9 +82,9 @@ module _ (fix : Point) (field : Field) (least : ℕ) (afar : Afar fix least fiel
       let y = point-reached (afar .lat-reach) (fix .lat .0) (field .lat) (afar .lat-near) (afar .lat-fix) (to .lat .0) (p .0) (afar .lat-far) in
       let x = point-reached (afar .lon-reach) (fix .lon .0) (field .lon) (afar .lon-near) (afar .lon-fix) (to .lon .0) (p .1) (afar .lon-far) in
       rw (
-        checked-fits 31 (to .lat .0 -ℤ fix .lat .0) (omega (arith, y .most, mag-abs (to .lat .0 -ℤ fix .lat .0))),
+        checked-fits 31 (to .lat .0 -ℤ fix .lat .0) (omega (arith, y .most, mag-size (to .lat .0 -ℤ fix .lat .0))),
         checked-fits 31 (to .lon .0 -ℤ fix .lon .0)
-            (omega (arith, x .most, mag-abs (to .lon .0 -ℤ fix .lon .0))),
+            (omega (arith, x .most, mag-size (to .lon .0 -ℤ fix .lon .0))),
       )
       (reached least (afar .lat-reach) (afar .lon-reach) (to .lat .0 -ℤ fix .lat .0) (to .lon .0 -ℤ fix .lon .0) (y .far) (x .far) (y .most) (x .most) (afar .enough))
 
@@ -143,4 +144,15 @@ remote-afar fix least field r =
       lat-far = inr (r .lat-far);
       lon-far = inr (r .lon-far);
       enough = r .enough;
+    }
+
+-- So its edges change nothing.
+pub too-far-to-matter : (fix : Point) (field : Field) (tally : Tally) → Remote fix (tally .least) field → (from to : Point) → within field from ≡ true → within field to ≡ true → measured true fix from to tally ≡ found tally
+too-far-to-matter fix field tally remote from to h k = afar-quiet fix field (tally .least) (remote-afar fix (tally .least) field remote) from to h k (tally .winding)
+
+-- A remote field aside of the fix is calm, with the distance asked for.
+pub remote-calm : (fix : Point) (tally : Tally) (field : Field) → aside fix field ≡ true → Remote fix (tally .least) field → Calm fix true tally field
+remote-calm fix tally field beyond remote =
+    record {
+      keeps = λ from to h k. gliding-measures fix from to (field-quadrant fix field beyond from to h k) true tally ∙ too-far-to-matter fix field tally remote from to h k;
     }

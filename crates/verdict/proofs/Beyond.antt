@@ -12,6 +12,7 @@ use Rattle.verdict.specs.{Distance.{squared, toSegment, toVertex, distan
 use Rattle.verdict.specs.{inner.Gliding.{inSpan, beside, aside, within, farFrom, nearby, Remote, Calm}, Step.{Step, found}}
 use Rattle.verdict.specs.declared.{edge.Spot.{Spot}, field.{Span.{Span}, Field.{Field}}, step.Tally.{Tally}}
 use Rattle.numbers.specs.{Answer.{if_then_else_}, Float.{toF32, cut32, cut64, _⊟_}}
+use Rattle.numbers.proofs.write.Gaps.{size-sum, size-neg}
 
 -- ---- numbers of a span
 
@@ -75,13 +76,8 @@ gap-up (negsuc a) (negsuc b) r h = go (ltb r (suc a)) refl h
         last false e m = omega (arith, m)
     go false e k = differ k
 
-abs-neg : (z : ℤ) → natAbs (negℤ z) ≡ natAbs z
-abs-neg (pos zero) = refl
-abs-neg (pos (suc n)) = refl
-abs-neg (negsuc n) = refl
-
 abs-swap : (a b : ℤ) → natAbs (a -ℤ b) ≡ natAbs (b -ℤ a)
-abs-swap a b = sym (abs-neg (a -ℤ b)) ∙ ap natAbs (negℤ-+ℤ a (negℤ b) ∙ ap (λ (z : ℤ). negℤ a +ℤ z) (negℤ-negℤ b) ∙ +ℤ-comm (negℤ a) b)
+abs-swap a b = sym (size-neg (a -ℤ b)) ∙ ap natAbs (negℤ-+ℤ a (negℤ b) ∙ ap (λ (z : ℤ). negℤ a +ℤ z) (negℤ-negℤ b) ∙ +ℤ-comm (negℤ a) b)
 
 suc-less : (a b : ℤ) → ltZ a b ≡ true → ltZ (sucℤ a) (sucℤ b) ≡ true
 suc-less (pos a) (pos b) h = let z = ltb-true a b h in lt-ltb (suc a) (suc b) (omega (arith, z))
@@ -130,27 +126,11 @@ squared-found y x h k =
     (ap found (mod-eq-of-lt (omega (arith, p, q))))
 
 pub difference-most : (a b : ℤ) → natAbs (a -ℤ b) ≤ natAbs a + natAbs b
-difference-most a (pos zero) = let z = ap natAbs (+ℤ-idr a) in omega (arith, z)
-difference-most (pos a) (pos (suc b)) = go (ltb a (suc b))
-  where
-    go : (t : Bool) → natAbs (cond t (negsuc (suc b - suc a)) (pos (a - suc b))) ≤ a + suc b
-    go true = omega arith
-    go false = omega arith
-difference-most (negsuc a) (pos (suc b)) = omega arith
-difference-most (pos a) (negsuc b) = omega arith
-difference-most (negsuc a) (negsuc b) = go (ltb (suc b) (suc a))
-  where
-    go : (t : Bool) → natAbs (cond t (negsuc (suc a - suc (suc b))) (pos (suc b - suc a))) ≤ suc a + suc b
-    go true = omega arith
-    go false = omega arith
+difference-most a b = omega (arith, size-sum a (negℤ b), size-neg b)
 
 pub abs-mag : (z : ℤ) → natAbs z ≤ suc (mag z)
 abs-mag (pos n) = omega arith
 abs-mag (negsuc n) = omega arith
-
-pub mag-abs : (z : ℤ) → mag z ≤ natAbs z
-mag-abs (pos n) = omega arith
-mag-abs (negsuc n) = omega arith
 
 -- ---- the distance
 
@@ -169,60 +149,3 @@ reached least r q y x a b h k e =
     let u = mul-le-mul a a in
     let v = mul-le-mul b b in
     record { value = natAbs y * natAbs y + 4 * (natAbs x * natAbs x); is = squared-found y x h k; further = omega (arith, u, v, e) }
-
-module _ (fix : Point) (field : Field) (least : ℕ) (remote : Remote fix least field) where
-  to-vertex-far : (to : Point) → within field to ≡ true → Further least (toVertex to fix)
-  unfolding toVertex
-  to-vertex-far to h =
-      let p = within-both field to h in
-      let y = nearby-size (field .lat) (to .lat .0) (remote .lat-near) (p .0) in
-      let x = nearby-size (field .lon) (to .lon .0) (remote .lon-near) (p .1) in
-      let dy = difference-most (to .lat .0) (fix .lat .0) in
-      let dx = difference-most (to .lon .0) (fix .lon .0) in
-      let my : natAbs (to .lat .0 -ℤ fix .lat .0) ≤ 2 ^ 24 = omega (arith, y, dy, abs-mag (to .lat .0), abs-mag (fix .lat .0), remote .lat-fix) in
-      let mx : natAbs (to .lon .0 -ℤ fix .lon .0) ≤ 2 ^ 24 = omega (arith, x, dx, abs-mag (to .lon .0), abs-mag (fix .lon .0), remote .lon-fix) in
-      rw (checked-fits 31 (to .lat .0 -ℤ fix .lat .0) (omega (arith, my, mag-abs (to .lat .0 -ℤ fix .lat .0))), checked-fits 31 (to .lon .0 -ℤ fix .lon .0) (omega (arith, mx, mag-abs (to .lon .0 -ℤ fix .lon .0))))
-      (reached least (remote .lat-reach) (remote .lon-reach) (to .lat .0 -ℤ fix .lat .0) (to .lon .0 -ℤ fix .lon .0)
-      (let z = far-size (remote .lat-reach) (fix .lat .0) (field .lat) (to .lat .0) (remote .lat-far) (p .0) in omega (arith, z))
-      (let z = far-size (remote .lon-reach) (fix .lon .0) (field .lon) (to .lon .0) (remote .lon-far) (p .1) in omega (arith, z))
-      my mx (remote .enough))
-
-  to-segment-far : (near : Spot) → inSpan (field .lat) (cut32 (near .lat)) ≡ true → inSpan (field .lon) (cut32 (near .lon)) ≡ true → Further least (toSegment near (spotOf fix))
-  unfolding toSegment
-  to-segment-far near h k =
-      let y = close (near .lat) (cut32 (near .lat)) (fix .lat .0) refl (not-zero (field .lat) (cut32 (near .lat)) (remote .lat-sign) h) (nearby-size (field .lat) (cut32 (near .lat)) (remote .lat-near) h) (remote .lat-fix) in
-      let x = close (near .lon) (cut32 (near .lon)) (fix .lon .0) refl (not-zero (field .lon) (cut32 (near .lon)) (remote .lon-sign) k) (nearby-size (field .lon) (cut32 (near .lon)) (remote .lon-near) k) (remote .lon-fix) in
-      let fy = far-size (remote .lat-reach) (fix .lat .0) (field .lat) (cut32 (near .lat)) (remote .lat-far) h in
-      let fx = far-size (remote .lon-reach) (fix .lon .0) (field .lon) (cut32 (near .lon)) (remote .lon-far) k in
-      reached least (remote .lat-reach) (remote .lon-reach) (cut64 (near .lat ⊟ toF32 (fix .lat .0))) (cut64 (near .lon ⊟ toF32 (fix .lon .0)))
-      (omega (arith, fy, y .least)) (omega (arith, fx, x .least)) (y .most) (x .most) (remote .enough)
-
-  -- An edge in a remote field is not nearer than the least distance so far.
-  too-far : (from to : Point) → within field from ≡ true → within field to ≡ true → Further least (distanceOf fix from to)
-  unfolding distanceOf
-  too-far from to h k = by (inBox to (cutOf near) from) refl
-    where
-      near : Spot
-      near = closestOn (edgeOf from to) (spotOf fix)
-
-      by : (t : Bool) → inBox to (cutOf near) from ≡ t → Further least (if t then toSegment near (spotOf fix) else toVertex to fix)
-      by true e =
-          let p = within-both field from h in
-          let q = within-both field to k in
-          let b = in-both to (cutOf near) from e in
-          to-segment-far near (between-span (field .lat) (to .lat .0) (cut32 (near .lat)) (from .lat .0) (q .0) (p .0) (b .0)) (between-span (field .lon) (to .lon .0) (cut32 (near .lon)) (from .lon .0) (q .1) (p .1) (b .1))
-      by false e = to-vertex-far to k
-
--- So it changes nothing.
-pub too-far-to-matter : (fix : Point) (field : Field) (tally : Tally) → Remote fix (tally .least) field → (from to : Point) → within field from ≡ true → within field to ≡ true → measured true fix from to tally ≡ found tally
-unfolding measured
-too-far-to-matter fix field tally remote from to h k =
-    let f = too-far fix field (tally .least) remote from to h k in
-    rw (f .is) (ap (λ (n : ℕ). found (record { winding = tally .winding; least = n })) (omega (arith, f .further)))
-
--- A remote field aside of the fix is calm, with the distance asked for.
-pub remote-calm : (fix : Point) (tally : Tally) (field : Field) → aside fix field ≡ true → Remote fix (tally .least) field → Calm fix true tally field
-remote-calm fix tally field beyond remote =
-    record {
-      keeps = λ from to h k. gliding-measures fix from to (field-quadrant fix field beyond from to h k) true tally ∙ too-far-to-matter fix field tally remote from to h k;
-    }

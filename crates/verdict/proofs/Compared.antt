@@ -11,11 +11,11 @@ use Rattle.numbers.proofs.Tests.{both}
 
 -- ---- equality
 
-same-self : (a : ℤ) → sameZ a a ≡ true
+pub same-self : (a : ℤ) → sameZ a a ≡ true
 same-self (pos n) = rw (le-leb n n (le-refl n))
 same-self (negsuc n) = rw (le-leb n n (le-refl n))
 
-same-eq : (a b : ℤ) → sameZ a b ≡ true → a ≡ b
+pub same-eq : (a b : ℤ) → sameZ a b ≡ true → a ≡ b
 same-eq (pos a) (pos b) e = let p = both (leb a b) (leb b a) e in ap pos (omega (arith, leb-true a b (p .0), leb-true b a (p .1)))
 same-eq (pos a) (negsuc b) e = differ e
 same-eq (negsuc a) (pos b) e = differ e

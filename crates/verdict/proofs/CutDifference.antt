@@ -7,6 +7,8 @@ use lib.{Dec.{T, ltb, eqb, lit<, ltb→lt, eqb→eq}, IntN.{ℤ, pos, negsuc, ne
 use lib.Ieee.{Float, nan, inf, fin, Format, binary32, prec, low, emax, up, down, odd, units, round, sum, add, sub, neg, ofInt, toSigned, le, Back.{round-whole}}
 use lib.Ieee.{Exact.{HasValue}, Fits.{round-is, down-pos, and-l}, Nearest.{div-mono}, Order.{round-mono}, Positive.{positive-of-value, values-of-le, above, above-of-le}}
 use borrow.Author.Tests.{ltb-true, ltb-false}
+use Rattle.numbers.proofs.write.Gaps.{size-neg}
+use mathlib.Core.Bool.{Bool·not-not}
 
 -- ---- the sign of a rounded fraction
 
@@ -36,18 +38,14 @@ round-signed s a d = round-is binary32 s a d ∙ units-signed binary32 s _ _ ∙
 abbrev pub sizeOf : Float → ℕ
 sizeOf x = natAbs (toSigned 63 x)
 
-pub abs-neg : (n : ℕ) → natAbs (negℤ (pos n)) ≡ n
-abs-neg zero = refl
-abs-neg (suc n) = refl
-
 fin-size : (s : Bool) (m : ℕ) (e : ℤ) → m * up e / down e ≤ 2 ^ 25 → sizeOf (fin s m e) ≡ m * up e / down e
 unfolding toSigned
-fin-size true m e h = abs-neg (min (m * up e / down e) (2 ^ 63)) ∙ omega (arith, h)
+fin-size true m e h = size-neg (pos (min (m * up e / down e) (2 ^ 63))) ∙ omega (arith, h)
 fin-size false m e h = omega (arith, h)
 
 fin-least : (s : Bool) (m : ℕ) (e : ℤ) (n : ℕ) → n ≤ 2 ^ 24 → n ≤ m * up e / down e → n ≤ sizeOf (fin s m e)
 unfolding toSigned
-fin-least true m e n h k = subst (λ (z : ℕ). n ≤ z) (sym (abs-neg (min (m * up e / down e) (2 ^ 63)))) (omega (arith, h, k))
+fin-least true m e n h k = subst (λ (z : ℕ). n ≤ z) (sym (size-neg (pos (min (m * up e / down e) (2 ^ 63))))) (omega (arith, h, k))
 fin-least false m e n h k = omega (arith, h, k)
 
 inf-least : (s : Bool) (n : ℕ) → n ≤ 2 ^ 24 → n ≤ sizeOf (inf s)
@@ -159,10 +157,6 @@ apart-pos p n k h g = go (ltb (suc n) (suc p)) refl
     go true e = omega (arith, h, g, ltb-true (suc n) (suc p) e)
     go false e = omega (arith, h, g, ltb-false (suc n) (suc p) e)
 
-not-not : (s : Bool) → not (not s) ≡ s
-not-not true = refl
-not-not false = refl
-
 -- sums of two signs, and of one
 pub record Unlike (q n : ℕ) (y : Float) : Type 0 where
   pub above : q - n ≤ sizeOf y
@@ -217,7 +211,7 @@ module _ (s : Bool) (m : ℕ) (e : ℤ) (n : ℕ) (small : suc (wholePart m e) +
   less-alike nan v = absurd v
   less-alike (inf t) v = absurd v
   less-alike (fin t k d) v =
-      rw (v .0, not-not s, at-denominator (down d) (k * up d) (sym (mul-one (k * up d)) ∙ v .1))
+      rw (v .0, Bool·not-not s, at-denominator (down d) (k * up d) (sym (mul-one (k * up d)) ∙ v .1))
       (sum-alike q n (m * up e * down d) (down e * down d) (mul-pos (down-pos e) (down-pos d)) (whole-least (down d)) (whole-most (down d)) small s)
 
 -- ---- the theorem for one coordinate
@@ -270,7 +264,7 @@ cut-positive false m e q k h = let z = ap natAbs h in (refl, omega (arith, z, k)
 cut-negative : (s : Bool) (m : ℕ) (e : ℤ) (p : ℕ) → p < 2 ^ 22 → toSigned 31 (fin s m e) ≡ negsuc p → (s ≡ true) × (wholePart m e ≡ suc p)
 unfolding toSigned
 cut-negative false m e p k h = absurd (pos-ne-negsuc _ p h)
-cut-negative true m e p k h = let z = sym (abs-neg (min (wholePart m e) (2 ^ 31))) ∙ ap natAbs h in (refl, omega (arith, z, k))
+cut-negative true m e p k h = let z = sym (size-neg (pos (min (wholePart m e) (2 ^ 31)))) ∙ ap natAbs h in (refl, omega (arith, z, k))
 
 -- A float whose cut is c, not 0 and at most 2 ^ 22 in size, less a whole number of at most that size: what is cut of the difference is at most one nearer to 0 than the difference of c. It is no NaN and no infinity.
 pub close : (x : Float) (c z : ℤ) → toSigned 31 x ≡ c → (c ≡ pos 0 → ⊥) → mag c < 2 ^ 22 → mag z ≤ 2 ^ 22 → Close c z (sub binary32 x (ofInt binary32 z))

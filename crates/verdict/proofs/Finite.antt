@@ -11,6 +11,7 @@ use Rattle.numbers.specs.{Answer.{if_then_else_}, Float.{toF32, _⊞_, _⊟_, _
 use Rattle.border.specs.declared.place.Point.{Point}
 use Rattle.verdict.specs.{Edge.{sameZ, spotOf, slopeOf, edgeOf, closestOn}, declared.edge.{Spot.{Spot}, Slope.{Slope}, Edge.{the-variants.{Sloped, EqualLongitude, EqualLatitude}}}}
 use Rattle.verdict.proofs.CutDifference.{withSign, round-signed, lt-or-eq, whole-value, negative-value}
+use mathlib.Core.Bool.{Bool·not-not}
 
 -- ---- sizes of floats
 
@@ -134,10 +135,6 @@ round-big s a d D h =
     subst Big (sym (round-signed s a d))
     (at-least-one (round binary32 false 1 1) (round binary32 false a d) (round-whole binary32 false 1 (omega arith)) (round-mono binary32 1 1 a d (lit< tt) D (omega (arith, h))) s)
 
-cond-big : (t : Bool) (x y : Float) → Big x → Big y → Big (cond t x y)
-cond-big true x y h g = h
-cond-big false x y h g = g
-
 -- what is not below 0, and one
 plus-one-big : (x : Float) → x ≡ withSign false x → Big (add binary32 x (fin false 1 (pos 0)))
 unfolding add sum
@@ -206,10 +203,6 @@ module _ (p q c : ℕ) (C : 0 < c) where
       signs true = round-big true (p * c + q * c) c C enough
       signs false = round-big false (p * c + q * c) c C enough
 
-not-not : (s : Bool) → not (not s) ≡ s
-not-not true = refl
-not-not false = refl
-
 at-denominator : (m : ℕ) (e d : ℤ) (p : ℕ) → m * up e * 1 ≡ p * down e → m * up e * down d ≡ p * (down e * down d)
 at-denominator m e d p h = ap (λ (x : ℕ). x * down d) (sym (mul-one (m * up e)) ∙ h) ∙ mul-assoc p (down e) (down d)
 
@@ -231,7 +224,7 @@ less-other-big (inf t) y s p q v w n = absurd v
 less-other-big (fin t m e) nan s p q v w n = absurd w
 less-other-big (fin t m e) (inf u) s p q v w n = absurd w
 less-other-big (fin t m e) (fin u k d) s p q v w n =
-    rw (v .0, w .0, not-not s, at-denominator m e d p (v .1), at-other k e d q (w .1)) (together-big p q (down e * down d) (mul-pos (down-pos e) (down-pos d)) s n)
+    rw (v .0, w .0, Bool·not-not s, at-denominator m e d p (v .1), at-other k e d q (w .1)) (together-big p q (down e * down d) (mul-pos (down-pos e) (down-pos d)) s n)
 
 -- ---- whole numbers
 

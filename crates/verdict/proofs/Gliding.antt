@@ -20,6 +20,7 @@ use Rattle.verdict.specs.declared.{field.{Span.{Span}, Field.{Field}}, s
 use Rattle.numbers.specs.{Answer.{found, checked, if_then_else_}, Point.{signedOf, pointOf}, Varint.{Numeral, numeral, readingOf, backwardAt}}
 use Rattle.numbers.specs.declared.point.RawPoint.{RawPoint}
 use Rattle.numbers.proofs.{Answers.{All}, Laws.{Read, Before, backward-read}, Readings.{reading-read}}
+use mathlib.Core.Bool.{or-true}
 use Rattle.verdict.specs.Step as S
 
 -- ---- the order of whole numbers
@@ -127,13 +128,9 @@ module _ (fix from to : Point) (inside : inOneQuadrant fix from to ≡ true) whe
 
 -- ---- fields
 
-le-self : (x : ℤ) → leZ x x ≡ true
+pub le-self : (x : ℤ) → leZ x x ≡ true
 le-self (pos n) = le-leb n n (le-refl n)
 le-self (negsuc n) = le-leb n n (le-refl n)
-
-pub or-true : (t : Bool) → (t || true) ≡ true
-or-true true = refl
-or-true false = refl
 
 -- the numbers above x, and those below
 pub beside-above : (x high : ℤ) → beside x (record { low = x; high = high }) ≡ true

@@ -11,6 +11,7 @@ use Rattle.verdict.specs.{Step.{found, checked}, Edge.{quadrantOf}}
 use Rattle.border.specs.declared.place.Point.{Point}
 use Rattle.numbers.proofs.Tests.{differ}
 use Rattle.verdict.proofs.Checks.{checked-fits}
+use Rattle.numbers.proofs.Signed.{mag-cond}
 
 abbrev least : ℤ
 least = negsuc 2147483647
@@ -20,12 +21,8 @@ below : (n : ℕ) (t : Bool) → ltb n 2147483647 ≡ t → n < 2 ^ 31 → (negs
 below n true e h = inr (omega (arith, ltb-true n 2147483647 e))
 below n false e h = inl (ap negsuc (omega (arith, ltb-false n 2147483647 e)))
 
-either-small : (t : Bool) (a b : ℕ) → a < 2 ^ 31 → b < 2 ^ 31 → mag (cond t (negsuc a) (pos b)) < 2 ^ 31
-either-small true a b h g = h
-either-small false a b h g = g
-
 before-fits : (z : ℤ) → SFits w32 z → (z ≡ least) ⊎ (mag (z -ℤ pos 1) < 2 ^ 31)
-before-fits (pos n) h = inr (let x : n < 2 ^ 31 = h .sfits in either-small (ltb n 1) (1 - suc n) (n - 1) (omega arith) (omega arith))
+before-fits (pos n) h = inr (let x : n < 2 ^ 31 = h .sfits in mag-cond (ltb n 1) (1 - suc n) (n - 1) (2 ^ 31) (omega arith) (omega arith))
 before-fits (negsuc n) h = below n (ltb n 2147483647) refl (h .sfits)
 
 least-le : (z : ℤ) → SFits w32 z → leZ least z ≡ true

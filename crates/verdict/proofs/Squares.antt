@@ -5,7 +5,7 @@ use mathlib.Core.{Path.{_≡_, refl, sym, ap, _∙_}, Bool.{Bool, true, false, _
 use lib.{Dec.{T, ltb, leb, lit<, lit≤}, IntN.{ℤ, pos, negsuc, natAbs, _*ℤ_}, Signed.{mag, leZ, nonNeg}}
 use borrow.Author.Tests.{leb-true, leb-false, lt-ltb, le-ltb}
 use mir.{Syntax.{w32}, Val.{SFits}}
-use Rattle.border.proofs.Signs.{and-true}
+use mathlib.Core.Bool.{and-true}
 
 square-fits : (n : ℕ) → n ≤ 3037000499 → n * n < 2 ^ 63
 square-fits n h = lt-of-le-of-lt (mul-le-mul h h) (lit< tt)

@@ -12,6 +12,7 @@ use Rattle.verdict.specs.{Verdict.{after, along, passing, thenOn, judge}
 use Rattle.verdict.proofs.{AfarField.{afar-quiet}, AfarBox.{holds-parts, afar-box, held-within}, Checks.{checked-fits}}
 use Rattle.verdict.proofs.OutsideBox.{Side, north, west, south, east, leZ-trans, unless, corner, tallied, first, quarters, quarters-led}
 use Rattle.verdict.proofs.OutsideBox.{Beyond, ahead, two-quadrants, no-vertex, not-in-edge-box, on-some-side}
+use Rattle.numbers.proofs.Signed.{mag-cond}
 
 -- ---- one more quarter turn
 
@@ -19,16 +20,12 @@ use Rattle.verdict.proofs.OutsideBox.{Beyond, ahead, two-quadrants, no-
 abbrev pub Roomy : ℤ → Type 0
 Roomy w = mag w < 2147483647
 
-either-small : (t : Bool) (a b n : ℕ) → a < n → b < n → mag (cond t (negsuc a) (pos b)) < n
-either-small true a b n h g = h
-either-small false a b n h g = g
-
 up-fits : (w : ℤ) → Roomy w → mag (w +ℤ pos 1) < 2 ^ 31
 up-fits (pos n) h = omega (arith, h)
-up-fits (negsuc n) h = either-small (ltb 1 (suc n)) (suc n - suc 1) (1 - suc n) (2 ^ 31) (omega (arith, h)) (omega arith)
+up-fits (negsuc n) h = mag-cond (ltb 1 (suc n)) (suc n - suc 1) (1 - suc n) (2 ^ 31) (omega (arith, h)) (omega arith)
 
 down-fits : (w : ℤ) → Roomy w → mag (w +ℤ negsuc 0) < 2 ^ 31
-down-fits (pos n) h = either-small (ltb n 1) (1 - suc n) (n - 1) (2 ^ 31) (omega arith) (omega (arith, h))
+down-fits (pos n) h = mag-cond (ltb n 1) (1 - suc n) (n - 1) (2 ^ 31) (omega arith) (omega (arith, h))
 down-fits (negsuc n) h = omega (arith, h)
 
 roomy-fits : (w : ℤ) → Roomy w → mag w < 2 ^ 31

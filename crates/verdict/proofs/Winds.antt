@@ -8,6 +8,7 @@ use Rattle.border.specs.declared.place.{FixedLon.{FixedLon}, Point.{Point}}
 use Rattle.verdict.specs.{Step.{Step, found, meets, refused, _>>=_, checked}, Edge.{samePoint, straight, inBox, quadrantOf, edgeOf}, Distance.{distanceOf, measured}}
 use Rattle.verdict.specs.{Winding.{turned, quarterBy, halfTurn, turnAt, crossingOf, acrossBy, clearOf, woundBy}, Stretch.{leapt}, Verdict.{after, along, passing}}
 use Rattle.verdict.specs.declared.{edge.Edge.{Edge, the-variants.{Sloped, EqualLongitude, EqualLatitude}}, step.{Tally.{Tally}, Verdict.the-variants.{OnBorderVertex, OnBorderSegment}}}
+use Rattle.numbers.proofs.write.Gaps.{size-sum}
 
 -- what a step finds winds no further than this
 abbrev pub Winds : ℕ → Step Tally → Type 0
@@ -38,26 +39,12 @@ bound-halves (found z) k g = g z
 bound-halves (meets v) k g = tt
 bound-halves (refused i) k g = tt
 
-sum-most : (a b : ℤ) → natAbs (a +ℤ b) ≤ natAbs a + natAbs b
-sum-most (pos a) (pos b) = omega arith
-sum-most (pos a) (negsuc b) = go (ltb a (suc b))
-  where
-    go : (t : Bool) → natAbs (cond t (negsuc (suc b - suc a)) (pos (a - suc b))) ≤ a + suc b
-    go true = omega arith
-    go false = omega arith
-sum-most (negsuc a) (pos b) = go (ltb b (suc a))
-  where
-    go : (t : Bool) → natAbs (cond t (negsuc (suc a - suc b)) (pos (b - suc a))) ≤ suc a + b
-    go true = omega arith
-    go false = omega arith
-sum-most (negsuc a) (negsuc b) = omega arith
-
 turned-winds : (by : ℤ) (t : Tally) → natAbs by ≤ 2 → Winds (natAbs (t .winding) + 2) (turned by t)
 unfolding turned checked
 turned-winds by t h = go (ltb (mag (t .winding +ℤ by)) (2 ^ 31))
   where
     go : (b : Bool) → Winds (natAbs (t .winding) + 2) ((if b then found (t .winding +ℤ by) else refused 13) >>= λ w. found (record { winding = w; least = t .least }))
-    go true = let z = sum-most (t .winding) by in omega (arith, z, h)
+    go true = let z = size-sum (t .winding) by in omega (arith, z, h)
     go false = tt
 
 quarter-winds : (n : ℕ) (t : Tally) → Winds (natAbs (t .winding) + 2) (quarterBy n t)

@@ -4,7 +4,7 @@ use lib.IntN.{pos}
 use Prim.Native.Nat.{ℕ}
 use native.Mathlib.Omega.{arith}
 use Rattle.border.specs.{Place.{pointAt}, declared.place.Point.{Point}}
-use Rattle.verdict.proofs.{Gliding.{gliding-keeps}, Beyond.{too-far-to-matter}}
+use Rattle.verdict.proofs.{Gliding.{gliding-keeps}, AfarField.{too-far-to-matter}}
 use Rattle.verdict.specs.{Distance.{measured}, inner.Gliding.{sameSide, inOneQuadrant, inSpan, beside, within, farFrom, nearby, Remote}, Step.{found}, Verdict.{after, passing}}
 use Rattle.verdict.specs.declared.{field.Field.{Field}, step.Tally.{Tally}}
 

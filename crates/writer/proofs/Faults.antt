@@ -7,8 +7,8 @@ use borrow.Author.Tests.{lt-ltb, le-ltb, le-leb, lt-leb, ltb-true, leb-true, eqb
 use Rattle.numbers.specs.{Reply.{given, refused, refusal, plain, demand, _>>_}, declared.point.RawPoint.{RawPoint}}
 use Rattle.writer.specs.{Moves.{movesOf, isMove}, Writer.{every, near, sized, checks}, inner.Stored.{moveAt}}
 use Rattle.numbers.proofs.Tests.{both}
-use Rattle.border.proofs.Signs.{and-true}
 use Rattle.writer.proofs.Indexed.{moves-next}
+use mathlib.Core.Bool.{and-true}
 
 -- what a border of good size has
 pub record Sizes (lats lons : List ℤ) : Type 0 where

@@ -7,11 +7,11 @@ use Rattle.numbers.{specs.{declared.point.RawPoint.{RawPoint}, Spelling.{signed
 use Rattle.writer.specs.Moves.{plainMoveBytes, packedMoveBytes, packedNumber}
 use Rattle.writer.proofs.Indexed.{each-few, slice-few}
 
-plain-one : (m : RawPoint) → length (plainMoveBytes m) ≤ 20
+pub plain-one : (m : RawPoint) → length (plainMoveBytes m) ≤ 20
 unfolding plainMoveBytes
 plain-one m = simp length-append (omega (arith, varint-few (signedForm (m .lat)), varint-few (signedForm (m .lon))))
 
-packed-one : (m : RawPoint) → length (packedMoveBytes m) ≤ 10
+pub packed-one : (m : RawPoint) → length (packedMoveBytes m) ≤ 10
 unfolding packedMoveBytes
 packed-one m = varint-few (packedNumber m)
 

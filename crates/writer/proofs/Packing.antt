@@ -10,7 +10,7 @@ use Rattle.writer.proofs.{Indexed.{border-length, slice-ends, slice-res
 abbrev pub none : Piece
 none = record { start = 0; bytes = 0; direction = 0; first = 0; count = 0 }
 
-piece-few : (p : Piece) → length (pieceBytes p) ≤ 22
+pub piece-few : (p : Piece) → length (pieceBytes p) ≤ 22
 unfolding pieceBytes
 piece-few p = go (eqb (p .direction) 0)
   where

@@ -21,12 +21,9 @@ use Rattle.border.specs.Written as W
 use Rattle.writer.proofs.{Faults.{sizes}, Indexed.{points-length, moves-length}, Inverse.{Moves, pair-back, packed-back, packed-some, packed-small}}
 use Rattle.numbers.proofs.write.Gaps.{size-sum, size-neg, mag-size}
 use Rattle.numbers.proofs.Replies.{given-one}
+use borrow.Author.Tests.{not-true}
 
 -- ---- from a point to the next
-not-true : (t : Bool) → not t ≡ true → t ≡ false
-not-true true e = differ e
-not-true false e = refl
-
 fits-at : {y : ℤ} (z : ℤ) → y ≡ z → natAbs z < 2 ^ 31 → checked 31 y ≡ found z
 unfolding checked
 fits-at z e h = rw (e, lt-ltb (mag z) (2 ^ 31) (omega (arith, mag-size z)))

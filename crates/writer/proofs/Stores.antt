@@ -5,10 +5,7 @@ use mathlib.Core.{Path.{_≡_, refl, sym, ap, _∙_, subst}, List.{List, [], _�
 use lib.{ListN.{length, set, drop, length-append, length-replicate}, Seq.{sets, length-sets, sets-eq, drop-length}}
 use Rattle.numbers.{specs.{Spelling.{varintOf, Put}, Lists.{zeros}}, proofs.Spelling.{varint-byte}}
 use Rattle.writer.specs.inner.Stored.{Stored}
-
-pub sets-append : (xs ys before : List ℕ) (at : ℕ) → sets before at (xs ++ ys) ≡ sets (sets before at xs) (at + length xs) ys
-sets-append [] ys before at = ap (λ (n : ℕ). sets before n ys) (sym (add-zero at))
-sets-append (x ∷ xs) ys before at = sets-append xs ys (set before at x) (suc at) ∙ ap (λ (n : ℕ). sets (sets (set before at x) (suc at) xs) n ys) (omega arith)
+use Rattle.numbers.proofs.Lists.{sets-append}
 
 pub stored-length : {before bytes after : List ℕ} {at next : ℕ} → Stored before at bytes after next → length after ≡ length before
 stored-length {before} {bytes} {after} {at} s = ap length (s .stored) ∙ length-sets before at bytes

@@ -11,7 +11,7 @@ use Rattle.header.specs.declared.{header.{Head.{Head}, Preamble.{Preamble}, Sec
 use Rattle.numbers.specs.{Answer.{Answer, found, failed, if_then_else_}, Reply.{Reply, given, refused, plain, _>>=_}, Varint.{readingOf}}
 use Rattle.numbers.specs.Answer as A
 use Rattle.numbers.specs.Reply as R
-use Rattle.table.proofs.{StrictRows.{StrictRows, rows-strictly}, TableRows.{reading-grows, rows-step, row-less}}
+use Rattle.table.proofs.{StrictRows.{StrictRows, rows-strictly}, TableRows.{rows-step, row-less}}
 use Rattle.table.proofs.StrictRows as Q
 use Rattle.table.specs.{Find.{isPrecision, fixOf, matchedWith}, Hits.{width}, Rest.{restMark}, Rows.{Rows, tableEnd, startAt, rowOf, rowsThen, rowBy, rowsFrom, rowsIn}}
 use Rattle.table.specs.Rows as T
@@ -22,6 +22,7 @@ use Rattle.zones.proofs.CutOpening.{CutReply, cut-off, alike, CutSame, 
 use Rattle.zones.specs.Cut.{whereFound, whereGiven, cutIn, EndsCut, stringCut, openingCut, rowsCut, borderCut, seekCut, fieldsCut, matchesCut, zonesCut, lookupCut}
 use Rattle.zones.specs.{Fields.{fieldsPlace, fieldsFrom, fieldsOf}, Lent.{Outcome, repliedOf}}
 use Rattle.zones.specs.{Lookup.{zonesWith, zonesBy, zonesIn, lookedUp, lookedStrictly}, declared.lookup.Zones.{Zones}}
+use Rattle.numbers.proofs.Readings.{reading-grows}
 
 -- how a bad field is blamed
 abbrev fifteen : Blame

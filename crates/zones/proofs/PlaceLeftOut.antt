@@ -18,6 +18,7 @@ use Rattle.zones.specs.{Fields.{fieldsFrom, fieldsOf, fieldsPlace}, Lent
 use Rattle.zones.specs.Places.{placelessRow, placeless, threeWords, matchedPlaceless, repliedInThree, lookedUpInThree, simplyLookedInThree, leaveOut, withoutPlaces}
 use Rattle.zones.specs.Simple.{pickedOf, checked, descriptionOf, bytesIn, lengthIn, wordedOf, describedFrom, describedWith, describedIn, simplyLooked}
 use Rattle.zones.specs.declared.{lookup.Zones.{Zones}, simple.{Described.{Described}, Picked.{Picked}}}
+use Rattle.numbers.proofs.Replies.{after}
 use Rattle.table.specs.Rows as T
 
 -- a hit without its place
@@ -122,11 +123,6 @@ bareMatched found = record { matches = bare (found .matches); mark = found .mark
 
 abbrev bareOutcome : {A : Type 0} → Outcome A → Outcome A
 bareOutcome o = record { answer = o .answer; matches = bare (o .matches); text = o .text }
-
--- both go on from one reply
-after : {A B : Type 0} (reply : Reply A) {next next′ : A → Reply B} → ((a : A) → next a ≡ next′ a) → (reply >>= next) ≡ (reply >>= next′)
-after (given a) e = e a
-after (R.refused why) e = refl
 
 module _ (file : List ℕ) (head : Head) where
   -- what a search's answer is merged to

@@ -10,8 +10,8 @@ use Rattle.builder.specs.{Borders.{Drawn, withBorder}, File.{areTexts, headOf, 
 use Rattle.build.specs.Entries.Corners.{cornersOf}
 use Rattle.add.specs.{inner.Growing.Joins.{Growing, Grew, measuredAs}, Growing.{Joins.{Renoted}, Notes.{Notes, NotedBy}}, declared.growing.grow.Added.{Added}}
 use Rattle.draft.specs.Held.State.{heldWith}
-use Rattle.draft.proofs.held.{Fronts.{front-put, front-back}, Kept.{looked, joined-data, joined-sound}, Lying.{lies-joined, holds-joined}, Redrawn.{drawnWith, data-many}}
-use Rattle.draft.proofs.held.Standing.{corners-many, texts-many, stands-more, held-names, held-yards, held-bytes, held-front, held-strings}
+use Rattle.draft.proofs.held.{Fronts.{front-put, front-back}, Kept.{joined-data, joined-sound}, Lying.{lies-joined, holds-joined}, Redrawn.{drawnWith, data-many}}
+use Rattle.draft.proofs.held.Standing.{texts-many, stands-more, held-names, held-yards, held-bytes, held-front, held-strings}
 use Rattle.draft.proofs.held.Texts.{corners-one, joined-corners, joined-front, joined-head, joined-lengths, joined-strings, joined-yards}
 use Rattle.draft.specs.Held.{Builder.{Builder, Offered, yardOf, joined, summed, fitting}, Sound.{Sound}, Space.{Space}, Totals.{Totals, dataOf, totalsOf, totalsFor, fileSize}}
 use Rattle.draft.specs.Held.State.{Front, Lists, Lies, Holds, SameRooms, Stands, Answers, frontOf, listsAs, textsOf}
@@ -24,6 +24,8 @@ use Rattle.numbers.specs.{Answer.{if_then_else_}, Reply.{Reply, given, refused,
 use Rattle.writer.specs.Writer.{checks, every}
 use Rattle.add.specs.{Offered.Offers.{offeredAs, offerGood}, inner.Offered.Puts.{Placed, Puts, Ended, lengthsEnd, cornersFor}}
 use Rattle.add.specs.inner.Joining.Joins.{valuesEnd, valueLengths, valueTexts, Settles, Joining, Joins}
+use Rattle.build.proofs.entries.Tabled.{corners-size}
+use Rattle.numbers.proofs.Replies.{looked}
 
 -- ---- what the checks of an add say
 pub record Fine (yards names : ℕ) (o : Offered) : Type 0 where
@@ -106,7 +108,7 @@ module _ (b : Builder) (held : Held) (lats lons : List ℤ) (pieces sizes texts 
           let lies = j .holds .lies in
           let plan : Plan = b .plan in
           lies-joined plan (b .room) (j .holds .sound) o (j .wide) (j .narrow) more (j .drawn) (fine-here .texts) after
-          (put-front (pos 0) (lies .boxes-are) (cornersFor lats lons) (after .boxes) (cornersOf (yardOf o ∷ [])) (4 * held .yards) (omega (arith, yards, corners-many (plan .yards))) (omega (arith, placed .boxes-room)) (puts .boxes-are) (sym (corners-one (yardOf o))))
+          (put-front (pos 0) (lies .boxes-are) (cornersFor lats lons) (after .boxes) (cornersOf (yardOf o ∷ [])) (4 * held .yards) (omega (arith, yards, corners-size (plan .yards))) (omega (arith, placed .boxes-room)) (puts .boxes-are) (sym (corners-one (yardOf o))))
           (put-front 0 (lies .borders-are) (held .bytes ∷ []) (after .borders) (length (dataOf plan .bytes) ∷ []) (held .yards) (omega (arith, yards, data-many plan (b .room) (j .holds .sound))) (omega (arith, placed .borders-room)) (puts .borders-are) (ap (λ (n : ℕ). n ∷ []) (held-bytes b held before (j .holds))))
           (put-front 0 (lies .lengths-are) sizes (after .lengths) sizes (lengthsEnd held) lengths-at (placed .lengths-room) (puts .lengths-are) refl)
           (put-front 0 (lies .texts-are) values (after .texts) (take (sumOf sizes) texts) (held .strings) (held-strings b held before (j .holds)) (placed .texts-room) (puts .texts-are) cut)
@@ -201,7 +203,7 @@ module _ (b : Builder) (held : Held) (lats lons : List ℤ) (pieces sizes texts 
           back : again ≡ before
           back =
               let lies = j .holds .lies in
-              let boxes = front-back (pos 0) (lies .boxes-are) (cornersFor lats lons) (after .boxes) (again .boxes) (4 * held .yards) (omega (arith, yards, corners-many (b .plan .yards))) (puts .boxes-are) (ended .boxes-are) in
+              let boxes = front-back (pos 0) (lies .boxes-are) (cornersFor lats lons) (after .boxes) (again .boxes) (4 * held .yards) (omega (arith, yards, corners-size (b .plan .yards))) (puts .boxes-are) (ended .boxes-are) in
               let borders = front-back 0 (lies .borders-are) (held .bytes ∷ []) (after .borders) (again .borders) (held .yards) (omega (arith, yards, data-many (b .plan) (b .room) (j .holds .sound))) (puts .borders-are) (ended .borders-are) in
               let lengths = front-back 0 (lies .lengths-are) sizes (after .lengths) (again .lengths) (lengthsEnd held) lengths-at (puts .lengths-are) (ended .lengths-are) in
               let strings = front-back 0 (lies .texts-are) values (after .texts) (again .texts) (held .strings) (held-strings b held before (j .holds)) (puts .texts-are) (ended .texts-are) in

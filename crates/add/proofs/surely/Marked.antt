@@ -13,13 +13,9 @@ use Rattle.notes.{proofs.noted.{Growing.{indexed-more}, Noting.{yard-next}}, sp
 use Rattle.notes.specs.{inner.Quick.Steps.{Stepping, Grown}, declared.quick.step.Stepped.{Stepped}}
 use Rattle.build.proofs.recording.Fewer.{joined-sum}
 use Rattle.add.specs.inner.Surely.Sure.{endedAt, numbersOf}
+use Rattle.builder.proofs.grouping.Meant.{starts-many}
 
 -- ---- where parts begin, with more behind
-starts-many : (at : ℕ) (ns : List ℕ) → length (startsFrom at ns) ≡ suc (length ns)
-unfolding startsFrom
-starts-many at [] = refl
-starts-many at (n ∷ ns) = ap suc (starts-many (at + n) ns)
-
 starts-more : (at : ℕ) (xs ys : List ℕ) → startsFrom at (xs ++ ys) ≡ startsFrom at xs ++ drop 1 (startsFrom (at + sumOf xs) ys)
 unfolding startsFrom sumOf
 starts-more at [] [] = refl

@@ -7,6 +7,7 @@ use borrow.Author.Tests.{ltb-true, ltb-false, lt-ltb, le-ltb}
 use Rattle.numbers.specs.{Answer.{found, refused, if_then_else_, checked}, Point.{low32}}
 use Rattle.border.specs.{Reader.{dataPlace, asI64, opened}, declared.reader.Run.the-variants.{Idle, Forward, Backward}}
 use Rattle.numbers.proofs.Tests.{differ}
+use Rattle.numbers.proofs.Signed.{mag-cond}
 
 -- ---- modulo 2 ^ 32
 
@@ -56,10 +57,6 @@ lower {n} h = rw (lt-ltb n (2 ^ 63) h)
 
 upper : {n : ℕ} → 2 ^ 63 ≤ n → n < 2 ^ 64 → asI64 n ≡ negsuc (2 ^ 64 - suc n)
 upper {n} h k = rw (le-ltb n (2 ^ 63) h, lt-ltb n (2 ^ 64) k)
-
-mag-cond : (t : Bool) (a b m : ℕ) → a < m → b < m → mag (cond t (negsuc a) (pos b)) < m
-mag-cond true a b m h k = h
-mag-cond false a b m h k = k
 
 either : {A : Type 0} (n m : ℕ) → (n < m → A) → (m ≤ n → A) → A
 either {A} n m f g = go (ltb n m) refl

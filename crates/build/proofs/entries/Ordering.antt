@@ -5,22 +5,19 @@ use lib.{Dec.{ltb}, IntN.{ℤ}, ListN.{length, take, drop, length-map, length-ta
 use mathlib.Core.{Bool.{Bool, true}, List.{List, [], _∷_, map}, Path.{_≡_, refl, sym, ap, _∙_}}
 use native.Mathlib.Omega.{arith}
 use Rattle.writer.specs.Pieces.{piecesOf}
-use Rattle.builder.{proofs.Counting.{yards-many}, specs.{Entries.{wordOfYard}, Yards.{Text, Yard, yardsFrom, partOf}}}
+use Rattle.builder.{proofs.Counting.{yards-many, four-more}, specs.{Entries.{wordOfYard}, Yards.{Text, Yard, yardsFrom, partOf}}}
 use Rattle.builder.{proofs.grouping.Listed.{numbers-many}, specs.Grouping.Keys.{numbersFrom}}
 use Rattle.layout.specs.{inner.Answers.{Sorted}, Order.{keyOf, sortedBy}}
 use Rattle.numbers.specs.Answer.{if_then_else_}
 use Rattle.build.specs.Entries.Corners.{cornersOf, InOrder}
 
-four-less : (n : ℕ) → suc (suc (suc (suc n))) / 4 ≡ suc (n / 4)
-four-less n = omega arith
-
 -- a remainder of words is no yard
 front-yards : (n : ℕ) (ns : List ℕ) (ys xs : List ℤ) (w : List ℕ) (t : List Text) → n ≡ length ns / 4 → yardsFrom (take (4 * n) ns) ys xs w t ≡ yardsFrom ns ys xs w t
 unfolding yardsFrom
-front-yards zero (a ∷ b ∷ p ∷ v ∷ rest) ys xs w t e = absurd (omega (arith, e, four-less (length rest)))
+front-yards zero (a ∷ b ∷ p ∷ v ∷ rest) ys xs w t e = absurd (omega (arith, e, four-more (length rest)))
 front-yards (suc n) (a ∷ b ∷ p ∷ v ∷ rest) ys xs w t e =
     let four : 4 * suc n ≡ suc (suc (suc (suc (4 * n)))) = omega arith in
-    let less : n ≡ length rest / 4 = omega (arith, e, four-less (length rest)) in
+    let less : n ≡ length rest / 4 = omega (arith, e, four-more (length rest)) in
     ap (λ (k : ℕ). yardsFrom (take k (a ∷ b ∷ p ∷ v ∷ rest)) ys xs w t) four
     ∙ ap (λ (l : List Yard). record { lats = partOf a ys; lons = partOf b xs; pieces = piecesOf (take (5 * p) w); values = take v t; cut = ltb (length w) (5 * p) } ∷ l)
     (front-yards n rest (drop a ys) (drop b xs) (drop (5 * p) w) (drop v t) less)

@@ -14,6 +14,7 @@ use Rattle.build.specs.Metadata.Kept.{valuesTo, beginOf}
 use Rattle.numbers.{proofs.Replies.{given-from}, specs.Reply.{given}}
 use Rattle.build.proofs.entries.Cornered.{corners-alone}
 use Rattle.build.specs.Entries.Corners.{cornersOf, InOrder}
+use Rattle.build.proofs.recording.Spreading.{spread-size}
 
 -- ---- places at every second word leave those between them
 pub spread-odd : (i : ℕ) (ns list : List ℕ) (j : ℕ) → getD (spread (2 * i) ns list) (2 * j + 1) 0 ≡ getD list (2 * j + 1) 0
@@ -24,13 +25,8 @@ spread-odd i (n ∷ ns) list j =
     ap (λ (k : ℕ). getD (spread k ns (set list (2 * i) n)) (2 * j + 1) 0) next
     ∙ (spread-odd (suc i) ns (set list (2 * i) n) j ∙ getD-set-other list (2 * i) (2 * j + 1) n 0 (λ e. omega (arith, e)))
 
-pub spread-size : (i : ℕ) (ns list : List ℕ) → length (spread i ns list) ≡ length list
-unfolding spread
-spread-size i [] list = refl
-spread-size i (n ∷ ns) list = spread-size (i + 2) ns (set list i n) ∙ length-set list i n
-
 -- ---- the entries of the yards, one after another
-corners-size : (yards : List Yard) → length (cornersOf yards) ≡ 4 * length yards
+pub corners-size : (yards : List Yard) → length (cornersOf yards) ≡ 4 * length yards
 unfolding cornersOf
 corners-size [] = refl
 corners-size (y ∷ ys) = let e : 4 * suc (length ys) ≡ suc (suc (suc (suc (4 * length ys)))) = omega arith in ap (λ (n : ℕ). suc (suc (suc (suc n)))) (corners-size ys) ∙ sym e

@@ -13,6 +13,7 @@ use Rattle.build.proofs.metadata.Begun.{cut-join, field-written, record
 use Rattle.build.proofs.metadata.{Itemed.{map-take, map-drop, item-lengths, item-bytes, starts-climb}, Keeping.{starts-within}}
 use Rattle.build.proofs.metadata.{Offsets.{total, used, new-place, total-old, total-new}, Shared.{numbers-more, map-more, in-none, in-some}}
 use Rattle.build.specs.{Metadata.Kept.{valuesTo, fieldsTo, joined, beginOf, Ready}, inner.Metadata.Words.{wordIn}}
+use Rattle.build.proofs.recording.{Fewer.{written-few}, Spreading.{numbered-at}}
 
 -- the bytes of a record, if all have these fields
 abbrev sizeIn : List Text → List Text → ℕ
@@ -30,14 +31,8 @@ pub record Beginning (names count : ℕ) (lengths texts before places : List ℕ
   pub field-is : field ≡ length (fieldsTo names lengths texts yard)
   pub bound : begin ≤ getD (startsFrom 0 lengths) (yard * names) 0 + 10 * (yard * names)
 
-number-from : (f : ℕ → ℕ) (i n j : ℕ) → j < n → getD (map f (numbersFrom i n)) j 0 ≡ f (i + j)
-unfolding numbersFrom
-number-from f i zero j h = absurd (omega arith)
-number-from f i (suc n) zero h = let e : i ≡ i + 0 = omega arith in ap f e
-number-from f i (suc n) (suc j) h = let e : suc i + j ≡ i + suc j = omega arith in number-from f (suc i) n j (omega arith) ∙ ap f e
-
 number-at : (f : ℕ → ℕ) (n j : ℕ) → j < n → getD (map f (numbersFrom 0 n)) j 0 ≡ f j
-number-at f n j h = let e : 0 + j ≡ j = omega arith in number-from f 0 n j h ∙ ap f e
+number-at f n j h = let e : 0 + j ≡ j = omega arith in numbered-at f 0 n j h ∙ ap f e
 
 -- a part of a front is a part of all
 part-of-front : (a b n : ℕ) (l : List ℕ) → b + a ≤ n → take a (drop b (take n l)) ≡ take a (drop b l)
@@ -60,13 +55,6 @@ item-many : (starts texts : List ℕ) (at width : ℕ) → length (itemAt starts
 unfolding itemAt
 item-many starts texts at zero = refl
 item-many starts texts at (suc width) = ap suc (item-many starts texts (at + 1) width)
-
-written-most : (fields : List Text) (records : ℕ) (ts : List Text) → length (flatMap (written fields records) ts) ≤ length (joined ts) + 10 * length ts
-unfolding flatMap
-written-most fields records [] = omega arith
-written-most fields records (t ∷ ts) =
-    let w : length (written fields records t) ≤ 10 + length t = subst (λ (l : List ℕ). length l ≤ 10 + length t) (field-written fields records t) (word-few records (wordIn fields t) t) in
-    omega (arith, w, written-most fields records ts, length-append (written fields records t) (flatMap (written fields records) ts), length-append t (joined ts))
 
 module _ (names records count : ℕ) (words lengths texts starts before : List ℕ) (r : Ready names records count words lengths texts starts before) where
   abbrev item : ℕ → List Text
@@ -244,7 +232,7 @@ module _ (names records count : ℕ) (words lengths texts starts before : List �
         module _ (s : ℕ) (e : s ≡ length (joinedFrom (fieldBytes records (take (field + names - field) (drop field words))) 0 (cutBy (take (yard * names + names - yard * names) (drop (yard * names) lengths)) (take (getD starts (yard * names + names) 0 - getD starts (yard * names) 0) (drop (getD starts (yard * names) 0) texts))))) where
           size-few : s ≤ getD (startsFrom 0 lengths) (yard * names + names) 0 - getD (startsFrom 0 lengths) (yard * names) 0 + 10 * names
           size-few =
-              let w = written-most all (layoutOf all) (item yard) in
+              let w = written-few all (layoutOf all) (item yard) in
               let b : length (joined (item yard)) ≡ length (take (getD (startsFrom 0 lengths) (yard * names + names) 0 - getD (startsFrom 0 lengths) (yard * names) 0) (drop (getD (startsFrom 0 lengths) (yard * names) 0) texts)) = ap length (item-bytes (startsFrom 0 lengths) texts (yard * names) names own) in
               omega (arith, size-as s e, w, b, width, length-take (getD (startsFrom 0 lengths) (yard * names + names) 0 - getD (startsFrom 0 lengths) (yard * names) 0) (drop (getD (startsFrom 0 lengths) (yard * names) 0) texts))
 

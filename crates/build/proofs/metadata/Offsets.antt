@@ -5,13 +5,7 @@ use native.Mathlib.Omega.{arith}
 use Rattle.builder.specs.Sharing.{isIn, firstsAfter, sizeBefore, goodOnes}
 use Rattle.build.proofs.metadata.Shared.{firsts-new, firsts-old}
 use Rattle.numbers.specs.Answer.{if_then_else_}
-
-never : true ≡ false → ⊥
-never e = let z : _≡_ {A = ℕ} 0 1 = cc in omega arith
-
-or-no : (a b : Bool) → (a || b) ≡ false → (a ≡ false) × (b ≡ false)
-or-no true b e = absurd (never e)
-or-no false b e = (refl, e)
+use Rattle.numbers.proofs.Tests.{differ, neither}
 
 module _ {A : Type 0} (same : A → A → Bool) (equal : (x y : A) → same x y ≡ true → x ≡ y) (itself : (x : A) → same x x ≡ true) (good : A → Bool) (size : A → ℕ) where
   -- the sizes of some
@@ -48,7 +42,7 @@ module _ {A : Type 0} (same : A → A → Bool) (equal : (x y : A) → same x y 
   new-place seen (y ∷ before) t rest g s p = split (good y) refl (isIn same y seen) refl (new-place seen before t rest g s (both .1)) (new-place (y ∷ seen) before t rest g (ap (λ (b : Bool). b || isIn same t seen) (both .0) ∙ s) (both .1))
     where
       both : (same t y ≡ false) × (isIn same t before ≡ false)
-      both = or-no (same t y) (isIn same t before) p
+      both = neither (same t y) (isIn same t before) p
 
       all : List A
       all = before ++ (t ∷ rest)
@@ -65,7 +59,7 @@ module _ {A : Type 0} (same : A → A → Bool) (equal : (x y : A) → same x y 
   -- one that came before lies whole among those before
   pub old-place : (seen before : List A) (t : A) (rest : List A) → good t ≡ true → isIn same t seen ≡ false → isIn same t before ≡ true → sizeBefore same size t (used seen (before ++ rest)) + size t ≤ total (used seen before)
   unfolding isIn total
-  old-place seen [] t rest g s p = absurd (never (sym p))
+  old-place seen [] t rest g s p = differ p
   old-place seen (y ∷ before) t rest g s p = split (good y) refl (isIn same y seen) refl (same t y) refl (λ h. old-place seen before t rest g s h) (λ h k. old-place (y ∷ seen) before t rest g h k)
     where
       all : List A
@@ -78,12 +72,12 @@ module _ {A : Type 0} (same : A → A → Bool) (equal : (x y : A) → same x y 
           → (isIn same t before ≡ true → sizeBefore same size t (used seen all) + size t ≤ total (used seen before))
           → ((same t y || isIn same t seen) ≡ false → isIn same t before ≡ true → sizeBefore same size t (used (y ∷ seen) all) + size t ≤ total (used (y ∷ seen) before))
           → sizeBefore same size t (used seen (y ∷ all)) + size t ≤ total (used seen (y ∷ before))
-      split false e c f true k here there = absurd (never (sym g ∙ (ap good (equal t y k) ∙ e)))
+      split false e c f true k here there = differ (sym (sym g ∙ (ap good (equal t y k) ∙ e)))
       split false e c f false k here there =
           let a : sizeBefore same size t (used seen (y ∷ all)) ≡ sizeBefore same size t (used seen all) = ap (sizeBefore same size t) (used-bad seen y all e) in
           let b : total (used seen (y ∷ before)) ≡ total (used seen before) = ap total (used-bad seen y before e) in
           omega (arith, a, b, here (later k))
-      split true e true f true k here there = absurd (never (sym (ap (λ (z : A). isIn same z seen) (equal t y k) ∙ f) ∙ s))
+      split true e true f true k here there = differ (sym (sym (ap (λ (z : A). isIn same z seen) (equal t y k) ∙ f) ∙ s))
       split true e true f false k here there =
           let a : sizeBefore same size t (used seen (y ∷ all)) ≡ sizeBefore same size t (used seen all) = ap (sizeBefore same size t) (used-good seen y all e true f) in
           let b : total (used seen (y ∷ before)) ≡ total (used seen before) = ap total (used-good seen y before e true f) in
@@ -115,7 +109,7 @@ module _ {A : Type 0} (same : A → A → Bool) (equal : (x y : A) → same x y 
   in-good (x ∷ xs) t g = go (good x) refl (in-good xs t g)
     where
       not-same : (d : Bool) → same t x ≡ d → good x ≡ false → isIn same t xs ≡ (d || isIn same t xs)
-      not-same true k e = absurd (never (sym g ∙ (ap good (equal t x k) ∙ e)))
+      not-same true k e = differ (sym (sym g ∙ (ap good (equal t x k) ∙ e)))
       not-same false k e = refl
 
       go : (b : Bool) → good x ≡ b → isIn same t (goodOnes good xs) ≡ isIn same t xs → isIn same t (if b then (x ∷ goodOnes good xs) else goodOnes good xs) ≡ (same t x || isIn same t xs)

@@ -10,6 +10,7 @@ use Rattle.builder.proofs.grouping.{Keyed.{text-equal}, Meant.{text-itself}}
 use Rattle.build.proofs.metadata.{Offsets.{used-plain, used-again, used-first}, Shared.{flat-more}}
 use Rattle.build.proofs.metadata.Worded.{at-map, many, plain-word, far-word, offset-new, offset-old, some-size}
 use Rattle.build.specs.inner.Metadata.Words.{wordIn, remoteIn}
+use Rattle.builder.proofs.Sums.{sum-next}
 
 one : (t : Text) → flatMap inlined (t ∷ []) ≡ inlined t
 unfolding flatMap
@@ -42,12 +43,8 @@ module _ (lengths texts words : List ℕ) (sum : sumOf lengths ≤ length texts)
     rest : drop i lengths ≡ getD lengths i 0 ∷ drop (suc i) lengths
     rest = drop-cons lengths i 0 h
 
-    left : sumOf (drop i lengths) ≡ getD lengths i 0 + sumOf (drop (suc i) lengths)
-    unfolding sumOf
-    left = ap sumOf rest
-
     pub text-end : at + getD lengths i 0 ≤ length texts
-    text-end = omega (arith, c .there, left)
+    text-end = omega (arith, c .there, sum-next lengths i h)
 
     parts : take (getD lengths i 0) (drop at texts) ∷ cutBy (drop (suc i) lengths) (drop (getD lengths i 0) (drop at texts)) ≡ field i ∷ drop (suc i) fields
     unfolding cutBy
@@ -63,7 +60,7 @@ module _ (lengths texts words : List ℕ) (sum : sumOf lengths ≤ length texts)
         let e : at + getD lengths i 0 - at ≡ getD lengths i 0 = omega arith in
         let l : length (take (getD lengths i 0) (drop at texts)) ≤ getD lengths i 0 = omega (arith, length-take (getD lengths i 0) (drop at texts)) in
         let f : length (take (at + getD lengths i 0 - at) (drop at texts)) ≡ length (take (getD lengths i 0) (drop at texts)) = ap (λ (n : ℕ). length (take n (drop at texts))) e in
-        omega (arith, c .bound, left, l, f)
+        omega (arith, c .bound, sum-next lengths i h, l, f)
 
     pub next-behind : place ≤ next
     next-behind = omega (arith, c .stored .place-after)
@@ -93,9 +90,9 @@ module _ (lengths texts words : List ℕ) (sum : sumOf lengths ≤ length texts)
           cuts = ap (λ (ls : List ℕ). cutBy ls (drop (at + getD lengths i 0) texts)) drops
               ∙ (ap (cutBy (drop (suc i) lengths)) (sym (drop-drop (getD lengths i 0) at texts))
               ∙ (ap (drop 1) parts ∙ ap (λ (n : ℕ). drop n fields) (sym (add-one i))));
-          there = omega (arith, c .there, left, d);
+          there = omega (arith, c .there, sum-next lengths i h, d);
           stored = s;
-          bound = omega (arith, c .bound, left, less, d, k, ap length rest);
+          bound = omega (arith, c .bound, sum-next lengths i h, less, d, k, ap length rest);
         }
 
     -- the first use of a text

@@ -16,6 +16,8 @@ use Rattle.build.proofs.metadata.Shared.{numbers-more, map-more, in-non
 use Rattle.build.specs.inner.Metadata.Words.{wordIn, inlineIn, remoteIn, Marked, WordsTo, Wording, Added}
 use Rattle.numbers.{proofs.Spelling.{varint-few}, specs.{Answer.{if_then_else_}, Spelling.{varintOf}}}
 use Rattle.header.specs.Utf8.{unmasked}
+use mathlib.Core.Bool.{and-true}
+use Rattle.builder.proofs.Sums.{sum-next}
 
 -- ---- a list by its numbers
 pub at-map : {A : Type 0} (f : A → ℕ) (xs : List A) (i : ℕ) (d : A) → i < length xs → getD (map f xs) i 0 ≡ f (getD xs i d)
@@ -33,10 +35,6 @@ numbered xs (suc n) h =
     ∙ (map-more (λ (j : ℕ). getD xs j []) (numbersFrom 0 n) ((0 + n) ∷ [])
     ∙ (ap (λ (l : List Text). l ++ (getD xs (0 + n) [] ∷ [])) (numbered xs n (omega arith))
     ∙ (ap (λ (k : ℕ). take n xs ++ (getD xs k [] ∷ [])) e ∙ sym (take-suc xs n [] (omega arith)))))
-
-and-true : (b : Bool) → (b && true) ≡ b
-and-true true = refl
-and-true false = refl
 
 flat-total : (ts : List Text) → (good : Text → Bool) → length (flatMap inlined ts) ≡ total sameText text-equal text-itself good (λ (t : Text). length (inlined t)) ts
 unfolding flatMap total
@@ -126,11 +124,6 @@ module _ (lengths texts : List ℕ) (sum : sumOf lengths ≤ length texts) where
         ap (isIn sameText (field i)) (sym (numbered fields i (omega (arith, many, h))))
         ∙ in-none sameText field (field i) 0 i (λ j a b. sym (alike-one i j h (omega (arith, b, h))) ∙ means .none j a (omega (arith, own, b)))
 
-    pub is-old : (r ≡ i → ⊥) → isIn sameText (field i) (take i fields) ≡ true
-    is-old not =
-        ap (isIn sameText (field i)) (sym (numbered fields i (omega (arith, many, h))))
-        ∙ in-some sameText field (field i) 0 i r (omega arith) (omega (arith, means .most, not)) (sym (alike-one i r h (omega (arith, means .most, h))) ∙ means .same)
-
     -- the word of one that came before
     pub word-old : (words : List ℕ) → WordsTo fields words i → (r ≡ i → ⊥) → getD words r 0 ≡ wordIn fields (field i)
     word-old words w not =
@@ -213,12 +206,8 @@ module _ (lengths texts : List ℕ) (sum : sumOf lengths ≤ length texts) where
     rest : drop i lengths ≡ getD lengths i 0 ∷ drop (suc i) lengths
     rest = drop-cons lengths i 0 h
 
-    left : sumOf (drop i lengths) ≡ getD lengths i 0 + sumOf (drop (suc i) lengths)
-    unfolding sumOf
-    left = ap sumOf rest
-
     pub size-room : getD lengths i 0 + 10 < 2 ^ 32
-    size-room = omega (arith, c .bound, left, ap length rest)
+    size-room = omega (arith, c .bound, sum-next lengths i h, ap length rest)
 
     pub remote-room : remote + 1 < 2 ^ 32
     remote-room = omega (arith, c .bound, ap length rest)
@@ -227,7 +216,7 @@ module _ (lengths texts : List ℕ) (sum : sumOf lengths ≤ length texts) where
     words-inside = omega (arith, c .size-is, room, h)
 
     pub sums-room : (s : ℕ) → s ≡ length (varintOf (getD lengths i 0)) + getD lengths i 0 → inline + remote + s < 2 ^ 32
-    sums-room s e = omega (arith, c .bound, left, ap length rest, e, varint-few (getD lengths i 0))
+    sums-room s e = omega (arith, c .bound, sum-next lengths i h, ap length rest, e, varint-few (getD lengths i 0))
 
     module _ (word s inline′ remote′ : ℕ) (is : word ≡ wordIn fields (field i)) (e : s ≡ length (varintOf (getD lengths i 0)) + getD lengths i 0) (d : Added inline remote word s inline′ remote′) where
       snoc : take (i + 1) fields ≡ take i fields ++ (field i ∷ [])
@@ -294,7 +283,7 @@ module _ (lengths texts : List ℕ) (sum : sumOf lengths ≤ length texts) where
             };
             inline-is = both .0 ∙ (sym (inline-more (take i fields) (field i)) ∙ ap (inlineIn fields) (sym snoc));
             remote-is = both .1;
-            bound = omega (arith, c .bound, left, ap length rest, most, e, varint-few (getD lengths i 0), drops, drops′);
+            bound = omega (arith, c .bound, sum-next lengths i h, ap length rest, most, e, varint-few (getD lengths i 0), drops, drops′);
           }
 
   pub words-end : (words₀ words : List ℕ) (inline remote i : ℕ) → Words lengths texts words₀ words inline remote i → length lengths ≤ i → Wording lengths texts words inline remote

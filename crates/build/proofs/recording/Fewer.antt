@@ -67,7 +67,7 @@ module _ (names count : ℕ) (lengths texts : List ℕ) (all : length lengths �
       omega (arith, firsts-light (λ ts. length (joined ts)) joined-more [] (valuesTo names lengths texts count), ap (λ (l : List Text). length (joined l)) values-join, joined-sum (cutBy lengths texts), ap sumOf (cut-lengths lengths texts whole))
 
 -- ---- a layout takes no more than the texts and ten bytes a field
-written-few : (fields : List Text) (records : ℕ) (ts : List Text) → length (flatMap (written fields records) ts) ≤ length (joined ts) + 10 * length ts
+pub written-few : (fields : List Text) (records : ℕ) (ts : List Text) → length (flatMap (written fields records) ts) ≤ length (joined ts) + 10 * length ts
 unfolding flatMap
 written-few fields records [] = omega arith
 written-few fields records (t ∷ ts) =

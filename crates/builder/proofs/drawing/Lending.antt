@@ -12,6 +12,7 @@ use Rattle.numbers.proofs.Spelling.{varint-few}
 use Rattle.numbers.specs.{Answer.{if_then_else_}, Reply.{Reply, given, refused, refusal, plain, demand, _>>=_, _>>_}, Spelling.{varintOf, signedForm}}
 use Rattle.numbers.specs.declared.{refusal.Refusal.{Refusal}, point.RawPoint.{RawPoint}}
 use Rattle.builder.specs.inner.Drawing.Section.{LentFor}
+use Rattle.writer.proofs.{Lengths.{plain-one, packed-one}, Packing.{piece-few}}
 
 -- ---- what stands before an answer was passed
 module _ {A : Type 0} where
@@ -41,22 +42,6 @@ module _ {A : Type 0} (f : A → List ℕ) where
   flat-ten each [] = omega arith
   flat-ten each (x ∷ xs) = let l = length-append (f x) (flatMap f xs) in let m = flat-ten each xs in omega (arith, l, m, each x)
 
-plain-few : (m : RawPoint) → length (plainMoveBytes m) ≤ 20
-unfolding plainMoveBytes
-plain-few m = omega (arith, length-append (varintOf (signedForm (m .lat))) (varintOf (signedForm (m .lon))), varint-few (signedForm (m .lat)), varint-few (signedForm (m .lon)))
-
-packed-few : (m : RawPoint) → length (packedMoveBytes m) ≤ 10
-unfolding packedMoveBytes
-packed-few m = varint-few (packedNumber m)
-
-piece-few : (p : Piece) → length (pieceBytes p) ≤ 22
-unfolding pieceBytes
-piece-few p = go (isForward p)
-  where
-    go : (t : Bool) → length (0 ∷ 1 ∷ (if t then (varintOf (p .start) ++ varintOf (2 * p .bytes)) else (varintOf (p .start + p .bytes) ++ varintOf (2 * p .bytes + 1)))) ≤ 22
-    go true = omega (arith, length-append (varintOf (p .start)) (varintOf (2 * p .bytes)), varint-few (p .start), varint-few (2 * p .bytes))
-    go false = omega (arith, length-append (varintOf (p .start + p .bytes)) (varintOf (2 * p .bytes + 1)), varint-few (p .start + p .bytes), varint-few (2 * p .bytes + 1))
-
 packed-step : (a b r x c n : ℕ) → a ≤ 10 * n → b ≤ 22 → r ≤ x + (10 * n + 2) → c ≡ 10 * n + 22 → a + (b + r) ≤ x + c + (10 * n + 2)
 packed-step a b r x c n ha hb hr hc = omega (arith, ha, hb, hr, hc)
 
@@ -68,14 +53,14 @@ module _ (moves : List RawPoint) where
   unfolding packedFrom
   packed-most next [] =
       let l = length-append (flatMap packedMoveBytes (drop next moves)) (0 ∷ 0 ∷ []) in
-      let m = flat-ten packedMoveBytes packed-few (drop next moves) in
+      let m = flat-ten packedMoveBytes packed-one (drop next moves) in
       omega (arith, l, m, length-drop next moves)
   packed-most next (p ∷ ps) =
       let front : List ℕ = flatMap packedMoveBytes (slice next (p .first) moves) in
       let rest : List ℕ = packedFrom moves (p .first + p .count) ps in
       let l = length-append front (pieceBytes p ++ rest) in
       let k = length-append (pieceBytes p) rest in
-      let m = flat-ten packedMoveBytes packed-few (slice next (p .first) moves) in
+      let m = flat-ten packedMoveBytes packed-one (slice next (p .first) moves) in
       let s : length (slice next (p .first) moves) ≤ n = omega (arith, length-drop next (take (p .first) moves), length-take (p .first) moves) in
       let more : length front ≤ 10 * n = omega (arith, m, s) in
       let sum : length front + (length (pieceBytes p) + length rest) ≤ length ps * (10 * n + 22) + (10 * n + 22) + (10 * n + 2) = packed-step (length front) (length (pieceBytes p)) (length rest) (length ps * (10 * n + 22)) (10 * n + 22) n more (piece-few p) (packed-most (p .first + p .count) ps) refl in
@@ -107,7 +92,7 @@ border-size version lats lons pieces earlier bytes e = go (eqb version 0) (past 
         let body : List ℕ = varintOf (length moves) ++ (flatMap plainMoveBytes moves ++ (2 ∷ 2 ∷ [])) in
         let is : body ≡ bytes = given-same body bytes (past (demand (eqb (length pieces) 0) (plain 23)) (given body) bytes e) in
         let size : length body ≡ length bytes = ap length is in
-        omega (arith, size, length-append (varintOf (length moves)) (flatMap plainMoveBytes moves ++ (2 ∷ 2 ∷ [])), length-append (flatMap plainMoveBytes moves) (2 ∷ 2 ∷ []), varint-few (length moves), flat-most plainMoveBytes plain-few moves, few)
+        omega (arith, size, length-append (varintOf (length moves)) (flatMap plainMoveBytes moves ++ (2 ∷ 2 ∷ [])), length-append (flatMap plainMoveBytes moves) (2 ∷ 2 ∷ []), varint-few (length moves), flat-most plainMoveBytes plain-one moves, few)
 
     packed-one : packedBorder moves pieces earlier ≡ given bytes → length bytes ≤ 170 * length lats + 400
     packed-one e =

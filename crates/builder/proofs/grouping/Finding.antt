@@ -10,10 +10,7 @@ use Rattle.layout.{proofs.Orders.{sorted-kept}, specs.Order.{keyOf, sortedBy, U
 use Rattle.numbers.specs.Answer.{if_then_else_}
 use Rattle.builder.proofs.grouping.Keyed.{orderOf, items-are, alike-hash}
 use Rattle.builder.specs.Grouping.{Items.{Inside}, Keys.{numbersFrom, itemOf, hashOf, alike, keysOf, firstOf, Lower, Members}}
-
-pub not-good : (b : Bool) → (b ≡ true → ⊥) → b ≡ false
-not-good true never = absurd (never refl)
-not-good false never = refl
+use Rattle.numbers.proofs.Tests.{fails}
 
 -- ---- keys that never fall, by places
 under-at : (k : ℕ) (xs : List ℕ) → Under keyOf k xs → (i : ℕ) → i < length xs → k ≤ keyOf (getD xs i 0)
@@ -140,7 +137,7 @@ among-item starts texts width keys m i h item e = rw e (m .member i h)
 
 module _ (starts texts : List ℕ) (width : ℕ) (keys : List ℕ) (m : Members starts texts width keys) (item key run : ℕ) (is : key ≡ hashOf starts texts width item) (l : Lower keys key run) where
   pub other-hash : (i : ℕ) → i < length keys → (keyOf (getD keys i 0) ≡ key → ⊥) → alike starts texts width item (itemOf (getD keys i 0)) ≡ false
-  other-hash i h n = not-good (alike starts texts width item (itemOf (getD keys i 0))) (λ g. n (m .keyed i h ∙ alike-hash starts texts width item (itemOf (getD keys i 0)) g ∙ sym is))
+  other-hash i h n = fails (alike starts texts width item (itemOf (getD keys i 0))) (λ g. n (m .keyed i h ∙ alike-hash starts texts width item (itemOf (getD keys i 0)) g ∙ sym is))
 
   pub not-before : (i : ℕ) → i < run → i < length (map itemOf keys) → alike starts texts width item (getD (map itemOf keys) i 0) ≡ false
   not-before i h k =

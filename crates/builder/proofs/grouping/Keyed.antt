@@ -9,17 +9,15 @@ use Rattle.layout.{proofs.Orders.{sorted-rises, sorted-map}, specs.{inner.Answe
 use Rattle.numbers.specs.Answer.{if_then_else_}
 use Rattle.builder.proofs.grouping.Listed.{numbers-many}
 use Rattle.builder.specs.Grouping.{Items.{itemAt, hashTexts, Inside}, Keys.{numbersFrom, itemOf, hashOf, keyWord, alike, keysOf, Members, Sorting}}
-use Rattle.numbers.proofs.Tests.{both}
+use Rattle.numbers.proofs.Tests.{both, differ}
+use Rattle.builder.proofs.Ordered.{upper, lower}
 
 -- ---- the same is equal
-never : false ≡ true → ⊥
-never e = let z : _≡_ {A = ℕ} 0 1 = cc in omega arith
-
 same-equal : {A : Type 0} (same : A → A → Bool) → ((x y : A) → same x y ≡ true → x ≡ y) → (xs ys : List A) → sameBy same xs ys ≡ true → xs ≡ ys
 unfolding sameBy
 same-equal same eq [] [] e = refl
-same-equal same eq [] (y ∷ ys) e = absurd (never e)
-same-equal same eq (x ∷ xs) [] e = absurd (never e)
+same-equal same eq [] (y ∷ ys) e = differ e
+same-equal same eq (x ∷ xs) [] e = differ e
 same-equal same eq (x ∷ xs) (y ∷ ys) e =
     let two = both (same x y) (sameBy same xs ys) e in
     ap (λ z. z ∷ xs) (eq x y (two .0)) ∙ ap (λ zs. y ∷ zs) (same-equal same eq xs ys (two .1))
@@ -71,12 +69,6 @@ map-twice : (f g : ℕ → ℕ) (h : ℕ → ℕ) → ((x : ℕ) → f (g x) ≡
 map-twice f g h e [] = refl
 map-twice f g h e (x ∷ xs) = ap (λ y. y ∷ map f (map g xs)) (e x) ∙ ap (λ ys. h x ∷ ys) (map-twice f g h e xs)
 
-upper-half : (a b : ℕ) → (a * 2 ^ 32 + b % 2 ^ 32) / 2 ^ 32 ≡ a
-upper-half a b = omega arith
-
-lower-half : (a b : ℕ) → (a * 2 ^ 32 + b % 2 ^ 32) % 2 ^ 32 ≡ b % 2 ^ 32
-lower-half a b = omega arith
-
 below-more : (a b : ℕ) (xs : List ℕ) → a ≤ b → Below a xs → Below b xs
 unfolding Below
 below-more a b [] h l = tt
@@ -95,7 +87,7 @@ module _ (starts texts : List ℕ) (width : ℕ) where
 
   word-key : (a : ℕ) → keyOf (word a) ≡ hash a
   unfolding keyWord
-  word-key a = upper-half (hash a) a
+  word-key a = upper (hash a) a
 
   -- the items in the order of their hashes
   unfoldable pub orderOf : ℕ → List ℕ
@@ -113,7 +105,7 @@ module _ (starts texts : List ℕ) (width : ℕ) where
   unfolding keyWord
   items-are count h =
       ap (map itemOf) (keys-are count)
-      ∙ map-twice itemOf word (λ x. x % 2 ^ 32) (λ x. lower-half (hash x) x) (orderOf count)
+      ∙ map-twice itemOf word (λ x. x % 2 ^ 32) (λ x. lower (hash x) x) (orderOf count)
       ∙ small-itself (orderOf count) (below-more count (2 ^ 32) (orderOf count) h (order-below count))
 
   pub keys-hashes : (count : ℕ) → count ≤ 2 ^ 32 → map keyOf (keysOf starts texts width count) ≡ map hash (orderOf count)

@@ -8,9 +8,10 @@ use Rattle.builder.proofs.Counting.{cut-many}
 use Rattle.builder.specs.{Sharing.{sameBy, sameText, sameTexts, firstWith}, Yards.{Text, cutBy, sumOf}}
 use Rattle.numbers.specs.Answer.{if_then_else_}
 use Rattle.builder.specs.Grouping.{Items.{startsFrom, textAt, itemAt, Inside}, Keys.{numbersFrom, alike, firstOf}}
+use Rattle.numbers.proofs.Tests.{differ}
 
 -- ---- where texts begin
-starts-many : (at : ℕ) (ns : List ℕ) → length (startsFrom at ns) ≡ suc (length ns)
+pub starts-many : (at : ℕ) (ns : List ℕ) → length (startsFrom at ns) ≡ suc (length ns)
 unfolding startsFrom
 starts-many at [] = refl
 starts-many at (n ∷ ns) = ap suc (starts-many (at + n) ns)
@@ -72,9 +73,6 @@ pub record First (good : ℕ → Bool) (from item r : ℕ) : Type 0 where
   pub same : good r ≡ true
   pub none : (j : ℕ) → from ≤ j → j < r → good j ≡ false
 
-never : false ≡ true → ⊥
-never e = let z : _≡_ {A = ℕ} 0 1 = cc in omega arith
-
 first-from : (good : ℕ → Bool) (other i n k : ℕ) → i ≤ k → k < i + n → good k ≡ true → First good i k (firstWith good other (numbersFrom i n))
 unfolding firstWith numbersFrom
 first-from good other i zero k a b g = absurd (omega arith)
@@ -84,7 +82,7 @@ first-from good other i (suc n) k a b g = go (good i) refl (λ h. first-from goo
     past e = split (eqb i k) refl
       where
         split : (t : Bool) → eqb i k ≡ t → suc i ≤ k
-        split true f = let is : i ≡ k = eqb-true i k f in absurd (never (sym e ∙ (ap good is ∙ g)))
+        split true f = let is : i ≡ k = eqb-true i k f in differ (sym e ∙ (ap good is ∙ g))
         split false f = let not = eqb-false i k f in omega (arith, a, not)
 
     before : (j : ℕ) (t : Bool) → eqb i j ≡ t → i ≤ j → {r : ℕ} → j < r → First good (suc i) k r → good i ≡ false → good j ≡ false

@@ -6,6 +6,8 @@ use native.Mathlib.{Numerals.{add-one}, Omega.{arith}}
 use Rattle.writer.{proofs.Stores.{Left, left-all, left-step, left-none, stored-one, stored-front}, specs.inner.Stored.{Stored}}
 use Rattle.builder.specs.Yards.{sumOf}
 use Rattle.builder.specs.Grouping.Items.{startsFrom}
+use Rattle.builder.proofs.Sums.{sum-next}
+use Rattle.builder.proofs.grouping.Meant.{starts-many}
 
 pub record Starting (before lengths now : List ℕ) (at i : ℕ) : Type 0 where
   pub index : i ≤ length lengths
@@ -22,8 +24,7 @@ module _ (before lengths now : List ℕ) (at i : ℕ) (c : Starting before lengt
     rest = drop-cons lengths i 0 h
 
     pub start-sum : at + getD lengths i 0 + sumOf (drop (suc i) lengths) < 2 ^ 32
-    unfolding sumOf
-    start-sum = let e : sumOf (drop i lengths) ≡ getD lengths i 0 + sumOf (drop (suc i) lengths) = ap sumOf rest in omega (arith, c .bound, e)
+    start-sum = omega (arith, c .bound, sum-next lengths i h)
 
     pub start-goes : Starting before lengths (set now i at) (at + getD lengths i 0) (i + 1)
     unfolding startsFrom
@@ -38,17 +39,12 @@ module _ (before lengths now : List ℕ) (at i : ℕ) (c : Starting before lengt
   pub start-inside : i < length now
   start-inside = omega (arith, c .index, c .room, c .left .size)
 
-  starts-size : (n : ℕ) (ns : List ℕ) → length (startsFrom n ns) ≡ suc (length ns)
-  unfolding startsFrom
-  starts-size n [] = refl
-  starts-size n (m ∷ ns) = ap suc (starts-size (n + m) ns)
-
   pub start-ends : length lengths ≤ i → set now i at ≡ startsFrom 0 lengths
   unfolding startsFrom
   start-ends h =
       let e : i ≡ length lengths = omega (arith, c .index) in
       let none : drop i lengths ≡ [] = ap (λ (n : ℕ). drop n lengths) e ∙ drop-length lengths in
-      let size : length (startsFrom 0 lengths) ≡ suc (length lengths) = starts-size 0 lengths in
+      let size : length (startsFrom 0 lengths) ≡ suc (length lengths) = starts-many 0 lengths in
       let all : length (startsFrom 0 lengths) ≡ length before = omega (arith, size, c .room) in
       let s : Stored before 0 (startsFrom 0 lengths) (set now i at) (i + 1) = left-none (left-step (at ∷ []) (subst (λ (r : List ℕ). Left before 0 (startsFrom 0 lengths) now i r) (ap (startsFrom at) none) (c .left)) (stored-one now i at)) in
       stored-front before (startsFrom 0 lengths) (set now i at) (i + 1) s (omega (arith, all))

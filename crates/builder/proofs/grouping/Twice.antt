@@ -7,8 +7,9 @@ use native.Mathlib.{Numerals.{add-one}, Omega.{arith}}
 use Rattle.builder.specs.Sharing.{timesIn}
 use Rattle.layout.{proofs.Orders.{sorted-kept}, specs.Order.{keyOf, sortedBy, Rising, keptBy}}
 use Rattle.numbers.specs.Answer.{if_then_else_}
-use Rattle.builder.proofs.grouping.{Finding.{not-good, rising-at, drop-items, item-is, other-hash, not-before}, Keyed.{orderOf, items-are, alike-hash}}
+use Rattle.builder.proofs.grouping.{Finding.{rising-at, drop-items, item-is, other-hash, not-before}, Keyed.{orderOf, items-are, alike-hash}}
 use Rattle.builder.specs.Grouping.Keys.{numbersFrom, itemOf, hashOf, alike, keysOf, Lower, Members}
+use Rattle.numbers.proofs.Tests.{fails}
 
 none-more : (b : Bool) (n : ℕ) → b ≡ false → n ≡ (if b then 1 else 0) + n
 none-more b n e = rw e (omega arith)
@@ -32,7 +33,7 @@ module _ (same : ℕ → ℕ → Bool) (a : ℕ) where
         → timesIn same a (if t then (x ∷ keptBy key k xs) else keptBy key k xs) ≡ (if same a x then 1 else 0) + timesIn same a xs
     unfolding timesIn
     times-by x xs true e more = ap (λ (n : ℕ). (if same a x then 1 else 0) + n) more
-    times-by x xs false e more = more ∙ none-more (same a x) (timesIn same a xs) (not-good (same a x) (λ h. eqb-false (key x) k e (share x h)))
+    times-by x xs false e more = more ∙ none-more (same a x) (timesIn same a xs) (fails (same a x) (λ h. eqb-false (key x) k e (share x h)))
 
     times-kept : (xs : List ℕ) → timesIn same a (keptBy key k xs) ≡ timesIn same a xs
     unfolding keptBy timesIn

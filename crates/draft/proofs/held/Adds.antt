@@ -8,9 +8,10 @@ use Rattle.writer.specs.Writer.{checks}
 use Rattle.numbers.proofs.Tests.{both}
 use Rattle.builder.specs.{Borders.{Drawn, withBorder, drawnOf}, File.{areTexts, bordersGood, builtOf, counted, fileOf, headOf, known, readable, upTo}, Yards.{Plan}}
 use Rattle.numbers.{proofs.Replies.{demanded}, specs.Reply.{Reply, given, refused, plain, demand, _>>=_, _>>_}}
-use Rattle.draft.proofs.held.{Kept.{borders-all, joined-data, joined-sound, known-more, looked, readable-more}, Redrawn.{drawnWith, drawn-more, drawn-same, sound-draws}, Sums.{size-is}}
+use Rattle.draft.proofs.held.{Kept.{borders-all, joined-data, joined-sound, known-more, readable-more}, Redrawn.{drawnWith, drawn-more, drawn-same, sound-draws}, Sums.{size-is}}
 use Rattle.draft.proofs.held.Texts.{joined-yards}
 use Rattle.draft.specs.Held.{Builder.{Builder, Offered, yardOf, joined, summed, fitting, add}, Sound.{Sound, roomFor}, Space.{Space}, Totals.{dataOf, totalsOf, totalsFor, fileSize}}
+use Rattle.numbers.proofs.Replies.{looked}
 
 one-more : (n : ℕ) → leb (n + 1) 4096 ≡ ltb n 4096
 one-more n = go (ltb n 4096) refl

@@ -44,11 +44,6 @@ module _ {A : Type 0} (same : A → A → Bool) where
   before-same size other x [] h = refl
   before-same size other x (y ∷ ys) h = rw (h y, before-same size other x ys h) refl
 
-  sum-same : (size other : A → ℕ) (ys : List A) → ((y : A) → size y ≡ other y) → sumBy size ys ≡ sumBy other ys
-  unfolding sumBy
-  sum-same size other [] h = refl
-  sum-same size other (y ∷ ys) h = rw (h y, sum-same size other ys h) refl
-
 -- ---- words that keep their length
 word-kept : (records by remote : ℕ) → length (varintOf (256 + records)) ≡ length (varintOf (255 + records + by + remote)) → (w : ℕ) → w ≤ remote → wordSize w (records + by) ≡ wordSize w records
 unfolding wordSize

@@ -17,11 +17,6 @@ unfolding fitting totalsOf
 fits-by-sums space b fresh =
     ap (λ (n : ℕ). demand (space .lists && leb n (upTo (b .room))) (plain 28) >> given b) (ap (fileSize (length (headOf (b .plan)))) fresh ∙ size-is (b .plan) (dataOf (b .plan)))
 
--- two builders that hold the same answer an add alike, whatever was dropped before
-pub add-by-plan : (b c : Builder) → b .plan ≡ c .plan → b .room ≡ c .room → (o : Offered) (space : Space) → add b o space ≡ add c o space
-unfolding add
-add-by-plan b c plan room o space = cc
-
 -- ---- a drop takes an add back
 module _ (b : Builder) (sound : Sound (b .plan) (b .room)) (fresh : b .totals ≡ totalsOf (b .plan)) (o : Offered) (space : Space) (next : Builder) (added : add b o space ≡ given next) where
   a : Added b o space next

@@ -28,11 +28,6 @@ module _ {A : Type 0} (none : A) where
   pub front-zero : (n : ℕ) → Front none [] (replicate n none)
   front-zero n = front-made [] (replicate n none) n refl
 
-  -- by its two parts
-  pub front-parts : (front list : List A) (n : ℕ) → take (length front) list ≡ front → drop (length front) list ≡ replicate n none → Front none front list
-  front-parts front list n t d =
-      front-made front list n (sym (take-append-drop (length front) list) ∙ (ap (λ (l : List A). l ++ drop (length front) list) t ∙ ap (λ (l : List A). front ++ l) d))
-
   module _ {front list : List A} (f : Front none front list) where
     -- ---- what is read of it
     pub front-take : take (length front) list ≡ front
@@ -103,23 +98,6 @@ module _ {A : Type 0} (none : A) where
       let rest : List A = replicate (length list - length (front ++ more)) none in
       ap (take (length front)) (f .is ∙ append-assoc front more rest) ∙ take-at front (more ++ rest) (length front) refl
 
-  -- the same of what is lent to be cleared, up to the end of what is used or of the list
-  pub front-cut-lent : (front more : List A) {list : List A} → Front none (front ++ more) list → (lent : List A) (at to : ℕ) → at ≡ length front → (to ≡ length list) ⊎ (to ≡ length (front ++ more))
-      → lent ≡ replicate (length (take (to - at) (drop at list))) none → Front none front (take at list ++ (lent ++ drop (to - at) (drop at list)))
-  front-cut-lent front more {list} f lent at to same (inl end) e =
-      front-cut front list at same (front-of-more front more f) (take at list ++ (lent ++ drop (to - at) (drop at list))) (cleared list lent at to end e)
-  front-cut-lent front more {list} f lent at to same (inr end) e =
-      let n : ℕ = length list - length (front ++ more) in
-      let size : length more ≡ to - at = omega (arith, same, end, length-append front more) in
-      let behind : drop at list ≡ more ++ replicate n none = ap (drop at) (f .is ∙ append-assoc front more (replicate n none)) ∙ drop-at front (more ++ replicate n none) at (sym same) in
-      let here : take (to - at) (drop at list) ≡ more = ap (take (to - at)) behind ∙ take-at more (replicate n none) (to - at) size in
-      let there : drop (to - at) (drop at list) ≡ replicate n none = ap (drop (to - at)) behind ∙ drop-at more (replicate n none) (to - at) size in
-      let all : take at list ++ (lent ++ drop (to - at) (drop at list)) ≡ front ++ (replicate (length more) none ++ replicate n none) =
-      ap (λ (k : ℕ). take k list ++ (lent ++ drop (to - at) (drop at list))) same
-      ∙ (ap (λ (l : List A). l ++ (lent ++ drop (to - at) (drop at list))) (front-of-more front more f)
-      ∙ (ap (λ (l : List A). front ++ (lent ++ l)) there ∙ ap (λ (l : List A). front ++ (l ++ replicate n none)) (e ∙ ap (λ (l : List A). replicate (length l) none) here))) in
-      front-made front (take at list ++ (lent ++ drop (to - at) (drop at list))) (length more + n) (all ∙ ap (λ (l : List A). front ++ l) (replicate-append-replicate (length more) n none))
-
   -- ---- what was put behind the front, fitting or not, and cleared again
   pub front-back : {front list : List A} → Front none front list → (more after again : List A) (at : ℕ) → at ≡ length front → after ≡ sets list at more → again ≡ take at after ++ replicate (length after - at) none → again ≡ list
   front-back {front} {list} f more after again at same put e =
@@ -130,15 +108,5 @@ module _ {A : Type 0} (none : A) where
       ap length e ∙ (length-append (take at after) (replicate (length after - at) none) ∙ omega (arith, length-take at after, length-replicate (length after - at) none, size, same, f .room)) in
       front-one f (front-cut front after at same kept again e) long
 
-  pub front-back-lent : {front list : List A} → Front none front list → (more after lent : List A) (at to : ℕ) → at ≡ length front → to ≡ length after → after ≡ sets list at more
-      → lent ≡ replicate (length (take (to - at) (drop at after))) none → take at after ++ (lent ++ drop (to - at) (drop at after)) ≡ list
-  front-back-lent f more after lent at to same end put e =
-      front-back f more after (take at after ++ (lent ++ drop (to - at) (drop at after))) at same put (cleared after lent at to end e)
-
 -- ---- as functions say it that store words or bytes
 module _ {front list : List ℕ} (f : Front 0 front list) (more after : List ℕ) (at next : ℕ) (same : at ≡ length front) (s : Stored list at more after next) where
-  pub front-stored : at + length more ≤ length list → Front 0 (front ++ more) after
-  front-stored h = front-put 0 f more after (omega (arith, h, same)) (s .stored ∙ ap (λ (n : ℕ). sets list n more) same)
-
-  pub front-stored-end : next ≡ length (front ++ more)
-  front-stored-end = omega (arith, s .place-after, same, length-append front more)

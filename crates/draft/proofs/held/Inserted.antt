@@ -7,6 +7,7 @@ use native.Mathlib.Omega.{arith}
 use Rattle.builder.specs.Entries.{Entry, entryBytes, tableFrom}
 use Rattle.layout.{proofs.Orders.{sorted-rises}, specs.Order.{insertBy, sortedBy, Rising, Under}}
 use Rattle.numbers.specs.Answer.{if_then_else_}
+use Rattle.layout.proofs.Sorts.{insert-behind, insert-here}
 
 module _ {A : Type 0} (key : A → ℕ) where
   -- one that came after all of these: behind those that are not above it
@@ -22,22 +23,14 @@ module _ {A : Type 0} (key : A → ℕ) where
   unfolding insertLast
   last-not x y ys h = ap (λ (b : Bool). if b then (y ∷ insertLast x ys) else (x ∷ y ∷ ys)) (le-leb (key y) (key x) h)
 
-  first-below : (x y : A) (ys : List A) → key y < key x → insertBy key x (y ∷ ys) ≡ y ∷ insertBy key x ys
-  unfolding insertBy
-  first-below x y ys h = ap (λ (b : Bool). if b then (y ∷ insertBy key x ys) else (x ∷ y ∷ ys)) (lt-ltb (key y) (key x) h)
-
-  first-not : (x y : A) (ys : List A) → key x ≤ key y → insertBy key x (y ∷ ys) ≡ x ∷ y ∷ ys
-  unfolding insertBy
-  first-not x y ys h = ap (λ (b : Bool). if b then (y ∷ insertBy key x ys) else (x ∷ y ∷ ys)) (le-ltb (key y) (key x) h)
-
   -- it does not matter which of two is inserted first
   swap : (x y : A) (s : List A) → insertBy key y (insertLast x s) ≡ insertLast x (insertBy key y s)
   unfolding insertLast insertBy
   swap x y [] = go (leb (key y) (key x)) refl
     where
       go : (t : Bool) → leb (key y) (key x) ≡ t → insertBy key y (x ∷ []) ≡ insertLast x (y ∷ [])
-      go true e = first-not y x [] (leb-true (key y) (key x) e) ∙ sym (last-not x y [] (leb-true (key y) (key x) e))
-      go false e = first-below y x [] (leb-false (key y) (key x) e) ∙ sym (last-above x y [] (leb-false (key y) (key x) e))
+      go true e = insert-here key y x [] (leb-true (key y) (key x) e) ∙ sym (last-not x y [] (leb-true (key y) (key x) e))
+      go false e = insert-behind key y x [] (leb-false (key y) (key x) e) ∙ sym (last-above x y [] (leb-false (key y) (key x) e))
   swap x y (z ∷ s) = go (leb (key z) (key x)) refl (ltb (key z) (key y)) refl (leb (key y) (key x)) refl (swap x y s)
     where
       go : (a : Bool) → leb (key z) (key x) ≡ a → (b : Bool) → ltb (key z) (key y) ≡ b → (c : Bool) → leb (key y) (key x) ≡ c → insertBy key y (insertLast x s) ≡ insertLast x (insertBy key y s)
@@ -45,29 +38,29 @@ module _ {A : Type 0} (key : A → ℕ) where
       go true ea true eb c ec more =
           let zx = leb-true (key z) (key x) ea in
           let zy = ltb-true (key z) (key y) eb in
-          ap (insertBy key y) (last-not x z s zx) ∙ (first-below y z (insertLast x s) zy ∙ (ap (λ (l : List A). z ∷ l) more ∙ sym (ap (insertLast x) (first-below y z s zy) ∙ last-not x z (insertBy key y s) zx)))
+          ap (insertBy key y) (last-not x z s zx) ∙ (insert-behind key y z (insertLast x s) zy ∙ (ap (λ (l : List A). z ∷ l) more ∙ sym (ap (insertLast x) (insert-behind key y z s zy) ∙ last-not x z (insertBy key y s) zx)))
       go true ea false eb c ec more =
           let zx = leb-true (key z) (key x) ea in
           let yz = ltb-false (key z) (key y) eb in
           ap (insertBy key y) (last-not x z s zx)
-          ∙ (first-not y z (insertLast x s) yz ∙ sym (ap (insertLast x) (first-not y z s yz) ∙ (last-not x y (z ∷ s) (omega (arith, zx, yz)) ∙ ap (λ (l : List A). y ∷ l) (last-not x z s zx))))
+          ∙ (insert-here key y z (insertLast x s) yz ∙ sym (ap (insertLast x) (insert-here key y z s yz) ∙ (last-not x y (z ∷ s) (omega (arith, zx, yz)) ∙ ap (λ (l : List A). y ∷ l) (last-not x z s zx))))
       go false ea true eb c ec more =
           let xz = leb-false (key z) (key x) ea in
           let zy = ltb-true (key z) (key y) eb in
           ap (insertBy key y) (last-above x z s xz)
-          ∙ (first-below y x (z ∷ s) (omega (arith, xz, zy)) ∙ (ap (λ (l : List A). x ∷ l) (first-below y z s zy) ∙ sym (ap (insertLast x) (first-below y z s zy) ∙ last-above x z (insertBy key y s) xz)))
+          ∙ (insert-behind key y x (z ∷ s) (omega (arith, xz, zy)) ∙ (ap (λ (l : List A). x ∷ l) (insert-behind key y z s zy) ∙ sym (ap (insertLast x) (insert-behind key y z s zy) ∙ last-above x z (insertBy key y s) xz)))
       go false ea false eb true ec more =
           let xz = leb-false (key z) (key x) ea in
           let yz = ltb-false (key z) (key y) eb in
           let yx = leb-true (key y) (key x) ec in
           ap (insertBy key y) (last-above x z s xz)
-          ∙ (first-not y x (z ∷ s) yx ∙ sym (ap (insertLast x) (first-not y z s yz) ∙ (last-not x y (z ∷ s) yx ∙ ap (λ (l : List A). y ∷ l) (last-above x z s xz))))
+          ∙ (insert-here key y x (z ∷ s) yx ∙ sym (ap (insertLast x) (insert-here key y z s yz) ∙ (last-not x y (z ∷ s) yx ∙ ap (λ (l : List A). y ∷ l) (last-above x z s xz))))
       go false ea false eb false ec more =
           let xz = leb-false (key z) (key x) ea in
           let yz = ltb-false (key z) (key y) eb in
           let xy = leb-false (key y) (key x) ec in
           ap (insertBy key y) (last-above x z s xz)
-          ∙ (first-below y x (z ∷ s) xy ∙ (ap (λ (l : List A). x ∷ l) (first-not y z s yz) ∙ sym (ap (insertLast x) (first-not y z s yz) ∙ last-above x y (z ∷ s) xy)))
+          ∙ (insert-behind key y x (z ∷ s) xy ∙ (ap (λ (l : List A). x ∷ l) (insert-here key y z s yz) ∙ sym (ap (insertLast x) (insert-here key y z s yz) ∙ last-above x y (z ∷ s) xy)))
 
   pub sorted-last : (xs : List A) (x : A) → sortedBy key (xs ++ (x ∷ [])) ≡ insertLast x (sortedBy key xs)
   unfolding sortedBy insertBy insertLast

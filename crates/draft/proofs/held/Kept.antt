@@ -11,12 +11,9 @@ use Rattle.writer.specs.Writer.{every, checks}
 use Rattle.draft.proofs.held.{Everyone.{length-changed, every-more, every-take, every-changed}, Redrawn.{placed, drawnWith, drawnTo, border-fits, border-same, drawn-more, drawn-take, data-is}}
 use Rattle.draft.proofs.held.{Redrawn.{sound-draws}, Standing.{readable-parts}}
 use Rattle.draft.specs.Held.{Builder.{Offered, holding, joined, yardOf, changedAt, withValue}, Sound.{Sound}, Totals.{dataOf}}
+use Rattle.numbers.proofs.Replies.{looked}
 
 -- ---- 19 to 22
-pub looked : {A : Type 0} {a : A} (c : Reply (Unit {0})) (rest : Reply A) → given a ≡ (c >> rest) → (c ≡ given tt) × (given a ≡ rest)
-looked (given tt) rest e = (refl, e)
-looked (refused why) rest e = let z : _≡_ {A = ℕ} 0 1 = cc in absurd (omega arith)
-
 pub borders-more : (ys : List Yard) (y : Yard) → bordersGood ys ≡ given tt → bordersGood (ys ++ (y ∷ [])) ≡ (checks 0 (y .lats) (y .lons) [] >> given tt)
 unfolding bordersGood
 borders-more [] y e = refl
@@ -83,9 +80,6 @@ module _ (plan : Plan) (room : ℕ) (sound : Sound plan room) where
   pub cleared-sound : Sound (holding plan []) room
   unfolding bordersGood every
   cleared-sound = with-yards [] refl (omega arith) refl refl (record { bytes = 0 ∷ []; places = [] }) none-drawn
-
-  pub cleared-data : dataOf (holding plan []) ≡ record { bytes = 0 ∷ []; places = [] }
-  cleared-data = data-is (holding plan []) (upTo room) (omega arith) (record { bytes = 0 ∷ []; places = [] }) none-drawn
 
   -- ---- the first so many
   module _ (n : ℕ) (h : n < length (plan .yards)) where

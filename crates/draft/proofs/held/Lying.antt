@@ -7,12 +7,13 @@ use Rattle.builder.specs.{Borders.{withBorder}, File.{areTexts, headOf, upTo}, 
 use Rattle.build.specs.Entries.Corners.{cornersOf}
 use Rattle.build.specs.Metadata.Kept as Words
 use Rattle.numbers.specs.Reply.{given}
-use Rattle.draft.proofs.held.{Kept.{cleared-data, dropped-data, dropped-sound, joined-data, replaced-data}, Redrawn.{data-many, place-inside}, Standing.{corners-many, texts-many}}
-use Rattle.draft.proofs.held.Texts.{cleared-corners, cleared-texts, corners-changed, corners-split, dropped-lengths, dropped-strings, joined-corners, joined-lengths, joined-strings, restValues}
+use Rattle.draft.proofs.held.{Kept.{dropped-data, dropped-sound, joined-data, replaced-data}, Redrawn.{data-many, place-inside}, Standing.{texts-many}}
+use Rattle.draft.proofs.held.Texts.{cleared-texts, corners-changed, corners-split, dropped-lengths, dropped-strings, joined-corners, joined-lengths, joined-strings, restValues}
 use Rattle.draft.specs.Held.{Builder.{Builder, Offered, holding, joined, summed, yardOf, changedAt, withValue}, Sound.{Sound}, State.{Front, Holds, Lies, Lists, frontOf, heldAs, textsOf}}
 use Rattle.draft.specs.Held.Totals.{dataOf, totalsOf}
 use Rattle.draft.specs.declared.held.state.Held.{Held}
 use Rattle.draft.specs.Held.State.{heldWith}
+use Rattle.build.proofs.entries.Tabled.{corners-size}
 
 -- ---- the numbers: of what a plan is like none changes; the bytes of all texts and the totals do
 module _ (b : Builder) (held : Held) (lists : Lists) (h : Holds b held lists) (strings : ℕ) (after : Lists) where
@@ -87,16 +88,13 @@ module _ (plan : Plan) (room : ℕ) (sound : Sound plan room) (n : ℕ) (h : n <
   fewer-yards = omega (arith, length-take n (plan .yards), h)
 
   pub boxes-end : 4 * n ≡ length (cornersOf (take n (plan .yards)))
-  boxes-end = omega (arith, corners-many (take n (plan .yards)), fewer-yards)
+  boxes-end = omega (arith, corners-size (take n (plan .yards)), fewer-yards)
 
   pub borders-end : n ≡ length (take n (dataOf plan .places))
   borders-end = omega (arith, length-take n (dataOf plan .places), data-many plan room sound, h)
 
   pub lengths-end : length (plan .names) + 1 + length (plan .names) * n ≡ length (map length (textsOf fewer))
   lengths-end = sym (texts-many fewer room (dropped-sound plan room sound n h) ∙ ap (λ (k : ℕ). length (plan .names) + 1 + length (plan .names) * k) fewer-yards)
-
-  pub texts-end : length (Words.joined (textsOf plan)) ≡ length (Words.joined (textsOf fewer)) + length (Words.joined (restValues plan n))
-  texts-end = ap length (dropped-strings plan n) ∙ length-append (Words.joined (textsOf fewer)) (Words.joined (restValues plan n))
 
   pub bytes-end : cutAt ≡ length (take cutAt (dataOf plan .bytes))
   bytes-end = sym (length-take-le cutAt (dataOf plan .bytes) (place-inside plan room sound n h))
@@ -126,17 +124,4 @@ lies-replaced plan room sound yard field text lists after lies boxes borders byt
       lengths-are = lengths;
       texts-are = strings;
       bytes-are = subst (λ (l : List ℕ). Front 0 (dataOf (holding plan (changedAt yard (withValue field text) (plan .yards))) .bytes) l) (sym bytes) (subst (λ d. Front 0 (d .bytes) (lists .bytes)) (sym drawn) (lies .bytes-are));
-    }
-
--- ---- of one with no yards
-pub lies-cleared : (plan : Plan) (room : ℕ) → Sound plan room → (after : Lists) → Front (pos 0) [] (after .boxes) → Front 0 [] (after .borders)
-    → Front 0 (map length (frontOf plan)) (after .lengths) → Front 0 (Words.joined (frontOf plan)) (after .texts) → Front 0 (0 ∷ []) (after .bytes) → Lies (holding plan []) (dataOf (holding plan [])) after
-lies-cleared plan room sound after boxes borders lengths strings bytes =
-    let drawn = cleared-data plan room sound in
-    record {
-      boxes-are = subst (λ l. Front (pos 0) l (after .boxes)) (sym (cleared-corners plan)) boxes;
-      borders-are = subst (λ d. Front 0 (d .places) (after .borders)) (sym drawn) borders;
-      lengths-are = subst (λ (l : List Text). Front 0 (map length l) (after .lengths)) (sym (cleared-texts plan)) lengths;
-      texts-are = subst (λ (l : List Text). Front 0 (Words.joined l) (after .texts)) (sym (cleared-texts plan)) strings;
-      bytes-are = subst (λ d. Front 0 (d .bytes) (after .bytes)) (sym drawn) bytes;
     }

@@ -14,13 +14,9 @@ use Rattle.draft.proofs.held.{Fronts.{front-slice, front-take}, Redrawn
 use Rattle.draft.specs.Held.{Builder.{Builder}, Sound.{Sound}, Space.{ownEnough, standing}, State.{Front, Holds, Lies, Lists, Stands, frontOf, textsOf, valuesOf}, Totals.{Totals, dataOf}}
 use Rattle.draft.specs.Held.Totals.{totalsFor, totalsOf}
 use Rattle.draft.specs.declared.held.{room.Rooms.{Rooms}, state.Held.{Held}}
+use Rattle.build.proofs.entries.Tabled.{corners-size}
 
 -- ---- how many numbers and texts there are
-pub corners-many : (yards : List Yard) → length (cornersOf yards) ≡ 4 * length yards
-unfolding cornersOf
-corners-many [] = refl
-corners-many (y ∷ ys) = let e : 4 * suc (length ys) ≡ suc (suc (suc (suc (4 * length ys)))) = omega arith in ap (λ (n : ℕ). suc (suc (suc (suc n)))) (corners-many ys) ∙ sym e
-
 pub fields-many : (names : ℕ) (yards : List Yard) → every (λ y. eqb names (length (y .values))) yards ≡ true → length (fieldsOf (map (λ y. y .values) yards)) ≡ names * length yards
 unfolding every fieldsOf
 fields-many names [] e = omega arith
@@ -29,7 +25,7 @@ fields-many names (y ∷ ys) e =
     omega (arith, length-append (y .values) (fieldsOf (map (λ y. y .values) ys)), fields-many names ys (two .1), eqb-true names (length (y .values)) (two .0), mul-suc names (length ys))
 
 -- ---- no text is long
-text-short : (t : Text) → isText t ≡ true → length t ≤ 255
+pub text-short : (t : Text) → isText t ≡ true → length t ≤ 255
 unfolding isText
 text-short t e = leb-true (length t) 255 (both (leb (length t) 255) _ e .0)
 
@@ -86,7 +82,7 @@ module _ (plan : Plan) (room : ℕ) (sound : Sound plan room) where
     lengths-room = omega (arith, lies .lengths-are .room, texts-many)
 
     pub boxes-room : 4 * length (plan .yards) ≤ length (lists .boxes)
-    boxes-room = omega (arith, lies .boxes-are .room, corners-many (plan .yards))
+    boxes-room = omega (arith, lies .boxes-are .room, corners-size (plan .yards))
 
     -- the sums may be taken of what is lent: `lengths[from..to]` and `texts[front..strings]`, of the values alone
     pub stands-more : (names count from to front strings : ℕ) → names ≡ length (plan .names) → count ≡ length (plan .yards) → from ≡ names + 1 → to ≡ names + 1 + names * count
@@ -96,7 +92,7 @@ module _ (plan : Plan) (room : ℕ) (sound : Sound plan room) where
         let fields : List Text = valuesOf plan in
         let lengths-front : Front 0 (map length (frontOf plan) ++ map length fields) (lists .lengths) = subst (λ (l : List ℕ). Front 0 l (lists .lengths)) lengths-split (lies .lengths-are) in
         let texts-front : Front 0 (joined (frontOf plan) ++ joined fields) (lists .texts) = subst (λ (l : List ℕ). Front 0 l (lists .texts)) texts-split (lies .texts-are) in
-        let boxes-many : 4 * count ≡ length (cornersOf (plan .yards)) = omega (arith, ec, corners-many (plan .yards)) in
+        let boxes-many : 4 * count ≡ length (cornersOf (plan .yards)) = omega (arith, ec, corners-size (plan .yards)) in
         let places-many : count ≡ length (dataOf plan .places) = ec ∙ sym (data-many plan room sound) in
         let size : length (map length (frontOf plan)) ≡ length (plan .names) + 1 = length-map (frontOf plan) length ∙ front-many in
         let times : names * count ≡ length (plan .names) * length (plan .yards) = ap (λ (n : ℕ). n * count) en ∙ ap (λ (n : ℕ). length (plan .names) * n) ec in

@@ -141,23 +141,11 @@ module _ (plan : Plan) (n : ℕ) where
   pub dropped-strings : Words.joined (textsOf plan) ≡ Words.joined (textsOf fewer) ++ Words.joined restValues
   dropped-strings = ap Words.joined dropped-texts ∙ flat-more (λ (t : Text). t) (textsOf fewer) restValues
 
-  pub dropped-head : headOf fewer ≡ headOf plan
-  unfolding headOf
-  dropped-head = refl
-
 -- ---- none: the names and the notice are left
 module _ (plan : Plan) where
   pub cleared-texts : textsOf (holding plan []) ≡ frontOf plan
   unfolding fieldsOf
   cleared-texts = append-nil (frontOf plan)
-
-  pub cleared-corners : cornersOf (holding plan [] .yards) ≡ []
-  unfolding cornersOf
-  cleared-corners = refl
-
-  pub cleared-head : headOf (holding plan []) ≡ headOf plan
-  unfolding headOf
-  cleared-head = refl
 
 -- ---- one value another
 module _ (plan : Plan) (room : ℕ) (sound : Sound plan room) (yard field : ℕ) (text : Text) (y : yard < length (plan .yards)) (f : field < length (plan .names)) where
@@ -201,7 +189,3 @@ module _ (plan : Plan) (room : ℕ) (sound : Sound plan room) (yard field : ℕ)
 
   pub strings-around : Words.joined (textsOf plan) ≡ beforeText ++ (getD (textsOf plan) textIndex [] ++ behindText)
   strings-around = ap Words.joined (split-at (textsOf plan) textIndex [] index-inside) ∙ around (getD (textsOf plan) textIndex [])
-
-  pub replaced-head : headOf changed ≡ headOf plan
-  unfolding headOf
-  replaced-head = refl

@@ -5,6 +5,7 @@ use lib.{Dec.{eqb}, ListN.{length, drop, getD}, Seq.{drop-cons, drop-length}}
 use mathlib.Core.{Bool.{Bool, true, false}, List.{List}, Path.{_≡_, refl, sym, ap, _∙_}}
 use native.Mathlib.{Numerals.{add-one}, Omega.{arith}}
 use Rattle.builder.specs.Yards.{sumOf}
+use Rattle.builder.proofs.Sums.{sum-next}
 
 -- the loop's invariant
 pub record Taking (lengths : List ℕ) (sum left i : ℕ) : Type 0 where
@@ -16,15 +17,11 @@ take-starts lengths sum = record { index = omega arith; same = omega arith }
 
 module _ (lengths : List ℕ) (sum left i : ℕ) (t : Taking lengths sum left i) where
   module _ (more : i < length lengths) where
-    next : sumOf (drop i lengths) ≡ getD lengths i 0 + sumOf (drop (suc i) lengths)
-    unfolding sumOf
-    next = ap sumOf (drop-cons lengths i 0 more)
-
     pub take-goes : getD lengths i 0 ≤ left → Taking lengths sum (left - getD lengths i 0) (i + 1)
-    take-goes h = rw (add-one i) (record { index = omega (arith, more); same = omega (arith, h, next, t .same) })
+    take-goes h = rw (add-one i) (record { index = omega (arith, more); same = omega (arith, h, sum-next lengths i more, t .same) })
 
     pub take-stops : left < getD lengths i 0 → false ≡ eqb (sumOf lengths) sum
-    take-stops h = sym (ne-eqb (sumOf lengths) sum (λ e. omega (arith, h, next, t .same, e)))
+    take-stops h = sym (ne-eqb (sumOf lengths) sum (λ e. omega (arith, h, sum-next lengths i more, t .same, e)))
 
   pub take-ends : length lengths ≤ i → eqb left 0 ≡ eqb (sumOf lengths) sum
   unfolding sumOf

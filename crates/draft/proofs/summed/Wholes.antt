@@ -53,9 +53,6 @@ module _ (held : Held) (lengths : List ℕ) where
     pub values-sum : sumOf (take (held .names + 1 + held .names * held .yards - (held .names + 1)) (drop (held .names + 1) lengths)) ≡ held .strings - held .front
     values-sum = eqb-true (sumOf (take (held .names + 1 + held .names * held .yards - (held .names + 1)) (drop (held .names + 1) lengths))) (held .strings - held .front) (told .2)
 
-  pub slice-order : held .names + 1 ≤ held .names + 1 + held .names * held .yards
-  slice-order = omega arith
-
   pub slice-inside : Texts held (length lengths) → held .names + 1 ≤ length lengths
   slice-inside t = omega (arith, t .all)
 

@@ -6,7 +6,7 @@ use mathlib.Core.{Bool.{Bool, true, false, not, _&&_}, List.{List, [], _∷_, _+
 use native.Mathlib.Omega.{arith}
 use Rattle.writer.specs.Writer.{every}
 use Rattle.numbers.proofs.Tests.{both}
-use Rattle.build.proofs.{Slices.{texts-few}, Valued.{cut-take}}
+use Rattle.build.proofs.{Slices.{texts-few}}
 use Rattle.builder.proofs.Counting.{cut-many}
 use Rattle.builder.specs.{File.{areTexts, headFrom, headOf, isText, known, readable}, Yards.{Plan, Text, countedLengths, cutBy, planOf, sumOf, valuesFrom}}
 use Rattle.header.specs.Header.{isKind}
@@ -17,10 +17,8 @@ use Rattle.numbers.specs.{Reply.{Reply, given, refused, plain, demand, _>>_}, d
 use Rattle.build.proofs.recording.Fewer.{joined-sum}
 use Rattle.edit.proofs.changing.Nothing.{heldNone, none-held, none-sound}
 use Rattle.edit.specs.Changing.Begun.{Checks, firstPlan, frontSpace}
-
-and-false : (b : Bool) → (b && false) ≡ false
-and-false true = refl
-and-false false = refl
+use Rattle.builder.proofs.Counting.{cut-take}
+use mathlib.Core.Bool.{and-false}
 
 every-last : {A : Type 0} (good : A → Bool) (xs : List A) (x : A) → every good (xs ++ (x ∷ [])) ≡ (every good xs && (good x && true))
 unfolding every

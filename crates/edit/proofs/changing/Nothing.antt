@@ -36,10 +36,6 @@ heldNone kind version precision names room head front =
     }
 
 module _ (plan : Plan) where
-  pub none-drawn : dataOf (holding plan []) ≡ record { bytes = 0 ∷ []; places = [] }
-  unfolding dataOf drawnOr drawnOf drawnFrom
-  none-drawn = refl
-
   pub none-totals : totalsOf (holding plan []) ≡ noTotals
   unfolding totalsOf totalsFor dataOf drawnOr drawnOf drawnFrom tableOf tableFrom sortedBy metadataOf remotes fieldsOf firstsAfter goodOnes highestOf zipWith flatMap
   none-totals = refl

@@ -13,11 +13,12 @@ use Rattle.draft.specs.declared.held.state.{Changed.{Changed}, Held.{Held}}
 use Rattle.draft.specs.declared.held.state.Changed.the-variants as C
 use Rattle.numbers.{proofs.Replies.{demanded}, specs.{Lists.{zeros}, Reply.{Reply, given, refused, plain, demand, _>>=_, _>>_}, declared.refusal.Refusal.{Refusal}}}
 use Rattle.writer.{proofs.Stores.{stored-length}, specs.inner.Stored.{Stored}}
-use Rattle.edit.proofs.replacing.{Agreed.{checked-as}, Found.{text-few}, Renewed.{renews}, Spots.{Within, fallen, index-inside, spot-ordered, within-parts}}
+use Rattle.edit.proofs.replacing.{Agreed.{checked-as}, Renewed.{renews}, Spots.{Within, fallen, index-inside, spot-ordered, within-parts}}
 use Rattle.edit.specs.inner.Replacing.{Exchange.{Exchanging}, Replaced.{PutIn, Putting, Renews, Resumming, Resums, TakenBack, afterChecks, spotUpTo}, Spot.{checkedOf}}
 use Rattle.edit.specs.Replacing.Replaced.{Replaces, replaced, spaceFor}
 use Rattle.edit.specs.inner.Replacing.Spot.{sizeWith, spotIn, textAt, told, within}
 use Rattle.edit.specs.declared.replacing.check.{Spot.{Spot}, Checked.{Checked}}
+use Rattle.draft.proofs.held.Standing.{text-short}
 use Rattle.edit.specs.declared.replacing.check.Checked.the-variants as D
 
 -- ---- taken back or not
@@ -134,7 +135,7 @@ module _ (held : Held) (rooms : Rooms) (out yard field : ℕ) (text : Text) (len
         short = w .short;
         old-fits = s .own .texts-room;
         aside = leb-true (held .strings) out (r .0);
-        few = text-few text (p .is-text);
+        few = text-short text (p .is-text);
         resumming = record {
           few-names = s .few-names;
           few-yards = s .few-yards;

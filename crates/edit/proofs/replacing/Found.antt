@@ -8,18 +8,11 @@ use Rattle.writer.specs.Writer.{every}
 use Rattle.header.specs.Utf8.{isUtf8}
 use Rattle.numbers.proofs.Tests.{both}
 use Rattle.builder.specs.{File.{isText, areTexts}, Yards.{Text, cutBy, sumOf}}
+use mathlib.Core.Bool.{and-true}
 
 pub long-no-text : (text : Text) → 255 < length text → false ≡ isText text
 unfolding isText
 long-no-text text h = rw (lt-leb (length text) 255 h) refl
-
-pub text-few : (text : Text) → isText text ≡ true → length text ≤ 255
-unfolding isText
-text-few text e = leb-true (length text) 255 (both (leb (length text) 255) (isUtf8 text) e .0)
-
-and-true : (b : Bool) → (b && true) ≡ b
-and-true true = refl
-and-true false = refl
 
 pub one-text : (text : Text) (r : Bool) → r ≡ areTexts (length text ∷ []) text → r ≡ isText text
 unfolding areTexts sumOf cutBy every

@@ -12,8 +12,9 @@ use Rattle.draft.specs.{Held.{Builder.{Builder}, Sound.{Sound}, State.{Front, H
 use Rattle.build.{proofs.metadata.{Itemed.{map-take}, Shared.{flat-more}, Worded.{at-map}}, specs.Metadata.Kept.{joined}}
 use Rattle.build.proofs.recording.Fewer.{joined-sum}
 use Rattle.writer.specs.Writer.{every}
-use Rattle.edit.proofs.replacing.{Found.{text-few}, Spots.{short-last}}
+use Rattle.edit.proofs.replacing.{Spots.{short-last}}
 use Rattle.edit.specs.{inner.Replacing.Spot.{textAt, spotIn, within, sizeWith}, declared.replacing.check.Spot.{Spot}}
+use Rattle.draft.proofs.held.Standing.{text-short}
 
 -- ---- what is read of the front of a list
 front-takes : (front list : List ℕ) → Front 0 front list → (n : ℕ) → n ≤ length front → take n list ≡ take n front
@@ -48,7 +49,7 @@ unfolding every flatMap
 every-short [] e = omega arith
 every-short (t ∷ ts) e =
     let two = both (isText t) (every isText ts) e in
-    omega (arith, length-append t (joined ts), text-few t (two .0), every-short ts (two .1))
+    omega (arith, length-append t (joined ts), text-short t (two .0), every-short ts (two .1))
 
 module _ (plan : Plan) (room : ℕ) (sound : Sound plan room) where
   texts-all : every isText (textsOf plan) ≡ true
@@ -129,7 +130,7 @@ module _ (b : Builder) (held : Held) (lists : Lists) (h : Holds b held lists) (y
       omega (arith, ap length is, length-append (joined (frontOf plan)) (joined (take k (valuesOf plan))))
 
   pub old-few : length old ≤ 255
-  old-few = text-few old (every-at (textsOf plan) (texts-all plan (b .room) (h .sound)) index inside)
+  old-few = text-short old (every-at (textsOf plan) (texts-all plan (b .room) (h .sound)) index inside)
 
   pub value-within : within held spot ≡ true
   value-within =

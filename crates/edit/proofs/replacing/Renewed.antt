@@ -8,7 +8,7 @@ use Rattle.build.specs.Entries.Corners.{cornersOf}
 use Rattle.draft.proofs.held.{Everyone.{length-changed}, Fronts.{front-one, front-part, front-set}, Kept.{replaced-data, replaced-sound}, Lying.{holds-other, lies-replaced}}
 use Rattle.draft.specs.Held.State as L
 use Rattle.draft.proofs.held.Standing.{held-names, held-yards, held-bytes, held-front, held-strings, stands-more}
-use Rattle.draft.proofs.held.Texts.{corners-changed, replaced-lengths, replaced-strings, replaced-head, strings-around}
+use Rattle.draft.proofs.held.Texts.{corners-changed, replaced-lengths, replaced-strings, strings-around}
 use Rattle.draft.specs.Held.{Builder.{Builder, fitting, summed, withValue}, Sound.{Sound}, State.{Answers, Front, Holds, Lies, Lists, SameRooms, Stands, heldAs, listsAs, textsOf}, Totals.{Totals}}
 use Rattle.draft.specs.{Held.Totals.{dataOf, fileSize, totalsFor, totalsOf}, declared.held.state.{Changed.{Changed}, Held.{Held}}}
 use Rattle.draft.specs.declared.held.state.Changed.the-variants as C

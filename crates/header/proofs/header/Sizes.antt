@@ -11,7 +11,7 @@ use Rattle.numbers.specs.Answer as A
 use Rattle.header.proofs.Strings.{read-within}
 use Rattle.header.specs.Header.{sizeAt, unreadOf, sectionsFrom, sectionsAt}
 
-given-found : {A : Type 0} {a : A} (why : Refusal) (answer : Answer A) → given a ≡ (answer orElse why) → found a ≡ answer
+pub given-found : {A : Type 0} {a : A} (why : Refusal) (answer : Answer A) → given a ≡ (answer orElse why) → found a ≡ answer
 given-found why (found a) e = cc
 given-found why failed e = let z : _≡_ {A = ℕ} 0 1 = cc in absurd (omega arith)
 given-found why (A.refused number) e = let z : _≡_ {A = ℕ} 0 1 = cc in absurd (omega arith)

@@ -7,15 +7,8 @@ use lib.{Dec.{leb, ltb}, ListN.{length}}
 use Rattle.numbers.specs.Answer.{if_then_else_}
 use Rattle.header.specs.Utf8.{Range, _∈_, characters, Fits, none, next, Among, here, later, Octets, ended, char, Pending, due, wrong, startedBy, begunBy, followed, goesOn, isUtf8}
 use Rattle.header.proofs.utf8.Octets.{stays-wrong}
-use Rattle.numbers.proofs.Tests.{both}
-
--- ---- tests
-never : _≡_ {A = Bool} false true → ⊥
-never e = let z : _≡_ {A = ℕ} 0 1 = cc in omega arith
-
-neither : (x : Bool) → (x && false) ≡ false
-neither true = refl
-neither false = refl
+use Rattle.numbers.proofs.Tests.{both, differ}
+use mathlib.Core.Bool.{and-false}
 
 -- ---- the row that begins with a byte
 above : ℕ → List (List Range) → Bool
@@ -46,7 +39,7 @@ row-of b first rest _ s (later {other = f ∷ fs} {rows = rows} at) e =
     let h = past (f .high) first rest rows (both (above (f .high) rows) (sorted rows) s .0) at in
     let low : first .low ≤ b = leb-true _ _ (both (leb (first .low) b) (leb b (first .high)) e .0) in
     let beyond : f .high < b = omega arith in
-    simp (lt-leb b (f .high) beyond, neither) (row-of b first rest rows (both (above (f .high) rows) (sorted rows) s .1) at e)
+    simp (lt-leb b (f .high) beyond, and-false) (row-of b first rest rows (both (above (f .high) rows) (sorted rows) s .1) at e)
 
 -- ---- from the grammar to the test
 through : {ranges : List Range} {c : List ℕ} (rest : List ℕ) → Fits ranges c → goesOn (c ++ rest) (due ranges) ≡ goesOn rest (due [])
@@ -73,7 +66,7 @@ record Split (ranges : List Range) (bytes : List ℕ) : Type 0 where
 split : (bytes : List ℕ) (ranges : List Range) → goesOn bytes (due ranges) ≡ true → Split ranges bytes
 unfolding goesOn followed
 split [] [] e = record { c = []; rest = []; is = refl; fits = none; onward = e; shorter = omega arith }
-split [] (range ∷ ranges) e = absurd (never e)
+split [] (range ∷ ranges) e = differ e
 split (b ∷ bytes) [] e = record { c = []; rest = b ∷ bytes; is = refl; fits = none; onward = e; shorter = omega arith }
 split (b ∷ bytes) (range ∷ ranges) e = by-range (split bytes ranges) (b ∈ range) refl e
   where
@@ -81,7 +74,7 @@ split (b ∷ bytes) (range ∷ ranges) e = by-range (split bytes ranges) (b ∈ 
     by-range shorter true is e =
         let s = shorter e in
         record { c = b ∷ s .c; rest = s .rest; is = ap (λ (bs : List ℕ). b ∷ bs) (s .is); fits = next is (s .fits); onward = s .onward; shorter = omega (arith, s .shorter) }
-    by-range shorter false is e = absurd (never (stays-wrong bytes ∙ e))
+    by-range shorter false is e = differ (stays-wrong bytes ∙ e)
 
 record Row (b : ℕ) (rest : List Range) (rows : List (List Range)) : Type 0 where
   first : Range
@@ -112,7 +105,7 @@ longer n shorter (b ∷ bytes) h e = by-row (startedBy b characters) refl e
         let r = row b rest characters is in
         let s = split bytes rest e in
         rw (s .is) (char (r .at) (next (r .is) (s .fits)) (shorter (s .rest) (omega (arith, s .shorter)) (s .onward)))
-    by-row wrong is e = absurd (never (stays-wrong bytes ∙ e))
+    by-row wrong is e = differ (stays-wrong bytes ∙ e)
 
 empty : Sound zero
 empty [] h e = ended

@@ -8,16 +8,12 @@ use native.Mathlib.{Numerals.{add-one}, Omega.{arith}}
 use Rattle.localtime.specs.Found.{eastOf, foundOf, sameOctets, sameFound}
 use Rattle.tzif.specs.{Number.{octet}, declared.local.Found.{Found}}
 use Rattle.tzrule.specs.declared.ask.Time.{Time}
-
--- seconds east fit an i32
-either : (t : Bool) (x y : ℕ) → x < 2 ^ 31 → y < 2 ^ 31 → mag (cond t (negsuc x) (pos y)) < 2 ^ 31
-either true x y h k = h
-either false x y h k = k
+use Rattle.numbers.proofs.Signed.{mag-cond}
 
 pub east-small : (west : ℕ) → west ≤ 1209600 → mag (eastOf west) < 2 ^ 31
 unfolding eastOf
 east-small zero h = omega arith
-east-small (suc w) h = either (ltb 604800 (suc w)) (suc w - suc 604800) (604800 - suc w) (omega arith) (omega arith)
+east-small (suc w) h = mag-cond (ltb 604800 (suc w)) (suc w - suc 604800) (604800 - suc w) (2 ^ 31) (omega arith) (omega arith)
 
 module _ (west : ℕ) (short : west ≤ 1209600) where
   west-is : toZ w64 west ≡ pos west

@@ -18,19 +18,6 @@ use Rattle.numbers.specs.Answer.{if_then_else_}
 use Rattle.verdict.proofs.step.Passed as Passed'
 use Rattle.verdict.specs.declared.step.Passed.the-variants as P
 
--- ---- what a `let .. else` leaves
-pub stays-stopped : (p : Passed) (go : Tally → Step Tally) → OneOf (1 ∷ 2 ∷ []) (tagOf Passed'.the-type p) → told p ≡ (told p >>= go)
-stays-stopped (P.On t) go o = absurd (miss (1 ∷ 2 ∷ []) 0 tt o)
-stays-stopped (P.Meets v) go o = refl
-stays-stopped P.Over go o = refl
-
-pub decides : (p : Passed) (asked : Bool) (least : ℕ) (go : Tally → Judgement) → OneOf (1 ∷ 2 ∷ []) (tagOf Passed'.the-type p)
-    → thenOn asked least (told p) (λ tally. refused 13) ≡ thenOn asked least (told p) go
-unfolding thenOn
-decides (P.On t) asked least go o = absurd (miss (1 ∷ 2 ∷ []) 0 tt o)
-decides (P.Meets v) asked least go o = refl
-decides P.Over asked least go o = refl
-
 -- ---- the stretches of a border
 module _ (file : List ℕ) (encoding : Encoding) (fix : Point) (asked : Bool) (words : List ℕ) (first : Point) where
   -- one that is passed as an edge, and one that is not

@@ -7,17 +7,7 @@ use native.Mathlib.{Numerals.{add-one}, Omega.{arith}}
 use Rattle.notes.proofs.chains.Lasts.{never, below-next, last-in, last-out, last-agree}
 use Rattle.notes.specs.Chains.Chains.{lastWith, inBucket, Chained}
 use Rattle.numbers.specs.Lists.{zeros}
-
--- ---- zeros
-zero-at : (n i : ℕ) → getD (zeros n) i 0 ≡ 0
-zero-at zero i = refl
-zero-at (suc n) zero = refl
-zero-at (suc n) (suc i) = zero-at n i
-
-wider-at : (list : List ℕ) (n i : ℕ) → getD (list ++ zeros n) i 0 ≡ getD list i 0
-wider-at [] n i = zero-at n i
-wider-at (x ∷ xs) n zero = refl
-wider-at (x ∷ xs) n (suc i) = wider-at xs n i
+use Rattle.numbers.proofs.Lists.{zero-at, wider-at}
 
 -- ---- the chains after an item is entered in its bucket
 abbrev pub entering : List ℕ → ℕ → ℕ → List ℕ

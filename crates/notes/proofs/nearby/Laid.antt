@@ -6,16 +6,11 @@ use native.Mathlib.Omega.{arith}
 use Rattle.builder.specs.{Entries.{Entry, boundsAt, boxOf, entryAt, tableOf}, File.{entryOf}, Metadata.{recordsOf, startOf}, Yards.{Yard}, declared.boxes.Bounds.{Bounds}}
 use Rattle.build.specs.Entries.Corners.{cornersOf}
 use Rattle.builder.specs.Grouping.Keys.{numbersFrom}
-use Rattle.draft.proofs.held.Standing.{corners-many}
 use Rattle.notes.specs.inner.Noted.OneMore.{OneMore}
 use Rattle.notes.proofs.noted.OneMore.{entryNew, entries-more}
 use Rattle.notes.specs.inner.Nearby.Nearby.{entryFor, entriesAt, entryWith}
-
--- numbers from the next one on
-map-next : {A : Type 0} (f : ℕ → A) (i n : ℕ) → map f (numbersFrom (suc i) n) ≡ map (λ (k : ℕ). f (suc k)) (numbersFrom i n)
-unfolding numbersFrom
-map-next f i zero = refl
-map-next {A} f i (suc n) = ap (λ (l : List A). f (suc i) ∷ l) (map-next f (suc i) n)
+use Rattle.build.proofs.entries.Tabled.{corners-size}
+use Rattle.build.proofs.Valued.{map-next}
 
 map-same : {A B : Type 0} (f g : A → B) → ((a : A) → f a ≡ g a) → (xs : List A) → map f xs ≡ map g xs
 map-same f g same [] = refl
@@ -76,7 +71,7 @@ module _ (yards : List Yard) (boxes : List ℤ) (begins borders rest : List ℕ)
     corner : (k : ℕ) → getD boxes (4 * length yards + k) (pos 0) ≡ getD (cornersOf (y ∷ []) ++ bs) k (pos 0)
     corner k =
         ap (λ (l : List ℤ). getD l (4 * length yards + k) (pos 0)) boxes-on
-        ∙ (ap (λ (n : ℕ). getD (cornersOf yards ++ (cornersOf (y ∷ []) ++ bs)) (n + k) (pos 0)) (sym (corners-many yards)) ∙ getD-append-add (cornersOf yards) (cornersOf (y ∷ []) ++ bs) k (pos 0))
+        ∙ (ap (λ (n : ℕ). getD (cornersOf yards ++ (cornersOf (y ∷ []) ++ bs)) (n + k) (pos 0)) (sym (corners-size yards)) ∙ getD-append-add (cornersOf yards) (cornersOf (y ∷ []) ++ bs) k (pos 0))
 
     box-is : boundsAt boxes (length yards) ≡ boxOf (y .lats) (y .lons)
     unfolding cornersOf

@@ -11,14 +11,12 @@ use Rattle.build.proofs.metadata.Shared.{map-more, firsts-new, firsts-old}
 use Rattle.numbers.specs.{Answer.{if_then_else_}, Spelling.{varintOf}}
 use Rattle.notes.specs.Noted.Records.{fieldsIn, beginIn}
 use Rattle.notes.specs.inner.Noted.OneMore.{OneMore}
-
-never : {A : Type 0} → true ≡ false → A
-never e = let z : _≡_ {A = ℕ} 0 1 = cc in absurd (omega arith)
+use Rattle.numbers.proofs.Tests.{differ}
 
 -- ---- the first of each are just those that there are
 in-firsts : (x : List Text) (seen xs : List (List Text)) → isIn sameTexts x xs ≡ true → (isIn sameTexts x seen || isIn sameTexts x (firstsAfter sameTexts seen xs)) ≡ true
 unfolding isIn firstsAfter
-in-firsts x seen [] e = never (sym e)
+in-firsts x seen [] e = differ e
 in-firsts x seen (y ∷ xs) e = go (sameTexts x y) refl (isIn sameTexts y seen) refl e (in-firsts x seen xs) (in-firsts x (y ∷ seen) xs)
   where
     right : (a : Bool) → (a || true) ≡ true
@@ -47,7 +45,7 @@ not-in-firsts x seen (y ∷ xs) e = go (sameTexts x y) refl (isIn sameTexts y se
     go : (a : Bool) → sameTexts x y ≡ a → (b : Bool) → (a || isIn sameTexts x xs) ≡ false → (isIn sameTexts x xs ≡ false → isIn sameTexts x (firstsAfter sameTexts seen xs) ≡ false)
         → (isIn sameTexts x xs ≡ false → isIn sameTexts x (firstsAfter sameTexts (y ∷ seen) xs) ≡ false)
         → isIn sameTexts x (if b then firstsAfter sameTexts seen xs else (y ∷ firstsAfter sameTexts (y ∷ seen) xs)) ≡ false
-    go true ea b e k l = never e
+    go true ea b e k l = differ (sym e)
     go false ea true e k l = k e
     go false ea false e k l = ap (λ (t : Bool). t || isIn sameTexts x (firstsAfter sameTexts (y ∷ seen) xs)) ea ∙ l e
 

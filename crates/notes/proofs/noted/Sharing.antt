@@ -9,10 +9,6 @@ use Rattle.notes.specs.Chains.{Chains.{lastWith, meets}, Entered.{isFirs
 use Rattle.builder.{proofs.grouping.Keyed.{texts-equal}, specs.Grouping.{Items.{startsFrom, itemAt}, Keys.{alike}}}
 use Rattle.build.{proofs.metadata.Shared.{in-none, in-some}, specs.Metadata.Kept.{valuesTo}}
 
-and-false : (a b : Bool) → b ≡ false → (a && b) ≡ false
-and-false true b e = e
-and-false false b e = refl
-
 module _ (names : ℕ) (lengths texts : List ℕ) where
   abbrev item : ℕ → List Text
   item yard = itemAt (startsFrom 0 lengths) texts (yard * names) names

@@ -4,7 +4,7 @@ use lib.{IntN.{ℤ}, ListN.{drop, length, take, take-append-drop}, Seq.{take-at}
 use mathlib.Core.{List.{List, [], _∷_, _++_, append-assoc, map, zipWith}, Path.{_≡_, sym, ap, _∙_}}
 use Rattle.builder.specs.{Borders.{Drawn}, Entries.{Entry, highestOf, lowestOf, tableOf}, File.{entryOf}, Yards.{Yard}}
 use Rattle.build.specs.Entries.Corners.{cornersOf}
-use Rattle.draft.{proofs.held.{Standing.{corners-many}, Texts.{corners-more}, Valued.{held-boxes, souths-from}}, specs.Held.Totals.{totalsFor}}
+use Rattle.draft.{proofs.held.{Texts.{corners-more}, Valued.{held-boxes, souths-from}}, specs.Held.Totals.{totalsFor}}
 use Rattle.notes.proofs.nearby.Laid.{entries-are, tables-are}
 use Rattle.notes.specs.inner.Nearby.Nearby.{entriesAt, entryWith}
 use Rattle.draft.specs.inner.Summed.Sums.{southsOf}
@@ -12,6 +12,7 @@ use Rattle.notes.specs.{inner.Noted.OneMore.{OneMore}, Noted.Records.{be
 use Rattle.notes.proofs.noted.OneMore.{begins-more}
 use Rattle.notes.specs.inner.Quick.Steps.{Grown, Stepping}
 use Rattle.notes.specs.declared.quick.step.Numbers.{Numbers}
+use Rattle.build.proofs.entries.Tabled.{corners-size}
 
 module _ (yards : List Yard) (y : Yard) (drawn drawn′ : Drawn) (names count : ℕ) (numbers : Numbers) (boxes : List ℤ) (borders lengths starts texts chains groups begins : List ℕ)
     (s : Stepping yards y drawn drawn′ names count numbers boxes borders lengths starts texts chains groups begins) where
@@ -46,7 +47,7 @@ module _ (yards : List Yard) (y : Yard) (drawn drawn′ : Drawn) (names count : 
       let front : take (length yards) borders ≡ drawn .places =
       ap (take (length yards)) (bordered ∙ append-assoc (drawn .places) (s .place ∷ []) ps) ∙ take-at (drawn .places) (s .place ∷ ps) (length yards) (s .drawn-many) in
       let corners : take (4 * length yards) boxes ≡ cornersOf yards =
-      ap (take (4 * length yards)) front-boxes ∙ take-at (cornersOf yards) (cornersOf (y ∷ []) ++ bs) (4 * length yards) (corners-many yards) in
+      ap (take (4 * length yards)) front-boxes ∙ take-at (cornersOf yards) (cornersOf (y ∷ []) ++ bs) (4 * length yards) (corners-size yards) in
       s .table-is
       ∙ (ap (λ (es : List Entry). length (tableOf es)) (sym (entries-are yards boxes begins borders (drop count begins) begun (drawn .places) (s .drawn-many) corners front))
       ∙ ap (λ (n : ℕ). length (tableOf (entriesAt boxes begins borders n))) (sym (s .many)))

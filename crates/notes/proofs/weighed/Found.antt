@@ -12,6 +12,7 @@ use Rattle.build.specs.Metadata.Kept.{fieldsTo}
 use Rattle.numbers.{proofs.Spelling.{varint-byte}, specs.{Answer.{if_then_else_}, Spelling.{varintOf}}}
 use Rattle.notes.proofs.weighed.{Counted.{countWith, count-none, count-last, fields-counted, alike-one}, Weighed.{in-neither}}
 use Rattle.notes.specs.inner.Weighed.Weights.{Weight, nothing, behind, unmet, weightOf}
+use mathlib.Core.Bool.{and-false}
 
 -- ---- how often a value stands in the fields
 module _ (names : ℕ) (lengths starts texts : List ℕ) (begin : starts ≡ startsFrom 0 lengths) (count value : ℕ) where
@@ -61,14 +62,10 @@ module _ (fields : List Text) (word : ℕ) (seen : List Text) (t : Text) where
       let one : length (varintOf (length t)) ≡ 1 = ap length (varint-byte (length t) (omega (arith, e))) in
       (nothing e, omega (arith, e, one, inline-weight near))
 
-  not-far : (b : Bool) → (b && false) ≡ false
-  not-far true = refl
-  not-far false = refl
-
   pub new-weight : timesIn sameText t fields ≡ 0 → isIn sameText t seen ≡ false → Weight fields fields seen t × (length (varintOf (length t)) + length t ≡ weightOf fields word t)
   unfolding isRemote
   new-weight none own =
-      let near : isRemote fields t ≡ false = ap (λ (b : Bool). not (eqb (length t) 0) && b) (lt-leb 2 (timesIn sameText t fields) (omega (arith, none))) ∙ not-far (not (eqb (length t) 0)) in
+      let near : isRemote fields t ≡ false = ap (λ (b : Bool). not (eqb (length t) 0) && b) (lt-leb 2 (timesIn sameText t fields) (omega (arith, none))) ∙ and-false (not (eqb (length t) 0)) in
       (unmet (in-neither t fields seen (never-in t fields none) own), sym (inline-weight near))
 
   pub far-weight : 2 ≤ timesIn sameText t fields → (length t ≡ 0 → ⊥) → Weight fields fields seen t × (word ≡ weightOf fields word t)

@@ -10,17 +10,14 @@ use Rattle.draft.proofs.held.Sure.{Sure, empty, far, alone, times-none, times-m
 use Rattle.layout.proofs.Everyone.{Every}
 use Rattle.notes.specs.inner.Weighed.Weights.{Weight, Weighed, nothing, behind, unmet}
 use Rattle.numbers.specs.Answer.{if_then_else_}
+use Rattle.numbers.proofs.Tests.{neither}
 
 -- ---- in one list or another
-or-false : (a b : Bool) → (a || b) ≡ false → (a ≡ false) × (b ≡ false)
-or-false true b e = let z : _≡_ {A = ℕ} 0 1 = cc in absurd (omega arith)
-or-false false b e = (refl, e)
-
 pub not-in-both : (t : Text) (xs ys : List Text) → isIn sameText t (xs ++ ys) ≡ false → (isIn sameText t xs ≡ false) × (isIn sameText t ys ≡ false)
 unfolding isIn
 not-in-both t [] ys e = (refl, e)
 not-in-both t (x ∷ xs) ys e =
-    let two = or-false (sameText t x) (isIn sameText t (xs ++ ys)) e in
+    let two = neither (sameText t x) (isIn sameText t (xs ++ ys)) e in
     let rest = not-in-both t xs ys (two .1) in
     (ap (λ (b : Bool). b || isIn sameText t xs) (two .0) ∙ rest .0, rest .1)
 
@@ -28,20 +25,8 @@ pub in-neither : (t : Text) (xs ys : List Text) → isIn sameText t xs ≡ false
 unfolding isIn
 in-neither t [] ys a b = b
 in-neither t (x ∷ xs) ys a b =
-    let two = or-false (sameText t x) (isIn sameText t xs) a in
+    let two = neither (sameText t x) (isIn sameText t xs) a in
     ap (λ (c : Bool). c || isIn sameText t (xs ++ ys)) (two .0) ∙ in-neither t xs ys (two .1) b
-
--- a text of the records' fields is a value
-pub fields-among : (t : Text) (seen rs : List (List Text)) → isIn sameText t (fieldsOf rs) ≡ false → isIn sameText t (fieldsOf (firstsAfter sameTexts seen rs)) ≡ false
-unfolding fieldsOf firstsAfter
-fields-among t seen [] e = e
-fields-among t seen (r ∷ rs) e = go (isIn sameTexts r seen) (not-in-both t r (fieldsOf rs) e) (fields-among t seen rs) (fields-among t (r ∷ seen) rs)
-  where
-    go : (b : Bool) → (isIn sameText t r ≡ false) × (isIn sameText t (fieldsOf rs) ≡ false) → (isIn sameText t (fieldsOf rs) ≡ false → isIn sameText t (fieldsOf (firstsAfter sameTexts seen rs)) ≡ false)
-        → (isIn sameText t (fieldsOf rs) ≡ false → isIn sameText t (fieldsOf (firstsAfter sameTexts (r ∷ seen) rs)) ≡ false)
-        → isIn sameText t (fieldsOf (if b then firstsAfter sameTexts seen rs else (r ∷ firstsAfter sameTexts (r ∷ seen) rs))) ≡ false
-    go true two a b = a (two .1)
-    go false two a b = in-neither t r (fieldsOf (firstsAfter sameTexts (r ∷ seen) rs)) (two .0) (b (two .1))
 
 in-last : (t : Text) (xs : List Text) → isIn sameText t (xs ++ (t ∷ [])) ≡ true
 unfolding isIn

@@ -4,13 +4,8 @@ use native.Mathlib.{Numerals.{add-one}, Omega.{arith}}
 use mathlib.Core.{Path.{_≡_, refl, sym, ap, _∙_}, Bool.{Bool, true, false}, List.{List, [], _∷_}}
 use lib.{Dec.{ltb}, ListN.{length, set, length-set}, Seq.{sets, set-out}}
 use borrow.Author.Tests.{ltb-false}
-use Rattle.numbers.proofs.write.Digits.{tenth, weight-later, digits-last, digits-next}
+use Rattle.numbers.proofs.{Lists.{sets-past}, write.Digits.{tenth, weight-later, digits-last, digits-next}}
 use Rattle.numbers.specs.{Answer.{if_then_else_}, Spelling.{digitsOf, varintOf, Put}}
-
--- past the end nothing is stored
-sets-past : (bytes xs : List ℕ) (at : ℕ) → length xs ≤ at → sets xs at bytes ≡ xs
-sets-past [] xs at h = refl
-sets-past (b ∷ bs) xs at h = ap (λ (ys : List ℕ). sets ys (suc at) bs) (set-out xs at b h) ∙ sets-past bs xs (suc at) (omega arith)
 
 -- a byte was put at a place: the rest goes on from the next place, where there is one
 pub put-next : (xs : List ℕ) (at b : ℕ) (rest : List ℕ) {ys : List ℕ} {next : ℕ} → ys ≡ set xs at b → next ≡ (if ltb at (length xs) then at + 1 else at) → sets ys next rest ≡ sets xs at (b ∷ rest)

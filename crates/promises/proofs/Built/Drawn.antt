@@ -5,8 +5,8 @@ use mathlib.Core.{Bool.{true, not, _&&_}, List.{List, [], _∷_, _++_, append-ni
 use Rattle.numbers.proofs.Tests.{both}
 use Rattle.writer.specs.{Moves.{movesOf}, Writer.{every, sized, near, checks, plainBorder, packedBorder, borderOf}, declared.write.Piece.{Piece}}
 use Rattle.builder.specs.{Borders.{appended, withBorder, Drawn, drawnFrom}, Yards.{Yard}}
-use Rattle.promises.proofs.Built.Parts.{looked-at}
 use Rattle.numbers.{proofs.Replies.{given-from, demanded}, specs.{Answer.{if_then_else_}, Reply.{given, refusal, plain}}}
+use Rattle.numbers.proofs.Replies.{looked}
 
 -- a yard's border at a place of the data, written behind what stands before it
 pub record Lies (version : ℕ) (all : List ℕ) (yard : Yard) (place : ℕ) : Type 0 where
@@ -69,7 +69,7 @@ pub record Checked (lats lons : List ℤ) : Type 0 where
 pub accepted-checked : (version : ℕ) (lats lons : List ℤ) (pieces : List Piece) (earlier bytes : List ℕ) → borderOf version lats lons pieces earlier ≡ given bytes → Checked lats lons
 unfolding borderOf checks
 accepted-checked version lats lons pieces earlier bytes e =
-    let whole = looked-at (checks version lats lons earlier) (if eqb version 0 then plainBorder (movesOf lats lons) pieces else packedBorder (movesOf lats lons) pieces earlier) (sym e) in
+    let whole = looked (checks version lats lons earlier) (if eqb version 0 then plainBorder (movesOf lats lons) pieces else packedBorder (movesOf lats lons) pieces earlier) (sym e) in
     let first = demanded (leb (length earlier) (2 ^ 30)) (plain 1) (sym (whole .0)) in
     let second = demanded (ltb version 2) (refusal 5 0 version) (first .1) in
     let third = demanded (sized lats lons) (plain 19) (second .1) in

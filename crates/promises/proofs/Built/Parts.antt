@@ -10,11 +10,7 @@ use Rattle.numbers.proofs.Tests.{both}
 use Rattle.builder.specs.{Borders.{Drawn, drawnOf}, File.{Room, upTo, bordersGood, counted, readable, known, headOf, assembled, fileOf, builtOf}, Yards.{Plan}}
 use Rattle.promises.specs.Built.Seats.{tableIn, metadataIn, tablePlace}
 use Rattle.numbers.{proofs.Replies.{given-from, demanded}, specs.{Reply.{Reply, given, refused, plain, _>>_}, Spelling.{varintOf}}}
-
--- what is only looked at was given
-pub looked-at : {B : Type 0} {b : B} (r : Reply (Unit {0})) (next : Reply B) → given b ≡ (r >> next) → (r ≡ given tt) × (given b ≡ next)
-looked-at (given tt) next e = (refl, e)
-looked-at (refused why) next e = let z : _≡_ {A = ℕ} 0 1 = cc in absurd (omega arith)
+use Rattle.numbers.proofs.Replies.{looked}
 
 pub record Built (plan : Plan) (room : Room) (file : List ℕ) : Type 0 where
   pub drawn : Drawn
@@ -29,7 +25,7 @@ pub record Built (plan : Plan) (room : Room) (file : List ℕ) : Type 0 where
 pub built-from : (plan : Plan) (room : Room) (file : List ℕ) → builtOf plan room ≡ given file → Built plan room file
 unfolding builtOf
 built-from plan room file e =
-    let first = looked-at (bordersGood (plan .yards)) _ (sym e) in
+    let first = looked (bordersGood (plan .yards)) _ (sym e) in
     let second = demanded (counted plan) (plain 25) (first .1) in
     let third = demanded (readable plan) (plain 26) (second .1) in
     let fourth = demanded (known plan) (plain 27) (third .1) in

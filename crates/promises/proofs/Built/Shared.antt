@@ -36,14 +36,6 @@ module _ {A : Type 0} (same : A → A → Bool) (d : Decides same) where
   lists-decided = record { equal = all-equal; self = all-self }
 
   -- ---- found in a list
-  either : (s t : Bool) → (s || t) ≡ true → s ≡ false → t ≡ true
-  either true t e h = differ (sym h)
-  either false t e h = e
-
-  neither : (s t : Bool) → (s || t) ≡ false → (s ≡ false) × (t ≡ false)
-  neither true t e = differ (sym e)
-  neither false t e = (refl, e)
-
   times-in : (x : A) (xs : List A) → 1 ≤ timesIn same x xs → isIn same x xs ≡ true
   unfolding timesIn isIn
   times-in x [] h = absurd (omega arith)

@@ -10,8 +10,10 @@ use Rattle.border.proofs.AtPlace.{at-as, number-at}
 use Rattle.promises.specs.Built.Seats.{Entered, boundsIn, seatsFrom, rowsOf}
 use Rattle.numbers.proofs.Spelling.{signed-back, signed-small, varint-whole}
 use Rattle.numbers.specs.{Answer.{Answer, found}, Point.{low32, halfOf}, Spelling.{varintOf, signedForm}, Varint.{Numeral, numeral, readingOf}}
-use Rattle.table.proofs.{SixNumbers.{six-read, entry-row}, TableRows.{reading-grows, at-end, at-row}}
+use Rattle.table.proofs.{SixNumbers.{six-read, entry-row}, TableRows.{at-end, at-row}}
 use Rattle.table.specs.{Rows.{row, rowBy, rowsFrom}, Table.{entryBy}, declared.rows.Row.{Row}}
+use Rattle.numbers.proofs.Readings.{reading-grows}
+use Rattle.numbers.proofs.float.Squares.{le-or-lt}
 
 -- ---- the steps, and back
 low-negative : (n : ℕ) → n < 2 ^ 32 → low32 (negℤ (pos n)) ≡ (2 ^ 32 - n) % 2 ^ 32
@@ -30,23 +32,16 @@ record-down from to h k =
     let half : ((from - to) * 2 + 1) / 2 ≡ from - to = omega arith in
     rw (odd, half, low-negative (from - to) (omega arith)) (omega arith)
 
-either : (from to : ℕ) → (from ≤ to) ⊎ (to < from)
-either from to = go (leb from to) refl
-  where
-    go : (t : Bool) → leb from to ≡ t → (from ≤ to) ⊎ (to < from)
-    go true e = inl (leb-true from to e)
-    go false e = inr (leb-false from to e)
-
 module _ (from to : ℕ) (h : from < 2 ^ 32) (k : to < 2 ^ 32) where
   pub record-back : (from + low32 (halfOf (signedForm (pos to -ℤ pos from)))) % 2 ^ 32 ≡ to
-  record-back = go (either from to)
+  record-back = go (le-or-lt from to)
     where
       go : (from ≤ to) ⊎ (to < from) → (from + low32 (halfOf (signedForm (pos to -ℤ pos from)))) % 2 ^ 32 ≡ to
       go (inl l) = rw (← step-up from to l) (record-up from to k l)
       go (inr l) = rw (← step-down from to l) (record-down from to h l)
 
   step-small : signedForm (pos to -ℤ pos from) < 2 ^ 64
-  step-small = go (either from to)
+  step-small = go (le-or-lt from to)
     where
       go : (from ≤ to) ⊎ (to < from) → signedForm (pos to -ℤ pos from) < 2 ^ 64
       go (inl l) = rw (← step-up from to l) (omega arith)

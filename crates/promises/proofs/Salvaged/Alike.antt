@@ -26,11 +26,6 @@ bareFound f = record { hits = bare (f .hits); mark = 0; least = f .least }
 abbrev pub bareMatched : Matched → Matched
 bareMatched f = record { matches = bare (f .matches); mark = 0; least = f .least }
 
--- both go on from one reply
-pub after : {A B : Type 0} (reply : Reply A) {k k′ : A → Reply B} → ((a : A) → k a ≡ k′ a) → (reply >>= k) ≡ (reply >>= k′)
-after (given a) e = e a
-after (R.refused why) e = refl
-
 -- two replies of which the same is seen
 pub both-given : {A B C D : Type 0} (look : A → B) (look′ : C → D) (r s : Reply A) (k k′ : A → Reply C) → compared look r ≡ compared look s
     → ((a b : A) → s ≡ given b → look a ≡ look b → compared look′ (k a) ≡ compared look′ (k′ b)) → compared look′ (r >>= k) ≡ compared look′ (s >>= k′)

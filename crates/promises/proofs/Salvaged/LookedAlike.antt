@@ -12,9 +12,10 @@ use Rattle.table.specs.{Search.{Found, searchedRows, farthest, searched}, decla
 use Rattle.table.proofs.Merged.{Each, end, next, both, either}
 use Rattle.zones.proofs.PlaceLeftOut.{bareHit, bare, merged-bare}
 use Rattle.zones.specs.{Fields.{fieldsFrom, fieldsOf, fieldsPlace}, Lent.{Outcome}, Lookup.{safezoneBits, zonesWith}, declared.lookup.Zones.{Zones}}
-use Rattle.promises.proofs.Salvaged.{Alike.{compared, bareFound, bareMatched, after, both-given, SameRecord, AllLike, Each-given, seek-like, seek-each}, FieldsAlike.{fields-from}}
+use Rattle.promises.proofs.Salvaged.{Alike.{compared, bareFound, bareMatched, both-given, SameRecord, AllLike, Each-given, seek-like, seek-each}, FieldsAlike.{fields-from}}
 use Rattle.promises.specs.Salvaged.Same.{unmarked}
 use Rattle.table.specs.Rows.{asRows}
+use Rattle.numbers.proofs.Replies.{after}
 
 -- what a search's answer is merged to
 abbrev merging : Found → Reply Matched

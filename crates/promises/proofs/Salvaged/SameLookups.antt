@@ -10,7 +10,7 @@ use Rattle.numbers.{proofs.Answers.{All, then-all, any}, specs.{Answer.{Answer,
 use Rattle.numbers.specs.Answer as A
 use Rattle.numbers.specs.Reply as R
 use Rattle.salvage.{proofs.data.Drawing.{kept-closes}, specs.{Kept.{encodingIn, borderPlace, entryGood, keptIf, lineIf, keptOf, linesFrom}, Salvage.{Salvaged, salvagedOf}}}
-use Rattle.table.{proofs.TableRows.{Grows, reading-grows, rows-step}, specs.{Rows.{Rows, tableEnd, unreadable, after, startAt, rowsThen, rowBy, rowsFrom, rowsIn}, Table.{entryBy}}}
+use Rattle.table.{proofs.TableRows.{rows-step}, specs.{Rows.{Rows, tableEnd, unreadable, after, startAt, rowsThen, rowBy, rowsFrom, rowsIn}, Table.{entryBy}}}
 use Rattle.table.specs.declared.{location.Location.{Location}, rows.{Cursor.{Cursor}, Row.{Row}}, table.Entry.{Entry}}
 use Rattle.table.specs.Rows as T
 use Rattle.zones.specs.{Fields.{fieldsPlace}, Lent.{Outcome}, Lookup.{zonesBy}, Simple.{describedWith, describedIn}, declared.{lookup.Zones.{Zones}, simple.Described.{Described}}}
@@ -22,6 +22,7 @@ use Rattle.promises.proofs.Salvaged.TextsAgain.{SameNames, no-names, on
 use Rattle.promises.proofs.Salvaged.Sound as E
 use Rattle.promises.specs.{Salvaged.Same.{unmarked, comparedBy, SameAnswers, unmarkedSimple, simplyCompared, SameSimply}, inner.Salvaged.Seats.{newHead, seatsFrom, seatsOf}}
 use Rattle.table.specs.Rows.{asRows}
+use Rattle.numbers.proofs.Readings.{Grows, reading-grows}
 
 -- ---- rows are numbered one by one
 data Numbered : ℕ → List Row → Type 0 where

@@ -10,20 +10,19 @@ use Rattle.salvage.proofs.moves.Forms.{form-again, form-few}
 use Rattle.numbers.proofs.Spelling.{form-positive, form-negative, varint-whole}
 use Rattle.numbers.specs.{Answer.{Answer, found, if_then_else_}, Point.{low32, readI32, halfOf}, Spelling.{varintOf, signedForm}, Varint.{Numeral, numeral, readingOf}}
 use Rattle.salvage.specs.File.{borderBytes, boxBytes, idStep, entryBytes, tableFrom}
-use Rattle.table.proofs.{SixNumbers.{six-read, entry-row}, TableRows.{reading-grows, at-end, at-row}}
+use Rattle.table.proofs.{SixNumbers.{six-read, entry-row}, TableRows.{at-end, at-row}}
 use Rattle.table.specs.{Rows.{row, rowBy, rowsFrom}, Table.{entryBy}, declared.rows.Row.{Row}}
 use Rattle.border.proofs.AtPlace.{at-as, number-at}
 use Rattle.promises.proofs.Salvaged.Sound.{Every, one, Fits, Sound}
 use Rattle.promises.specs.inner.Salvaged.Seats.{seatsFrom}
 use Rattle.table.specs.Rows.{asRows}
+use Rattle.numbers.proofs.Readings.{reading-grows}
+use Rattle.numbers.proofs.Coordinates.{below}
 
 -- ---- the step of a metadata id, and back
 record Stepped (low : ℕ) (z : ℤ) : Type 0 where
   few : signedForm z < 2 ^ 64
   back : low32 (halfOf (signedForm z)) ≡ low
-
-below : (low : ℕ) → 2 ^ 31 ≤ low → low < 2 ^ 32 → pos low -ℤ pos (2 ^ 32) ≡ negsuc (2 ^ 32 - 1 - low)
-below low h k = rw (lt-ltb low (2 ^ 32) k) (ap negsuc (omega arith))
 
 positive : (n : ℕ) → n < 2 ^ 32 → low32 (halfOf (2 * n)) ≡ n
 positive n h =
@@ -47,7 +46,7 @@ stepped low h = go (ltb low (2 ^ 31)) refl
     go true e = record { few = rw (form-positive low) (omega arith); back = rw (form-positive low) (positive low h) }
     go false e =
         let n = 2 ^ 32 - 1 - low in
-        rw (below low (ltb-false low (2 ^ 31) e) h) (record { few = rw (form-negative n) (omega arith); back = rw (form-negative n) (negative n (omega arith) ∙ omega arith) })
+        rw (below low h) (record { few = rw (form-negative n) (omega arith); back = rw (form-negative n) (negative n (omega arith) ∙ omega arith) })
 
 module _ (from to : ℕ) (h : from < 2 ^ 32) (k : to < 2 ^ 32) where
   abbrev low : ℕ

@@ -14,6 +14,7 @@ use Rattle.numbers.proofs.{Answers.{All}, Spelling.{even-back, odd-back, signed
 use Rattle.numbers.specs.{Answer.{found, refused, if_then_else_, inRange, checked, _>>=_}, Point.{low32, readI32, halfOf, signedOf, evenBits, pointOf}}
 use Rattle.numbers.specs.{Spelling.{signedForm, interleaved}, declared.point.RawPoint.{RawPoint}}
 use Rattle.salvage.specs.Moves.Moves.{stepNumber}
+use Rattle.numbers.proofs.Coordinates.{signed-fits}
 
 -- a step from 0
 pub from-zero : (z : ℤ) → signedForm (z -ℤ pos 0) ≡ signedForm z
@@ -124,28 +125,8 @@ module _ (by : RawPoint) {a b : ℕ} (lat : a ≡ signedForm (by .lat)) (lon : b
       go false s = rw (← lat, ← lon) e
 
 -- ---- version 0: an i32 is read back from its signed form, -2 ^ 31 too
-below : (n : ℕ) → n < 2 ^ 31 → pos (2 ^ 32 - 1 - n) -ℤ pos (2 ^ 32) ≡ negsuc n
-below n h = rw (lt-ltb (2 ^ 32 - 1 - n) (2 ^ 32) (omega arith)) (ap negsuc (omega arith))
-
-read-mag : (low : ℕ) → low < 2 ^ 32 → mag (readI32 low) < 2 ^ 31
-read-mag low h = go (ltb low (2 ^ 31)) refl
-  where
-    go : (t : Bool) → ltb low (2 ^ 31) ≡ t → mag (if t then pos low else (pos low -ℤ pos (2 ^ 32))) < 2 ^ 31
-    go true e = ltb-true low (2 ^ 31) e
-    go false e =
-        let big : 2 ^ 31 ≤ low = ltb-false low (2 ^ 31) e in
-        let n : ℕ = 2 ^ 32 - 1 - low in
-        let few : n < 2 ^ 31 = omega arith in
-        let same : 2 ^ 32 - 1 - n ≡ low = omega arith in
-        subst (λ (k : ℕ). mag (pos k -ℤ pos (2 ^ 32)) < 2 ^ 31) same (rw (below n few) few)
-
-low-few : (z : ℤ) → low32 z < 2 ^ 32
-low-few (pos n) = omega arith
-low-few (negsuc n) = omega arith
-
 pub signed-mag : (v : ℕ) → mag (signedOf v) < 2 ^ 31
-unfolding signedOf
-signed-mag v = read-mag (low32 (halfOf v)) (low-few (halfOf v))
+signed-mag v = signed-fits v .sfits
 
 lowest : signedOf (signedForm (negsuc 2147483647)) ≡ negsuc 2147483647
 unfolding signedOf signedForm

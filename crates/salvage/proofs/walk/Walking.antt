@@ -6,9 +6,10 @@ use Rattle.numbers.proofs.Tests.{differ}
 use Rattle.header.specs.declared.header.Head.{Head}
 use Rattle.numbers.specs.{Answer.{Answer, found, failed}, Reply.{Reply, given, refused}, Varint.{Numeral, readingOf}}
 use Rattle.numbers.specs.Answer as A
-use Rattle.table.proofs.TableRows.{reading-grows, at-end, at-row, at-unreadable, at-refused, row-less}
+use Rattle.table.proofs.TableRows.{at-end, at-row, at-unreadable, at-refused, row-less}
 use Rattle.table.specs.{Rows.{after, rowBy}, declared.rows.{Cursor.{Cursor}, Row.{Row}}}
 use Rattle.salvage.specs.Kept.{entryGood, keptIf, keptOf, keptFrom, goodness, LedTo}
+use Rattle.numbers.proofs.Readings.{reading-grows}
 
 good-given : (g : Reply (Unit {0})) → goodness g ≡ true → g ≡ given tt
 good-given (given tt) e = refl

@@ -12,18 +12,11 @@ use Rattle.table.specs.{Find.{fixOf, isPrecision, matchedBy}, GivenRows.
 use Rattle.table.specs.{Merge.{merged}, Rows.{Rows, row, tableEnd}, Search.{Found, afterTurn, rowTurn, Sought}, Table.{boundsOf}, Unstopped.{seekAll}}
 use Rattle.table.specs.declared.{hits.Hit.{Hit}, location.Location.{Location}, rows.Row.{Row}, search.Turn.{the-variants.{Met, Stopped, Refused}, Turn}, table.Bounds.{Bounds}}
 use Rattle.header.specs.declared.header.Head.{Head}
+use Rattle.numbers.proofs.Coordinates.{twice-read}
 use Rattle.numbers.specs.Reply as R
 use Rattle.table.specs.Rows as T
 
 -- ---- a record's box
-twice-read : (word : ℕ) → word < 2 ^ 32 → signedOf (2 * word) ≡ readI32 word
-unfolding signedOf
-twice-read word h =
-    let even : 2 * word % 2 ≡ 0 = omega arith in
-    let half : 2 * word / 2 ≡ word = omega arith in
-    let low : word % 2 ^ 32 ≡ word = omega arith in
-    rw (eq-eqb (2 * word % 2) 0 even, half, low)
-
 pub box-read : (a b c d : ℕ) → a < 2 ^ 32 → b < 2 ^ 32 → c < 2 ^ 32 → d < 2 ^ 32 → boundsOf (2 * a) (2 * b) (2 * c) (2 * d)
     ≡ record { «min_lat» = record { 0 = readI32 a }; «min_lon» = record { 0 = readI32 b }; «max_lat» = record { 0 = readI32 c }; «max_lon» = record { 0 = readI32 d } }
 box-read a b c d ha hb hc hd =

@@ -8,10 +8,13 @@ use Rattle.border.specs.{Box.{between}, declared.place.Point.{Point}}
 use Rattle.verdict.specs.Verdict.{Judgement}
 use Rattle.numbers.proofs.{Answers.{found-one, goes}, Readings.{read-both}, Spelling.{one-byte}, Wholes.{whole-forward}}
 use Rattle.numbers.specs.{Answer.{found, if_then_else_}, Point.{signedOf}, Spelling.{Whole}, Varint.{Numeral, numeral, valueOf, sizeOf, forwardAt, readingOf}}
-use Rattle.table.proofs.{TableRows.{reading-grows, at-row, row-less}, rest.Remaining.{above-not, restFrom, skipped, skipped-later}, rows.Entering.{row-read}}
+use Rattle.table.proofs.{TableRows.{at-row, row-less}, rest.Remaining.{restFrom, skipped, skipped-later}, rows.Entering.{row-read}}
 use Rattle.table.specs.{inner.Passing.{Near, Bounding, Lons, PassedRow, PassedOver, Skipped, SkippedOver}, Rows.{Rows, row, rowOf, after, rowBy, rowsFrom}, Search.{rowTurn, seek}}
 use Rattle.table.specs.Table.{boundsOf, stepsBy, entryBy, isAbove, holds}
 use Rattle.table.specs.declared.{hits.Hit.{Hit}, rows.{Cursor.{Cursor}, Row.{Row}}, table.{Bounds.{Bounds}, Entry.{Entry}}}
+use Rattle.numbers.proofs.Readings.{reading-grows}
+use Rattle.verdict.proofs.Gliding.{less-le}
+use mathlib.Core.Bool.{and-false}
 
 -- ---- numbers of up to three bytes
 two-bytes : (a b : ℕ) → 128 ≤ a → b < 128 → Whole (a ∷ b ∷ []) (a % 128 + 128 * b)
@@ -59,22 +62,15 @@ near-same : {file : List ℕ} {place : ℕ} {a b : Numeral} → Near file place 
 near-same n m = found-one (n .reads false ∙ sym (m .reads false))
 
 -- ---- a box that does not hold the location
-pub untrue : {A : Type 0} → true ≡ false → A
-untrue e = let z : _≡_ {A = ℕ} 0 1 = ap (λ (b : Bool). if b then 0 else 1) e in absurd (omega arith)
-
-no-second : (a : Bool) → (a && false) ≡ false
-no-second true = refl
-no-second false = refl
-
 pub below-missed : (bounds : Bounds) (fix : Point) → ltZ (bounds .«max_lat» .0) (fix .lat .0) ≡ true → holds bounds fix ≡ false
-below-missed bounds fix e = rw (above-not _ _ e, no-second (leZ (bounds .«min_lat» .0) (fix .lat .0))) refl
+below-missed bounds fix e = rw (less-le _ _ e .1, and-false (leZ (bounds .«min_lat» .0) (fix .lat .0))) refl
 
 pub lons-missed : {file : List ℕ} {bounds : Bounds} {west east : ℕ} (fix : Point) → Lons file bounds west east → {a b : Numeral} → Near file west a → Near file east b
     → {r : Bool} → r ≡ between (signedOf (a .value)) (fix .lon .0) (signedOf (b .value)) → r ≡ false → holds bounds fix ≡ false
 lons-missed {bounds = bounds} fix l {a} {b} na nb e f =
     let low : bounds .«min_lon» .0 ≡ signedOf (a .value) = l .low-is ∙ ap (λ (n : Numeral). signedOf (n .value)) (near-same (l .low-there) na) in
     let high : bounds .«max_lon» .0 ≡ signedOf (b .value) = l .high-is ∙ ap (λ (n : Numeral). signedOf (n .value)) (near-same (l .high-there) nb) in
-    rw (low, high, sym e ∙ f) (no-second (between (bounds .«min_lat» .0) (fix .lat .0) (bounds .«max_lat» .0)))
+    rw (low, high, sym e ∙ f) (and-false (between (bounds .«min_lat» .0) (fix .lat .0) (bounds .«max_lat» .0)))
 
 -- ---- a row by its six numbers
 module _ {file : List ℕ} {place : ℕ} {a b c d : Numeral} (na : Near file place a) (nb : Near file (a .place) b) (nc : Near file (b .place) c) (nd : Near file (c .place) d) {bounds : Bounds}

@@ -8,19 +8,15 @@ use Rattle.border.specs.declared.place.Point.{Point}
 use Rattle.numbers.proofs.{Answers.{All, other}, Laws.{end-then, caseOf, stops}}
 use Rattle.numbers.specs.{Answer.{Answer, found, failed, refused, if_then_else_, _>>=_}, Point.{signedOf}, Varint.{Numeral, told, nowhere, endOf, forwardAt, readingOf}}
 use Rattle.numbers.specs.declared.varint.Varint.{Varint}
-use Rattle.table.proofs.TableRows.{Grows, reading-grows, rows-step, entry-past}
+use Rattle.table.proofs.TableRows.{rows-step, entry-past}
 use Rattle.table.specs.{Rest.{restMark, fiveBy, heldBy, isHeld}, Rows.{Rows, row, rowOf, after, startAt, tableEnd, rowsThen, rowBy, rowsWithin, rowsFrom}}
 use Rattle.table.specs.{Table.{stepsBy, entryBy, isAbove, holds}, declared.{rows.{Cursor.{Cursor}, Row.{Row}}, table.{Bounds.{Bounds}, Entry.{Entry}}}}
+use Rattle.numbers.proofs.Readings.{Grows, reading-grows}
+use Rattle.verdict.proofs.Gliding.{less-le}
 
 -- ---- a box above the location does not hold it
-pub above-not : (a b : ℤ) → ltZ a b ≡ true → leZ b a ≡ false
-above-not (pos a) (pos b) e = lt-leb b a (ltb-true a b e)
-above-not (pos a) (negsuc b) e = sym e
-above-not (negsuc a) (pos b) e = refl
-above-not (negsuc a) (negsuc b) e = lt-leb a b (ltb-true b a e)
-
 pub not-held : (bounds : Bounds) (fix : Point) → isAbove bounds fix ≡ true → holds bounds fix ≡ false
-not-held bounds fix e = rw (above-not (fix .lat .0) (bounds .«min_lat» .0) e)
+not-held bounds fix e = rw (less-le (fix .lat .0) (bounds .«min_lat» .0) e .1)
 
 -- ---- the sums before a row make no difference to the mark
 module _ (read : ℕ → Answer Numeral) (end : ℕ) (fix : Point) where

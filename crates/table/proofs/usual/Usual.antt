@@ -7,8 +7,9 @@ use native.Mathlib.Omega.{arith}
 use Rattle.numbers.proofs.Tests.{differ}
 use Rattle.border.specs.declared.place.Point.{Point}
 use Rattle.numbers.{proofs.Spelling.{even-back, odd-back}, specs.Point.{signedOf}}
-use Rattle.table.proofs.{InOrder.{rises}, pass.Passing.{near-three, below-missed, bounding}}
+use Rattle.table.proofs.{pass.Passing.{near-three, below-missed, bounding}}
 use Rattle.table.specs.inner.{Passing.{Near, Bounding}, Usual.{GoesOn, Ends, FourLong, longAt, usualBounds, Under, Over}}
+use Rattle.verdict.proofs.Gliding.{le-less, less-le-less}
 
 -- ---- the order of signed numbers of one sign
 even-order : (a b : ℕ) → a ≤ b → b < 2 ^ 31 → leZ (signedOf (2 * a)) (signedOf (2 * b)) ≡ true
@@ -24,22 +25,13 @@ odd-order : (a b : ℕ) → a ≤ b → b < 2 ^ 31 → leZ (signedOf (2 * b + 1)
 odd-order a b h k = rw (odd-back a (omega arith), odd-back b k) (below-zero a b h)
 
 -- ---- the order of any two
--- what is at most a number below another is below it too
-sinks : (x a b : ℤ) → leZ x a ≡ true → ltZ a b ≡ true → ltZ x b ≡ true
-sinks (pos x) (pos a) (pos b) h k = lt-ltb x b (omega (arith, leb-true x a h, ltb-true a b k))
-sinks (pos x) (pos a) (negsuc b) h k = differ k
-sinks (pos x) (negsuc a) b h k = differ h
-sinks (negsuc x) a (pos b) h k = refl
-sinks (negsuc x) (pos a) (negsuc b) h k = differ k
-sinks (negsuc x) (negsuc a) (negsuc b) h k = lt-ltb b x (omega (arith, leb-true a x h, ltb-true b a k))
-
 -- what is not below a number is not below what is at most that
 not-over : (x a b : ℤ) → leZ a b ≡ true → ltZ x b ≡ false → ltZ x a ≡ false
 not-over x a b h k = go (ltZ x a) refl
   where
     go : (t : Bool) → ltZ x a ≡ t → ltZ x a ≡ false
     go false e = e
-    go true e = differ (sym k ∙ rises x a b e h)
+    go true e = differ (sym k ∙ less-le-less x a b e h)
 
 -- ---- a number by its first and its last byte
 module _ (low middle high : ℕ) (small : high < 256) where
@@ -134,8 +126,8 @@ module _ {file : List ℕ} where
   seen-under place fix four south north h k l m = record {
     there = four;
     low = not-over (fix .lat .0) (signedOf (longAt file place)) south h k;
-    missed = below-missed (usualBounds file place) fix (sinks (signedOf (longAt file (place + 6))) north (fix .lat .0) l m);
+    missed = below-missed (usualBounds file place) fix (le-less (signedOf (longAt file (place + 6))) north (fix .lat .0) l m);
   }
 
   pub seen-over : (place : ℕ) (fix : Point) → FourLong file place → (south : ℤ) → leZ south (signedOf (longAt file place)) ≡ true → ltZ (fix .lat .0) south ≡ true → Over file place fix
-  seen-over place fix four south h k = record { there = four; above = rises (fix .lat .0) south (signedOf (longAt file place)) k h }
+  seen-over place fix four south h k = record { there = four; above = less-le-less (fix .lat .0) south (signedOf (longAt file place)) k h }

@@ -14,6 +14,7 @@ use Rattle.verdict.specs.{inner.{Gliding.{Calm, GlidesTo, within}, Kept.
 use Rattle.verdict.specs.Verdict.{Last, none, after, passing, thenOn, judge}
 use Rattle.verdict.specs.declared.{field.Field.{Field}, judge.Walk.the-variants.{Ended, Stopped, Enough}, step.{Tally.{Tally}, Passed.{Passed}}}
 use Rattle.verdict.proofs.{Gliding.{carried}, judge.Cases.{decides, judge-end}}
+use Rattle.verdict.proofs.winding.Cases.{stays}
 use Rattle.border.specs.inner.Told as R
 use Rattle.numbers.specs.Answer as A
 use Rattle.border.specs.declared.reader.Next.the-variants as N
@@ -29,11 +30,6 @@ first-end fix asked n last (N.Point s) rest t o = absurd (miss (1 ∷ 2 ∷ 3 �
 first-end fix asked n last N.Ended rest t o = refl
 first-end fix asked n last N.Failed rest t o = refl
 first-end fix asked n last (N.Refused k) rest t o = refl
-
-stays-stopped : (p : Passed) (go : Tally → Step Tally) → OneOf (1 ∷ 2 ∷ []) (tagOf Passed'.the-type p) → told p ≡ (told p >>= go)
-stays-stopped (P.On t) go o = absurd (miss (1 ∷ 2 ∷ []) 0 tt o)
-stays-stopped (P.Meets v) go o = refl
-stays-stopped P.Over go o = refl
 
 module _ (file : List ℕ) (encoding : Encoding) (fix : Point) (asked : Bool) (edges : ℕ) (start : Reader) (tally : Tally) where
   abbrev rest : Reader → Trace
@@ -104,7 +100,7 @@ module _ (file : List ℕ) (encoding : Encoding) (fix : Point) (asked : Bool) (e
       unfolding judgementOf stepOf
       along-stops true left inv undone p e o =
           let go = passingFirst fix asked (left - 1) (after here) (rest later) in
-          stays-stopped p go o ∙ ap (λ (m : Step Tally). m >>= go) e ∙ stepped left inv undone
+          stays p go o ∙ ap (λ (m : Step Tally). m >>= go) e ∙ stepped left inv undone
       along-stops false left inv undone p e o =
           let go : Tally → _ = λ (u : Tally). judge fix asked (after here) u (rest later) in
           decides p asked (t .least) go o ∙ ap (λ (m : Step Tally). thenOn asked (t .least) m go) e ∙ judged left inv

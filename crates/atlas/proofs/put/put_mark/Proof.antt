@@ -2,8 +2,8 @@
 use borrow.Author.Needs.{needs}
 use Rattle.writer.proofs.Stores.{stored-then}
 use mathlib.Core.Path.{_≡_, refl, sym, ap, _∙_}
-use Rattle.atlas.proofs.Writing.{same-word}
 use Rattle.atlas.proofs.put.put_mark.Statement.{statement}
+use Rattle.index.proofs.Stores.{same-word}
 use Rattle.atlas.proofs.put.put_mark.Tie as tie
 
 put-point-requires : tie.Need-put-point-requires

@@ -5,7 +5,8 @@ use denote.Ref.{now}
 use mathlib.Core.Path.{refl, ap, _∙_}
 use native.Mathlib.{Nat.{mod-eq-of-lt}, Omega.{arith}}
 use Rattle.marks.{proofs.Marked.{marks-length}, specs.Marks.{marksFrom, stretchEdges, groupEdges, groupsOf}}
-use Rattle.atlas.proofs.{Behind.{groups-few}, Standing.{counted-none}, Writing.{same-word, levels-stored}, put.put_marks.Statement.{statement}}
+use Rattle.atlas.proofs.{Behind.{groups-few}, Standing.{counted-none}, Writing.{levels-stored}, put.put_marks.Statement.{statement}}
+use Rattle.index.proofs.Stores.{same-word}
 use Rattle.atlas.proofs.put.put_marks.Tie as tie
 
 returns : tie.Need-returns

@@ -3,8 +3,8 @@ use borrow.Author.Needs.{needs}
 use Rattle.writer.proofs.Stores.{stored-then}
 use mathlib.Core.Path.{_≡_, refl, sym, ap, _∙_}
 use mir.{Syntax.{w32}, Val.{ofZ}, ValLaws.{toZ-ofZ}}
-use Rattle.atlas.proofs.Writing.{same-word}
 use Rattle.atlas.proofs.put.put_point.Statement.{statement}
+use Rattle.index.proofs.Stores.{same-word}
 use Rattle.atlas.proofs.put.put_point.Tie as tie
 
 word-of-requires : tie.Need-word-of-requires

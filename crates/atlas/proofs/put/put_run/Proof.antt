@@ -3,8 +3,8 @@ use borrow.Author.Needs.{needs}
 use Rattle.writer.proofs.Stores.{stored-then}
 use mathlib.Core.Path.{_≡_, refl, sym, ap, _∙_}
 use Rattle.marks.specs.Marks.{low}
-use Rattle.atlas.proofs.Writing.{same-word}
 use Rattle.atlas.proofs.put.put_run.Statement.{statement}
+use Rattle.index.proofs.Stores.{same-word}
 use Rattle.atlas.proofs.put.put_run.Tie as tie
 
 kind-of-requires : tie.Need-kind-of-requires

@@ -1,7 +1,8 @@
 -- `hour::lines::put_offset` meets its contract. Assumes nothing.
 use borrow.Author.Needs.{needs}
-use Rattle.hour.proofs.{Signs.{few-bits, below-zero, from-zero}, lines.put_offset.Statement.{statement}}
+use Rattle.hour.proofs.{Signs.{below-zero, from-zero}, lines.put_offset.Statement.{statement}}
 use Rattle.line.proofs.Puts.{put-then, put-as}
+use Rattle.line.proofs.Signs.{few-bits}
 use Rattle.hour.proofs.lines.put_offset.Tie as tie
 
 sub-put-decimal : tie.Need-sub-put-decimal

@@ -1,12 +1,13 @@
 -- `index::build::build_index` meets its contract. Assumes nothing.
 use borrow.Author.Needs.{needs}
 use lib.ListN.{length}
-use mathlib.Core.Path.{sym, ap, _∙_}
+use mathlib.Core.{Bool.{false}, Path.{sym, ap, _∙_}}
 use native.Mathlib.Omega.{arith}
 use Rattle.numbers.specs.Lists.{zeros}
 use Rattle.header.{proofs.Buffers.{of-length, all-zero}, specs.Header.{toldHead}}
 use Rattle.index.specs.Index.{toldBuilt}
-use Rattle.index.proofs.{Filling.{not-opened, built, not-built}, Opened.{opened-small}, build.build_index.Statement.{statement}}
+use Rattle.index.proofs.{Filling.{not-opened, built, not-built}, build.build_index.Statement.{statement}}
+use Rattle.header.proofs.ReadFrom.{opened-small}
 use Rattle.index.proofs.build.build_index.Tie as tie
 
 returns : tie.Need-returns
@@ -17,7 +18,7 @@ fill-requires c κs = (
   all-zero _ (length (c .before .before .before .before .before .before .before .before .before .before .before .args .index .now))
       (c .before .before .before .before .before .before .before .zero-words .ensures),
   omega
-      (arith, opened-small _ (sym (ap toldHead (c .before .before .head .given .1)) ∙ c .before .before .before .before .head-of .ensures)),
+      (arith, opened-small false _ (sym (ap toldHead (c .before .before .head .given .1)) ∙ c .before .before .before .before .head-of .ensures)),
 )
 
 same-length-2 : tie.Need-same-length-2

@@ -1,7 +1,8 @@
 -- `marks::judge::answer` meets its contract. Assumes nothing.
 use borrow.Author.Needs.{needs}
 use mathlib.Core.Path.{ap, sym, _∙_}
-use Rattle.marks.proofs.judge.{Turns.{decides}, answer.Statement.{statement}}
+use Rattle.marks.proofs.judge.answer.Statement.{statement}
+use Rattle.verdict.proofs.judge.Cases.{decides}
 use Rattle.verdict.specs.{Step.{Step, told}, Verdict.{closedAt, thenOn}, declared.step.Passed.{Passed}}
 use Rattle.marks.proofs.judge.answer.Tie as tie
 

@@ -5,9 +5,10 @@ use denote.Ref.{now}
 use lib.ListN.{length}
 use mathlib.Core.Path.{_≡_, refl, sym, ap, _∙_}
 use native.Mathlib.Omega.{arith}
-use Rattle.marks.proofs.judge.{Turns.{stays-stopped, groups-done, groups-next}, pass_groups.Statement.{statement}}
+use Rattle.marks.proofs.judge.{Turns.{groups-done, groups-next}, pass_groups.Statement.{statement}}
 use Rattle.marks.specs.{Judging.{groupsBy}, Marks.{groupWide}}
 use Rattle.verdict.specs.{Step.{Step, told, _>>=_}, declared.step.Tally.{Tally}}
+use Rattle.verdict.proofs.winding.Cases.{stays}
 use Rattle.marks.proofs.judge.pass_groups.Tie as tie
 
 abbrev Inv-loop : tie.InvT-loop
@@ -66,7 +67,7 @@ returns c =
     let a = c .before .before .before .before .before .before .before .before .before .args in
     let pass-group = c .before .pass-group in
     let groups-of = c .before .before .before .before .before .before .groups-of in
-    stays-stopped (pass-group .result) _ (c .match .keys2) ∙ stepped (c .before)
+    stays (pass-group .result) _ (c .match .keys2) ∙ stepped (c .before)
     ∙ ap (λ (g : ℕ). groupsBy (now (a .file)) (a .encoding) (a .fix) (a .asked) (now (a .words)) (a .first) g (a .place + a .count * 11) (a .count) (a .place) (a .tally)) (groups-of .ensures)
 
 add-at-2 : tie.Need-add-at-2 Inv-loop μ-loop

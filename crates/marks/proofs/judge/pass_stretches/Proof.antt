@@ -5,10 +5,11 @@ use denote.Ref.{now}
 use lib.ListN.{length}
 use mathlib.Core.Path.{_≡_, refl, sym, ap, _∙_}
 use native.Mathlib.Omega.{arith}
-use Rattle.marks.proofs.judge.{Turns.{stays-stopped, stretches-done, stretches-next}, pass_stretches.Statement.{statement}}
+use Rattle.marks.proofs.judge.{Turns.{stretches-done, stretches-next}, pass_stretches.Statement.{statement}}
 use Rattle.marks.specs.Judging.{stretchBy, pointsBy, stretchesBy}
 use Rattle.border.specs.declared.place.Point.{Point}
 use Rattle.verdict.specs.{Step.{Step, told, _>>=_}, declared.step.{Passed.{Passed}, Tally.{Tally}}}
+use Rattle.verdict.proofs.winding.Cases.{stays}
 use Rattle.marks.proofs.judge.pass_stretches.Tie as tie
 
 abbrev Inv-loop : tie.InvT-loop
@@ -48,7 +49,7 @@ stepped c =
     ∙ l .inv .0
 
 returns : tie.Need-returns Inv-loop μ-loop
-returns c = stays-stopped (c .before .pass-stretch .result) _ (c .match .keys2) ∙ stepped (c .before)
+returns c = stays (c .before .pass-stretch .result) _ (c .match .keys2) ∙ stepped (c .before)
 
 loop-again : tie.Need-loop-again Inv-loop μ-loop
 loop-again c =

@@ -2,7 +2,8 @@
 use borrow.Author.Needs.{needs, sfits-of}
 use mathlib.Core.Path.{ap, _∙_}
 use mir.{Syntax.{w32}, ValLaws.{toZ-ofZ}}
-use Rattle.marks.proofs.{ReadBack.{twice-read}, words.lat_of.Statement.{statement}}
+use Rattle.marks.proofs.words.lat_of.Statement.{statement}
+use Rattle.numbers.proofs.Coordinates.{twice-read}
 use Rattle.numbers.specs.Point.{signedOf}
 use Rattle.marks.proofs.words.lat_of.Tie as tie
 

@@ -8,9 +8,10 @@ use Rattle.header.specs.declared.header.Head.{Head}
 use Rattle.numbers.specs.{Answer.{Answer, found, failed}, Reply.{Reply, given, refused}, Varint.{Numeral, readingOf}, declared.refusal.Refusal.{Refusal}}
 use Rattle.numbers.specs.Answer as A
 use Rattle.salvage.specs.Kept.{entryGood, keptIf, keptOf, lineIf, linesFrom}
-use Rattle.table.proofs.TableRows.{reading-grows, at-end, at-row, at-unreadable, at-refused, row-less}
+use Rattle.table.proofs.TableRows.{at-end, at-row, at-unreadable, at-refused, row-less}
 use Rattle.table.specs.{Rows.{Rows, startAt, after, rowBy, rowsFrom, rowsIn}, declared.rows.{Cursor.{Cursor}, Row.{Row}}}
 use Rattle.salvage.specs.{inner.Rescue.Turns.{judgedTurn, turnBy, Listed}, declared.rescue.lines.{Dropped.{Dropped}, Turn.{Turn}}}
+use Rattle.numbers.proofs.Readings.{reading-grows}
 use Rattle.salvage.specs.declared.rescue.lines.Turn.the-variants as T
 
 -- a line's two words

@@ -3,8 +3,9 @@ use borrow.Author.Needs.{needs}
 use mathlib.Core.Path.{_≡_, ap, _∙_}
 use mir.{Syntax.{w32}, Val.{SFits, ofZ}, ValLaws.{toZ-ofZ}}
 use Rattle.line.proofs.Puts.{put-as, put-then}
-use Rattle.slip.proofs.Parts.{few-bits, below-zero, from-zero}
+use Rattle.slip.proofs.Parts.{below-zero, from-zero}
 use Rattle.slip.proofs.lines.put_offset.Statement.{statement}
+use Rattle.line.proofs.Signs.{few-bits}
 use Rattle.slip.proofs.lines.put_offset.Tie as tie
 
 -- the offset's bits

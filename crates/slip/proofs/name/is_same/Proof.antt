@@ -3,7 +3,7 @@ use Prim.Native.Nat.{_-_, _≤_}
 use lib.ListN.{length, drop}
 use mathlib.Core.Path.{_≡_, refl, sym, _∙_}
 use native.Mathlib.Omega.{arith}
-use Rattle.slip.proofs.Names.{lengths-differ, all-same, differs, goes-on}
+use Rattle.zones.proofs.simple.Names.{lengths-differ, all-same, differs, goes-on}
 use Rattle.slip.specs.Told.{nameIn}
 use Rattle.zones.specs.Simple.{same}
 use Rattle.slip.proofs.name.is_same.Statement.{statement}

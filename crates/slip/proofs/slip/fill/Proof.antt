@@ -2,8 +2,9 @@
 use borrow.Author.Needs.{needs}
 use mathlib.Core.Path.{_≡_, refl, sym, ap, _∙_}
 use Rattle.header.specs.Header.{toldHead}
-use Rattle.slip.proofs.Stamps.{true-of, false-of, not-placed, not-opened, opened}
+use Rattle.slip.proofs.Stamps.{not-placed, not-opened, opened}
 use Rattle.slip.proofs.slip.fill.Statement.{statement}
+use borrow.Author.Tests.{not-true, not-false}
 use Rattle.slip.proofs.slip.fill.Tie as tie
 
 returns : tie.Need-returns
@@ -11,7 +12,7 @@ returns c =
     let args = c .before .before .before .before .before .before .before .before .before .args in
     let is-on-globe = c .before .before .is-on-globe in
     let if1 = c .before .if1 in
-    not-placed (args .fix) _ _ _ _ _ _ _ _ _ (sym (is-on-globe .ensures) ∙ false-of _ (if1 .taken)) (c .plain .ensures)
+    not-placed (args .fix) _ _ _ _ _ _ _ _ _ (sym (is-on-globe .ensures) ∙ not-true _ (if1 .taken)) (c .plain .ensures)
 
 returns-2 : tie.Need-returns-2
 returns-2 c =
@@ -20,7 +21,7 @@ returns-2 c =
     let if1 = c .before .before .before .before .if1 in
     let why = c .before .why in
     let head-of = c .before .before .before .head-of in
-    not-opened (args .fix) _ _ _ _ _ _ (sym (is-on-globe .ensures) ∙ true-of _ (if1 .left)) _ _ _ (sym (ap toldHead (why .given .1)) ∙ head-of .ensures)
+    not-opened (args .fix) _ _ _ _ _ _ (sym (is-on-globe .ensures) ∙ not-false _ (if1 .left)) _ _ _ (sym (ap toldHead (why .given .1)) ∙ head-of .ensures)
 
 returns-3 : tie.Need-returns-3
 returns-3 c =
@@ -30,7 +31,7 @@ returns-3 c =
     let head = c .before .before .before .before .before .before .before .before .before .before .before .head in
     let head-of = c .before .before .before .before .before .before .before .before .before .before .before .before .before .head-of in
     let slip-in = c .before .before .before .before .before .before .slip-in in
-    opened (args .fix) _ _ _ _ _ _ (sym (is-on-globe .ensures) ∙ true-of _ (if1 .left)) _ _ _ _ (sym (ap toldHead (head .given .1)) ∙ head-of .ensures) (slip-in .ensures)
+    opened (args .fix) _ _ _ _ _ _ (sym (is-on-globe .ensures) ∙ not-false _ (if1 .left)) _ _ _ _ (sym (ap toldHead (head .given .1)) ∙ head-of .ensures) (slip-in .ensures)
 
 pub fill-spec : {M : Type 1} → statement M
 fill-spec =

@@ -7,12 +7,13 @@ use mir.{Syntax.{w32}, ValLaws.{toZ-ofZ}}
 use native.Mathlib.Omega.{arith}
 use Rattle.numbers.specs.Reply.{given}
 use Rattle.slip.proofs.Zones.{first-at}
-use Rattle.slip.proofs.Stamps.{true-of, false-of, no-match, no-hours, not-agreed, no-room, stamped-so}
+use Rattle.slip.proofs.Stamps.{no-match, no-hours, not-agreed, no-room, stamped-so}
 use Rattle.slip.specs.Hour.{hoursFrom}
 use Rattle.slip.specs.Told.{Seen, toldHours}
 use Rattle.table.proofs.{Agreeing.{Gave, gave, refused-so}, Words.{count-slots, slot-is}}
 use Rattle.table.specs.Hits.{slots}
 use Rattle.slip.proofs.slip.stamp.Statement.{statement}
+use borrow.Author.Tests.{not-true, not-false}
 use Rattle.slip.proofs.slip.stamp.Tie as tie
 
 -- what all matches say
@@ -39,7 +40,7 @@ returns-3 c =
     let args = c .before .before .before .before .before .before .before .before .before .before .before .before .args in
     let if2 = c .before .if2 in
     let said = seen (c .before .before .before .before) in
-    not-agreed (args .fix) _ _ _ _ _ (said .is) (said .fits) _ (false-of _ (if2 .taken)) (c .plain2 .ensures)
+    not-agreed (args .fix) _ _ _ _ _ (said .is) (said .fits) _ (not-true _ (if2 .taken)) (c .plain2 .ensures)
 
 returns-4 : tie.Need-returns-4
 returns-4 c =
@@ -49,7 +50,7 @@ returns-4 c =
     let good = c .before .before .before .before .before .before .before .before .before .before .before .before .before .before .before .before .before .before .good in
     let if3 = c .before .if3 in
     let said = seen (c .before .before .before .before .before .before .before .before .before .before) in
-    no-room (args .fix) _ _ _ _ _ (said .is) (said .fits) (true-of _ (if2 .left)) (put-line .ensures) refl (omega (arith, good .1 .1 .1 .1 .1 .1 .0 .1)) _ (omega
+    no-room (args .fix) _ _ _ _ _ (said .is) (said .fits) (not-false _ (if2 .left)) (put-line .ensures) refl (omega (arith, good .1 .1 .1 .1 .1 .1 .0 .1)) _ (omega
     (arith, if3 .taken, put-line .ensures .kept)) (c .refuse .ensures)
 
 returns-5 : tie.Need-returns-5
@@ -61,7 +62,7 @@ returns-5 c =
     let pre = c .before .before .before .before .before .before .before .before .before .before .before .before .before .before .before .before .before .before .pre in
     let if3 = c .before .if3 in
     let said = seen (c .before .before .before .before .before .before .before .before .before .before) in
-    stamped-so (args .fix) _ _ _ _ _ (said .is) (said .fits) (true-of _ (if2 .left)) (put-line .ensures) refl (omega (arith, good .1 .1 .1 .1 .1 .1 .0 .1)) (pre .1) (omega
+    stamped-so (args .fix) _ _ _ _ _ (said .is) (said .fits) (not-false _ (if2 .left)) (put-line .ensures) refl (omega (arith, good .1 .1 .1 .1 .1 .1 .0 .1)) (pre .1) (omega
     (arith, if3 .left, put-line .ensures .kept)) (sym (count-slots (args .hits .now) (args .count) (pre .0))) (toZ-ofZ w32 _ (let told = c .struct-told .given in search needs))
 
 put-line-requires : tie.Need-put-line-requires

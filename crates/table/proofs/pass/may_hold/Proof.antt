@@ -3,7 +3,8 @@ use borrow.Author.Needs.{needs, sfits-of}
 use mathlib.Core.Path.{sym, _∙_}
 use mir.{Syntax.{w32}, ValLaws.{toZ-ofZ}}
 use Rattle.border.specs.Box.{between}
-use Rattle.table.proofs.pass.{Passing.{untrue, below-missed, lons-missed}, may_hold.Statement.{statement}}
+use Rattle.table.proofs.pass.{Passing.{below-missed, lons-missed}, may_hold.Statement.{statement}}
+use Rattle.numbers.proofs.Tests.{differ}
 use Rattle.table.proofs.pass.may_hold.Tie as tie
 
 returns : tie.Need-returns
@@ -35,11 +36,11 @@ may-hold-spec =
     (λ c κs. search needs)
     (λ c. search needs)
     (λ c. search needs)
-    (λ c. λ e. untrue e)
+    (λ c. λ e. differ (sym e))
     (λ c κs. search needs)
     (λ c. search needs)
     (λ c. search needs)
-    (λ c. λ e. untrue e)
+    (λ c. λ e. differ (sym e))
     (λ c κs. search needs)
     (λ c κs. search needs)
     (λ c κs. search needs)

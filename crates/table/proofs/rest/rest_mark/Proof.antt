@@ -6,8 +6,9 @@ use lib.Signed.{ltZ}
 use mathlib.Core.Path.{_≡_, refl, sym, ap, _∙_}
 use mir.{Syntax.{w32}, ValLaws.{toZ-ofZ}}
 use Rattle.numbers.specs.Varint.{told, readingOf}
-use Rattle.table.proofs.{TableRows.{reading-grows}, pass.Passing.{skip-less}}
+use Rattle.table.proofs.{pass.Passing.{skip-less}}
 use Rattle.table.proofs.rest.{Remaining.{restFrom, at-end, unread, past, less, above, missed, met}, rest_mark.Statement.{statement}}
+use Rattle.numbers.proofs.Readings.{reading-grows}
 use Rattle.table.proofs.rest.rest_mark.Tie as tie
 
 abbrev Inv-loop : tie.InvT-loop

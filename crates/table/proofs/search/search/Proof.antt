@@ -6,11 +6,12 @@ use lib.ListN.{length}
 use mathlib.Core.Path.{refl, sym, ap, _∙_}
 use native.Mathlib.Omega.{arith}
 use Rattle.numbers.specs.Varint.{readingOf}
-use Rattle.table.proofs.{TableRows.{reading-grows, at-end, at-row, at-unreadable, at-refused, row-less}, pass.Passing.{over-less}, rest.Remaining.{stopped-mark}}
+use Rattle.table.proofs.{TableRows.{at-end, at-row, at-unreadable, at-refused, row-less}, pass.Passing.{over-less}, rest.Remaining.{stopped-mark}}
 use Rattle.table.proofs.rows.Entering.{row-read, row-failed, row-refused}
 use Rattle.table.proofs.search.{Searching.{Going, starts, passed-on, kept-length, early, stops, refuses, on, full, met}, Turns.{met-kind}}
 use Rattle.table.proofs.search.search.Statement.{statement}
 use Rattle.table.specs.{Hits.{width}, Rows.{rowsFrom, rowsIn}, Search.{judgeIn, searched}, Table.{isAbove, toldEntered}, declared.rows.Row.{Row}}
+use Rattle.numbers.proofs.Readings.{reading-grows}
 use Rattle.table.proofs.search.Searching as S
 use Rattle.table.proofs.search.search.Tie as tie
 

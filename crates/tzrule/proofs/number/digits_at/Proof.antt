@@ -3,7 +3,8 @@ use Prim.Native.Nat.{_+_, _-_}
 use borrow.Author.Needs.{needs}
 use mathlib.Core.Path.{sym, _∙_}
 use native.Mathlib.Omega.{arith}
-use Rattle.tzrule.proofs.{Numbers.{was-false, was-true, Taken, digit-range, few, taken-first, taken-end, taken-stop, taken-more}, number.digits_at.Statement.{statement}}
+use Rattle.tzrule.proofs.{Numbers.{Taken, digit-range, few, taken-first, taken-end, taken-stop, taken-more}, number.digits_at.Statement.{statement}}
+use borrow.Author.Tests.{not-true, not-false}
 use Rattle.tzrule.proofs.number.digits_at.Tie as tie
 
 abbrev Inv-loop : tie.InvT-loop
@@ -18,7 +19,7 @@ returns c =
     let wide = c .before .before .wide in
     let byte-at = c .before .before .before .byte-at in
     let is-digit = c .before .is-digit in
-    (taken-stop (loop .inv) (omega arith) (wide .ensures ∙ byte-at .ensures) (sym (is-digit .ensures) ∙ was-false _ (c .if1 .taken)), loop .inv .inside)
+    (taken-stop (loop .inv) (omega arith) (wide .ensures ∙ byte-at .ensures) (sym (is-digit .ensures) ∙ not-true _ (c .if1 .taken)), loop .inv .inside)
 
 mul-value : tie.Need-mul-value Inv-loop μ-loop
 mul-value c =
@@ -27,14 +28,14 @@ mul-value c =
     omega (arith, few (loop .inv) (pre .2))
 
 sub-value : tie.Need-sub-value Inv-loop μ-loop
-sub-value c = omega (arith, digit-range _ (sym (c .before .is-digit .ensures) ∙ was-true _ (c .if1 .left)))
+sub-value c = omega (arith, digit-range _ (sym (c .before .is-digit .ensures) ∙ not-false _ (c .if1 .left)))
 
 add-value : tie.Need-add-value Inv-loop μ-loop
 add-value c =
     let loop = c .before .before .before .before .before .loop in
     let pre = c .before .before .before .before .before .before .before .pre in
     let is-digit = c .before .is-digit in
-    omega (arith, few (loop .inv) (pre .2), digit-range _ (sym (is-digit .ensures) ∙ was-true _ (c .if1 .left)))
+    omega (arith, few (loop .inv) (pre .2), digit-range _ (sym (is-digit .ensures) ∙ not-false _ (c .if1 .left)))
 
 add-next : tie.Need-add-next Inv-loop μ-loop
 add-next c =
@@ -48,7 +49,7 @@ loop-again c =
     let wide = c .before .before .wide in
     let byte-at = c .before .before .before .byte-at in
     let is-digit = c .before .is-digit in
-    taken-more (loop .inv) (omega arith) (wide .ensures ∙ byte-at .ensures) (sym (is-digit .ensures) ∙ was-true _ (c .if1 .left))
+    taken-more (loop .inv) (omega arith) (wide .ensures ∙ byte-at .ensures) (sym (is-digit .ensures) ∙ not-false _ (c .if1 .left))
 
 pub digits-at-spec : {M : Type 1} → statement M
 digits-at-spec =

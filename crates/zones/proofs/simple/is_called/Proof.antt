@@ -3,7 +3,7 @@ use Prim.Native.Nat.{_≤_, _-_}
 use lib.ListN.{length, drop}
 use mathlib.Core.{List.{map}, Path.{_≡_, refl}}
 use native.Mathlib.Omega.{arith}
-use Rattle.zones.proofs.simple.{Names.{not-as-long, differs, goes-on, all-same}, is_called.Statement.{statement}}
+use Rattle.zones.proofs.simple.{Names.{not-as-long, called-other, called-on, all-called}, is_called.Statement.{statement}}
 use Rattle.zones.specs.Simple.{same}
 use Rattle.header.specs.Utf8.{unmasked}
 use Rattle.zones.proofs.simple.is_called.Tie as tie
@@ -22,20 +22,20 @@ returns-2 c =
     let args = c .before .before .before .before .before .before .args in
     let loop = c .before .before .before .before .loop in
     let loop-test = c .before .before .before .loop-test in
-    differs (args .stored .now) (args .name .now) (loop .i) (loop .inv .1) (loop .inv .2) (loop-test .taken) (c .if2 .taken)
+    called-other (args .stored .now) (args .name .now) (loop .i) (loop .inv .1) (loop .inv .2) (loop-test .taken) (c .if2 .taken)
 
 loop-again : tie.Need-loop-again Inv-loop μ-loop
 loop-again c =
     let loop-test = c .before .before .before .loop-test in
     let loop = c .before .before .before .before .loop in
     let args = c .before .before .before .before .before .before .args in
-    (omega (arith, loop-test .taken), loop .inv .1, goes-on (args .stored .now) (args .name .now) (loop .i) (loop .inv .1) (loop .inv .2) (loop-test .taken) (c .if2 .left))
+    (omega (arith, loop-test .taken), loop .inv .1, called-on (args .stored .now) (args .name .now) (loop .i) (loop .inv .1) (loop .inv .2) (loop-test .taken) (c .if2 .left))
 
 returns-3 : tie.Need-returns-3 Inv-loop μ-loop
 returns-3 c =
     let args = c .before .before .before .args in
     let loop = c .before .loop in
-    all-same (args .stored .now) (args .name .now) (loop .i) (loop .inv .1) (loop .inv .2) (c .loop-test .left)
+    all-called (args .stored .now) (args .name .now) (loop .i) (loop .inv .1) (loop .inv .2) (c .loop-test .left)
 
 pub is-called-spec : {M : Type 1} → statement M
 is-called-spec =

@@ -1,5 +1,4 @@
 -- `edit::replacing::check::check` meets its contract. Assumes nothing.
-use Rattle.edit.proofs.replacing.Found.{text-few}
 use Rattle.edit.proofs.replacing.Spots.{index-inside, index-few, spot-ordered, within-parts, fallen, no-yard, no-field, no-text, outside, no-aside, no-space, spotted}
 use Rattle.edit.proofs.replacing.check.check.Statement.{statement}
 use Rattle.edit.specs.inner.Replacing.Spot.{within, told}
@@ -12,6 +11,7 @@ use mathlib.Core.{Bool.{true}, Path.{_≡_, sym, ap, _∙_}}
 use native.Mathlib.Omega.{arith}
 use borrow.Author.{Tests.{not-true, not-false}, Needs.{needs}}
 use Prim.Native.Nat.{_+_, _-_}
+use Rattle.draft.proofs.held.Standing.{text-short}
 use Rattle.edit.proofs.replacing.check.check.Tie as tie
 
 returns : tie.Need-returns
@@ -147,7 +147,7 @@ add-strings c =
       (within-parts (args .builder) (spot-of .result) (sym (is-within .ensures) ∙ not-false _ (if5 .left))) .short,
       (within-parts (args .builder) (spot-of .result) (sym (is-within .ensures) ∙ not-false _ (if5 .left))) .inside,
       spot-ordered _ _ _ (spot-of .ensures .0),
-      text-few (args .text .now)
+      text-short (args .text .now)
           (sym (is-value .ensures) ∙ not-false _ (if4 .left)),
     )
 
@@ -165,7 +165,7 @@ add-strings-2 c =
       (within-parts (args .builder) (spot-of .result) (sym (is-within .ensures) ∙ not-false _ (if5 .left))) .short,
       (within-parts (args .builder) (spot-of .result) (sym (is-within .ensures) ∙ not-false _ (if5 .left))) .inside,
       spot-ordered _ _ _ (spot-of .ensures .0),
-      text-few (args .text .now)
+      text-short (args .text .now)
           (sym (is-value .ensures) ∙ not-false _ (if4 .left)),
     )
 

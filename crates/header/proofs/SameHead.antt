@@ -1,17 +1,14 @@
 -- Files of one length that open and share their bytes up to the metadata of the first have the same header. Assumes nothing.
 use Prim.Native.Nat.{ℕ, zero, suc, _+_, _-_, _%_, _^_, _<_, _≤_}
-use borrow.Author.Tests.{ltb-true}
 use lib.{Dec.{ltb, leb, eqb}, ListN.{length, take, getD}}
 use mathlib.Core.{Bool.{Bool, true, false}, List.{List, [], _∷_}, Path.{_≡_, refl, sym, ap, subst, _∙_}}
-use native.Mathlib.Omega.{arith}
-use Rattle.numbers.proofs.{Answers.{found-one, not-failed, All}, Replies.{given-from, demanded}}
-use Rattle.numbers.specs.{Answer.{Answer, found, if_then_else_}, Reply.{given, refused, notUtf8, refusal, plain, _orElse_}, Varint.{Numeral, readingOf}}
-use Rattle.table.proofs.TableRows.{reading-grows}
-use Rattle.header.specs.Header.{magicOf, isKind, preambleOf, blameOf, Texts, textsFrom, Contents, sizeAt, sectionsFrom, sectionsAt, contentsBy, headBy}
+use native.Mathlib.{Nat.{le-refl}, Omega.{arith}}
+use Rattle.numbers.proofs.{Answers.{found-one, found-from, all-found, not-failed}, ReadAlike.{reading-alike}, Readings.{reading-grows}, Replies.{given-from, given-one, demanded}}
+use Rattle.numbers.specs.{Answer.{Answer, found, if_then_else_}, Reply.{given, refused, notUtf8, refusal, plain}, Varint.{Numeral, readingOf}}
+use Rattle.header.proofs.ReadFrom.{read-from, sized}
+use Rattle.header.specs.Header.{magicOf, isKind, preambleOf, blameOf, Texts, textsFrom, sectionsAt, headBy}
 use Rattle.header.specs.{Text.{within, remoteAt, stringAt, bytesOf, orBlamed, textAt}, Utf8.{isUtf8}}
 use Rattle.header.specs.declared.{header.{Head.{Head}, Preamble.{Preamble}, Sections.{Sections}}, text.{Blame.{Blame}, Text.{Text}}}
-use Rattle.index.proofs.SameReading.{reading-alike, found-from}
-use Rattle.numbers.proofs.Replies.{given-one}
 use Rattle.numbers.specs.Answer as A
 
 -- ---- where a string ends
@@ -73,12 +70,7 @@ text-begun strict file metadata place blame {text} e = go (stringAt strict file 
 
 -- a number ends behind its place
 past : (strict : Bool) (file : List ℕ) (place : ℕ) {number : Numeral} → found number ≡ readingOf strict file place → place < number .place
-past strict file place {number} e = go (readingOf strict file place) e (reading-grows strict file place)
-  where
-    go : (answer : Answer Numeral) → found number ≡ answer → All (λ (n : Numeral). place < n .place) answer → place < number .place
-    go (found m) e h = let s : number ≡ m = found-one e in rw s h
-    go A.failed e h = let z : _≡_ {A = ℕ} 0 1 = cc in absurd (omega arith)
-    go (A.refused n) e h = let z : _≡_ {A = ℕ} 0 1 = cc in absurd (omega arith)
+past strict file place e = all-found (λ (n : Numeral). place < n .place) (readingOf strict file place) e (reading-grows strict file place)
 
 behind-upto : (number : Numeral) → number .place ≤ behind number
 behind-upto number = go (ltb (number .value) 256)
@@ -99,68 +91,16 @@ texts-upto strict file names (suc more) index place {t} e =
     let onward = texts-upto strict file names more (index + 1) (text .it .next) (rest .is) in
     omega (arith, ends, onward, begun .goes, behind-upto (begun .number), past strict file place (begun .reads))
 
--- ---- a size
-size-read : (answer : Answer Numeral) (n : ℕ) {number : Numeral} → given number ≡ (answer orElse plain n) → found number ≡ answer
-size-read (found m) n e = ap found (given-one e)
-size-read A.failed n e = let z : _≡_ {A = ℕ} 0 1 = cc in absurd (omega arith)
-size-read (A.refused k) n e = let z : _≡_ {A = ℕ} 0 1 = cc in absurd (omega arith)
-
--- the three sizes that sections were given from
-record Sized (strict : Bool) (file : List ℕ) (place : ℕ) (s : Sections) : Type 0 where
-  first : Numeral
-  second : Numeral
-  third : Numeral
-  first-read : found first ≡ readingOf strict file place
-  second-read : found second ≡ readingOf strict file (first .place)
-  third-read : found third ≡ readingOf strict file (second .place)
-  gives : given s ≡ sectionsFrom (length file) (third .place) (first .value % 2 ^ 32) (first .value % 2 ^ 32 + second .value % 2 ^ 32) (third .value)
-
-sized : (strict : Bool) (file : List ℕ) (place : ℕ) {s : Sections} → given s ≡ sectionsAt strict file place → Sized strict file place s
-unfolding sectionsAt
-sized strict file place e =
-    let first = given-from (sizeAt strict file place 8) _ e in
-    let second = given-from (sizeAt strict file (first .it .place) 9) _ (first .onto) in
-    let sum = demanded (ltb (first .it .value % 2 ^ 32 + second .it .value % 2 ^ 32) (2 ^ 32)) (plain 13) (second .onto) in
-    let third = given-from (sizeAt strict file (second .it .place) 10) _ (sum .1) in
-    record {
-      first = first .it;
-      second = second .it;
-      third = third .it;
-      first-read = size-read (readingOf strict file place) 8 (first .is);
-      second-read = size-read (readingOf strict file (first .it .place)) 9 (second .is);
-      third-read = size-read (readingOf strict file (second .it .place)) 10 (third .is);
-      gives = third .onto;
-    }
-
--- the table begins behind the third, and the metadata not before it
-sections-form : (length end metadata start rest : ℕ) {s : Sections} → given s ≡ sectionsFrom length end metadata start rest →
-    s ≡ record { table = end; metadata = end + metadata; «data» = end + start }
-unfolding sectionsFrom
-sections-form length end metadata start rest e =
-    let a = demanded (ltb (end + start) (2 ^ 32)) (plain 13) e in
-    let b = demanded (ltb (rest + (end + start)) (2 ^ 64)) (plain 13) (a .1) in
-    let c = demanded (eqb (rest + (end + start)) length) (refusal 11 0 (rest + (end + start))) (b .1) in
-    given-one (c .1)
-
 sections-begin : (strict : Bool) (file : List ℕ) (place : ℕ) {s : Sections} → given s ≡ sectionsAt strict file place → place ≤ s .metadata
 sections-begin strict file place {s} e =
     let a = sized strict file place e in
-    let form = sections-form (length file) (a .third .place) (a .first .value % 2 ^ 32) (a .first .value % 2 ^ 32 + a .second .value % 2 ^ 32) (a .third .value) (a .gives) in
     omega (
       arith,
-      ap (λ (x : Sections). x .metadata) form,
+      a .metadata,
       past strict file place (a .first-read),
       past strict file (a .first .place) (a .second-read),
       past strict file (a .second .place) (a .third-read),
     )
-
--- offsets fit 32 bits
-sections-small : (length end metadata more rest : ℕ) {s : Sections} → given s ≡ sectionsFrom length end metadata (metadata + more) rest → s .metadata < 2 ^ 32
-unfolding sectionsFrom
-sections-small length end metadata more rest e =
-    let form = sections-form length end metadata (metadata + more) rest e in
-    let a = demanded (ltb (end + (metadata + more)) (2 ^ 32)) (plain 13) e in
-    omega (arith, ap (λ (x : Sections). x .metadata) form, ltb-true (end + (metadata + more)) (2 ^ 32) (a .0))
 
 -- ---- the first bytes
 first-same : (l l′ : List ℕ) (end i : ℕ) → take end l ≡ take end l′ → i < end → getD l i 0 ≡ getD l′ i 0
@@ -209,8 +149,7 @@ module _ (strict : Bool) (file file′ : List ℕ) (end : ℕ) (long : length fi
   sections-same place {s} {s′} e e′ h =
       let a = sized strict file place e in
       let b = sized strict file′ place e′ in
-      let form = sections-form (length file) (a .third .place) (a .first .value % 2 ^ 32) (a .first .value % 2 ^ 32 + a .second .value % 2 ^ 32) (a .third .value) (a .gives) in
-      let third-in : a .third .place ≤ end = omega (arith, h, ap (λ (x : Sections). x .metadata) form) in
+      let third-in : a .third .place ≤ end = omega (arith, h, a .metadata) in
       let second-in : a .second .place ≤ end = omega (arith, third-in, past strict file (a .second .place) (a .third-read)) in
       let first-in : a .first .place ≤ end = omega (arith, second-in, past strict file (a .first .place) (a .second-read)) in
       let one : a .first ≡ b .first = number-same place (a .first-read) (b .first-read) first-in in
@@ -218,7 +157,10 @@ module _ (strict : Bool) (file file′ : List ℕ) (end : ℕ) (long : length fi
       let two : a .second ≡ b .second = number-same (a .first .place) (a .second-read) read-two second-in in
       let read-three = subst (λ (n : Numeral). found (b .third) ≡ readingOf strict file′ (n .place)) (sym two) (b .third-read) in
       let three : a .third ≡ b .third = number-same (a .second .place) (a .third-read) read-three third-in in
-      given-one (a .gives ∙ (λ i. sectionsFrom (long i) (three i .place) (one i .value % 2 ^ 32) (one i .value % 2 ^ 32 + two i .value % 2 ^ 32) (three i .value)) ∙ sym (b .gives))
+      let table : s .table ≡ s′ .table = a .table ∙ ap (λ (n : Numeral). n .place) three ∙ sym (b .table) in
+      let metadata : s .metadata ≡ s′ .metadata = a .metadata ∙ (λ i. three i .place + one i .value % 2 ^ 32) ∙ sym (b .metadata) in
+      let places : s .«data» ≡ s′ .«data» = a .data-place ∙ (λ i. three i .place + (one i .value % 2 ^ 32 + two i .value % 2 ^ 32)) ∙ sym (b .data-place) in
+      λ i. record { table = table i; metadata = metadata i; «data» = places i }
 
   preamble-same : 7 ≤ end → {p p′ : Preamble} → given p ≡ preambleOf file → given p′ ≡ preambleOf file′ → p ≡ p′
   preamble-same h e e′ =
@@ -232,39 +174,24 @@ module _ (strict : Bool) (file file′ : List ℕ) (end : ℕ) (long : length fi
 -- Two files of one length that open, with the same bytes up to the metadata start of the first, have the same header.
 pub same-head : (strict : Bool) (file file′ : List ℕ) {head head′ : Head} → given head ≡ headBy strict file → given head′ ≡ headBy strict file′ → length file ≡ length file′
     → take (head .sections .metadata) file ≡ take (head .sections .metadata) file′ → head ≡ head′
-unfolding headBy contentsBy
 same-head strict file file′ {head} {head′} e e′ long bytes =
     let end = head .sections .metadata in
-    let all = given-from (contentsBy strict file) _ e in
-    let all′ = given-from (contentsBy strict file′) _ e′ in
-    let p = given-from (preambleOf file) _ (all .is) in
-    let p′ = given-from (preambleOf file′) _ (all′ .is) in
-    let names = p .it .count in
-    let t = given-from (textsFrom strict file names (names + 1) 0 7) _ (p .onto) in
-    let t′ = given-from (textsFrom strict file′ (p′ .it .count) (p′ .it .count + 1) 0 7) _ (p′ .onto) in
-    let s = given-from (sectionsAt strict file (t .it .place)) _ (t .onto) in
-    let s′ = given-from (sectionsAt strict file′ (t′ .it .place)) _ (t′ .onto) in
-    let form : head ≡ record { preamble = p .it; sections = s .it; strict = strict } = given-one (all .onto) ∙ ap (λ (c : Contents). c .head) (given-one (s .onto)) in
-    let form′ : head′ ≡ record { preamble = p′ .it; sections = s′ .it; strict = strict } = given-one (all′ .onto) ∙ ap (λ (c : Contents). c .head) (given-one (s′ .onto)) in
-    let metadata : end ≡ s .it .metadata = ap (λ (h : Head). h .sections .metadata) form in
-    let begins = sections-begin strict file (t .it .place) (s .is) in
-    let from-seven = texts-upto strict file names (names + 1) 0 7 (t .is) in
-    let one : p .it ≡ p′ .it = preamble-same strict file file′ end long bytes (omega (arith, metadata, begins, from-seven)) (p .is) (p′ .is) in
-    let texts = subst (λ (x : Preamble). given (t′ .it) ≡ textsFrom strict file′ (x .count) (x .count + 1) 0 7) (sym one) (t′ .is) in
-    let two : t .it .place ≡ t′ .it .place = texts-same strict file file′ end long bytes names (names + 1) 0 7 (t .is) texts (omega (arith, metadata, begins)) in
-    let sections = subst (λ (k : ℕ). given (s′ .it) ≡ sectionsAt strict file′ k) (sym two) (s′ .is) in
-    let three : s .it ≡ s′ .it = sections-same strict file file′ end long bytes (t .it .place) (s .is) sections (omega (arith, metadata)) in
-    form ∙ (λ i. record { preamble = one i; sections = three i; strict = strict }) ∙ sym form′
+    let names = head .preamble .count in
+    let o = read-from strict file e in
+    let o′ = read-from strict file′ e′ in
+    let begins = sections-begin strict file (o .texts .place) (o .sections) in
+    let from-seven = texts-upto strict file names (names + 1) 0 7 (o .texts-are) in
+    let one : head .preamble ≡ head′ .preamble = preamble-same strict file file′ end long bytes (omega (arith, begins, from-seven)) (o .preamble) (o′ .preamble) in
+    let texts = subst (λ (x : Preamble). given (o′ .texts) ≡ textsFrom strict file′ (x .count) (x .count + 1) 0 7) (sym one) (o′ .texts-are) in
+    let two : o .texts .place ≡ o′ .texts .place = texts-same strict file file′ end long bytes names (names + 1) 0 7 (o .texts-are) texts begins in
+    let there = subst (λ (k : ℕ). given (head′ .sections) ≡ sectionsAt strict file′ k) (sym two) (o′ .sections) in
+    let three : head .sections ≡ head′ .sections = sections-same strict file file′ end long bytes (o .texts .place) (o .sections) there (le-refl end) in
+    let four : head .strict ≡ head′ .strict = o .strictly ∙ sym (o′ .strictly) in
+    λ i. record { preamble = one i; sections = three i; strict = four i }
 
 -- A header's metadata start fits 32 bits.
 pub metadata-small : (strict : Bool) (file : List ℕ) {head : Head} → given head ≡ headBy strict file → head .sections .metadata < 2 ^ 32
-unfolding headBy contentsBy
-metadata-small strict file {head} e =
-    let all = given-from (contentsBy strict file) _ e in
-    let p = given-from (preambleOf file) _ (all .is) in
-    let t = given-from (textsFrom strict file (p .it .count) (p .it .count + 1) 0 7) _ (p .onto) in
-    let s = given-from (sectionsAt strict file (t .it .place)) _ (t .onto) in
-    let form : head .sections ≡ s .it = ap (λ (h : Head). h .sections) (given-one (all .onto) ∙ ap (λ (c : Contents). c .head) (given-one (s .onto))) in
-    let a = sized strict file (t .it .place) (s .is) in
-    let small = sections-small (length file) (a .third .place) (a .first .value % 2 ^ 32) (a .second .value % 2 ^ 32) (a .third .value) (a .gives) in
-    omega (arith, ap (λ (x : Sections). x .metadata) form, small)
+metadata-small strict file e =
+    let o = read-from strict file e in
+    let a = sized strict file (o .texts .place) (o .sections) in
+    omega (arith, a .metadata, a .data-place, a .small)
