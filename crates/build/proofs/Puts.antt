@@ -15,14 +15,22 @@ entry-few : (r b : ℕ) (e : Entry) → length (entryBytes r b e) ≤ 60
 unfolding entryBytes
 entry-few r b e =
     let step = signedForm (pos (e .record′) -ℤ pos r) in
-    omega (arith, length-append (boxBytes (e .bounds)) (varintOf step ++ varintOf ((e .border + 2 ^ 32 - b) % 2 ^ 32)), length-append (varintOf step) (varintOf ((e .border + 2 ^ 32 - b) % 2 ^ 32)), box-few (e .bounds), varint-few step, varint-few ((e .border + 2 ^ 32 - b) % 2 ^ 32))
+    omega (
+      arith,
+      length-append (boxBytes (e .bounds)) (varintOf step ++ varintOf ((e .border + 2 ^ 32 - b) % 2 ^ 32)),
+      length-append (varintOf step) (varintOf ((e .border + 2 ^ 32 - b) % 2 ^ 32)),
+      box-few (e .bounds),
+      varint-few step,
+      varint-few ((e .border + 2 ^ 32 - b) % 2 ^ 32),
+    )
 
 pub table-few : (r b : ℕ) (es : List Entry) → length (tableFrom r b es) ≤ 60 * length es
 unfolding tableFrom
 table-few r b [] = omega arith
 table-few r b (e ∷ es) = omega (arith, length-append (entryBytes r b e) (tableFrom (e .record′) (e .border) es), entry-few r b e, table-few (e .record′) (e .border) es)
 
-pub table-next : (boxes : List ℤ) (places keys : List ℕ) → length keys ≤ 4096 → (place next : ℕ) (before after : List ℕ) → Stored before place (tableFrom 0 0 (map (entryOfWord boxes places) keys)) after next → next ≤ place + 245760
+pub table-next : (boxes : List ℤ) (places keys : List ℕ) → length keys ≤ 4096 → (place next : ℕ) (before after : List ℕ) →
+    Stored before place (tableFrom 0 0 (map (entryOfWord boxes places) keys)) after next → next ≤ place + 245760
 table-next boxes places keys few place next before after t = omega (arith, t .place-after, table-few 0 0 (map (entryOfWord boxes places) keys), length-map keys (entryOfWord boxes places), few)
 
 texts-few : (lengths texts : List ℕ) → length (flatMap inlined (cutBy lengths texts)) ≤ sumOf lengths + 10 * length lengths
@@ -31,7 +39,8 @@ texts-few [] texts = omega arith
 texts-few (n ∷ ns) texts =
     omega (arith, length-append (inlined (take n texts)) (flatMap inlined (cutBy ns (drop n texts))), inlined-few (take n texts), length-take n texts, texts-few ns (drop n texts))
 
-pub head-next : (kind version precision names : ℕ) (lengths texts : List ℕ) → Headed lengths texts → (next : ℕ) (before after : List ℕ) → Stored before 0 (headFrom kind version precision names (cutBy lengths texts)) after next → next ≤ 7 + 2 ^ 32
+pub head-next : (kind version precision names : ℕ) (lengths texts : List ℕ) → Headed lengths texts → (next : ℕ) (before after : List ℕ) →
+    Stored before 0 (headFrom kind version precision names (cutBy lengths texts)) after next → next ≤ 7 + 2 ^ 32
 unfolding headFrom
 head-next kind version precision names lengths texts h next before after t = omega (arith, t .place-after, texts-few lengths texts, h .bound)
 
@@ -44,7 +53,13 @@ fields-few : (records : ℕ) (words : List ℕ) (i : ℕ) (lengths texts : List 
 unfolding cutBy sumOf joinedFrom
 fields-few records words i [] texts = omega arith
 fields-few records words i (n ∷ ns) texts =
-    omega (arith, length-append (fieldBytes records words i (take n texts)) (joinedFrom (fieldBytes records words) (suc i) (cutBy ns (drop n texts))), word-few records (getD words i 0) (take n texts), length-take n texts, fields-few records words (suc i) ns (drop n texts))
+    omega (
+      arith,
+      length-append (fieldBytes records words i (take n texts)) (joinedFrom (fieldBytes records words) (suc i) (cutBy ns (drop n texts))),
+      word-few records (getD words i 0) (take n texts),
+      length-take n texts,
+      fields-few records words (suc i) ns (drop n texts),
+    )
 
 module _ (records size : ℕ) (words lengths texts : List ℕ) (s : Sectioned records size words lengths texts) where
   pub behind-few : (place next : ℕ) (before after : List ℕ) → Stored before place (joinedFrom (fieldBytes records words) 0 (cutBy lengths texts)) after next → next ≤ place + 2 ^ 32
@@ -65,6 +80,7 @@ module _ {before zeroed after one two : List ℕ} {at next end : ℕ} (head tabl
       let x : List ℕ = varintOf (length bytes) in
       let rest : List ℕ = table ++ (section ++ bytes) in
       let e : (v ++ (w ++ x)) ++ rest ≡ v ++ (w ++ (x ++ rest)) = append-assoc v (w ++ x) rest ∙ ap (λ (l : List ℕ). v ++ l) (append-assoc w x rest) in
-      let b′ : Stored one at (v ++ (w ++ x)) two next = subst (λ (n : ℕ). Stored one at (varintOf n ++ (w ++ x)) two next) et (subst (λ (n : ℕ). Stored one at (varintOf tall ++ (varintOf n ++ x)) two next) es b) in
+      let b′ : Stored one at (v ++ (w ++ x)) two next =
+      subst (λ (n : ℕ). Stored one at (varintOf n ++ (w ++ x)) two next) et (subst (λ (n : ℕ). Stored one at (varintOf tall ++ (varintOf n ++ x)) two next) es b) in
       let a′ : Stored zeroed 0 head one at = subst (λ (l : List ℕ). Stored l 0 head one at) ez a in
       stored-then head (v ++ (w ++ (x ++ rest))) a′ (subst (λ (l : List ℕ). Stored one at l after end) e (stored-then (v ++ (w ++ x)) rest b′ c))

@@ -34,7 +34,8 @@ module _ (lengths texts : List ℕ) (at i : ℕ) (t : Testing lengths texts at i
   unfolding sumOf
   sums = ap sumOf rest
 
-  cuts : every isText (cutBy (drop i lengths) (drop at texts)) ≡ (isText (take (at + getD lengths i 0 - at) (drop at texts)) && every isText (cutBy (drop (suc i) lengths) (drop (at + getD lengths i 0) texts)))
+  cuts : every isText (cutBy (drop i lengths) (drop at texts)) ≡
+      (isText (take (at + getD lengths i 0 - at) (drop at texts)) && every isText (cutBy (drop (suc i) lengths) (drop (at + getD lengths i 0) texts)))
   unfolding cutBy every
   cuts =
       let size : at + getD lengths i 0 - at ≡ getD lengths i 0 = omega arith in
@@ -53,7 +54,8 @@ module _ (lengths texts : List ℕ) (at i : ℕ) (t : Testing lengths texts at i
       let e : left lengths texts at i ≡ false = rw n (and-false (leb (at + sumOf (drop i lengths)) (length texts))) in
       sym e ∙ t .same
 
-  pub test-good : (r : Bool) → r ≡ isText (take (at + getD lengths i 0 - at) (drop at texts)) → not r ≡ false → getD lengths i 0 ≤ length texts - at → Testing lengths texts (at + getD lengths i 0) (i + 1)
+  pub test-good : (r : Bool) → r ≡ isText (take (at + getD lengths i 0 - at) (drop at texts)) → not r ≡ false → getD lengths i 0 ≤ length texts - at →
+      Testing lengths texts (at + getD lengths i 0) (i + 1)
   test-good r is good h =
       let b : isText (take (at + getD lengths i 0 - at) (drop at texts)) ≡ true = sym is ∙ not-false r good in
       let n : every isText (cutBy (drop i lengths) (drop at texts)) ≡ every isText (cutBy (drop (suc i) lengths) (drop (at + getD lengths i 0) texts)) = cuts ∙ rw b in

@@ -50,7 +50,8 @@ module _ (all : List Text) where
   records-most : (records : ℕ) (ts : List Text) → length (flatMap (written all records) ts) ≤ length (flatMap inlined ts) + 10 * length ts
   unfolding flatMap
   records-most records [] = omega arith
-  records-most records (t ∷ ts) = omega (arith, length-append (written all records t) (flatMap (written all records) ts), length-append (inlined t) (flatMap inlined ts), field-most records t, records-most records ts)
+  records-most records (t ∷ ts) =
+      omega (arith, length-append (written all records t) (flatMap (written all records) ts), length-append (inlined t) (flatMap inlined ts), field-most records t, records-most records ts)
 
 -- ---- the first number that is good
 first-good : (good : ℕ → Bool) (least n more : ℕ) → good least ≡ true → ((k : ℕ) → good k ≡ true → least ≤ k) → n ≤ least → least ≤ n + more → firstFrom more good n ≡ least
@@ -116,13 +117,15 @@ module _ (all : List Text) (records : ℕ) where
           rw (ne-eqb (suc (offsetOf all t)) 0 (λ z. omega arith), e)
       go false = refl
 
-  joined-written : (words : List ℕ) (i : ℕ) (ts : List Text) → ((k : ℕ) → k < length ts → getD words (i + k) 0 ≡ getD (map (wordOf all) ts) k 0) → joinedFrom (fieldBytes records words) i ts ≡ flatMap (written all records) ts
+  joined-written : (words : List ℕ) (i : ℕ) (ts : List Text) → ((k : ℕ) → k < length ts → getD words (i + k) 0 ≡ getD (map (wordOf all) ts) k 0) →
+      joinedFrom (fieldBytes records words) i ts ≡ flatMap (written all records) ts
   unfolding joinedFrom flatMap
   joined-written words i [] same = refl
   joined-written words i (t ∷ ts) same =
       let here : getD words i 0 ≡ wordOf all t = ap (λ (n : ℕ). getD words n 0) (sym (add-zero i)) ∙ same 0 (omega arith) in
       let one : wordBytes records (getD words i 0) t ≡ written all records t = ap (λ (w : ℕ). wordBytes records w t) here ∙ by-word t in
-      let more : joinedFrom (fieldBytes records words) (suc i) ts ≡ flatMap (written all records) ts = joined-written words (suc i) ts (λ k h. ap (λ (n : ℕ). getD words n 0) (shift i k) ∙ same (suc k) (omega arith)) in
+      let more : joinedFrom (fieldBytes records words) (suc i) ts ≡ flatMap (written all records) ts =
+      joined-written words (suc i) ts (λ k h. ap (λ (n : ℕ). getD words n 0) (shift i k) ∙ same (suc k) (omega arith)) in
       rw (one, more)
     where
       shift : (i k : ℕ) → suc i + k ≡ i + suc k

@@ -19,7 +19,8 @@ use Rattle.numbers.{proofs.Replies.{demanded}, specs.{Lists.{zeros}, Reply.{Rep
 use Rattle.edit.specs.Replacing.Replaced as Replacing
 use Rattle.office.proofs.{NotedDrafts.{Lasts, LastsOn, add-lasts, kept-lasts, noted-back}, NumberedDrafts.{add-zero, begin-zero, drop-zero, replace-zero}}
 use Rattle.uskelzar.proofs.Numbered.{Answered}
-use Rattle.office.specs.{Calls.{Called, Made, Shelf, TotalsIn, adds, begun, called, clears, drops, grown, replaces, yardsAfter}, Draft.{Kept, Speaks, Spoke, heldOf, notedIn, toldChanged, totalsValues, wordsOf}}
+use Rattle.office.specs.Calls.{Called, Made, Shelf, TotalsIn, adds, begun, called, clears, drops, grown, replaces, yardsAfter}
+use Rattle.office.specs.Draft.{Kept, Speaks, Spoke, heldOf, notedIn, toldChanged, totalsValues, wordsOf}
 use Rattle.uskelzar.specs.Spoken.{saidOf}
 use Rattle.uskelzar.specs.declared.Said.{Said}
 

@@ -1,5 +1,6 @@
 -- What a returned 0 means to firmware: the call was answered, whatever it was given. Each exported function's contract fixes what it returns,
--- the number said in `openingSpoken`, `foundSpoken`, `manySpoken`, `writtenSpoken`, `builtSpoken`, `salvageSpoken` or `localSpoken`; here, that this number is 0 exactly where the definition gives an answer. Assumes nothing.
+-- the number said in `openingSpoken`, `foundSpoken`, `manySpoken`, `writtenSpoken`, `builtSpoken`, `salvageSpoken` or `localSpoken`; here, that this number is 0 exactly where the definition
+-- gives an answer. Assumes nothing.
 use Prim.Native.Nat.{ℕ}
 use mathlib.Core.{Bool.{Bool}, List.{List, [], _∷_, _++_}, Logic.{_↔_}, Path.{_≡_}}
 use native.Mathlib.Omega.{arith}

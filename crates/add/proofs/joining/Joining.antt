@@ -50,7 +50,8 @@ fine yards names o e =
     }
 
 -- ---- more behind a front
-put-front : {A : Type 0} (none : A) {front list : List A} → Front none front list → (more after same : List A) (at : ℕ) → at ≡ length front → at + length more ≤ length list → after ≡ sets list at more → more ≡ same → Front none (front ++ same) after
+put-front : {A : Type 0} (none : A) {front list : List A} → Front none front list → (more after same : List A) (at : ℕ) → at ≡ length front → at + length more ≤ length list →
+    after ≡ sets list at more → more ≡ same → Front none (front ++ same) after
 put-front {A} none {front} {list} f more after same at end fits e is =
     subst (λ (l : List A). Front none (front ++ l) after) is (front-put none f more after (omega (arith, end, fits)) (e ∙ ap (λ (n : ℕ). sets list n more) end))
 
@@ -106,20 +107,25 @@ module _ (b : Builder) (held : Held) (lats lons : List ℤ) (pieces sizes texts 
           let lies = j .holds .lies in
           let plan : Plan = b .plan in
           lies-joined plan (b .room) (j .holds .sound) o (j .wide) (j .narrow) more (j .drawn) (fine-here .texts) after
-          (put-front (pos 0) (lies .boxes-are) (cornersFor lats lons) (after .boxes) (cornersOf (yardOf o ∷ [])) (4 * held .yards) (omega (arith, yards, corners-many (plan .yards))) (omega (arith, placed .boxes-room)) (puts .boxes-are) (sym (corners-one (yardOf o))))
-          (put-front 0 (lies .borders-are) (held .bytes ∷ []) (after .borders) (length (dataOf plan .bytes) ∷ []) (held .yards) (omega (arith, yards, data-many plan (b .room) (j .holds .sound))) (omega (arith, placed .borders-room)) (puts .borders-are) (ap (λ (n : ℕ). n ∷ []) (held-bytes b held before (j .holds))))
+          (put-front (pos 0) (lies .boxes-are) (cornersFor lats lons) (after .boxes) (cornersOf (yardOf o ∷ [])) (4 * held .yards) (omega (arith, yards, corners-many (plan .yards)))
+          (omega (arith, placed .boxes-room)) (puts .boxes-are) (sym (corners-one (yardOf o))))
+          (put-front 0 (lies .borders-are) (held .bytes ∷ []) (after .borders) (length (dataOf plan .bytes) ∷ []) (held .yards)
+          (omega (arith, yards, data-many plan (b .room) (j .holds .sound))) (omega (arith, placed .borders-room)) (puts .borders-are)
+          (ap (λ (n : ℕ). n ∷ []) (held-bytes b held before (j .holds))))
           (put-front 0 (lies .lengths-are) sizes (after .lengths) sizes (lengthsEnd held) lengths-at (placed .lengths-room) (puts .lengths-are) refl)
           (put-front 0 (lies .texts-are) values (after .texts) (take (sumOf sizes) texts) (held .strings) (held-strings b held before (j .holds)) (placed .texts-room) (puts .texts-are) cut)
           (put-front 0 (lies .bytes-are) border (after .bytes) border (held .bytes) (held-bytes b held before (j .holds)) (placed .bytes-room) (puts .bytes-are) refl)
 
-      stands-here : Stands (all .yards) (dataOf all) (held .names) (held .yards + 1) (after .boxes) (after .borders) (take (valuesEnd held - (held .names + 1)) (drop (held .names + 1) (after .lengths))) (take (held .strings + length values - held .front) (drop (held .front) (after .texts)))
+      stands-here : Stands (all .yards) (dataOf all) (held .names) (held .yards + 1) (after .boxes) (after .borders)
+          (take (valuesEnd held - (held .names + 1)) (drop (held .names + 1) (after .lengths))) (take (held .strings + length values - held .front) (drop (held .front) (after .texts)))
       stands-here =
           stands-more all (b .room) sound-more after lies-more (held .names) (held .yards + 1) (held .names + 1) (valuesEnd held) (held .front) (held .strings + length values)
           (names ∙ same-names) (sym (joined-yards (b .plan) o ∙ ap (λ (n : ℕ). n + 1) (sym yards))) refl refl
           (held-front b held before (j .holds) ∙ ap (λ (ts : List (List ℕ)). length (Words.joined ts)) (sym (joined-front (b .plan) o))) (sym strings-more)
 
       -- the yard lies behind those that are held
-      grows : Growing (b .plan .yards) (yardOf o) (dataOf (b .plan)) (dataOf all) held (length border) (after .boxes) (after .borders) (valueLengths held (after .lengths)) (valueTexts held (held .strings + length values) (after .texts))
+      grows : Growing (b .plan .yards) (yardOf o) (dataOf (b .plan)) (dataOf all) held (length border) (after .boxes) (after .borders) (valueLengths held (after .lengths))
+          (valueTexts held (held .strings + length values) (after .texts))
       unfolding joined totalsOf
       grows =
           let is = j .holds .is in
@@ -186,13 +192,18 @@ module _ (b : Builder) (held : Held) (lats lons : List ℤ) (pieces sizes texts 
         unfolding Answers measuredAs
         joins-into next is space long = go fits refl (sym is ∙ measured-here)
           where
-            go : (t : Bool) → fits ≡ t → C.Into next ≡ (if t then C.Into (heldWith held (held .strings + length values) (totalsOf all)) else C.Refused (plain 28)) → Answers (fitting space (summed all (b .room))) before after (C.Into next)
+            go : (t : Bool) → fits ≡ t → C.Into next ≡ (if t then C.Into (heldWith held (held .strings + length values) (totalsOf all)) else C.Refused (plain 28)) →
+                Answers (fitting space (summed all (b .room))) before after (C.Into next)
             go true t e =
                 let same : next ≡ heldWith held (held .strings + length values) (totalsOf all) = cc in (
                   summed all (b .room),
                   (
                     fitting-is space long ∙ ap (λ (x : Bool). demand x (plain 28) >> given (summed all (b .room))) t,
-                    (subst (λ (x : Held). Holds (summed all (b .room)) x after) (sym same) (holds-joined b held before (j .holds) (held .strings + length values) after o (sym strings-more) sound-more lies-more), rooms),
+                    (
+                      subst (λ (x : Held). Holds (summed all (b .room)) x after) (sym same)
+                          (holds-joined b held before (j .holds) (held .strings + length values) after o (sym strings-more) sound-more lies-more),
+                      rooms,
+                    ),
                   ),
                 )
             go false t e = let z : _≡_ {A = ℕ} 0 1 = cc in absurd (omega arith)
@@ -201,8 +212,10 @@ module _ (b : Builder) (held : Held) (lats lons : List ℤ) (pieces sizes texts 
           back : again ≡ before
           back =
               let lies = j .holds .lies in
-              let boxes = front-back (pos 0) (lies .boxes-are) (cornersFor lats lons) (after .boxes) (again .boxes) (4 * held .yards) (omega (arith, yards, corners-many (b .plan .yards))) (puts .boxes-are) (ended .boxes-are) in
-              let borders = front-back 0 (lies .borders-are) (held .bytes ∷ []) (after .borders) (again .borders) (held .yards) (omega (arith, yards, data-many (b .plan) (b .room) (j .holds .sound))) (puts .borders-are) (ended .borders-are) in
+              let boxes = front-back (pos 0) (lies .boxes-are) (cornersFor lats lons) (after .boxes) (again .boxes) (4 * held .yards) (omega (arith, yards, corners-many (b .plan .yards)))
+              (puts .boxes-are) (ended .boxes-are) in
+              let borders = front-back 0 (lies .borders-are) (held .bytes ∷ []) (after .borders) (again .borders) (held .yards)
+              (omega (arith, yards, data-many (b .plan) (b .room) (j .holds .sound))) (puts .borders-are) (ended .borders-are) in
               let lengths = front-back 0 (lies .lengths-are) sizes (after .lengths) (again .lengths) (lengthsEnd held) lengths-at (puts .lengths-are) (ended .lengths-are) in
               let strings = front-back 0 (lies .texts-are) values (after .texts) (again .texts) (held .strings) (held-strings b held before (j .holds)) (puts .texts-are) (ended .texts-are) in
               let bytes = front-back 0 (lies .bytes-are) border (after .bytes) (again .bytes) (held .bytes) (held-bytes b held before (j .holds)) (puts .bytes-are) (ended .bytes-are) in
@@ -212,18 +225,21 @@ module _ (b : Builder) (held : Held) (lats lons : List ℤ) (pieces sizes texts 
               ∙ (ap (λ l. listsAs (before .boxes) (before .borders) (before .lengths) l (again .bytes)) strings
               ∙ ap (λ l. listsAs (before .boxes) (before .borders) (before .lengths) (before .texts) l) bytes)))
 
-        pub joins-not : (why : Refusal) → r .changed ≡ C.Refused why → (again : Lists) → Ended held after again → (space : Space) → space .lists ≡ true → Answers (fitting space (summed all (b .room))) before again (C.Refused why)
+        pub joins-not : (why : Refusal) → r .changed ≡ C.Refused why → (again : Lists) → Ended held after again → (space : Space) → space .lists ≡ true →
+            Answers (fitting space (summed all (b .room))) before again (C.Refused why)
         unfolding Answers measuredAs
         joins-not why is again ended space long = go fits refl (sym is ∙ measured-here)
           where
-            go : (t : Bool) → fits ≡ t → C.Refused why ≡ (if t then C.Into (heldWith held (held .strings + length values) (totalsOf all)) else C.Refused (plain 28)) → Answers (fitting space (summed all (b .room))) before again (C.Refused why)
+            go : (t : Bool) → fits ≡ t → C.Refused why ≡ (if t then C.Into (heldWith held (held .strings + length values) (totalsOf all)) else C.Refused (plain 28)) →
+                Answers (fitting space (summed all (b .room))) before again (C.Refused why)
             go true t e = let z : _≡_ {A = ℕ} 0 1 = cc in absurd (omega arith)
             go false t e =
                 let same : why ≡ plain 28 = cc in
                 (fitting-is space long ∙ (ap (λ (x : Bool). demand x (plain 28) >> given (summed all (b .room))) t ∙ ap (λ w. refused w) (sym same)), back again ended)
 
 -- ---- as `join` promises
-module _ (held : Held) (noted strings : ℕ) (lats lons : List ℤ) (sizes values border : List ℕ) (before : Lists) (end : strings ≡ held .strings + length values) (placed : Placed held (length sizes) (length values) (length border) before) (after : Lists) (puts : Puts held lats lons sizes values border before after)
+module _ (held : Held) (noted strings : ℕ) (lats lons : List ℤ) (sizes values border : List ℕ) (before : Lists) (end : strings ≡ held .strings + length values)
+    (placed : Placed held (length sizes) (length values) (length border) before) (after : Lists) (puts : Puts held lats lons sizes values border before after)
     (notes notes′ : Notes) (r : Added) (m : Settles held noted strings (length border) sizes (after .boxes) (after .borders) (after .lengths) (after .texts) notes notes′ r) where
   m′ : Settles held noted (held .strings + length values) (length border) sizes (after .boxes) (after .borders) (after .lengths) (after .texts) notes notes′ r
   m′ = subst (λ (n : ℕ). Settles held noted n (length border) sizes (after .boxes) (after .borders) (after .lengths) (after .texts) notes notes′ r) end m

@@ -20,7 +20,9 @@ sizeIn fields ts = length (flatMap (written fields (layoutOf fields)) ts)
 
 -- the bytes of the records of the first so many yards
 abbrev sizeTo : ℕ → List ℕ → List ℕ → ℕ → ℕ → ℕ
-sizeTo names lengths texts count yard = total sameTexts texts-equal texts-itself (λ (r : List Text). true) (sizeIn (fieldsTo names lengths texts count)) (used sameTexts texts-equal texts-itself (λ (r : List Text). true) (sizeIn (fieldsTo names lengths texts count)) [] (valuesTo names lengths texts yard))
+sizeTo names lengths texts count yard =
+    total sameTexts texts-equal texts-itself (λ (r : List Text). true) (sizeIn (fieldsTo names lengths texts count))
+    (used sameTexts texts-equal texts-itself (λ (r : List Text). true) (sizeIn (fieldsTo names lengths texts count)) [] (valuesTo names lengths texts yard))
 
 pub record Beginning (names count : ℕ) (lengths texts before places : List ℕ) (begin field yard : ℕ) : Type 0 where
   pub index : yard ≤ count
@@ -126,7 +128,8 @@ module _ (names records count : ℕ) (words lengths texts starts before : List �
           let f : ℕ → ℕ = beginOf names lengths texts count in
           let at : 2 * yard ≡ 0 + 2 * length (map f (numbersFrom 0 yard)) = omega (arith, many f) in
           let list : map f (numbersFrom 0 (yard + 1)) ≡ map f (numbersFrom 0 yard) ++ (f yard ∷ []) =
-          ap (λ (k : ℕ). map f (numbersFrom 0 k)) (add-one yard) ∙ (ap (map f) (numbers-more 0 yard) ∙ (map-more f (numbersFrom 0 yard) ((0 + yard) ∷ []) ∙ ap (λ (k : ℕ). map f (numbersFrom 0 yard) ++ (f k ∷ [])) z)) in
+          ap (λ (k : ℕ). map f (numbersFrom 0 k)) (add-one yard) ∙
+          (ap (map f) (numbers-more 0 yard) ∙ (map-more f (numbersFrom 0 yard) ((0 + yard) ∷ []) ∙ ap (λ (k : ℕ). map f (numbersFrom 0 yard) ++ (f k ∷ [])) z)) in
           ap (λ (l : List ℕ). set l (2 * yard) n) (c .placed)
           ∙ (ap (λ (k : ℕ). set (spread 0 (map f (numbersFrom 0 yard)) before) k n) at
           ∙ (ap (λ (k : ℕ). set (spread 0 (map f (numbersFrom 0 yard)) before) (0 + 2 * length (map f (numbersFrom 0 yard))) k) e
@@ -161,7 +164,10 @@ module _ (names records count : ℕ) (words lengths texts starts before : List �
           index = omega arith;
           placed = on (getD places (2 * first) 0) same-begin;
           size-is = length-set places (2 * yard) (getD places (2 * first) 0) ∙ c .size-is;
-          begin-is = c .begin-is ∙ sym (ap (λ (l : List (List Text)). total sameTexts texts-equal texts-itself (λ (r : List Text). true) (sizeIn all) (used sameTexts texts-equal texts-itself (λ (r : List Text). true) (sizeIn all) [] l)) values-next ∙ total-old sameTexts texts-equal texts-itself (λ (r : List Text). true) (sizeIn all) (values yard) (item yard) refl old);
+          begin-is = c .begin-is ∙
+              sym (ap (λ (l : List (List Text)). total sameTexts texts-equal texts-itself (λ (r : List Text). true) (sizeIn all)
+              (used sameTexts texts-equal texts-itself (λ (r : List Text). true) (sizeIn all) [] l)) values-next ∙
+              total-old sameTexts texts-equal texts-itself (λ (r : List Text). true) (sizeIn all) (values yard) (item yard) refl old);
           field-is = c .field-is ∙ sym (ap length (ap (fieldsTo names lengths texts) (add-one yard) ∙ fields-old names lengths texts yard old));
           bound = rw next-at (omega (arith, c .bound, starts-climb (startsFrom 0 lengths) texts (yard * names) names own));
         }
@@ -182,7 +188,8 @@ module _ (names records count : ℕ) (words lengths texts starts before : List �
             let e : count ≡ yard + suc (count - suc yard) = omega (arith, h) in
             let z : 0 + yard ≡ yard = omega arith in
             let later : List (List Text) = map item (numbersFrom (suc (0 + yard)) (count - suc yard)) in
-            let cut : values count ≡ values yard ++ (item yard ∷ later) = ap (λ (n : ℕ). map item (numbersFrom 0 n)) e ∙ (numbers-split item 0 yard (count - suc yard) ∙ ap (λ (n : ℕ). map item (numbersFrom 0 yard) ++ (item n ∷ later)) z) in
+            let cut : values count ≡ values yard ++ (item yard ∷ later) =
+            ap (λ (n : ℕ). map item (numbersFrom 0 n)) e ∙ (numbers-split item 0 yard (count - suc yard) ∙ ap (λ (n : ℕ). map item (numbersFrom 0 yard) ++ (item n ∷ later)) z) in
             let place = new-place sameTexts texts-equal texts-itself (λ (r : List Text). true) (sizeIn all) [] (values yard) (item yard) later refl refl new in
             c .begin-is
             ∙ (sym place
@@ -203,7 +210,9 @@ module _ (names records count : ℕ) (words lengths texts starts before : List �
             ∙ (ap (λ (l : List ℕ). take names (drop field l)) (r .words-are)
             ∙ (ap (take names) (sym (map-drop (wordIn all) field all))
             ∙ (sym (map-take (wordIn all) names (drop field all))
-            ∙ ap (map (wordIn all)) (ap (λ (n : ℕ). take names (drop n all)) (c .field-is) ∙ (ap (λ (n : ℕ). take n (drop (length (fieldsTo names lengths texts yard)) all)) (sym width) ∙ fields-part names lengths texts count yard h new))))))
+            ∙ ap (map (wordIn all))
+            (ap (λ (n : ℕ). take names (drop n all)) (c .field-is) ∙
+            (ap (λ (n : ℕ). take n (drop (length (fieldsTo names lengths texts yard)) all)) (sym width) ∙ fields-part names lengths texts count yard h new))))))
 
         lengths-part : take (yard * names + names - yard * names) (drop (yard * names) lengths) ≡ map length (item yard)
         lengths-part =
@@ -216,22 +225,32 @@ module _ (names records count : ℕ) (words lengths texts starts before : List �
             ∙ sym (item-bytes (startsFrom 0 lengths) texts (yard * names) names own)
 
         pub size-asks : (length (take (yard * names + names - yard * names) (drop (yard * names) lengths)) ≤ length (take (field + names - field) (drop field words)))
-            × (sumOf (take (yard * names + names - yard * names) (drop (yard * names) lengths)) ≤ length (take (getD starts (yard * names + names) 0 - getD starts (yard * names) 0) (drop (getD starts (yard * names) 0) texts)))
+            × (sumOf (take (yard * names + names - yard * names) (drop (yard * names) lengths)) ≤ length
+            (take (getD starts (yard * names + names) 0 - getD starts (yard * names) 0) (drop (getD starts (yard * names) 0) texts)))
             × (0 + sumOf (take (yard * names + names - yard * names) (drop (yard * names) lengths)) + 10 * length (take (yard * names + names - yard * names) (drop (yard * names) lengths)) < 2 ^ 60)
         size-asks =
             let a : length (take (yard * names + names - yard * names) (drop (yard * names) lengths)) ≡ names = ap length lengths-part ∙ (length-map (item yard) length ∙ width) in
             let b : length (take (field + names - field) (drop field words)) ≡ names = ap length words-part ∙ (length-map (item yard) (wordIn all) ∙ width) in
             let s : sumOf (take (yard * names + names - yard * names) (drop (yard * names) lengths)) ≡ length (joined (item yard)) = ap sumOf lengths-part ∙ sum-lengths (item yard) in
-            let t : length (take (getD starts (yard * names + names) 0 - getD starts (yard * names) 0) (drop (getD starts (yard * names) 0) texts)) ≡ length (joined (item yard)) = ap length texts-part in
+            let t : length (take (getD starts (yard * names + names) 0 - getD starts (yard * names) 0) (drop (getD starts (yard * names) 0) texts)) ≡ length (joined (item yard)) =
+            ap length texts-part in
             let l = length-take (getD starts (yard * names + names) 0 - getD starts (yard * names) 0) (drop (getD starts (yard * names) 0) texts) in
             let d = length-drop (getD starts (yard * names) 0) texts in
             (omega (arith, a, b), omega (arith, s, t), omega (arith, s, t, l, d, a, r .bound, here-to))
 
-        size-as : (s : ℕ) → s ≡ length (joinedFrom (fieldBytes records (take (field + names - field) (drop field words))) 0 (cutBy (take (yard * names + names - yard * names) (drop (yard * names) lengths)) (take (getD starts (yard * names + names) 0 - getD starts (yard * names) 0) (drop (getD starts (yard * names) 0) texts))))
+        size-as : (s : ℕ) → s ≡ length
+            (joinedFrom (fieldBytes records (take (field + names - field) (drop field words))) 0
+            (cutBy (take (yard * names + names - yard * names) (drop (yard * names) lengths))
+            (take (getD starts (yard * names + names) 0 - getD starts (yard * names) 0) (drop (getD starts (yard * names) 0) texts))))
             → s ≡ sizeIn all (item yard)
         size-as s e =
-            e ∙ (ap (λ (w : List ℕ). length (joinedFrom (fieldBytes records w) 0 (cutBy (take (yard * names + names - yard * names) (drop (yard * names) lengths)) (take (getD starts (yard * names + names) 0 - getD starts (yard * names) 0) (drop (getD starts (yard * names) 0) texts))))) words-part
-            ∙ (ap (λ (l : List ℕ). length (joinedFrom (fieldBytes records (map (wordIn all) (item yard))) 0 (cutBy l (take (getD starts (yard * names + names) 0 - getD starts (yard * names) 0) (drop (getD starts (yard * names) 0) texts))))) lengths-part
+            e ∙ (ap (λ (w : List ℕ). length
+            (joinedFrom (fieldBytes records w) 0
+            (cutBy (take (yard * names + names - yard * names) (drop (yard * names) lengths))
+            (take (getD starts (yard * names + names) 0 - getD starts (yard * names) 0) (drop (getD starts (yard * names) 0) texts))))) words-part
+            ∙ (ap (λ (l : List ℕ). length
+            (joinedFrom (fieldBytes records (map (wordIn all) (item yard))) 0
+            (cutBy l (take (getD starts (yard * names + names) 0 - getD starts (yard * names) 0) (drop (getD starts (yard * names) 0) texts))))) lengths-part
             ∙ (ap (λ (l : List ℕ). length (joinedFrom (fieldBytes records (map (wordIn all) (item yard))) 0 (cutBy (map length (item yard)) l))) texts-part
             ∙ (ap (λ (ts : List Text). length (joinedFrom (fieldBytes records (map (wordIn all) (item yard))) 0 ts)) (cut-join (item yard))
             ∙ (ap length (record-written all records (item yard)) ∙ ap (λ (n : ℕ). length (flatMap (written all n) (item yard))) (r .layout))))))
@@ -241,12 +260,25 @@ module _ (names records count : ℕ) (words lengths texts starts before : List �
             let w = starts-within lengths texts (yard * names) (fewer-inside (startsFrom 0 lengths) texts (yard * names + names) (yard * names) (omega arith) own) in
             omega (arith, c .bound, w, r .bound, here-to)
 
-        module _ (s : ℕ) (e : s ≡ length (joinedFrom (fieldBytes records (take (field + names - field) (drop field words))) 0 (cutBy (take (yard * names + names - yard * names) (drop (yard * names) lengths)) (take (getD starts (yard * names + names) 0 - getD starts (yard * names) 0) (drop (getD starts (yard * names) 0) texts))))) where
+        module _ (s : ℕ) (e : s ≡ length
+            (joinedFrom (fieldBytes records (take (field + names - field) (drop field words))) 0
+            (cutBy (take (yard * names + names - yard * names) (drop (yard * names) lengths))
+            (take (getD starts (yard * names + names) 0 - getD starts (yard * names) 0) (drop (getD starts (yard * names) 0) texts))))) where
           size-few : s ≤ getD (startsFrom 0 lengths) (yard * names + names) 0 - getD (startsFrom 0 lengths) (yard * names) 0 + 10 * names
           size-few =
               let w = written-most all (layoutOf all) (item yard) in
-              let b : length (joined (item yard)) ≡ length (take (getD (startsFrom 0 lengths) (yard * names + names) 0 - getD (startsFrom 0 lengths) (yard * names) 0) (drop (getD (startsFrom 0 lengths) (yard * names) 0) texts)) = ap length (item-bytes (startsFrom 0 lengths) texts (yard * names) names own) in
-              omega (arith, size-as s e, w, b, width, length-take (getD (startsFrom 0 lengths) (yard * names + names) 0 - getD (startsFrom 0 lengths) (yard * names) 0) (drop (getD (startsFrom 0 lengths) (yard * names) 0) texts))
+              let b : length (joined (item yard)) ≡ length
+              (take (getD (startsFrom 0 lengths) (yard * names + names) 0 - getD (startsFrom 0 lengths) (yard * names) 0) (drop (getD (startsFrom 0 lengths) (yard * names) 0) texts)) =
+              ap length (item-bytes (startsFrom 0 lengths) texts (yard * names) names own) in
+              omega (
+                arith,
+                size-as s e,
+                w,
+                b,
+                width,
+                length-take (getD (startsFrom 0 lengths) (yard * names + names) 0 - getD (startsFrom 0 lengths) (yard * names) 0)
+                    (drop (getD (startsFrom 0 lengths) (yard * names) 0) texts),
+              )
 
           climbs : getD (startsFrom 0 lengths) (yard * names) 0 ≤ getD (startsFrom 0 lengths) (yard * names + names) 0
           climbs = starts-climb (startsFrom 0 lengths) texts (yard * names) names own
@@ -261,14 +293,20 @@ module _ (names records count : ℕ) (words lengths texts starts before : List �
             index = omega arith;
             placed = on begin begin-here;
             size-is = length-set places (2 * yard) begin ∙ c .size-is;
-            begin-is = ap (λ (n : ℕ). n + s) (c .begin-is) ∙ (ap (λ (n : ℕ). sizeTo names lengths texts count yard + n) (size-as s e) ∙ sym (ap (λ (l : List (List Text)). total sameTexts texts-equal texts-itself (λ (r : List Text). true) (sizeIn all) (used sameTexts texts-equal texts-itself (λ (r : List Text). true) (sizeIn all) [] l)) values-next ∙ total-new sameTexts texts-equal texts-itself (λ (r : List Text). true) (sizeIn all) (values yard) (item yard) refl new));
+            begin-is = ap (λ (n : ℕ). n + s) (c .begin-is) ∙
+                (ap (λ (n : ℕ). sizeTo names lengths texts count yard + n) (size-as s e) ∙
+                sym (ap (λ (l : List (List Text)). total sameTexts texts-equal texts-itself (λ (r : List Text). true) (sizeIn all)
+                (used sameTexts texts-equal texts-itself (λ (r : List Text). true) (sizeIn all) [] l)) values-next ∙
+                total-new sameTexts texts-equal texts-itself (λ (r : List Text). true) (sizeIn all) (values yard) (item yard) refl new));
             field-is =
-                let l : length (fieldsTo names lengths texts (yard + 1)) ≡ length (fieldsTo names lengths texts yard) + length (item yard) = ap length (ap (fieldsTo names lengths texts) (add-one yard) ∙ fields-new names lengths texts yard new) ∙ length-append (fieldsTo names lengths texts yard) (item yard) in
+                let l : length (fieldsTo names lengths texts (yard + 1)) ≡ length (fieldsTo names lengths texts yard) + length (item yard) =
+                ap length (ap (fieldsTo names lengths texts) (add-one yard) ∙ fields-new names lengths texts yard new) ∙ length-append (fieldsTo names lengths texts yard) (item yard) in
                 omega (arith, l, width, c .field-is);
             bound = rw next-at (omega (arith, c .bound, size-few, climbs));
           }
 
-  pub begin-ends : (places : List ℕ) (begin field yard : ℕ) → Beginning names count lengths texts before places begin field yard → count ≤ yard → places ≡ spread 0 (map (beginOf names lengths texts count) (numbersFrom 0 count)) before
+  pub begin-ends : (places : List ℕ) (begin field yard : ℕ) → Beginning names count lengths texts before places begin field yard → count ≤ yard →
+      places ≡ spread 0 (map (beginOf names lengths texts count) (numbersFrom 0 count)) before
   begin-ends places begin field yard c h =
       let e : yard ≡ count = omega (arith, c .index) in
       c .placed ∙ ap (λ (n : ℕ). spread 0 (map (beginOf names lengths texts count) (numbersFrom 0 n)) before) e

@@ -78,7 +78,8 @@ module _ (moves : List RawPoint) where
       let m = flat-ten packedMoveBytes packed-few (slice next (p .first) moves) in
       let s : length (slice next (p .first) moves) ≤ n = omega (arith, length-drop next (take (p .first) moves), length-take (p .first) moves) in
       let more : length front ≤ 10 * n = omega (arith, m, s) in
-      let sum : length front + (length (pieceBytes p) + length rest) ≤ length ps * (10 * n + 22) + (10 * n + 22) + (10 * n + 2) = packed-step (length front) (length (pieceBytes p)) (length rest) (length ps * (10 * n + 22)) (10 * n + 22) n more (piece-few p) (packed-most (p .first + p .count) ps) refl in
+      let sum : length front + (length (pieceBytes p) + length rest) ≤ length ps * (10 * n + 22) + (10 * n + 22) + (10 * n + 2) =
+      packed-step (length front) (length (pieceBytes p)) (length rest) (length ps * (10 * n + 22)) (10 * n + 22) n more (piece-few p) (packed-most (p .first + p .count) ps) refl in
       let e : suc (length ps) * (10 * n + 22) ≡ length ps * (10 * n + 22) + (10 * n + 22) = suc-mul (length ps) (10 * n + 22) in
       total (length front) (length (pieceBytes p)) (length rest) (length (pieceBytes p ++ rest)) _ _ _ (10 * n + 2) l k e sum
     where
@@ -107,15 +108,28 @@ border-size version lats lons pieces earlier bytes e = go (eqb version 0) (past 
         let body : List ℕ = varintOf (length moves) ++ (flatMap plainMoveBytes moves ++ (2 ∷ 2 ∷ [])) in
         let is : body ≡ bytes = given-same body bytes (past (demand (eqb (length pieces) 0) (plain 23)) (given body) bytes e) in
         let size : length body ≡ length bytes = ap length is in
-        omega (arith, size, length-append (varintOf (length moves)) (flatMap plainMoveBytes moves ++ (2 ∷ 2 ∷ [])), length-append (flatMap plainMoveBytes moves) (2 ∷ 2 ∷ []), varint-few (length moves), flat-most plainMoveBytes plain-few moves, few)
+        omega (
+          arith,
+          size,
+          length-append (varintOf (length moves)) (flatMap plainMoveBytes moves ++ (2 ∷ 2 ∷ [])),
+          length-append (flatMap plainMoveBytes moves) (2 ∷ 2 ∷ []),
+          varint-few (length moves),
+          flat-most plainMoveBytes plain-few moves,
+          few,
+        )
 
     packed-one : packedBorder moves pieces earlier ≡ given bytes → length bytes ≤ 170 * length lats + 400
     packed-one e =
         let inner : Reply (List ℕ) = demand (eqb (goodPieces earlier moves 0 pieces) (length pieces)) (refusal 23 0 (goodPieces earlier moves 0 pieces)) >> given (packedFrom moves 0 pieces) in
         let some : length pieces ≤ 16 = leb-true (length pieces) 16 (demanded (leb (length pieces) 16) (refusal 23 0 16) inner bytes e) in
-        let is : packedFrom moves 0 pieces ≡ bytes = given-same (packedFrom moves 0 pieces) bytes (past (demand (eqb (goodPieces earlier moves 0 pieces) (length pieces)) (refusal 23 0 (goodPieces earlier moves 0 pieces))) (given (packedFrom moves 0 pieces)) bytes (past (demand (leb (length pieces) 16) (refusal 23 0 16)) inner bytes e)) in
+        let is : packedFrom moves 0 pieces ≡ bytes =
+        given-same (packedFrom moves 0 pieces) bytes
+        (past (demand (eqb (goodPieces earlier moves 0 pieces) (length pieces)) (refusal 23 0 (goodPieces earlier moves 0 pieces))) (given (packedFrom moves 0 pieces)) bytes
+        (past (demand (leb (length pieces) 16) (refusal 23 0 16)) inner bytes e)) in
         let size : length (packedFrom moves 0 pieces) ≡ length bytes = ap length is in
-        let most : length (packedFrom moves 0 pieces) ≤ 16 * (10 * length moves + 22) + (10 * length moves + 2) = sixteen (length pieces) (10 * length moves + 22) (10 * length moves + 2) (length (packedFrom moves 0 pieces)) (packed-most moves 0 pieces) (mul-le-mul-right (10 * length moves + 22) some) in
+        let most : length (packedFrom moves 0 pieces) ≤ 16 * (10 * length moves + 22) + (10 * length moves + 2) =
+        sixteen (length pieces) (10 * length moves + 22) (10 * length moves + 2) (length (packedFrom moves 0 pieces)) (packed-most moves 0 pieces)
+        (mul-le-mul-right (10 * length moves + 22) some) in
         omega (arith, size, most, few)
 
     go : (t : Bool) → (if t then plainBorder moves pieces else packedBorder moves pieces earlier) ≡ given bytes → length bytes ≤ 170 * length lats + 400
@@ -123,6 +137,7 @@ border-size version lats lons pieces earlier bytes e = go (eqb version 0) (past 
     go false e = packed-one e
 
 -- so much is lent that it is enough
-pub lends : (version : ℕ) (lats lons : List ℤ) (pieces : List Piece) (earlier : List ℕ) (tall room lent : ℕ) (out : List ℕ) → length lats ≤ tall → room ≤ length out → LentFor tall (length out) lent → Lends room earlier (borderOf version lats lons pieces earlier) (length (take lent out))
+pub lends : (version : ℕ) (lats lons : List ℤ) (pieces : List Piece) (earlier : List ℕ) (tall room lent : ℕ) (out : List ℕ) → length lats ≤ tall → room ≤ length out →
+    LentFor tall (length out) lent → Lends room earlier (borderOf version lats lons pieces earlier) (length (take lent out))
 lends version lats lons pieces earlier tall room lent out h k l bytes e long =
     omega (arith, border-size version lats lons pieces earlier bytes e, h, k, l .is, long, length-append earlier bytes, length-take lent out)

@@ -45,7 +45,8 @@ module _ {A : Type 0} (key : A → ℕ) where
       go true ea true eb c ec more =
           let zx = leb-true (key z) (key x) ea in
           let zy = ltb-true (key z) (key y) eb in
-          ap (insertBy key y) (last-not x z s zx) ∙ (first-below y z (insertLast x s) zy ∙ (ap (λ (l : List A). z ∷ l) more ∙ sym (ap (insertLast x) (first-below y z s zy) ∙ last-not x z (insertBy key y s) zx)))
+          ap (insertBy key y) (last-not x z s zx) ∙
+          (first-below y z (insertLast x s) zy ∙ (ap (λ (l : List A). z ∷ l) more ∙ sym (ap (insertLast x) (first-below y z s zy) ∙ last-not x z (insertBy key y s) zx)))
       go true ea false eb c ec more =
           let zx = leb-true (key z) (key x) ea in
           let yz = ltb-false (key z) (key y) eb in
@@ -55,7 +56,8 @@ module _ {A : Type 0} (key : A → ℕ) where
           let xz = leb-false (key z) (key x) ea in
           let zy = ltb-true (key z) (key y) eb in
           ap (insertBy key y) (last-above x z s xz)
-          ∙ (first-below y x (z ∷ s) (omega (arith, xz, zy)) ∙ (ap (λ (l : List A). x ∷ l) (first-below y z s zy) ∙ sym (ap (insertLast x) (first-below y z s zy) ∙ last-above x z (insertBy key y s) xz)))
+          ∙ (first-below y x (z ∷ s) (omega (arith, xz, zy)) ∙
+          (ap (λ (l : List A). x ∷ l) (first-below y z s zy) ∙ sym (ap (insertLast x) (first-below y z s zy) ∙ last-above x z (insertBy key y s) xz)))
       go false ea false eb true ec more =
           let xz = leb-false (key z) (key x) ea in
           let yz = ltb-false (key z) (key y) eb in
@@ -162,7 +164,8 @@ module _ {A : Type 0} (key : A → ℕ) where
             ∙ (ap (λ (t : Bool). if t then highIn k s else some z) eb ∙ sym (ap (λ (t : Bool). if t then some z else (if ltb (key y) (key z) then some y else some z)) ec))
         go false ea false eb false ec more =
             ap (λ (t : Bool). if t then highIn k (z ∷ s) else some y) ec
-            ∙ sym (ap (λ (t : Bool). if t then some z else (if ltb (key y) (key z) then some y else some z)) ec ∙ ap (λ (t : Bool). if t then some y else some z) (lt-ltb (key y) (key z) (leb-false (key z) (key y) ea)))
+            ∙ sym (ap (λ (t : Bool). if t then some z else (if ltb (key y) (key z) then some y else some z)) ec ∙
+            ap (λ (t : Bool). if t then some y else some z) (lt-ltb (key y) (key z) (leb-false (key z) (key y) ea)))
 
   -- the neighbours of a key, one that came last taken in
   pub low-more : (k : ℕ) (xs : List A) (y : A) → lowIn k none (sortedBy key (xs ++ (y ∷ []))) ≡ lowStep k (lowIn k none (sortedBy key xs)) y
@@ -202,18 +205,33 @@ module _ (key : Entry → ℕ) (x : Entry) where
           → length (tableFrom (recordOf sofar) (borderOf sofar) (if t then (e ∷ insertLast key x es) else (x ∷ e ∷ es)))
           + gap (recordOf (if t then lowIn key (key x) (some e) es else sofar)) (borderOf (if t then lowIn key (key x) (some e) es else sofar)) (if t then highIn key (key x) es else some e)
           ≡ length (entryBytes (recordOf sofar) (borderOf sofar) e ++ tableFrom (e .record′) (e .border) es)
-          + (length (entryBytes (recordOf (if t then lowIn key (key x) (some e) es else sofar)) (borderOf (if t then lowIn key (key x) (some e) es else sofar)) x) + gap (x .record′) (x .border) (if t then highIn key (key x) es else some e))
+          + (length (entryBytes (recordOf (if t then lowIn key (key x) (some e) es else sofar)) (borderOf (if t then lowIn key (key x) (some e) es else sofar)) x) + gap (x .record′)
+          (x .border) (if t then highIn key (key x) es else some e))
       go true more =
-          omega (arith, more, length-append (entryBytes (recordOf sofar) (borderOf sofar) e) (tableFrom (e .record′) (e .border) es), length-append (entryBytes (recordOf sofar) (borderOf sofar) e) (tableFrom (e .record′) (e .border) (insertLast key x es)))
+          omega (
+            arith,
+            more,
+            length-append (entryBytes (recordOf sofar) (borderOf sofar) e) (tableFrom (e .record′) (e .border) es),
+            length-append (entryBytes (recordOf sofar) (borderOf sofar) e) (tableFrom (e .record′) (e .border) (insertLast key x es)),
+          )
       go false more =
-          omega (arith, length-append (entryBytes (recordOf sofar) (borderOf sofar) e) (tableFrom (e .record′) (e .border) es), length-append (entryBytes (recordOf sofar) (borderOf sofar) x) (entryBytes (x .record′) (x .border) e ++ tableFrom (e .record′) (e .border) es), length-append (entryBytes (x .record′) (x .border) e) (tableFrom (e .record′) (e .border) es))
+          omega (
+            arith,
+            length-append (entryBytes (recordOf sofar) (borderOf sofar) e) (tableFrom (e .record′) (e .border) es),
+            length-append (entryBytes (recordOf sofar) (borderOf sofar) x) (entryBytes (x .record′) (x .border) e ++ tableFrom (e .record′) (e .border) es),
+            length-append
+                (entryBytes (x .record′) (x .border) e) (tableFrom (e .record′) (e .border) es),
+          )
 
   -- The table grows by the new entry, and by what the step of the entry behind it changes.
   pub table-grown : (es : List Entry)
-      → length (tableFrom 0 0 (sortedBy key (es ++ (x ∷ [])))) + gap (recordOf (lowIn key (key x) none (sortedBy key es))) (borderOf (lowIn key (key x) none (sortedBy key es))) (highIn key (key x) (sortedBy key es))
+      → length (tableFrom 0 0 (sortedBy key (es ++ (x ∷ [])))) + gap (recordOf (lowIn key (key x) none (sortedBy key es))) (borderOf (lowIn key (key x) none (sortedBy key es)))
+      (highIn key (key x) (sortedBy key es))
       ≡ length (tableFrom 0 0 (sortedBy key es))
-      + (length (entryBytes (recordOf (lowIn key (key x) none (sortedBy key es))) (borderOf (lowIn key (key x) none (sortedBy key es))) x) + gap (x .record′) (x .border) (highIn key (key x) (sortedBy key es)))
+      + (length (entryBytes (recordOf (lowIn key (key x) none (sortedBy key es))) (borderOf (lowIn key (key x) none (sortedBy key es))) x) + gap (x .record′) (x .border)
+      (highIn key (key x) (sortedBy key es)))
   unfolding recordOf borderOf
   table-grown es =
-      ap (λ (l : List Entry). length (tableFrom 0 0 l) + gap (recordOf (lowIn key (key x) none (sortedBy key es))) (borderOf (lowIn key (key x) none (sortedBy key es))) (highIn key (key x) (sortedBy key es))) (sorted-last key es x)
+      ap (λ (l : List Entry). length (tableFrom 0 0 l) + gap (recordOf (lowIn key (key x) none (sortedBy key es))) (borderOf (lowIn key (key x) none (sortedBy key es)))
+      (highIn key (key x) (sortedBy key es))) (sorted-last key es x)
       ∙ grown none (sortedBy key es)

@@ -25,7 +25,8 @@ module _ (b : Builder) (held : Held) (lists : Lists) (h : Holds b held lists) (s
     unfolding summed headOf
     other-numbers e = ap (λ (x : Held). heldWith x strings (totalsOf other)) (h .is) ∙ ap (λ (n : ℕ). heldWith (heldAs b) n (totalsOf other)) e
 
-    pub holds-other : strings ≡ length (Words.joined (textsOf other)) → Sound other (b .room) → Lies other (dataOf other) after → Holds (summed other (b .room)) (heldWith held strings (totalsOf other)) after
+    pub holds-other : strings ≡ length (Words.joined (textsOf other)) → Sound other (b .room) → Lies other (dataOf other) after →
+        Holds (summed other (b .room)) (heldWith held strings (totalsOf other)) after
     unfolding summed
     holds-other e sound lies = record { is = other-numbers e; sound = sound; fresh = refl; lies = lies }
 
@@ -38,13 +39,16 @@ module _ (b : Builder) (held : Held) (lists : Lists) (h : Holds b held lists) (s
     unfolding summed joined headOf
     joined-numbers e = ap (λ (x : Held). heldWith x strings (totalsOf more-held)) (h .is) ∙ ap (λ (n : ℕ). heldWith (heldAs b) n (totalsOf more-held)) e
 
-    pub holds-joined : strings ≡ length (Words.joined (textsOf more-held)) → Sound more-held (b .room) → Lies more-held (dataOf more-held) after → Holds (summed more-held (b .room)) (heldWith held strings (totalsOf more-held)) after
+    pub holds-joined : strings ≡ length (Words.joined (textsOf more-held)) → Sound more-held (b .room) → Lies more-held (dataOf more-held) after →
+        Holds (summed more-held (b .room)) (heldWith held strings (totalsOf more-held)) after
     unfolding summed
     holds-joined e sound lies = record { is = joined-numbers e; sound = sound; fresh = refl; lies = lies }
 
 -- ---- the lists of a plan with a yard more
-module _ (plan : Plan) (room : ℕ) (sound : Sound plan room) (o : Offered) (wide : ℕ) (narrow : wide ≤ upTo room) (more : List ℕ) (border : withBorder (plan .version) wide (dataOf plan .bytes) (yardOf o) ≡ given more) (texts : areTexts (o .lengths) (o .texts) ≡ true) where
-  pub lies-joined : (after : Lists) → Front (pos 0) (cornersOf (plan .yards) ++ cornersOf (yardOf o ∷ [])) (after .boxes) → Front 0 (dataOf plan .places ++ (length (dataOf plan .bytes) ∷ [])) (after .borders)
+module _ (plan : Plan) (room : ℕ) (sound : Sound plan room) (o : Offered) (wide : ℕ) (narrow : wide ≤ upTo room) (more : List ℕ)
+    (border : withBorder (plan .version) wide (dataOf plan .bytes) (yardOf o) ≡ given more) (texts : areTexts (o .lengths) (o .texts) ≡ true) where
+  pub lies-joined : (after : Lists) → Front (pos 0) (cornersOf (plan .yards) ++ cornersOf (yardOf o ∷ [])) (after .boxes) →
+      Front 0 (dataOf plan .places ++ (length (dataOf plan .bytes) ∷ [])) (after .borders)
       → Front 0 (map length (textsOf plan) ++ o .lengths) (after .lengths) → Front 0 (Words.joined (textsOf plan) ++ take (sumOf (o .lengths)) (o .texts)) (after .texts) → Front 0 more (after .bytes)
       → Lies (joined plan o) (dataOf (joined plan o)) after
   lies-joined after boxes borders lengths strings bytes =
@@ -121,16 +125,20 @@ pub lies-replaced : (plan : Plan) (room : ℕ) → Sound plan room → (yard fie
 lies-replaced plan room sound yard field text lists after lies boxes borders bytes lengths strings =
     let drawn = replaced-data plan room sound yard field text in
     record {
-      boxes-are = subst (λ l. Front (pos 0) (cornersOf (changedAt yard (withValue field text) (plan .yards))) l) (sym boxes) (subst (λ l. Front (pos 0) l (lists .boxes)) (sym (corners-changed field text yard (plan .yards))) (lies .boxes-are));
-      borders-are = subst (λ (l : List ℕ). Front 0 (dataOf (holding plan (changedAt yard (withValue field text) (plan .yards))) .places) l) (sym borders) (subst (λ d. Front 0 (d .places) (lists .borders)) (sym drawn) (lies .borders-are));
+      boxes-are = subst (λ l. Front (pos 0) (cornersOf (changedAt yard (withValue field text) (plan .yards))) l) (sym boxes)
+          (subst (λ l. Front (pos 0) l (lists .boxes)) (sym (corners-changed field text yard (plan .yards))) (lies .boxes-are));
+      borders-are = subst (λ (l : List ℕ). Front 0 (dataOf (holding plan (changedAt yard (withValue field text) (plan .yards))) .places) l) (sym borders)
+          (subst (λ d. Front 0 (d .places) (lists .borders)) (sym drawn) (lies .borders-are));
       lengths-are = lengths;
       texts-are = strings;
-      bytes-are = subst (λ (l : List ℕ). Front 0 (dataOf (holding plan (changedAt yard (withValue field text) (plan .yards))) .bytes) l) (sym bytes) (subst (λ d. Front 0 (d .bytes) (lists .bytes)) (sym drawn) (lies .bytes-are));
+      bytes-are = subst (λ (l : List ℕ). Front 0 (dataOf (holding plan (changedAt yard (withValue field text) (plan .yards))) .bytes) l) (sym bytes)
+          (subst (λ d. Front 0 (d .bytes) (lists .bytes)) (sym drawn) (lies .bytes-are));
     }
 
 -- ---- of one with no yards
 pub lies-cleared : (plan : Plan) (room : ℕ) → Sound plan room → (after : Lists) → Front (pos 0) [] (after .boxes) → Front 0 [] (after .borders)
-    → Front 0 (map length (frontOf plan)) (after .lengths) → Front 0 (Words.joined (frontOf plan)) (after .texts) → Front 0 (0 ∷ []) (after .bytes) → Lies (holding plan []) (dataOf (holding plan [])) after
+    → Front 0 (map length (frontOf plan)) (after .lengths) → Front 0 (Words.joined (frontOf plan)) (after .texts) → Front 0 (0 ∷ []) (after .bytes) →
+    Lies (holding plan []) (dataOf (holding plan [])) after
 lies-cleared plan room sound after boxes borders lengths strings bytes =
     let drawn = cleared-data plan room sound in
     record {

@@ -39,11 +39,13 @@ module _ (strict : Bool) (file : List ℕ) (room : ℕ) where
     unfolding fittingOf
     is-checked = onward (named .contents) _
 
-    filled : (wrote : Wrote) (out : List ℕ) → Filled (textsOf strict file (head .preamble .count)) room wrote out → Filled (given (record { bytes = named .bytes; place = named .place })) room wrote out
+    filled : (wrote : Wrote) (out : List ℕ) → Filled (textsOf strict file (head .preamble .count)) room wrote out →
+        Filled (given (record { bytes = named .bytes; place = named .place })) room wrote out
     filled wrote out f = subst (λ (t : Reply Texts). Filled t room wrote out) (sym (named .texts)) f
 
     -- names and notice have no room
-    pub no-room : (wrote : Wrote) (out text : List ℕ) → tagOf (declared N.enum) wrote ≡ 1 → Filled (textsOf strict file (head .preamble .count)) room wrote out → text ≡ zeros room → replied (O.Refused (plain 18)) text ≡ openedBy strict file room
+    pub no-room : (wrote : Wrote) (out text : List ℕ) → tagOf (declared N.enum) wrote ≡ 1 → Filled (textsOf strict file (head .preamble .count)) room wrote out → text ≡ zeros room →
+        replied (O.Refused (plain 18)) text ≡ openedBy strict file room
     no-room (W.Used used) out text is f z = absurd (omega (arith, is))
     no-room W.NoRoom out text is f z = refused-so (plain 18) text z (by-room (leb (length (named .bytes)) room) refl ∙ is-checked)
       where

@@ -68,12 +68,17 @@ module _ (lengths texts more bytes : List ℕ) (whole : sumOf lengths ≤ length
 
     pub indexed-more : (chains groups : List ℕ) → Indexed names lengths texts count chains groups → Indexed names (lengths ++ more) (texts ++ bytes) count chains groups
     indexed-more chains groups c = record {
-      fields = chained-same (bucketOf (startsFrom 0 lengths) texts 1) (bucketOf (startsFrom 0 (lengths ++ more)) (texts ++ bytes) 1) (isField names lengths texts) (isField names (lengths ++ more) (texts ++ bytes)) (count * names) (bucket-more 1 (count * names) ones) field-more chains (c .fields);
-      records = chained-same (bucketOf (startsFrom 0 lengths) texts names) (bucketOf (startsFrom 0 (lengths ++ more)) (texts ++ bytes) names) (isFirst names lengths texts) (isFirst names (lengths ++ more) (texts ++ bytes)) count (bucket-more names count many) (first-more names count many) groups (c .records);
+      fields = chained-same (bucketOf (startsFrom 0 lengths) texts 1) (bucketOf (startsFrom 0 (lengths ++ more)) (texts ++ bytes) 1) (isField names lengths texts)
+          (isField names (lengths ++ more) (texts ++ bytes)) (count * names) (bucket-more 1 (count * names) ones) field-more chains (c .fields);
+      records = chained-same (bucketOf (startsFrom 0 lengths) texts names) (bucketOf (startsFrom 0 (lengths ++ more)) (texts ++ bytes) names) (isFirst names lengths texts)
+          (isFirst names (lengths ++ more) (texts ++ bytes)) count (bucket-more names count many) (first-more names count many) groups (c .records);
     }
 
     pub indexed-less : (chains groups : List ℕ) → Indexed names (lengths ++ more) (texts ++ bytes) count chains groups → Indexed names lengths texts count chains groups
     indexed-less chains groups c = record {
-      fields = chained-same (bucketOf (startsFrom 0 (lengths ++ more)) (texts ++ bytes) 1) (bucketOf (startsFrom 0 lengths) texts 1) (isField names (lengths ++ more) (texts ++ bytes)) (isField names lengths texts) (count * names) (λ i h. sym (bucket-more 1 (count * names) ones i h)) (λ i h. sym (field-more i h)) chains (c .fields);
-      records = chained-same (bucketOf (startsFrom 0 (lengths ++ more)) (texts ++ bytes) names) (bucketOf (startsFrom 0 lengths) texts names) (isFirst names (lengths ++ more) (texts ++ bytes)) (isFirst names lengths texts) count (λ i h. sym (bucket-more names count many i h)) (λ i h. sym (first-more names count many i h)) groups (c .records);
+      fields = chained-same (bucketOf (startsFrom 0 (lengths ++ more)) (texts ++ bytes) 1) (bucketOf (startsFrom 0 lengths) texts 1) (isField names (lengths ++ more) (texts ++ bytes))
+          (isField names lengths texts) (count * names) (λ i h. sym (bucket-more 1 (count * names) ones i h)) (λ i h. sym (field-more i h)) chains (c .fields);
+      records = chained-same (bucketOf (startsFrom 0 (lengths ++ more)) (texts ++ bytes) names) (bucketOf (startsFrom 0 lengths) texts names)
+          (isFirst names (lengths ++ more) (texts ++ bytes)) (isFirst names lengths texts) count (λ i h. sym (bucket-more names count many i h))
+          (λ i h. sym (first-more names count many i h)) groups (c .records);
     }

@@ -37,7 +37,8 @@ unfolding fieldsOf firstsAfter
 fields-among t seen [] e = e
 fields-among t seen (r ∷ rs) e = go (isIn sameTexts r seen) (not-in-both t r (fieldsOf rs) e) (fields-among t seen rs) (fields-among t (r ∷ seen) rs)
   where
-    go : (b : Bool) → (isIn sameText t r ≡ false) × (isIn sameText t (fieldsOf rs) ≡ false) → (isIn sameText t (fieldsOf rs) ≡ false → isIn sameText t (fieldsOf (firstsAfter sameTexts seen rs)) ≡ false)
+    go : (b : Bool) → (isIn sameText t r ≡ false) × (isIn sameText t (fieldsOf rs) ≡ false) →
+        (isIn sameText t (fieldsOf rs) ≡ false → isIn sameText t (fieldsOf (firstsAfter sameTexts seen rs)) ≡ false)
         → (isIn sameText t (fieldsOf rs) ≡ false → isIn sameText t (fieldsOf (firstsAfter sameTexts (r ∷ seen) rs)) ≡ false)
         → isIn sameText t (fieldsOf (if b then firstsAfter sameTexts seen rs else (r ∷ firstsAfter sameTexts (r ∷ seen) rs))) ≡ false
     go true two a b = a (two .1)

@@ -7,10 +7,6 @@ use Rattle.office.specs.Draft.{totalsValues, toldChanged}
 use Rattle.uskelzar.specs.declared.Said.{Said}
 use Rattle.office.proofs.calls.say_changed.Statement.{statement}
 use Rattle.office.proofs.calls.say_changed.Tie as tie
-use Rattle.office.proofs.calls.say_changed.Reads as reads
-use Rattle.office.proofs.calls.say_changed.Lts as lts
-use Rattle.office.proofs.calls.greatest_bits.Reads as greatest-bits-reads
-use Rattle.uskelzar.proofs.say_refused.Reads as say-refused-reads
 
 abbrev saying : Held → ℕ → Said
 saying held bits = record { number = 0; words = held .table ∷ held .metadata ∷ held .bytes ∷ held .yards ∷ bits ∷ [] }
@@ -30,9 +26,4 @@ pub say-changed-spec : {M : Type 1} → statement M
 say-changed-spec =
     tie.close
     (tie.spec
-    (λ c. search needs)
-    (λ c κs. search needs)
-    (λ c. search needs)
-    (λ c κs. search needs)
-    returns
-    returns-2)
+    (λ c. search needs) (λ c κs. search needs) (λ c. search needs) (λ c κs. search needs) returns returns-2)
