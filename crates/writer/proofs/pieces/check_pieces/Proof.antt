@@ -38,6 +38,8 @@ use Rattle.writer.proofs.pieces.check_pieces as every
 use Rattle.writer.proofs.pieces.check_pieces.Statement as stated
 use Rattle.writer.proofs.pieces.check_pieces.Code as code
 use Rattle.writer.proofs.pieces.check_pieces.Code.Mir as body
+use Rattle.writer.proofs.pieces.check_next.Symbol.{name as #pieces·check-next}
+use Rattle.writer.proofs.pieces.check_pieces.Key.{name as #pieces·check-pieces}
 
 abbrev stayed : Stays (every.ended .signature .params) (every.ended .kept)
 stayed = (

@@ -41,6 +41,10 @@ use Rattle.writer.proofs.write.write_checked.Met as writes-thm
 use Rattle.writer.proofs.write.write_border as thin
 use Rattle.writer.proofs.write.write_border.Statement as stated
 use Rattle.writer.proofs.write.write_border.Code as code
+use Rattle.writer.proofs.pieces.no_pieces.Symbol.{name as #pieces·no-pieces}
+use Rattle.writer.proofs.pieces.check_pieces.Symbol.{name as #pieces·check-pieces}
+use Rattle.writer.proofs.write.write_checked.Symbol.{name as #writer·write-checked}
+use Rattle.writer.proofs.write.write_border.Key.{name as #writer·write-border}
 
 abbrev stayed : Stays (thin.ended .signature .params) (thin.ended .kept)
 stayed = (

@@ -4,6 +4,7 @@ use lib.{ListN.{length}, Seq.{length-take-le}}
 use mathlib.Core.{Bool.{true}, Path.{_≡_, refl, sym}}
 use native.Mathlib.Omega.{arith}
 use Rattle.add.specs.Growing.Notes.{Notes, notesAs}
+use Rattle.draft.proofs.held.Stood.{stood as stood-is}
 use Rattle.draft.specs.Held.{Space.{roomsOf, standing}, State.{Lists, listsAs}}
 use Rattle.draft.specs.declared.held.room.Rooms.{Rooms}
 use Rattle.add.specs.Joining.Joins.{untouched}
