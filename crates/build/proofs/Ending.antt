@@ -22,7 +22,8 @@ use Rattle.build.specs.declared.file.Built.the-variants as W
 
 -- ---- the checks come first, then the borders
 built-by : (b : Reply (Unit {0})) (c r k : Bool) (drawn : Reply Drawn) (rest : Drawn → Reply (List ℕ))
-    → (b >> (demand c (plain 25) >> (demand r (plain 26) >> (demand k (plain 27) >> (drawn >>= rest))))) ≡ ((b >> (demand c (plain 25) >> (demand r (plain 26) >> demand k (plain 27)))) >> (drawn >>= rest))
+    → (b >> (demand c (plain 25) >> (demand r (plain 26) >> (demand k (plain 27) >> (drawn >>= rest))))) ≡
+    ((b >> (demand c (plain 25) >> (demand r (plain 26) >> demand k (plain 27)))) >> (drawn >>= rest))
 built-by (refused why) c r k drawn rest = refl
 built-by (given u) false r k drawn rest = refl
 built-by (given u) true false k drawn rest = refl
@@ -107,7 +108,8 @@ module _ (kind version precision names : ℕ) (yards : List ℕ) (lats lons : Li
       omega (arith, some)
 
   -- ---- `start`
-  pub start-refused : (file room : ℕ) (before places bytes : List ℕ) (r : Border) → passed r ≡ checked (planOf lent) → (why : Refusal) → r ≡ B.Refused why → Starts lent file room before places bytes (B.Refused why)
+  pub start-refused : (file room : ℕ) (before places bytes : List ℕ) (r : Border) → passed r ≡ checked (planOf lent) → (why : Refusal) → r ≡ B.Refused why →
+      Starts lent file room before places bytes (B.Refused why)
   unfolding Starts
   start-refused file room before places bytes r e why is = λ work. built-refused (planOf lent) (record { file = file; bytes = room; work = work }) why (sym e ∙ ap passed is)
 
@@ -117,7 +119,8 @@ module _ (kind version precision names : ℕ) (yards : List ℕ) (lats lons : Li
       drawn-alone version d (0 ∷ []) yards lats lons pieces [] (drop (names + 1) (cutBy lengths texts))
       ∙ ap (λ (n : ℕ). drawnFrom version n (0 ∷ []) (yardsFrom yards lats lons pieces (drop (names + 1) (cutBy lengths texts)))) e
 
-  pub start-drawn : checked (planOf lent) ≡ given tt → (file room : ℕ) (before places bytes : List ℕ) (d : ℕ) → d ≡ upTo (min file room) → (r : Border) → DrawsAll (drawnOf version d (yardsFrom yards lats lons pieces [])) before places bytes r → Starts lent file room before places bytes r
+  pub start-drawn : checked (planOf lent) ≡ given tt → (file room : ℕ) (before places bytes : List ℕ) (d : ℕ) → d ≡ upTo (min file room) → (r : Border) →
+      DrawsAll (drawnOf version d (yardsFrom yards lats lons pieces [])) before places bytes r → Starts lent file room before places bytes r
   unfolding Starts DrawsAll planOf
   start-drawn ok file room before places bytes d e (B.Drawn size) w =
       (ok, subst (λ (reply : Reply Drawn). Section.Whole reply before places bytes size) (same-drawn d (upTo (min file room)) e) w)
@@ -168,14 +171,17 @@ module _ (kind version precision names : ℕ) (yards : List ℕ) (lats lons : Li
       }
 
       pub drawn-fills : (work : Work) (out : List ℕ) (built : Built)
-          → ((pieces′ drawn : List ℕ) → Drew yards drawn places → Fills (endsAs (enoughFor work (needOf names (length yards) lengths)) file (fileFor (lentAs kind version precision names yards lats lons pieces′ lengths texts) drawn (take size bytes))) file out built)
+          → ((pieces′ drawn : List ℕ) → Drew yards drawn places →
+          Fills (endsAs (enoughFor work (needOf names (length yards) lengths)) file
+          (fileFor (lentAs kind version precision names yards lats lons pieces′ lengths texts) drawn (take size bytes))) file out built)
           → Fills (builtOf (planOf lent) (roomOf lent work file room)) file out built
       unfolding roomOf
       drawn-fills work out built f =
           let enough′ : Bool = enoughFor work (needOf names (length yards) lengths) in
           let own : builtOf (planOf lent) (record { file = file; bytes = room; work = enough′ }) ≡ endsAs enough′ file (fileOf (planOf lent) (whole .drawn)) =
           built-drawn (planOf lent) (record { file = file; bytes = room; work = enough′ }) ok (whole .drawn) (whole .is) in
-          let same : fileFor lent (whole .drawn .places) (take size bytes) ≡ fileOf (planOf lent) (whole .drawn) = ap (λ (b : List ℕ). fileOf (planOf lent) (record { bytes = b; places = whole .drawn .places })) (sym (whole .front)) in
+          let same : fileFor lent (whole .drawn .places) (take size bytes) ≡ fileOf (planOf lent) (whole .drawn) =
+          ap (λ (b : List ℕ). fileOf (planOf lent) (record { bytes = b; places = whole .drawn .places })) (sym (whole .front)) in
           subst (λ (reply : Reply (List ℕ)). Fills reply file out built) (sym (own ∙ ap (endsAs enough′ file) (sym same)))
           (f pieces (whole .drawn .places) drew)
 
@@ -208,7 +214,8 @@ module _ (work : Bool) (room : ℕ) (file out : List ℕ) where
         ∙ ap (fitted room) (sym (ends true (le-leb (length file) (upTo room) (omega (arith, size, h))))))
 
 -- ---- `build`
-pub settled-fits : (reply : Reply (List ℕ)) (room : ℕ) (before after : List ℕ) (built r : Built) → length before ≡ room → Fills reply room before built → Settles built before after r → record { reply = toldBuilt r; out = after } ≡ fitted room reply
+pub settled-fits : (reply : Reply (List ℕ)) (room : ℕ) (before after : List ℕ) (built r : Built) → length before ≡ room → Fills reply room before built → Settles built before after r →
+    record { reply = toldBuilt r; out = after } ≡ fitted room reply
 unfolding Fills Settles fitted
 settled-fits reply room before after (W.Length n) r size f s =
     ap (λ (b : Built). record { reply = toldBuilt b; out = after }) (s .0) ∙ (ap (λ (l : List ℕ). record { reply = given n; out = l }) (s .1) ∙ f)
@@ -216,6 +223,7 @@ settled-fits reply room before after (W.Refused why) r size f s =
     ap (λ (b : Built). record { reply = toldBuilt b; out = after }) (s .0)
     ∙ (ap (λ (l : List ℕ). record { reply = refused why; out = l }) (s .1 ∙ ap zeros size) ∙ ap (fitted room) (sym f))
 
-pub settled-builds : (lent : Lent) (room : Room) (before after : List ℕ) (built r : Built) → length before ≡ room .file → Fills (builtOf (planOf lent) room) (room .file) before built → Settles built before after r → Builds lent room after r
+pub settled-builds : (lent : Lent) (room : Room) (before after : List ℕ) (built r : Built) → length before ≡ room .file → Fills (builtOf (planOf lent) room) (room .file) before built →
+    Settles built before after r → Builds lent room after r
 unfolding Builds
 settled-builds lent room before after built r size f s = settled-fits (builtOf (planOf lent) room) (room .file) before after built r size f s

@@ -76,7 +76,8 @@ unfolding firstsAfter flatMap
 firsts-few seen [] = omega arith
 firsts-few seen (x ∷ xs) = go (isIn sameText x seen) (firsts-few seen xs) (firsts-few (x ∷ seen) xs)
   where
-    go : (t : Bool) → length (flatMap inlined (firstsAfter sameText seen xs)) ≤ length (flatMap inlined xs) → length (flatMap inlined (firstsAfter sameText (x ∷ seen) xs)) ≤ length (flatMap inlined xs)
+    go : (t : Bool) → length (flatMap inlined (firstsAfter sameText seen xs)) ≤ length (flatMap inlined xs) →
+        length (flatMap inlined (firstsAfter sameText (x ∷ seen) xs)) ≤ length (flatMap inlined xs)
         → length (flatMap inlined (if t then firstsAfter sameText seen xs else (x ∷ firstsAfter sameText (x ∷ seen) xs))) ≤ length (inlined x ++ flatMap inlined xs)
     go true a b = omega (arith, a, length-append (inlined x) (flatMap inlined xs))
     go false a b = omega (arith, b, length-append (inlined x) (flatMap inlined xs), length-append (inlined x) (flatMap inlined (firstsAfter sameText (x ∷ seen) xs)))
@@ -86,7 +87,8 @@ unfolding goodOnes flatMap
 good-few good [] = omega arith
 good-few good (x ∷ xs) = go (good x) (good-few good xs)
   where
-    go : (t : Bool) → length (flatMap inlined (goodOnes good xs)) ≤ length (flatMap inlined xs) → length (flatMap inlined (if t then (x ∷ goodOnes good xs) else goodOnes good xs)) ≤ length (inlined x ++ flatMap inlined xs)
+    go : (t : Bool) → length (flatMap inlined (goodOnes good xs)) ≤ length (flatMap inlined xs) →
+        length (flatMap inlined (if t then (x ∷ goodOnes good xs) else goodOnes good xs)) ≤ length (inlined x ++ flatMap inlined xs)
     go true a = omega (arith, a, length-append (inlined x) (flatMap inlined xs), length-append (inlined x) (flatMap inlined (goodOnes good xs)))
     go false a = omega (arith, a, length-append (inlined x) (flatMap inlined xs))
 
@@ -119,7 +121,8 @@ module _ (names count : ℕ) (values strings : List ℕ) (many : length values �
         whole = recorded-texts names count values strings before kept held words places records remote sizes bytes own;
         bound = omega (arith, recorded-few names count values strings before kept held words places records remote sizes bytes own many (omega (arith, whole)), bound);
         words-are = recorded-words names count values strings before kept held words places records remote sizes bytes own;
-        size-is = sym (ap length (recorded-section names count values strings before kept held words places records remote sizes bytes own) ∙ recorded-size names count values strings before kept held words places records remote sizes bytes own);
+        size-is = sym (ap length (recorded-section names count values strings before kept held words places records remote sizes bytes own) ∙
+            recorded-size names count values strings before kept held words places records remote sizes bytes own);
         small = omega (arith, own .records-are, own .remote-is, layout-few laidFields, remotes-few laidFields, laid-few);
       };
     }
@@ -181,22 +184,34 @@ module _ (names : ℕ) (yards lengths texts : List ℕ) (need : Need) (work : Wo
 
   pub filling-laying : Laying names (need .count) (lentLengths need) (lentTexts need) (work .starts) (work .keys) (work .spare) (work .kept) (work .held) (work .words) (work .places)
   unfolding needOf
-  filling-laying = subst (λ (n : Need). Laying names (n .count) (lentLengths n) (lentTexts n) (work .starts) (work .keys) (work .spare) (work .kept) (work .held) (work .words) (work .places)) (sym (f .is)) laying
+  filling-laying = subst (λ (n : Need). Laying names (n .count) (lentLengths n) (lentTexts n) (work .starts) (work .keys) (work .spare) (work .kept) (work .held) (work .words)
+      (work .places)) (sym (f .is)) laying
 
   -- the names and the notice
   pub filling-headed : Headed (take (need .front) lengths) texts
   unfolding needOf
   filling-headed =
       let all = told names yards lengths texts (f .good .counts) (f .good .fine) in
-      let long : length (take (names + 1 + names * (length yards / 4)) lengths) ≡ names + 1 + names * (length yards / 4) = length-take-le (names + 1 + names * (length yards / 4)) lengths (all-lengths names yards (length lengths) (f .good .counts)) in
+      let long : length (take (names + 1 + names * (length yards / 4)) lengths) ≡ names + 1 + names * (length yards / 4) =
+      length-take-le (names + 1 + names * (length yards / 4)) lengths (all-lengths names yards (length lengths) (f .good .counts)) in
       let most = texts-few (take (names + 1 + names * (length yards / 4)) lengths) texts (all .0) (all .1) in
-      let room : names * (length yards / 4) ≤ 1044480 = lengths-room names (length yards / 4) (few-names names yards (length lengths) (f .good .counts)) (value-few names yards lengths texts (f .good .counts) (f .good .fine)) in
+      let room : names * (length yards / 4) ≤ 1044480 =
+      lengths-room names (length yards / 4) (few-names names yards (length lengths) (f .good .counts)) (value-few names yards lengths texts (f .good .counts) (f .good .fine)) in
       subst (λ (n : Need). Headed (take (n .front) lengths) texts) (sym (f .is)) (record {
         whole = omega (arith, sums names yards lengths texts (f .good .counts) (f .good .fine), all .0);
-        bound = omega (arith, sums names yards lengths texts (f .good .counts) (f .good .fine), most, long, room, few-names names yards (length lengths) (f .good .counts), length-take (names + 1) lengths);
+        bound = omega (
+          arith,
+          sums names yards lengths texts (f .good .counts) (f .good .fine),
+          most,
+          long,
+          room,
+          few-names names yards (length lengths) (f .good .counts),
+          length-take (names + 1) lengths,
+        );
       })
 
-  module _ (before kept held words places : List ℕ) (records remote sizes bytes : ℕ) (r : Recorded names (need .count) (lentLengths need) (lentTexts need) before kept held words places records remote sizes bytes) where
+  module _ (before kept held words places : List ℕ) (records remote sizes bytes : ℕ)
+      (r : Recorded names (need .count) (lentLengths need) (lentTexts need) before kept held words places records remote sizes bytes) where
     own : Recorded names count values strings before kept held words places records remote sizes bytes
     unfolding needOf
     own = subst (λ (n : Need). Recorded names (n .count) (lentLengths n) (lentTexts n) before kept held words places records remote sizes bytes) (f .is) r
@@ -242,7 +257,8 @@ module _ (names : ℕ) (yards lengths texts : List ℕ) (need : Need) (work : Wo
       -- the whole file
       pub filling-file : (boxes boxes′ : List ℤ) (keys spare spare′ : List ℕ) → InOrder (yardsFrom yards lats lons [] []) boxes boxes′ keys spare spare′
           → (drawn : List ℕ) → Drew yards drawn before → work .places ≡ length before → (data′ : List ℕ)
-          → assembled (headFrom kind version precision names (cutBy (take (need .front) lengths) texts)) (tableFrom 0 0 (map (entryOfWord boxes′ places) keys)) (sectionFrom records (take sizes words) (take sizes kept) (take bytes held)) data′
+          → assembled (headFrom kind version precision names (cutBy (take (need .front) lengths) texts)) (tableFrom 0 0 (map (entryOfWord boxes′ places) keys))
+          (sectionFrom records (take sizes words) (take sizes kept) (take bytes held)) data′
           ≡ fileFor lent drawn data′
       unfolding fileOf needOf
       filling-file boxes boxes′ keys spare spare′ o drawn d e data′ =

@@ -18,18 +18,24 @@ pub under-top : (top room lent end : ℕ) → top ≡ upTo lent → lent ≡ roo
 under-top top room lent end e same h = omega (arith, e, same, h)
 
 -- ---- the end of a build, over lists that the borders were drawn with
-module _ (kind version precision names : ℕ) (yards : List ℕ) (lats lons : List ℤ) (pieces lengths texts : List ℕ) (file room : ℕ) (before places bytes : List ℕ) (r : Border) (s : Starts (lentAs kind version precision names yards lats lons pieces lengths texts) file room before places bytes r) (size : ℕ) (is : r ≡ B.Drawn size) where
+module _ (kind version precision names : ℕ) (yards : List ℕ) (lats lons : List ℤ) (pieces lengths texts : List ℕ) (file room : ℕ) (before places bytes : List ℕ) (r : Border)
+    (s : Starts (lentAs kind version precision names yards lats lons pieces lengths texts) file room before places bytes r) (size : ℕ) (is : r ≡ B.Drawn size) where
   abbrev lent : Lent
   lent = lentAs kind version precision names yards lats lons pieces lengths texts
 
   pub drawn-ends : (starts keys spare kept held words boxes p p′ o : ℕ) → p ≡ p′ → o ≡ file → (out : List ℕ) (built : Built)
-      → ((pieces′ drawn : List ℕ) → Drew yards drawn places → Fills (endsAs (enoughFor (workOf starts keys spare kept held words p boxes) (needOf names (length yards) lengths)) o (fileFor (lentAs kind version precision names yards lats lons pieces′ lengths texts) drawn (take size bytes))) o out built)
+      → ((pieces′ drawn : List ℕ) → Drew yards drawn places →
+      Fills (endsAs (enoughFor (workOf starts keys spare kept held words p boxes) (needOf names (length yards) lengths)) o
+      (fileFor (lentAs kind version precision names yards lats lons pieces′ lengths texts) drawn (take size bytes))) o out built)
       → Fills (builtOf (planOf lent) (roomOf lent (workOf starts keys spare kept held words p′ boxes) file room)) file out built
   drawn-ends starts keys spare kept held words boxes p p′ o ep eo out built f =
       drawn-fills kind version precision names yards lats lons pieces lengths texts file room before places bytes r s size is (workOf starts keys spare kept held words p′ boxes) out built
       (λ pieces′ drawn d.
-      subst (λ (n : ℕ). Fills (endsAs (enoughFor (workOf starts keys spare kept held words p′ boxes) (needOf names (length yards) lengths)) n (fileFor (lentAs kind version precision names yards lats lons pieces′ lengths texts) drawn (take size bytes))) n out built) eo
-      (subst (λ (n : ℕ). Fills (endsAs (enoughFor (workOf starts keys spare kept held words n boxes) (needOf names (length yards) lengths)) o (fileFor (lentAs kind version precision names yards lats lons pieces′ lengths texts) drawn (take size bytes))) o out built) ep (f pieces′ drawn d)))
+      subst (λ (n : ℕ). Fills (endsAs (enoughFor (workOf starts keys spare kept held words p′ boxes) (needOf names (length yards) lengths)) n
+      (fileFor (lentAs kind version precision names yards lats lons pieces′ lengths texts) drawn (take size bytes))) n out built) eo
+      (subst (λ (n : ℕ). Fills
+      (endsAs (enoughFor (workOf starts keys spare kept held words n boxes) (needOf names (length yards) lengths)) o
+      (fileFor (lentAs kind version precision names yards lats lons pieces′ lengths texts) drawn (take size bytes))) o out built) ep (f pieces′ drawn d)))
 
 -- ---- the whole build
 pub builds-as : (lent : Lent) (work : Work) (file room room′ : ℕ) → room ≡ room′ → (before after : List ℕ) (built r : Built) → length before ≡ file

@@ -90,7 +90,8 @@ unfolding Settles
 settle-refused b why e before after z = subst (λ (x : Built). Settles x before after (W.Refused why)) (sym e) (refl, z)
 
 -- ---- whether there is room
-pub lacks : (work : Work) (names words : ℕ) (lengths : List ℕ) (need : Need) → need ≡ needOf names words lengths → (b : Bool) → b ≡ enoughFor work need → not b ≡ true → enoughFor work (needOf names words lengths) ≡ false
+pub lacks : (work : Work) (names words : ℕ) (lengths : List ℕ) (need : Need) → need ≡ needOf names words lengths → (b : Bool) → b ≡ enoughFor work need → not b ≡ true →
+    enoughFor work (needOf names words lengths) ≡ false
 lacks work names words lengths need is b e n = ap (enoughFor work) (sym is) ∙ (sym e ∙ not-true b n)
 
 pub holds : (work : Work) (need : Need) (b : Bool) → b ≡ enoughFor work need → not b ≡ false → enoughFor work need ≡ true
@@ -103,5 +104,6 @@ zero-first n list e = ap (λ (l : List ℕ). getD l 0 0) e ∙ first n
     first zero = refl
     first (suc n) = refl
 
-pub enough-is : (work : Work) (names words : ℕ) (lengths : List ℕ) (need : Need) → need ≡ needOf names words lengths → (b : Bool) → b ≡ enoughFor work need → not b ≡ false → enoughFor work (needOf names words lengths) ≡ true
+pub enough-is : (work : Work) (names words : ℕ) (lengths : List ℕ) (need : Need) → need ≡ needOf names words lengths → (b : Bool) → b ≡ enoughFor work need → not b ≡ false →
+    enoughFor work (needOf names words lengths) ≡ true
 enough-is work names words lengths need is b e n = ap (enoughFor work) (sym is) ∙ (sym e ∙ not-false b n)

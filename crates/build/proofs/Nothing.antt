@@ -14,13 +14,16 @@ pub nothing-drawn : (version : ℕ) (yards : List ℕ) (lats lons : List ℤ) (p
     → (places bytes : List ℕ) → DrawsAll (drawnOf version 0 (yardsFrom yards lats lons pieces [])) places places bytes r
 unfolding Draws DrawsAll drawnOf drawnFrom yardsFrom withBorder
 nothing-drawn version (a ∷ b ∷ p ∷ v ∷ rest) lats lons pieces h out (B.Drawn size) d places bytes =
-    let some = appended-fits 0 (0 ∷ []) (ltb (length pieces) (5 * p)) (length (piecesOf (take (5 * p) pieces))) (borderOf version (partOf a lats) (partOf b lons) (piecesOf (take (5 * p) pieces)) (0 ∷ [])) ((0 ∷ []) ++ take size out) (d .0) in
+    let some = appended-fits 0 (0 ∷ []) (ltb (length pieces) (5 * p)) (length (piecesOf (take (5 * p) pieces)))
+    (borderOf version (partOf a lats) (partOf b lons) (piecesOf (take (5 * p) pieces)) (0 ∷ [])) ((0 ∷ []) ++ take size out) (d .0) in
     absurd (none size out some)
   where
     none : (size : ℕ) (out : List ℕ) → length ((0 ∷ []) ++ take size out) ≤ 0 → ⊥
     none size out e = let z : suc (length (take size out)) ≤ 0 = e in omega (arith, z)
 nothing-drawn version (a ∷ b ∷ p ∷ v ∷ rest) lats lons pieces h out (B.Refused why) d places bytes =
-    ap (λ (r : Reply (List ℕ)). r >>= λ more. (drawnFrom version 0 more (yardsFrom rest (drop a lats) (drop b lons) (drop (5 * p) pieces) (drop v [])) >>= λ (rest : Drawn). given (record { bytes = rest .bytes; places = 1 ∷ rest .places }))) d
+    ap (λ (r : Reply (List ℕ)). r >>= λ more.
+    (drawnFrom version 0 more (yardsFrom rest (drop a lats) (drop b lons) (drop (5 * p) pieces) (drop v [])) >>= λ (rest : Drawn). given
+    (record { bytes = rest .bytes; places = 1 ∷ rest .places }))) d
 nothing-drawn version (a ∷ b ∷ p ∷ []) lats lons pieces h out r d places bytes = absurd (omega (arith, h))
 nothing-drawn version (a ∷ b ∷ []) lats lons pieces h out r d places bytes = absurd (omega (arith, h))
 nothing-drawn version (a ∷ []) lats lons pieces h out r d places bytes = absurd (omega (arith, h))

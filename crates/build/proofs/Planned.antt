@@ -67,7 +67,8 @@ module _ (kind version precision names : ℕ) (yards : List ℕ) (lats lons : Li
         counted-by = counted-is lent ∙ sym counts
 
         pub counts-bad : not b ≡ true → (s : Border) → s ≡ B.Refused (plain 25) → passed s ≡ checked plan
-        counts-bad n s e = ap passed e ∙ sym (past-borders ∙ ap (λ (x : Bool). demand x (plain 25) >> (demand (readable plan) (plain 26) >> demand (known plan) (plain 27))) (counted-by ∙ not-true b n))
+        counts-bad n s e = ap passed e ∙
+            sym (past-borders ∙ ap (λ (x : Bool). demand x (plain 25) >> (demand (readable plan) (plain 26) >> demand (known plan) (plain 27))) (counted-by ∙ not-true b n))
 
         module _ (good : not b ≡ false) where
           past-counts : checked plan ≡ (demand (readable plan) (plain 26) >> demand (known plan) (plain 27))

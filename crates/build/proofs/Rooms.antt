@@ -36,27 +36,73 @@ module _ (w : Work) (count fields bytes : ℕ) where
           module _ (h4 : count ≤ w .spare) where
             pub no-kept : w .kept < fields → false ≡ enough w count fields bytes
             unfolding enough
-            no-kept h = rw (lt-ltb (fields) (w .starts) h0, le-leb (fields) (w .keys) h1, le-leb (count) (w .keys) h2, le-leb (fields) (w .spare) h3, le-leb (count) (w .spare) h4, lt-leb (fields) (w .kept) h) refl
+            no-kept h = rw (
+              lt-ltb (fields) (w .starts) h0,
+              le-leb (fields) (w .keys) h1,
+              le-leb (count) (w .keys) h2,
+              le-leb (fields) (w .spare) h3,
+              le-leb (count) (w .spare) h4,
+              lt-leb (fields) (w .kept) h,
+            ) refl
 
             module _ (h5 : fields ≤ w .kept) where
               pub no-held : w .held < bytes → false ≡ enough w count fields bytes
               unfolding enough
-              no-held h = rw (lt-ltb (fields) (w .starts) h0, le-leb (fields) (w .keys) h1, le-leb (count) (w .keys) h2, le-leb (fields) (w .spare) h3, le-leb (count) (w .spare) h4, le-leb (fields) (w .kept) h5, lt-leb (bytes) (w .held) h) refl
+              no-held h = rw (
+                lt-ltb (fields) (w .starts) h0,
+                le-leb (fields) (w .keys) h1,
+                le-leb (count) (w .keys) h2,
+                le-leb (fields) (w .spare) h3,
+                le-leb (count) (w .spare) h4,
+                le-leb (fields) (w .kept) h5,
+                lt-leb (bytes) (w .held) h,
+              ) refl
 
               module _ (h6 : bytes ≤ w .held) where
                 pub no-words : w .words < fields → false ≡ enough w count fields bytes
                 unfolding enough
-                no-words h = rw (lt-ltb (fields) (w .starts) h0, le-leb (fields) (w .keys) h1, le-leb (count) (w .keys) h2, le-leb (fields) (w .spare) h3, le-leb (count) (w .spare) h4, le-leb (fields) (w .kept) h5, le-leb (bytes) (w .held) h6, lt-leb (fields) (w .words) h) refl
+                no-words h = rw (
+                  lt-ltb (fields) (w .starts) h0,
+                  le-leb (fields) (w .keys) h1,
+                  le-leb (count) (w .keys) h2,
+                  le-leb (fields) (w .spare) h3,
+                  le-leb (count) (w .spare) h4,
+                  le-leb (fields) (w .kept) h5,
+                  le-leb (bytes) (w .held) h6,
+                  lt-leb (fields) (w .words) h,
+                ) refl
 
                 module _ (h7 : fields ≤ w .words) where
                   pub no-places : w .places < 2 * count → false ≡ enough w count fields bytes
                   unfolding enough
-                  no-places h = rw (lt-ltb (fields) (w .starts) h0, le-leb (fields) (w .keys) h1, le-leb (count) (w .keys) h2, le-leb (fields) (w .spare) h3, le-leb (count) (w .spare) h4, le-leb (fields) (w .kept) h5, le-leb (bytes) (w .held) h6, le-leb (fields) (w .words) h7, lt-leb (2 * count) (w .places) h) refl
+                  no-places h =
+                      rw (
+                        lt-ltb (fields) (w .starts) h0,
+                        le-leb (fields) (w .keys) h1,
+                        le-leb (count) (w .keys) h2,
+                        le-leb (fields) (w .spare) h3,
+                        le-leb (count) (w .spare) h4,
+                        le-leb (fields) (w .kept) h5,
+                        le-leb (bytes) (w .held) h6,
+                        le-leb (fields) (w .words) h7,
+                        lt-leb (2 * count) (w .places) h,
+                      ) refl
 
                   module _ (h8 : 2 * count ≤ w .places) where
                     pub boxes-last : (r : Bool) → r ≡ leb (4 * count) (w .boxes) → r ≡ enough w count fields bytes
                     unfolding enough
-                    boxes-last r e = rw (lt-ltb (fields) (w .starts) h0, le-leb (fields) (w .keys) h1, le-leb (count) (w .keys) h2, le-leb (fields) (w .spare) h3, le-leb (count) (w .spare) h4, le-leb (fields) (w .kept) h5, le-leb (bytes) (w .held) h6, le-leb (fields) (w .words) h7, le-leb (2 * count) (w .places) h8) e
+                    boxes-last r e =
+                        rw (
+                          lt-ltb (fields) (w .starts) h0,
+                          le-leb (fields) (w .keys) h1,
+                          le-leb (count) (w .keys) h2,
+                          le-leb (fields) (w .spare) h3,
+                          le-leb (count) (w .spare) h4,
+                          le-leb (fields) (w .kept) h5,
+                          le-leb (bytes) (w .held) h6,
+                          le-leb (fields) (w .words) h7,
+                          le-leb (2 * count) (w .places) h8,
+                        ) e
 
 -- ---- sums
 pub record Summing (lengths : List ℕ) (sum i : ℕ) : Type 0 where

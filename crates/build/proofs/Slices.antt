@@ -102,5 +102,6 @@ module _ (names : ℕ) (yards lengths texts : List ℕ) (good : countsGood names
         → map (λ (y : Yard). y .values) (planOf (lentAs kind version precision names yards lats lons pieces lengths texts) .yards) ≡ valuesTo names valueLengths valueTexts (length yards / 4)
     unfolding planOf
     plan-values kind version precision lats lons pieces =
-        values-are names yards lats lons pieces lengths texts count valued (values-many yards) behind eb (ap length as-fields ∙ value-all) (sum - behind) (omega (arith, ap sumOf as-fields, eb, es, sums))
+        values-are names yards lats lons pieces lengths texts count valued (values-many yards) behind eb (ap length as-fields ∙ value-all) (sum - behind)
+        (omega (arith, ap sumOf as-fields, eb, es, sums))
         ∙ ap (λ (ls : List ℕ). valuesTo names ls valueTexts count) as-fields

@@ -76,7 +76,8 @@ part-of-front a (suc b) (suc n) (x ∷ l) h = part-of-front a b n l (omega arith
 pub values-are : (names : ℕ) (ns : List ℕ) (ys xs : List ℤ) (w lengths texts : List ℕ) (count : ℕ) → every (eqb names) (valuesFrom ns) ≡ true → length (valuesFrom ns) ≡ count
     → (behind : ℕ) → behind ≡ sumOf (take (names + 1) lengths) → length (take (count * names) (drop (names + 1) lengths)) ≡ count * names
     → (size : ℕ) → sumOf (take (count * names) (drop (names + 1) lengths)) ≤ size
-    → map (λ (y : Yard). y .values) (yardsFrom ns ys xs w (drop (names + 1) (cutBy lengths texts))) ≡ valuesTo names (take (count * names) (drop (names + 1) lengths)) (take size (drop behind texts)) count
+    → map (λ (y : Yard). y .values) (yardsFrom ns ys xs w (drop (names + 1) (cutBy lengths texts))) ≡ valuesTo names (take (count * names) (drop (names + 1) lengths))
+    (take size (drop behind texts)) count
 unfolding valuesTo
 values-are names ns ys xs w lengths texts count e many behind eb long size fits =
     let ls : List ℕ = take (count * names) (drop (names + 1) lengths) in

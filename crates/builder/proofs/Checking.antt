@@ -150,7 +150,9 @@ module _ (yards : List ℕ) (lats lons : List ℤ) (lat lon i : ℕ) (c : Checki
     unfolding yardsFrom bordersGood
     step =
         ap (λ (ns : List ℕ). goodFrom ns (drop lat lats) (drop lon lons)) (four-words yards i more)
-        ∙ ap (λ (k : Reply (Unit {0})). here >> k) (borders-alone (drop (i + 4) yards) (drop (getD yards i 0) (drop lat lats)) (drop (getD yards (i + 1) 0) (drop lon lons)) (drop (5 * getD yards (i + 2) 0) []) [] (drop (getD yards (i + 3) 0) []) [])
+        ∙ ap (λ (k : Reply (Unit {0})). here >> k)
+        (borders-alone (drop (i + 4) yards) (drop (getD yards i 0) (drop lat lats)) (drop (getD yards (i + 1) 0) (drop lon lons)) (drop (5 * getD yards (i + 2) 0) []) []
+        (drop (getD yards (i + 3) 0) []) [])
 
     pub check-refused : (r : Border) → passed r ≡ here → (why : Refusal) → r ≡ B.Refused why → passed (B.Refused why) ≡ goodFrom yards lats lons
     check-refused r is why e =

@@ -44,7 +44,8 @@ module _ (names : ℕ) (yards : List ℕ) (i : ℕ) (n : Numbering names yards i
     pub number-good : names ≡ getD yards (i + 3) 0 → Numbering names yards (i + 4)
     number-good e =
         let is : eqb names (getD yards (i + 3) 0) ≡ true = eq-eqb names (getD yards (i + 3) 0) e in
-        let on : every (eqb names) (valuesFrom (drop i yards)) ≡ every (eqb names) (valuesFrom (drop (i + 4) yards)) = value-step ∙ ap (λ (b : Bool). b && every (eqb names) (valuesFrom (drop (i + 4) yards))) is in
+        let on : every (eqb names) (valuesFrom (drop i yards)) ≡ every (eqb names) (valuesFrom (drop (i + 4) yards)) =
+        value-step ∙ ap (λ (b : Bool). b && every (eqb names) (valuesFrom (drop (i + 4) yards))) is in
         record { index = omega (arith, more); same = sym on ∙ n .same }
 
   pub numbers-end : length yards - i < 4 → true ≡ every (eqb names) (valuesFrom yards)
@@ -163,7 +164,8 @@ counted-is lent =
     let many : ℕ = length ns / 4 in
     let valued : Bool = every (eqb n) (valuesFrom ns) in
     let named : length (take n texts) ≡ min n k = length-take n texts ∙ ap (λ (x : ℕ). min n x) (cut-many (lent .lengths) (lent .texts)) in
-    ap (λ (y : ℕ). ltb 0 y && (leb y 4096 && (leb (length (take n texts)) 255 && (valued && leb (n + 1 + n * length (valuesFrom ns)) k)))) (yards-many ns (lent .lats) (lent .lons) (lent .pieces) (drop (n + 1) texts))
+    ap (λ (y : ℕ). ltb 0 y && (leb y 4096 && (leb (length (take n texts)) 255 && (valued && leb (n + 1 + n * length (valuesFrom ns)) k))))
+    (yards-many ns (lent .lats) (lent .lons) (lent .pieces) (drop (n + 1) texts))
     ∙ (ap (λ (y : ℕ). ltb 0 many && (leb many 4096 && (leb y 255 && (valued && leb (n + 1 + n * length (valuesFrom ns)) k)))) named
     ∙ (ap (λ (y : ℕ). ltb 0 many && (leb many 4096 && (leb (min n k) 255 && (valued && leb (n + 1 + n * y) k)))) (values-many ns)
     ∙ ap (λ (b : Bool). ltb 0 many && (leb many 4096 && b)) (names-by n k many valued (leb (n + 1 + n * many) k) refl)))
@@ -244,4 +246,5 @@ readable-is lent good =
     ap (λ (b : Bool). leb (sumOf (take (n + 1 + n * m) (lent .lengths))) (length (lent .texts)) && b)
     (ap (every isText) (cut-take (n + 1 + n * m) (lent .lengths) (lent .texts) ∙ plan-texts n m texts long)
     ∙ (every-append isText (take n texts) (getD texts n [] ∷ take (n * m) (drop (n + 1) texts))
-    ∙ last-texts n m texts (every (λ (y : Yard). every isText (y .values)) (yardsFrom (lent .yards) (lent .lats) (lent .lons) (lent .pieces) (drop (n + 1) texts))) (values-good n (lent .yards) (lent .lats) (lent .lons) (lent .pieces) (drop (n + 1) texts) known)))
+    ∙ last-texts n m texts (every (λ (y : Yard). every isText (y .values)) (yardsFrom (lent .yards) (lent .lats) (lent .lons) (lent .pieces) (drop (n + 1) texts)))
+    (values-good n (lent .yards) (lent .lats) (lent .lons) (lent .pieces) (drop (n + 1) texts) known)))

@@ -36,7 +36,9 @@ pub got : (n : ℕ) (border : Reply (List ℕ)) (size : ℕ) (out : List ℕ) �
 unfolding fitted
 got n (given bytes) size out e = go (leb (length bytes) n) refl e
   where
-    go : (t : Bool) → leb (length bytes) n ≡ t → replied (W.Wrote size) out ≡ (if t then record { reply = given (length bytes); out = padded n bytes } else record { reply = refused (plain 24); out = zeros n }) → Got n (given bytes) size out
+    go : (t : Bool) → leb (length bytes) n ≡ t →
+        replied (W.Wrote size) out ≡ (if t then record { reply = given (length bytes); out = padded n bytes } else record { reply = refused (plain 24); out = zeros n }) →
+        Got n (given bytes) size out
     go true t e =
         let r : given size ≡ given (length bytes) = ap (λ (x : Replied). x .reply) e in
         record { bytes = bytes; is = refl; size-is = cc; fit = leb-true (length bytes) n t; front = ap (λ (x : Replied). x .out) e }
@@ -67,7 +69,8 @@ module _ (n room : ℕ) (sofar out : List ℕ) (cut : Bool) (pieces : ℕ) (bord
       let long : length out ≡ length (g .bytes) + length (zeros (n - length (g .bytes))) = ap length (g .front) ∙ length-append (g .bytes) (zeros (n - length (g .bytes))) in
       (rw (g .is, c, l) (ap (λ (bs : List ℕ). given (sofar ++ bs)) (sym t)), omega (arith, g .size-is, long))
 
-pub turned-away : (n room : ℕ) (sofar out : List ℕ) (cut : Bool) (pieces : ℕ) (border : Reply (List ℕ)) (number detail : ℕ) → Known border → Lends room sofar border n → replied (W.Refused number detail) out ≡ fitted n border
+pub turned-away : (n room : ℕ) (sofar out : List ℕ) (cut : Bool) (pieces : ℕ) (border : Reply (List ℕ)) (number detail : ℕ) → Known border → Lends room sofar border n →
+    replied (W.Refused number detail) out ≡ fitted n border
     → (r : Border) → r ≡ unwrittenAs number detail cut pieces → Draws (appended room sofar cut pieces border) sofar out r
 unfolding fitted Draws appended
 turned-away n room sofar out cut pieces (refused why) number detail (refuses listed) h e r er =
@@ -83,7 +86,9 @@ turned-away n room sofar out cut pieces (given bytes) number detail k h e r er =
         let l : leb (length (sofar ++ bytes)) room ≡ false = lt-leb (length (sofar ++ bytes)) room (h bytes refl long) in
         rw (er, eq-eqb number 24 is, l) refl
 
-    go : (t : Bool) → leb (length bytes) n ≡ t → replied (W.Refused number detail) out ≡ (if t then record { reply = given (length bytes); out = padded n bytes } else record { reply = refused (plain 24); out = zeros n }) → Draws (appended room sofar cut pieces (given bytes)) sofar out r
+    go : (t : Bool) → leb (length bytes) n ≡ t →
+        replied (W.Refused number detail) out ≡ (if t then record { reply = given (length bytes); out = padded n bytes } else record { reply = refused (plain 24); out = zeros n }) →
+        Draws (appended room sofar cut pieces (given bytes)) sofar out r
     go true t e =
         let w : _≡_ {A = Reply ℕ} (refused (refusal number 0 detail)) (given (length bytes)) = ap (λ (x : Replied). x .reply) e in
         let z : _≡_ {A = ℕ} 0 1 = cc in absurd (omega arith)
@@ -132,7 +137,11 @@ module _ (lats lons : List ℤ) (out : List ℕ) (w : Written) (e : replied w ou
 
   two-bytes : 0 < length whole
   two-bytes =
-      omega (arith, length-append (varintOf (length (movesOf lats lons))) (flatMap plainMoveBytes (movesOf lats lons) ++ (2 ∷ 2 ∷ [])), length-append (flatMap plainMoveBytes (movesOf lats lons)) (2 ∷ 2 ∷ []))
+      omega (
+        arith,
+        length-append (varintOf (length (movesOf lats lons))) (flatMap plainMoveBytes (movesOf lats lons) ++ (2 ∷ 2 ∷ [])),
+        length-append (flatMap plainMoveBytes (movesOf lats lons)) (2 ∷ 2 ∷ []),
+      )
 
   seen : replied w out ≡ fitted 0 (checks 0 lats lons [] >> given whole)
   unfolding borderOf plainBorder piecesOf firstPieces
@@ -143,4 +152,5 @@ module _ (lats lons : List ℤ) (out : List ℕ) (w : Written) (e : replied w ou
 
   pub check-says : (number detail : ℕ) → w ≡ W.Refused number detail → (r : Border) → r ≡ goodIf number detail → passed r ≡ checks 0 lats lons []
   check-says number detail is r er =
-      ap passed er ∙ refused-so out whole two-bytes number detail (checks 0 lats lons []) (checks-known 0 lats lons []) (subst (λ (x : Written). replied x out ≡ fitted 0 (checks 0 lats lons [] >> given whole)) is seen)
+      ap passed er ∙ refused-so out whole two-bytes number detail (checks 0 lats lons []) (checks-known 0 lats lons [])
+      (subst (λ (x : Written). replied x out ≡ fitted 0 (checks 0 lats lons [] >> given whole)) is seen)

@@ -39,7 +39,8 @@ module _ (bytes : ℕ → Text → List ℕ) where
     pub there : at + sumOf (drop i lengths) ≤ length texts
     pub bound : next + sumOf (drop i lengths) + 10 * length (drop i lengths) < 2 ^ 60
 
-  pub inlines-start : (before : List ℕ) (place : ℕ) (lengths texts : List ℕ) → sumOf lengths ≤ length texts → place + sumOf lengths + 10 * length lengths < 2 ^ 60 → Inlining before place lengths texts before place 0 0
+  pub inlines-start : (before : List ℕ) (place : ℕ) (lengths texts : List ℕ) → sumOf lengths ≤ length texts → place + sumOf lengths + 10 * length lengths < 2 ^ 60 →
+      Inlining before place lengths texts before place 0 0
   inlines-start before place lengths texts h k = record { index = omega arith; left = left-all; there = omega arith; bound = k }
 
   module _ (before : List ℕ) (place : ℕ) (lengths texts now : List ℕ) (next at i : ℕ) (l : Inlining before place lengths texts now next at i) (more : i < length lengths) where
@@ -59,14 +60,16 @@ module _ (bytes : ℕ → Text → List ℕ) where
     pub text-room : next + length (take (at + getD lengths i 0 - at) (drop at texts)) < 2 ^ 61
     text-room = omega (arith, text-size, l .bound, sum-next lengths i more)
 
-    cuts : joinedFrom bytes i (cutBy (drop i lengths) (drop at texts)) ≡ bytes i (take (at + getD lengths i 0 - at) (drop at texts)) ++ joinedFrom bytes (suc i) (cutBy (drop (suc i) lengths) (drop (at + getD lengths i 0) texts))
+    cuts : joinedFrom bytes i (cutBy (drop i lengths) (drop at texts)) ≡ bytes i (take (at + getD lengths i 0 - at) (drop at texts)) ++ joinedFrom bytes (suc i)
+        (cutBy (drop (suc i) lengths) (drop (at + getD lengths i 0) texts))
     unfolding cutBy joinedFrom
     cuts =
         let size : at + getD lengths i 0 - at ≡ getD lengths i 0 = omega arith in
         ap (λ (ls : List ℕ). joinedFrom bytes i (cutBy ls (drop at texts))) rest
         ∙ rw (size, drop-drop (getD lengths i 0) at texts)
 
-    pub inlines-go : ((k : ℕ) (t : Text) → length (bytes k t) ≤ 10 + length t) → (after : List ℕ) (later : ℕ) → Stored now next (bytes i (take (at + getD lengths i 0 - at) (drop at texts))) after later → Inlining before place lengths texts after later (at + getD lengths i 0) (i + 1)
+    pub inlines-go : ((k : ℕ) (t : Text) → length (bytes k t) ≤ 10 + length t) → (after : List ℕ) (later : ℕ) →
+        Stored now next (bytes i (take (at + getD lengths i 0 - at) (drop at texts))) after later → Inlining before place lengths texts after later (at + getD lengths i 0) (i + 1)
     inlines-go few after later s =
         let t = take (at + getD lengths i 0 - at) (drop at texts) in
         rw (add-one i) (record {
@@ -76,21 +79,26 @@ module _ (bytes : ℕ → Text → List ℕ) where
           bound = omega (arith, l .bound, sum-next lengths i more, counts, s .place-after, few i t, text-size);
         })
 
-  pub inlines-end : (before : List ℕ) (place : ℕ) (lengths texts now : List ℕ) (next at i : ℕ) → Inlining before place lengths texts now next at i → length lengths ≤ i → Stored before place (joinedFrom bytes 0 (cutBy lengths texts)) now next
+  pub inlines-end : (before : List ℕ) (place : ℕ) (lengths texts now : List ℕ) (next at i : ℕ) → Inlining before place lengths texts now next at i → length lengths ≤ i →
+      Stored before place (joinedFrom bytes 0 (cutBy lengths texts)) now next
   unfolding cutBy joinedFrom
   inlines-end before place lengths texts now next at i l h =
       let e : i ≡ length lengths = omega (arith, l .index) in
-      left-none (subst (λ (r : List ℕ). Left before place (joinedFrom bytes 0 (cutBy lengths texts)) now next r) (ap (λ (ls : List ℕ). joinedFrom bytes i (cutBy ls (drop at texts))) (ap (λ (n : ℕ). drop n lengths) e ∙ drop-length lengths)) (l .left))
+      left-none (subst (λ (r : List ℕ). Left before place (joinedFrom bytes 0 (cutBy lengths texts)) now next r)
+      (ap (λ (ls : List ℕ). joinedFrom bytes i (cutBy ls (drop at texts))) (ap (λ (n : ℕ). drop n lengths) e ∙ drop-length lengths)) (l .left))
 
-pub inline-ends : (before : List ℕ) (place : ℕ) (lengths texts now : List ℕ) (next at i : ℕ) → Inlining (λ k. inlined) before place lengths texts now next at i → length lengths ≤ i → Stored before place (flatMap inlined (cutBy lengths texts)) now next
+pub inline-ends : (before : List ℕ) (place : ℕ) (lengths texts now : List ℕ) (next at i : ℕ) → Inlining (λ k. inlined) before place lengths texts now next at i → length lengths ≤ i →
+    Stored before place (flatMap inlined (cutBy lengths texts)) now next
 inline-ends before place lengths texts now next at i l h =
     subst (λ (bs : List ℕ). Stored before place bs now next) (joined-inlined 0 (cutBy lengths texts)) (inlines-end (λ k. inlined) before place lengths texts now next at i l h)
 
 -- ---- one field by its word
-pub field-inline : (records word : ℕ) (text : List ℕ) {before after : List ℕ} {at next : ℕ} → word ≡ 0 → Stored before at (inlined text) after next → Stored before at (wordBytes records word text) after next
+pub field-inline : (records word : ℕ) (text : List ℕ) {before after : List ℕ} {at next : ℕ} → word ≡ 0 → Stored before at (inlined text) after next →
+    Stored before at (wordBytes records word text) after next
 unfolding wordBytes
 field-inline records word text e s = rw (eq-eqb word 0 e) s
 
-pub field-word : (records word : ℕ) (text : List ℕ) {before after : List ℕ} {at next : ℕ} → (word ≡ 0 → ⊥) → Stored before at (varintOf (255 + records + word)) after next → Stored before at (wordBytes records word text) after next
+pub field-word : (records word : ℕ) (text : List ℕ) {before after : List ℕ} {at next : ℕ} → (word ≡ 0 → ⊥) → Stored before at (varintOf (255 + records + word)) after next →
+    Stored before at (wordBytes records word text) after next
 unfolding wordBytes
 field-word records word text e s = rw (ne-eqb word 0 e) s

@@ -19,7 +19,8 @@ module _ (f : ℕ → ℕ) where
   pub put-starts : (before : List ℕ) (place : ℕ) (items : List ℕ) → Putting before place items before place 0
   put-starts before place items = record { index = omega arith; left = left-all; next-is = omega arith }
 
-  pub put-goes : (before : List ℕ) (place : ℕ) (items now after : List ℕ) (next i later : ℕ) → Putting before place items now next i → i < length items → Stored now next (f (getD items i 0) ∷ []) after later → Putting before place items after later (i + 1)
+  pub put-goes : (before : List ℕ) (place : ℕ) (items now after : List ℕ) (next i later : ℕ) → Putting before place items now next i → i < length items →
+      Stored now next (f (getD items i 0) ∷ []) after later → Putting before place items after later (i + 1)
   put-goes before place items now after next i later p h s = record {
     index = omega arith;
     left = rw (add-one i) (left-step (f (getD items i 0) ∷ []) (subst (λ (rest : List ℕ). Left before place (map f items) now next rest) (ap (map f) (drop-cons items i 0 h)) (p .left)) s);

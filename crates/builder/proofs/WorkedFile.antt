@@ -32,8 +32,14 @@ two = record {
   texts = [];
 }
 
-pub two-yards : builtOf (planOf two) room ≡ given (0x50 ∷ 0x4C ∷ 0x42 ∷ 0x43 ∷ 0x00 ∷ 0x10 ∷ 0x00 ∷ 0x00 ∷ 0x10 ∷ 0x00 ∷ 0x11 ∷ 0x06 ∷ 0x06 ∷ 0x06 ∷ 0x06 ∷ 0x00 ∷ 0x0C ∷ 0x0C ∷ 0x02 ∷ 0x12 ∷ 0x08 ∷ 0x00 ∷ 0xF5 ∷ 0xFF ∷ 0xFF ∷ 0xFF ∷ 0x0F ∷ 0x00 ∷ 0x04 ∷ 0x0C ∷ 0x02 ∷ 0x06 ∷ 0x00 ∷ 0x00 ∷ 0x06 ∷ 0x07 ∷ 0x00 ∷ 0x02 ∷ 0x02 ∷ 0x01 ∷ 0x06 ∷ 0x06 ∷ 0x02 ∷ 0x02 ∷ [])
-unfolding plainMoveBytes packedNumber packedMoveBytes moveTo movesFrom pointsOf movesOf goodPieces packedFrom firstPieces piecesOf isStill every sized near checks plainBorder packedBorder borderOf insertBy sortedBy digitsOf varintOf signedForm interleaved characters startedBy begunBy followed goesOn isUtf8 appended withBorder drawnFrom drawnOf lesser greater bestBy lowestOf highestOf boxBytes entryBytes tableFrom fromSouth tableOf headFrom headOf assembled fileOf bordersGood counted isText readable known builtOf inlined fieldsOf isRemote remotes offsetOf written fits firstFrom layoutOf startOf metadataOf sameBy isIn timesIn firstsAfter sizeBefore goodOnes cutBy partOf sumOf yardsFrom valuesFrom countedLengths planOf flatMap zipWith
+pub two-yards : builtOf (planOf two) room ≡ given
+    (0x50 ∷ 0x4C ∷ 0x42 ∷ 0x43 ∷ 0x00 ∷ 0x10 ∷ 0x00 ∷ 0x00 ∷ 0x10 ∷ 0x00 ∷ 0x11 ∷ 0x06 ∷ 0x06 ∷ 0x06 ∷ 0x06 ∷ 0x00 ∷ 0x0C ∷ 0x0C ∷ 0x02 ∷ 0x12 ∷ 0x08 ∷ 0x00 ∷ 0xF5 ∷ 0xFF ∷ 0xFF ∷ 0xFF ∷
+    0x0F ∷ 0x00 ∷ 0x04 ∷ 0x0C ∷ 0x02 ∷ 0x06 ∷ 0x00 ∷ 0x00 ∷ 0x06 ∷ 0x07 ∷ 0x00 ∷ 0x02 ∷ 0x02 ∷ 0x01 ∷ 0x06 ∷ 0x06 ∷ 0x02 ∷ 0x02 ∷ [])
+unfolding plainMoveBytes packedNumber packedMoveBytes moveTo movesFrom pointsOf movesOf goodPieces packedFrom firstPieces piecesOf isStill every sized near checks plainBorder packedBorder
+    borderOf insertBy sortedBy digitsOf varintOf signedForm interleaved characters startedBy begunBy followed goesOn isUtf8 appended withBorder drawnFrom drawnOf lesser greater bestBy
+    lowestOf highestOf boxBytes entryBytes tableFrom fromSouth tableOf headFrom headOf assembled fileOf bordersGood counted isText readable known builtOf inlined fieldsOf isRemote remotes
+    offsetOf written fits firstFrom layoutOf startOf metadataOf sameBy isIn timesIn firstsAfter sizeBefore goodOnes cutBy partOf sumOf yardsFrom valuesFrom countedLengths planOf flatMap
+    zipWith
 two-yards = refl
 
 abbrev pub equal : Lent
@@ -50,6 +56,12 @@ equal = record {
   texts = 0x41 ∷ 0x41 ∷ [];
 }
 
-pub equal-values : builtOf (planOf equal) room ≡ given (0x50 ∷ 0x4C ∷ 0x42 ∷ 0x43 ∷ 0x01 ∷ 0x10 ∷ 0x02 ∷ 0x00 ∷ 0x00 ∷ 0x00 ∷ 0x06 ∷ 0x06 ∷ 0x07 ∷ 0x04 ∷ 0x04 ∷ 0x0A ∷ 0x0A ∷ 0x00 ∷ 0x01 ∷ 0x84 ∷ 0x02 ∷ 0x84 ∷ 0x02 ∷ 0x01 ∷ 0xC1 ∷ 0x00 ∷ 0x30 ∷ 0x14 ∷ 0x28 ∷ 0x15 ∷ 0x00 ∷ 0x00 ∷ [])
-unfolding plainMoveBytes packedNumber packedMoveBytes moveTo movesFrom pointsOf movesOf goodPieces packedFrom firstPieces piecesOf isStill every sized near checks plainBorder packedBorder borderOf insertBy sortedBy digitsOf varintOf signedForm interleaved characters startedBy begunBy followed goesOn isUtf8 appended withBorder drawnFrom drawnOf lesser greater bestBy lowestOf highestOf boxBytes entryBytes tableFrom fromSouth tableOf headFrom headOf assembled fileOf bordersGood counted isText readable known builtOf inlined fieldsOf isRemote remotes offsetOf written fits firstFrom layoutOf startOf metadataOf sameBy isIn timesIn firstsAfter sizeBefore goodOnes cutBy partOf sumOf yardsFrom valuesFrom countedLengths planOf flatMap zipWith
+pub equal-values : builtOf (planOf equal) room ≡ given
+    (0x50 ∷ 0x4C ∷ 0x42 ∷ 0x43 ∷ 0x01 ∷ 0x10 ∷ 0x02 ∷ 0x00 ∷ 0x00 ∷ 0x00 ∷ 0x06 ∷ 0x06 ∷ 0x07 ∷ 0x04 ∷ 0x04 ∷ 0x0A ∷ 0x0A ∷ 0x00 ∷ 0x01 ∷ 0x84 ∷ 0x02 ∷ 0x84 ∷ 0x02 ∷ 0x01 ∷ 0xC1 ∷ 0x00 ∷
+    0x30 ∷ 0x14 ∷ 0x28 ∷ 0x15 ∷ 0x00 ∷ 0x00 ∷ [])
+unfolding plainMoveBytes packedNumber packedMoveBytes moveTo movesFrom pointsOf movesOf goodPieces packedFrom firstPieces piecesOf isStill every sized near checks plainBorder packedBorder
+    borderOf insertBy sortedBy digitsOf varintOf signedForm interleaved characters startedBy begunBy followed goesOn isUtf8 appended withBorder drawnFrom drawnOf lesser greater bestBy
+    lowestOf highestOf boxBytes entryBytes tableFrom fromSouth tableOf headFrom headOf assembled fileOf bordersGood counted isText readable known builtOf inlined fieldsOf isRemote remotes
+    offsetOf written fits firstFrom layoutOf startOf metadataOf sameBy isIn timesIn firstsAfter sizeBefore goodOnes cutBy partOf sumOf yardsFrom valuesFrom countedLengths planOf flatMap
+    zipWith
 equal-values = refl

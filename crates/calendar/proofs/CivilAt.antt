@@ -5,10 +5,10 @@ use lib.{Dec.{leb, ltb}, IntN.{ℤ, pos, negsuc, natAbs, _+ℤ_, _-ℤ_, +ℤ-ne
 use mathlib.Core.{Bool.{Bool, true, false}, Path.{_≡_, refl, ap, sym, subst, _∙_}}
 use native.Mathlib.Omega.{arith}
 use Rattle.calendar.proofs.{Days.{short-year, day-date}, Laws.{days-in-all, epoch}, Rising.{Between}, SameCivil.{same-civil}, civil.Clock.{shows}, moment.Shift.{day-second, seconds-of}}
-use Rattle.calendar.specs.{Calendar.{isLeap, daysOfYears, daysOfMonths}, Civil.{lastUpTo, yearsBy, monthsBy, readingOf, readingAt, civilAt, Shows, CivilOf}, Dates.{DateOf}, Moments.{secondsTo, instantOf, InDays, MomentOf}}
+use Rattle.calendar.specs.{Calendar.{isLeap, daysOfYears, daysOfMonths}, Civil.{lastUpTo, yearsBy, monthsBy, readingOf, readingAt, civilAt, Shows, CivilOf}, Dates.{DateOf}}
+use Rattle.calendar.specs.Moments.{secondsTo, instantOf, InDays, MomentOf}
 use Rattle.calendar.specs.declared.civil.Civil.{Civil}
 use Rattle.calendar.specs.declared.civil.Civil.the-variants as civil
-use Rattle.calendar.specs.declared.moment.Moment.the-variants as moments
 use Rattle.numbers.specs.Answer.{if_then_else_}
 
 -- 1970 begins so many seconds after the year 1
@@ -65,8 +65,10 @@ at-seconds local (pos n) e instant offset is = here (ltb (n / 86400) (daysOfYear
     here true d =
         let there = day-second local n (omega (arith, ltb-true (n / 86400) (daysOfYears 9999) d, days-in-all)) back in
         subst (λ (z : ℤ). Shows z (readingOf (n / 86400) (n % 86400))) (there .1 ∙ sym is) (reading-shows (n / 86400) (ltb-true (n / 86400) (daysOfYears 9999) d) (n % 86400) (omega arith))
-    here false d = λ day second i m. let same : pos n ≡ pos (86400 * day + second) = sym e ∙ seconds-of local day second (m ∙ is) in omega (arith, ltb-false (n / 86400) (daysOfYears 9999) d, i .day-to, i .second-to, ap natAbs same)
-at-seconds local (negsuc n) e instant offset is = λ day second i m. let same : negsuc n ≡ pos (86400 * day + second) = sym e ∙ seconds-of local day second (m ∙ is) in let z : _≡_ {A = ℕ} 0 1 = cc in omega arith
+    here false d = λ day second i m. let same : pos n ≡ pos (86400 * day + second) = sym e ∙ seconds-of local day second (m ∙ is) in
+        omega (arith, ltb-false (n / 86400) (daysOfYears 9999) d, i .day-to, i .second-to, ap natAbs same)
+at-seconds local (negsuc n) e instant offset is = λ day second i m. let same : negsuc n ≡ pos (86400 * day + second) = sym e ∙ seconds-of local day second (m ∙ is) in
+    let z : _≡_ {A = ℕ} 0 1 = cc in omega arith
 
 -- the function's answer is one that the clock may give
 pub civil-at : (instant offset : ℤ) → CivilOf instant offset (civilAt instant offset)

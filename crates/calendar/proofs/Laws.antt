@@ -41,7 +41,8 @@ module _ (n : ℕ) where
   fewer = omega arith
 
 -- the sum, where the quotients grow by i, j and k: a year more, and a leap day where i + k is one more than j
-grown : (n a b c i j k : ℕ) (leap : Bool) {a' b' c' : ℕ} → b ≤ a → b' ≤ a' → a' ≡ a + i → b' ≡ b + j → c' ≡ c + k → i + k ≡ j + (if leap then 1 else 0) → 365 * suc n + a' - b' + c' ≡ 365 * n + a - b + c + (if leap then 366 else 365)
+grown : (n a b c i j k : ℕ) (leap : Bool) {a' b' c' : ℕ} → b ≤ a → b' ≤ a' → a' ≡ a + i → b' ≡ b + j → c' ≡ c + k → i + k ≡ j + (if leap then 1 else 0) →
+    365 * suc n + a' - b' + c' ≡ 365 * n + a - b + c + (if leap then 366 else 365)
 grown n a b c i j k true h h' p q r e = omega arith
 grown n a b c i j k false h h' p q r e = omega arith
 

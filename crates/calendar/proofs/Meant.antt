@@ -99,7 +99,19 @@ module _ (year n : ℕ) (from : 1 ≤ n) (to : n ≤ 365) where
       record {
         month = suc (month-of .step);
         date = n - daysOfMonths false (month-of .step);
-        common = record { month-from = omega arith; month-to = omega (arith, month-few); day-from = omega (arith, month-of .from); day-to = omega (arith, month-more false (suc (month-of .step)) (omega arith), month-of .from, month-of .to, same-months false) };
+        common = record {
+          month-from = omega arith;
+          month-to = omega (arith, month-few);
+          day-from = omega (arith, month-of .from);
+          day-to = omega
+              (arith, month-more false (suc (month-of .step)) (omega arith), month-of .from, month-of .to, same-months false);
+        };
         counted = omega (arith, month-of .from, same-months false);
-        meant = omega (arith, month-of .from, same-months (isLeap (suc year)), ap daysOfYears (less-one year), leap-counted year (month-of .step) n month-few (month-of .from) (month-of .to) (isLeap (suc year)) (ltb n 60) from refl);
+        meant = omega (
+          arith,
+          month-of .from,
+          same-months (isLeap (suc year)),
+          ap daysOfYears (less-one year),
+          leap-counted year (month-of .step) n month-few (month-of .from) (month-of .to) (isLeap (suc year)) (ltb n 60) from refl,
+        );
       }

@@ -29,7 +29,9 @@ same-reading : (local : ℤ) (r q : Reading) → Shows local r → Shows local q
 same-reading local r q s t =
     let moment = one-moment _ _ _ _ (in-days local r s) (in-days local q t) (s .back ∙ sym (t .back)) in
     let date = unique (s .date) (t .date) (moment .0) in
-    same-fields r q (date .0) (date .1) (date .2) (omega (arith, s .minute, s .second, t .minute, t .second, moment .1)) (omega (arith, s .minute, s .second, t .minute, t .second, moment .1)) (omega (arith, s .minute, s .second, t .minute, t .second, moment .1)) (s .weekday ∙ ap weekdayOf (moment .0) ∙ sym (t .weekday))
+    same-fields r q (date .0) (date .1) (date .2) (omega (arith, s .minute, s .second, t .minute, t .second, moment .1))
+    (omega (arith, s .minute, s .second, t .minute, t .second, moment .1)) (omega (arith, s .minute, s .second, t .minute, t .second, moment .1))
+    (s .weekday ∙ ap weekdayOf (moment .0) ∙ sym (t .weekday))
 
 -- two answers that the promise of `civil_time` permits are equal
 pub same-civil : (instant offset : ℤ) (a b : Civil) → CivilOf instant offset a → CivilOf instant offset b → a ≡ b

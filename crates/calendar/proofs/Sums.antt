@@ -51,7 +51,8 @@ days-few year h = omega (arith, mean-high year)
 
 pub first-few : (year month : ℕ) → year ≤ 11000 → month ≤ 12 → firstOf year month ≤ 4100366
 unfolding firstOf
-first-few year month h k = omega (arith, days-few year h, rises (daysOfMonths (isLeap (suc year))) (months-up _) (month - 1) 12 (omega arith), year-length (isLeap (suc year)), months-few (isLeap (suc year)))
+first-few year month h k = omega
+    (arith, days-few year h, rises (daysOfMonths (isLeap (suc year))) (months-up _) (month - 1) 12 (omega arith), year-length (isLeap (suc year)), months-few (isLeap (suc year)))
 
 pub weeks-few : (year month week weekday : ℕ) → IsMonth month week weekday → (7 ≤ weeksOf year month week) × (weeksOf year month week ≤ 31)
 weeks-few year month week weekday m = omega (arith, weeks-long year month week weekday m, month-short (isLeap (suc year)) month (m .month-from) (m .month-to))
@@ -65,7 +66,8 @@ leap-few year n = few (isLeap (suc year)) (ltb n 60)
     few true false = omega arith
     few false early = omega arith
 
-pub month-sum : (year month week weekday : ℕ) {first weeks day : ℕ} → first ≡ firstOf year month → weeks ≡ weeksOf year month week → day ≡ lastOn weekday (first + weeks - 1) → day ≡ dayOf (Month month week weekday) year
+pub month-sum : (year month week weekday : ℕ) {first weeks day : ℕ} → first ≡ firstOf year month → weeks ≡ weeksOf year month week → day ≡ lastOn weekday (first + weeks - 1) →
+    day ≡ dayOf (Month month week weekday) year
 unfolding dayOf
 month-sum year month week weekday p q e = rw (p, q) at e
 

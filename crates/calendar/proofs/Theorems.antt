@@ -39,7 +39,9 @@ first-number past month = omega (arith, ap daysOfYears (let e : suc past - 1 ≡
 -- M month.week.weekday means exactly one day of each year
 pub week-day-unique : (past month week weekday : ℕ) → IsMonth month week weekday → Only (Meant (Month month week weekday) past) (dayOf (Month month week weekday) past)
 unfolding Meant
-week-day-unique past month week weekday m = subst (λ (first : ℕ). Only (λ day. WeekdayOf first (monthLength (isLeap (suc past)) month) week weekday day) (dayOf (Month month week weekday) past)) (sym (first-number past month)) (record { holds = meant; alone = λ other p. one-weekday (firstOf past month) (monthLength (isLeap (suc past)) month) week weekday other _ (m .week-from) (m .week-to) p meant })
+week-day-unique past month week weekday m =
+    subst (λ (first : ℕ). Only (λ day. WeekdayOf first (monthLength (isLeap (suc past)) month) week weekday day) (dayOf (Month month week weekday) past)) (sym (first-number past month))
+    (record { holds = meant; alone = λ other p. one-weekday (firstOf past month) (monthLength (isLeap (suc past)) month) week weekday other _ (m .week-from) (m .week-to) p meant })
   where
     meant : WeekdayOf (firstOf past month) (monthLength (isLeap (suc past)) month) week weekday (dayOf (Month month week weekday) past)
     meant = month-meant past month week weekday m

@@ -41,7 +41,8 @@ unfolding within bytesOf
 within-told file t start next masked = by-size (eqb (length t) 0) refl
   where
     by-size : (none : Bool) → eqb (length t) 0 ≡ none
-        → Told file (if none then found (record { start = 0; size = 0; next = next }) else (if leb (start + length t) (length file) then found (record { start = start; size = length t; next = next }) else refused 14)) t next
+        → Told file (if none then found (record { start = 0; size = 0; next = next }) else
+        (if leb (start + length t) (length file) then found (record { start = start; size = length t; next = next }) else refused 14)) t next
     by-size true e = record { text = record { start = 0; size = 0; next = next }; is = refl; bytes = none-there file t next (eqb-true (length t) 0 e); after = refl }
     by-size false e =
         record {
@@ -108,17 +109,30 @@ preamble-is kind version precision count rest file e small known new =
     simp (le-leb (length file) (2 ^ 30) small, le-leb 7 (length file) (omega (arith, ap length e)), b0, b1, b2, b3, b4, b5, b6, known, new)
 
 -- the three sizes
-pub sections-are : (strict : Bool) (file : List ℕ) (p q r s t m d : ℕ) → length file ≤ 2 ^ 30 → readingOf strict file p ≡ numeral t q → readingOf strict file q ≡ numeral m r → readingOf strict file r ≡ numeral d s
+pub sections-are : (strict : Bool) (file : List ℕ) (p q r s t m d : ℕ) → length file ≤ 2 ^ 30 → readingOf strict file p ≡ numeral t q → readingOf strict file q ≡ numeral m r →
+    readingOf strict file r ≡ numeral d s
     → s + (t + (m + d)) ≡ length file → sectionsAt strict file p ≡ given (record { table = s; metadata = s + t; «data» = s + (t + m) })
 unfolding sectionsAt sectionsFrom
 sections-are strict file p q r s t m d small one two three whole =
     let first : t % 2 ^ 32 ≡ t = omega arith in
     let second : m % 2 ^ 32 ≡ m = omega arith in
     let sum : d + (s + (t + m)) ≡ length file = omega arith in
-    simp (one, two, three, first, second, lt-ltb (t + m) (2 ^ 32) (omega arith), lt-ltb (s + (t + m)) (2 ^ 32) (omega arith), sum, lt-ltb (length file) (2 ^ 64) (omega arith), eq-eqb (length file) (length file) refl)
+    simp (
+      one,
+      two,
+      three,
+      first,
+      second,
+      lt-ltb (t + m) (2 ^ 32) (omega arith),
+      lt-ltb (s + (t + m)) (2 ^ 32) (omega arith),
+      sum,
+      lt-ltb (length file) (2 ^ 64) (omega arith),
+      eq-eqb (length file) (length file) refl,
+    )
 
 -- all of it
-module _ (strict : Bool) (file : List ℕ) (preamble : Preamble) (texts : Texts) (sections : Sections) (first : preambleOf file ≡ given preamble) (second : textsOf strict file (preamble .count) ≡ given texts)
+module _ (strict : Bool) (file : List ℕ) (preamble : Preamble) (texts : Texts) (sections : Sections) (first : preambleOf file ≡ given preamble)
+    (second : textsOf strict file (preamble .count) ≡ given texts)
     (third : sectionsAt strict file (texts .place) ≡ given sections) where
   pub contents-are : contentsBy strict file ≡ given (record { head = record { preamble = preamble; sections = sections; strict = strict }; bytes = texts .bytes })
   unfolding contentsBy

@@ -50,7 +50,8 @@ module _ (file : List ℕ) (text : Text) where
       whole true is e = let same : t ≡ text = cc in rw (← same) (record { inside = leb-true _ _ is; short = short })
       whole false is e = let z : _≡_ {A = ℕ} 0 1 = cc in absurd (omega arith)
 
-      empty : (test : Bool) → found text ≡ (if test then found (record { start = 0; size = 0; next = t .next }) else (if leb (t .start + t .size) (length file) then found t else refused 14)) → Lies file text
+      empty : (test : Bool) → found text ≡
+          (if test then found (record { start = 0; size = 0; next = t .next }) else (if leb (t .start + t .size) (length file) then found t else refused 14)) → Lies file text
       empty true e = let same : record { start = 0; size = 0; next = t .next } ≡ text = cc in rw (← same) (record { inside = omega arith; short = omega arith })
       empty false e = whole (leb (t .start + t .size) (length file)) refl e
 
@@ -68,7 +69,8 @@ module _ (file : List ℕ) (text : Text) where
       by-size (n .it) (ltb (n .it .value) 256) refl (n .onto)
     where
       by-size : (number : Numeral) (test : Bool) → ltb (number .value) 256 ≡ test
-          → found text ≡ (if test then within file (record { start = number .place; size = number .value; next = number .place + number .value }) else remoteAt strict file ((metadata + number .value - 256) % 2 ^ 32) (number .place))
+          → found text ≡ (if test then within file (record { start = number .place; size = number .value; next = number .place + number .value }) else remoteAt strict file
+          ((metadata + number .value - 256) % 2 ^ 32) (number .place))
           → Lies file text
       by-size number true is e = within-lies _ (omega (arith, ltb-true (number .value) 256 is)) e
       by-size number false is e = remote-lies strict _ _ e

@@ -61,5 +61,6 @@ worked =
 
 -- the definitions and the documents agree on every row
 worked-hold : map computed worked ≡ worked
-unfolding readingOf wholeOf computed printed cut worked characters startedBy begunBy followed goesOn isUtf8 valueOf sizeOf tooLong forwardAt within remoteAt stringAt bytesOf textAt preambleOf textsFrom sectionsFrom sectionsAt contentsBy fittingOf openedBy
+unfolding readingOf wholeOf computed printed cut worked characters startedBy begunBy followed goesOn isUtf8 valueOf sizeOf tooLong forwardAt within remoteAt stringAt bytesOf textAt
+    preambleOf textsFrom sectionsFrom sectionsAt contentsBy fittingOf openedBy
 worked-hold = refl

@@ -55,14 +55,17 @@ put-then {before} {middle} {after} {at} {next} {end} xs ys p q =
     }
 
 -- one more of a list
-pub put-next : {before now after : List ℕ} {at next end : ℕ} (bytes : List ℕ) (i : ℕ) → i < length bytes → Put before at (take i bytes) now next → Put now next (getD bytes i 0 ∷ []) after end → Put before at (take (i + 1) bytes) after end
-put-next {before} {now} {after} {at} {next} {end} bytes i h p q = subst (λ (bs : List ℕ). Put before at bs after end) (sym (ap (λ (k : ℕ). take k bytes) (add-one i) ∙ take-suc bytes i 0 h)) (put-then (take i bytes) (getD bytes i 0 ∷ []) p q)
+pub put-next : {before now after : List ℕ} {at next end : ℕ} (bytes : List ℕ) (i : ℕ) → i < length bytes → Put before at (take i bytes) now next →
+    Put now next (getD bytes i 0 ∷ []) after end → Put before at (take (i + 1) bytes) after end
+put-next {before} {now} {after} {at} {next} {end} bytes i h p q =
+    subst (λ (bs : List ℕ). Put before at bs after end) (sym (ap (λ (k : ℕ). take k bytes) (add-one i) ∙ take-suc bytes i 0 h)) (put-then (take i bytes) (getD bytes i 0 ∷ []) p q)
 
 -- the whole length, as far as places go; what ends inside the buffer stands there whole
 pub put-size : {before bytes after : List ℕ} {next : ℕ} → Put before 0 bytes after next → length before ≤ far → next ≡ min (length bytes) far
 put-size p h = omega (arith, p .place-after)
 
-pub put-whole : {before bytes after : List ℕ} {next : ℕ} → Put before 0 bytes after next → length before < far → next ≤ length before → (next ≡ length bytes) × (after ≡ bytes ++ drop (length bytes) before)
+pub put-whole : {before bytes after : List ℕ} {next : ℕ} → Put before 0 bytes after next → length before < far → next ≤ length before →
+    (next ≡ length bytes) × (after ≡ bytes ++ drop (length bytes) before)
 put-whole {before} {bytes} {after} {next} p short fits =
     let n : next ≡ length bytes = omega (arith, p .place-after) in
     (n, p .stored ∙ sets-eq bytes before 0 (omega arith) ∙ ap (λ (k : ℕ). bytes ++ drop k before) (let e : 0 + length bytes ≡ length bytes = omega arith in e))

@@ -93,7 +93,8 @@ listed file block instant {found} e = go (isAfterLast file block instant) refl
     go false a = refl
 
 module _ (file : List ℕ) (instant : ℤ) (room : ℕ) {zone : Zone} (z : readZone file ≡ given zone) where
-  same-answer : {rules : Rules} → rulesIn file zone ≡ given rules → answerBy file (zone .block) rules (lift instant) ≡ given (byTable file (zone .block) (lift instant)) → localTime file instant room ≡ plain.localTime file instant room
+  same-answer : {rules : Rules} → rulesIn file zone ≡ given rules → answerBy file (zone .block) rules (lift instant) ≡ given (byTable file (zone .block) (lift instant)) →
+      localTime file instant room ≡ plain.localTime file instant room
   unfolding localTimeBy answerAt plain.localTimeBy _>>=_
   same-answer r a = simp (z, r, a)
 
@@ -106,7 +107,8 @@ module _ (file : List ℕ) (instant : ℤ) (room : ℕ) {zone : Zone} (z : readZ
   unfolding answerBy
   q10-without e = same-answer (no-string e) refl
 
-  by-cases : (rules : Rules) → (zone .block .timecnt ≡ 0 → rules ≡ R.Without) → isAfterLast file (zone .block) (lift instant) ≡ false → answerBy file (zone .block) rules (lift instant) ≡ given (byTable file (zone .block) (lift instant))
+  by-cases : (rules : Rules) → (zone .block .timecnt ≡ 0 → rules ≡ R.Without) → isAfterLast file (zone .block) (lift instant) ≡ false →
+      answerBy file (zone .block) rules (lift instant) ≡ given (byTable file (zone .block) (lift instant))
   unfolding answerBy isRuled
   by-cases R.Without h a = refl
   by-cases (R.By tz) h a =
@@ -114,7 +116,8 @@ module _ (file : List ℕ) (instant : ℤ) (room : ℕ) {zone : Zone} (z : readZ
       simp (ne-eqb (zone .block .timecnt) 0 some, a)
 
   -- where Q-9 answers and the file is not refused 60 the answer stays, unless it has a string and no transitions
-  pub q10-extends : {rules : Rules} {found : Found} → rulesIn file zone ≡ given rules → (zone .block .timecnt ≡ 0 → zone .size ≡ 0) → byTable file (zone .block) (lift instant) ≡ A.Found found → localTime file instant room ≡ plain.localTime file instant room
+  pub q10-extends : {rules : Rules} {found : Found} → rulesIn file zone ≡ given rules → (zone .block .timecnt ≡ 0 → zone .size ≡ 0) →
+      byTable file (zone .block) (lift instant) ≡ A.Found found → localTime file instant room ≡ plain.localTime file instant room
   q10-extends {rules} r h f =
       let none : zone .block .timecnt ≡ 0 → rules ≡ R.Without = λ e. (let same : given rules ≡ given R.Without = sym r ∙ no-string (h e) in cc) in
       same-answer r (by-cases rules none (listed file (zone .block) (lift instant) f))

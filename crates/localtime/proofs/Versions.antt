@@ -26,7 +26,8 @@ answerOf instant file zone = rulesIn file zone >>= λ rules. answerBy file (zone
 -- files of versions 1 to 3 answer as before, at every instant, with whatever room
 pub v3-unchanged : (file : List ℕ) → (octet file 4 ≡ 0x34 → ⊥) → (instant : ℤ) (room : ℕ) → localTime file instant room ≡ localTimeBy rfc8536 file instant room
 unfolding localTimeBy answerAt
-v3-unchanged file older instant room = ap (λ (z : Reply Zone). lent file room (z >>= λ zone. rulesIn file zone >>= λ rules. answerBy file (zone .block) rules (lift instant))) (zone-v3-unchanged file older)
+v3-unchanged file older instant room =
+    ap (λ (z : Reply Zone). lent file room (z >>= λ zone. rulesIn file zone >>= λ rules. answerBy file (zone .block) rules (lift instant))) (zone-v3-unchanged file older)
 
 -- on the same scale
 pub v3-scale : (file : List ℕ) → (octet file 4 ≡ 0x34 → ⊥) → (instant : ℤ) → scaleAt file instant ≡ scaleBy rfc8536 file instant
@@ -103,7 +104,8 @@ module _ (file other : List ℕ) (from : ℕ) (b : Beyond file other from) where
         same : sameAs file (typeIn file block (typeBehind file block (block .timecnt))) (askIn file block tz (timeIn file (transitionsOf block) (block .timecnt - 1)))
             ≡ sameAs other (typeIn other block (typeBehind other block (block .timecnt))) (askIn other block tz (timeIn other (transitionsOf block) (block .timecnt - 1)))
         same =
-            as-same (typeIn file block (typeBehind file block (block .timecnt))) (type-behind file other from b block behind wide (typeBehind file block (block .timecnt))) (asked-from tz (timeIn file (transitionsOf block) (block .timecnt - 1)) t)
+            as-same (typeIn file block (typeBehind file block (block .timecnt))) (type-behind file other from b block behind wide (typeBehind file block (block .timecnt)))
+            (asked-from tz (timeIn file (transitionsOf block) (block .timecnt - 1)) t)
             ∙ ap₂ (sameAs other) type asked
 
     ruled-same : (instant : ℕ) → isRuled file block instant ≡ isRuled other block instant
@@ -139,7 +141,9 @@ module _ (file other : List ℕ) (from : ℕ) (b : Beyond file other from) where
     passed tz t true = by-rule t
     passed tz t false = no-rules
 
-    rule : (tz : Tz) → TzFrom from tz → RulesAlike from (demand (agrees file (zone .block) tz) (refusal 60 (endOf (zone .block))) >> given (R.By tz)) (demand (agrees other (zone .block) tz) (refusal 60 (endOf (zone .block))) >> given (R.By tz))
+    rule : (tz : Tz) → TzFrom from tz →
+        RulesAlike from (demand (agrees file (zone .block) tz) (refusal 60 (endOf (zone .block))) >> given (R.By tz))
+        (demand (agrees other (zone .block) tz) (refusal 60 (endOf (zone .block))) >> given (R.By tz))
     rule tz t = rw (← agrees-same (zone .block) (second .block) (second .wide) tz t) (passed tz t (agrees file (zone .block) tz))
 
     string : {one two : T.Answer Tz} → Alike from (TzFrom from) one two
@@ -154,7 +158,8 @@ module _ (file other : List ℕ) (from : ℕ) (b : Beyond file other from) where
     rules-alike = rw (second .version) (go (eqb (zone .size) 0))
       where
         go : (s : Bool)
-            → RulesAlike from (if s then given R.Without else (orSixty (stringOf true file (zone .string)) >>= λ tz. demand (agrees file (zone .block) tz) (refusal 60 (endOf (zone .block))) >> given (R.By tz)))
+            → RulesAlike from (if s then given R.Without else
+            (orSixty (stringOf true file (zone .string)) >>= λ tz. demand (agrees file (zone .block) tz) (refusal 60 (endOf (zone .block))) >> given (R.By tz)))
             (if s then given R.Without else (orSixty (stringOf true other (zone .string)) >>= λ tz. demand (agrees other (zone .block) tz) (refusal 60 (endOf (zone .block))) >> given (R.By tz)))
         go true = without
         go false = string (string-alike file other from (b .size) (b .at) true (zone .string) (second .string))
@@ -176,7 +181,8 @@ module _ (file other : List ℕ) (from : ℕ) (b : Beyond file other from) where
   scale-rest one two e (by-rule t) = e
 
   scales-alike : (instant : ℤ) {one two : Reply Zone} → ReadAlike from one two
-      → scaleOr (one >>= λ zone. rulesIn file zone >>= λ rules. given (scaleIn file (zone .block) (lift instant))) ≡ scaleOr (two >>= λ zone. rulesIn other zone >>= λ rules. given (scaleIn other (zone .block) (lift instant)))
+      → scaleOr (one >>= λ zone. rulesIn file zone >>= λ rules. given (scaleIn file (zone .block) (lift instant))) ≡ scaleOr
+      (two >>= λ zone. rulesIn other zone >>= λ rules. given (scaleIn other (zone .block) (lift instant)))
   unfolding _>>=_ scaleIn
   scales-alike instant refuses = refl
   scales-alike instant (gives {zone = zone} second) =

@@ -40,14 +40,16 @@ rebuilt held kind version precision names greatest =
 pub held-made : (words : List ℕ) (greatest : ℤ) → greatest ≡ signedOf (2 * (getD words 12 0 % 2 ^ 32))
     → rebuilt (heldOf words) (getD words 0 0 % 256) (getD words 1 0 % 256) (getD words 2 0 % 256) (getD words 3 0 % 2 ^ 32) greatest ≡ heldOf words
 unfolding heldOf
-held-made words greatest is = ap (λ (g : ℤ). rebuilt (heldOf words) (getD words 0 0 % 256) (getD words 1 0 % 256) (getD words 2 0 % 256) (getD words 3 0 % 2 ^ 32) g) (greatest-read (getD words 12 0) greatest is)
+held-made words greatest is = ap (λ (g : ℤ). rebuilt (heldOf words) (getD words 0 0 % 256) (getD words 1 0 % 256) (getD words 2 0 % 256) (getD words 3 0 % 2 ^ 32) g)
+    (greatest-read (getD words 12 0) greatest is)
 
 bits-low : (z : ℤ) → SFits w32 z → ofZ w32 z < 2 ^ 32
 bits-low (pos n) h = omega (arith, h .sfits)
 bits-low (negsuc n) h = omega (arith, h .sfits)
 
 -- numbers of their widths are read back from their words
-module _ (held : Held) (noted : ℕ) (kind-low : held .kind < 2 ^ 8) (version-low : held .version < 2 ^ 8) (precision-low : held .precision < 2 ^ 8) (names-low : held .names < 2 ^ 32) (fits : SFits w32 (held .greatest)) where
+module _ (held : Held) (noted : ℕ) (kind-low : held .kind < 2 ^ 8) (version-low : held .version < 2 ^ 8) (precision-low : held .precision < 2 ^ 8) (names-low : held .names < 2 ^ 32)
+    (fits : SFits w32 (held .greatest)) where
   pub words-back : heldOf (wordsOf held noted) ≡ held
   unfolding heldOf wordsOf
   words-back =
@@ -90,7 +92,8 @@ module _ {Promised : Held → Changed → Type 0} {before after said : List ℕ}
 
 -- the same of an add
 module _ {Promised : Held → ℕ → Added → Type 0} {before after said : List ℕ} {number noted : ℕ} {held : Held} {added : Added} where
-  pub speaks-noted : held ≡ heldOf before → noted ≡ notedIn before → Promised held noted added → Spoke (added .changed) (added .noted) before after number said → SpeaksNoted Promised before after number said
+  pub speaks-noted : held ≡ heldOf before → noted ≡ notedIn before → Promised held noted added → Spoke (added .changed) (added .noted) before after number said →
+      SpeaksNoted Promised before after number said
   speaks-noted is note promised spoke =
       record { added = added; promised = subst (λ (n : ℕ). Promised (heldOf before) n added) note (subst (λ (h : Held). Promised h noted added) is promised); spoke = spoke }
 

@@ -65,7 +65,8 @@ module _ (b : Builder) (o : Offered) (rooms : Rooms) (lent : NoteRooms) (out : �
           is,
           record {
             holds = subst (λ (h : Held). Holds next h lists′) (sym back) holds;
-            noted = next-noted (heldOf state .names) (heldOf state′ .names) noted (notedIn state′) (joined (b .plan) o .yards) (next .plan .yards) names (noted-back held noted state′ words) (ap (λ (x : Builder). x .plan .yards) made) right;
+            noted = next-noted (heldOf state .names) (heldOf state′ .names) noted (notedIn state′) (joined (b .plan) o .yards) (next .plan .yards) names (noted-back held noted state′ words)
+                (ap (λ (x : Builder). x .plan .yards) made) right;
           },
         ),
       )

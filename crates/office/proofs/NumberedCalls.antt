@@ -6,7 +6,8 @@ use mathlib.Core.{Bool.{Bool, true, false, not, _&&_}, List.{List, [], _∷_, _+
 use Rattle.numbers.proofs.Tests.{both}
 use Rattle.builder.specs.{Borders.{appended, withBorder}, File.{areTexts, headOf, isText, known, readable, upTo}, Yards.{Plan, Text}}
 use Rattle.header.specs.Header.{isKind}
-use Rattle.numbers.{proofs.{Refusals.{Listed, either}, Replies.{NumberedReply, answers, refuses, then-reply, and-then, demands, number-of}}, specs.{Answer.{if_then_else_}, Reply.{Reply, given, refused, refusal, plain, demand, _>>_}, declared.{point.RawPoint.{RawPoint}, refusal.Refusal.{Refusal}}}}
+use Rattle.numbers.proofs.{Refusals.{Listed, either}, Replies.{NumberedReply, answers, refuses, then-reply, and-then, demands, number-of}}
+use Rattle.numbers.specs.{Answer.{if_then_else_}, Reply.{Reply, given, refused, refusal, plain, demand, _>>_}, declared.{point.RawPoint.{RawPoint}, refusal.Refusal.{Refusal}}}
 use Rattle.writer.specs.{Moves.{movesOf, isMove}, Pieces.{goodPieces}, Writer.{every, sized, near, checks, plainBorder, packedBorder, borderOf}, declared.write.Piece.{Piece}}
 use Rattle.draft.proofs.held.Redrawn.{data-few}
 use Rattle.draft.specs.Held.{Builder.{Builder, Offered, holding, yardOf, fitting, begin, add, dropLast, replace, finish}, Sound.{Sound}, Space.{Space}, Totals.{dataOf, fileSize}}

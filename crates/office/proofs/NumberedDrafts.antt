@@ -35,7 +35,8 @@ fileValues file = length file ∷ []
 abbrev pub saying : ℕ → List ℕ → Said
 saying number words = record { number = number; words = words }
 
-few-said : {A : Type 0} (values : A → List ℕ) (numbers : List ℕ) (reply : Reply A) → ((why : Refusal) → reply ≡ refused why → Listed numbers (why .number)) → Listed (0 ∷ numbers) (saidOf values reply .number)
+few-said : {A : Type 0} (values : A → List ℕ) (numbers : List ℕ) (reply : Reply A) → ((why : Refusal) → reply ≡ refused why → Listed numbers (why .number)) →
+    Listed (0 ∷ numbers) (saidOf values reply .number)
 unfolding saidOf
 few-said values numbers (given a) known = refl
 few-said values numbers (refused why) known = go (eqb (why .number) 0) (known why refl)
@@ -45,7 +46,8 @@ few-said values numbers (refused why) known = go (eqb (why .number) 0) (known wh
     go false h = h
 
 -- where the reply is refused with these numbers alone
-module _ {A : Type 0} (values : A → List ℕ) (numbers : List ℕ) (without : Listed numbers 0 → false ≡ true) (reply : Reply A) (known : (why : Refusal) → reply ≡ refused why → Listed numbers (why .number)) where
+module _ {A : Type 0} (values : A → List ℕ) (numbers : List ℕ) (without : Listed numbers 0 → false ≡ true) (reply : Reply A) (known : (why : Refusal) → reply ≡ refused why →
+    Listed numbers (why .number)) where
   zero-of : {number : ℕ} {words : List ℕ} → saying number words ≡ saidOf values reply → (number ≡ 0) ↔ Answered reply
   zero-of said =
       subst (λ (x : Said). (x .number ≡ 0) ↔ Answered reply) (sym said) (zero-said values reply (λ why is. never-zero numbers without (why .number) (known why is)))
@@ -59,9 +61,11 @@ unfolding Answers toldChanged saidOf
 answers-say reply before after (C.Into held) (b, (is, (holds, rooms))) = ap (λ (h : Held). saidOf totalsValues (given h)) (holds .is) ∙ sym (ap (λ (r : Reply Builder). saidOf builderValues r) is)
 answers-say reply before after (C.Refused why) (is, same) = sym (ap (λ (r : Reply Builder). saidOf builderValues r) is)
 
-begins-say : (plan : Plan) (room : ℕ) (space : Space) (before after : Lists) (changed : Changed) → Begins plan room space before after changed → saidOf totalsValues (toldChanged changed) ≡ saidOf builderValues (begin plan room space)
+begins-say : (plan : Plan) (room : ℕ) (space : Space) (before after : Lists) (changed : Changed) → Begins plan room space before after changed →
+    saidOf totalsValues (toldChanged changed) ≡ saidOf builderValues (begin plan room space)
 unfolding Begins toldChanged saidOf
-begins-say plan room space before after (C.Into held) (b, (is, (holds, rooms))) = ap (λ (h : Held). saidOf totalsValues (given h)) (holds .is) ∙ sym (ap (λ (r : Reply Builder). saidOf builderValues r) is)
+begins-say plan room space before after (C.Into held) (b, (is, (holds, rooms))) =
+    ap (λ (h : Held). saidOf totalsValues (given h)) (holds .is) ∙ sym (ap (λ (r : Reply Builder). saidOf builderValues r) is)
 begins-say plan room space before after (C.Refused why) (is, same) = sym (ap (λ (r : Reply Builder). saidOf builderValues r) is)
 
 -- ---- `uskelzar_begin`
@@ -77,7 +81,8 @@ module _ (plan : Plan) (room : ℕ) (space : Space) (before after : Lists) {zero
 
 -- ---- the calls that take a state
 -- numbers that do not fit the lists are refused so
-broken-few : (numbers : List ℕ) (n : ℕ) → Listed (0 ∷ numbers) n → {changed : Changed} {number : ℕ} {words : List ℕ} → changed ≡ C.Refused (plain n) → saying number words ≡ saidOf totalsValues (toldChanged changed) → Listed (0 ∷ numbers) number
+broken-few : (numbers : List ℕ) (n : ℕ) → Listed (0 ∷ numbers) n → {changed : Changed} {number : ℕ} {words : List ℕ} → changed ≡ C.Refused (plain n) →
+    saying number words ≡ saidOf totalsValues (toldChanged changed) → Listed (0 ∷ numbers) number
 unfolding toldChanged saidOf
 broken-few numbers n listed is said =
     subst (λ (x : Said). Listed (0 ∷ numbers) (x .number)) (sym (said ∙ ap (λ (r : Changed). saidOf totalsValues (toldChanged r)) is)) listed
@@ -118,7 +123,8 @@ module _ (held : List ℕ) (rooms : Rooms) (before after : Lists) {state words :
   drop-numbers (inr broken) = broken-few dropNumbers 29 refl (s .promised .broken broken .0) (s .spoke .said)
 
 -- `uskelzar_replace`
-module _ (held : List ℕ) (rooms : Rooms) (out yard field : ℕ) (text : Text) (before after : Lists) {state words : List ℕ} {number : ℕ} (s : Speaks (λ h. Replaces h rooms out yard field text before after) held state number words) where
+module _ (held : List ℕ) (rooms : Rooms) (out yard field : ℕ) (text : Text) (before after : Lists) {state words : List ℕ} {number : ℕ}
+    (s : Speaks (λ h. Replaces h rooms out yard field text before after) held state number words) where
   abbrev room : Builder → Space
   room b = Replacing.spaceFor rooms out (b .plan) yard field text
 

@@ -98,7 +98,8 @@ abbrev pub ToldNoted : Held → ℕ → Rooms → Lists → Notes → Type 0
 ToldNoted held noted rooms lists notes = ((b : Builder) × (Holds b held lists × NotedBy (held .names) (b .plan .yards) noted notes)) ⊎ (standing held rooms ≡ false)
 
 -- the number for the notes is one, whatever else the two lists of notes hold
-noted-one : (names : ℕ) (yards : List Yard) (noted : ℕ) (notes : Notes) (n n′ : ℕ) (notes₁ notes₂ : Notes) (changed : Changed) → Renoted names yards noted notes n notes₁ changed → Renoted names yards noted notes n′ notes₂ changed → n ≡ n′
+noted-one : (names : ℕ) (yards : List Yard) (noted : ℕ) (notes : Notes) (n n′ : ℕ) (notes₁ notes₂ : Notes) (changed : Changed) → Renoted names yards noted notes n notes₁ changed →
+    Renoted names yards noted notes n′ notes₂ changed → n ≡ n′
 unfolding Renoted
 noted-one names yards noted notes n n′ notes₁ notes₂ (C.Into held) one other = one .number ∙ sym (other .number)
 noted-one names yards noted notes n n′ notes₁ notes₂ (C.Refused why) one other = one .0 ∙ sym (other .0)
@@ -107,7 +108,8 @@ added-one : (r r′ : Added) → r .changed ≡ r′ .changed → r .noted ≡ r
 added-one r r′ changed noted = ap (λ (c : Changed). record { changed = c; noted = r .noted }) changed ∙ ap (λ (n : ℕ). record { changed = r′ .changed; noted = n }) noted
 
 module _ (held : Held) (noted : ℕ) (rooms : Rooms) (lent : NoteRooms) (before : Lists) (notes : Notes) {o : Offered} {out : ℕ} {after after′ : Lists} {notes₁ notes₂ : Notes} {r r′ : Added} where
-  pub same-added : ToldNoted held noted rooms before notes → Adds held noted o rooms lent out before after notes notes₁ r → Adds held noted o rooms lent out before after′ notes notes₂ r′ → (r ≡ r′) × (after ≡ after′)
+  pub same-added : ToldNoted held noted rooms before notes → Adds held noted o rooms lent out before after notes notes₁ r → Adds held noted o rooms lent out before after′ notes notes₂ r′ →
+      (r ≡ r′) × (after ≡ after′)
   same-added (inl (b, (holds, right))) a a′ =
       let one = a .answers b holds right in
       let other = a′ .answers b holds right in
@@ -134,13 +136,15 @@ notes-one names yards n n′ one other a a′ same =
     ∙ (ap (λ (x : List ℕ). notesAs (other .marks) (other .chains) x (one .begins)) (chained-one _ _ _ (one .groups) (other .groups) (same .groups) (l .indexed .records) (l′ .indexed .records))
     ∙ ap (λ (x : List ℕ). notesAs (other .marks) (other .chains) (other .groups) x) (front-one 0 (l′ .begins-are) (l .begins-are) (same .begins))))
 
-renoted-one : (names : ℕ) (yards : List Yard) (noted : ℕ) (notes : Notes) (n n′ : ℕ) (one other : Notes) (changed : Changed) → Renoted names yards noted notes n one changed → Renoted names yards noted notes n′ other changed → SameNotes one other → one ≡ other
+renoted-one : (names : ℕ) (yards : List Yard) (noted : ℕ) (notes : Notes) (n n′ : ℕ) (one other : Notes) (changed : Changed) → Renoted names yards noted notes n one changed →
+    Renoted names yards noted notes n′ other changed → SameNotes one other → one ≡ other
 unfolding Renoted
 renoted-one names yards noted notes n n′ one other (C.Into held) a a′ same = notes-one names yards n n′ one other a a′ same
 renoted-one names yards noted notes n n′ one other (C.Refused why) a a′ same = a .1 ∙ sym (a′ .1)
 
 module _ (held : Held) (noted : ℕ) (rooms : Rooms) (lent : NoteRooms) (before : Lists) (notes : Notes) {o : Offered} {out : ℕ} {after after′ : Lists} {notes₁ notes₂ : Notes} {r r′ : Added} where
-  pub same-notes : ToldNoted held noted rooms before notes → Adds held noted o rooms lent out before after notes notes₁ r → Adds held noted o rooms lent out before after′ notes notes₂ r′ → SameNotes notes₁ notes₂ → notes₁ ≡ notes₂
+  pub same-notes : ToldNoted held noted rooms before notes → Adds held noted o rooms lent out before after notes notes₁ r → Adds held noted o rooms lent out before after′ notes notes₂ r′ →
+      SameNotes notes₁ notes₂ → notes₁ ≡ notes₂
   same-notes told a a′ same = go told
     where
       go : ToldNoted held noted rooms before notes → notes₁ ≡ notes₂
@@ -156,7 +160,8 @@ module _ (held : Held) (rooms : Rooms) (before : Lists) (told : Told held rooms 
   pub same-dropped : Drops held rooms before after r → Drops held rooms before after′ r′ → (r ≡ r′) × (after ≡ after′)
   same-dropped a a′ = same-changed (λ b. dropLast b (leftSpace held rooms (before .lengths))) 29 held rooms before told (a .answers) (a .broken) (a′ .answers) (a′ .broken)
 
-  pub same-replaced : {out yard field : ℕ} {text : Text} → Replaces held rooms out yard field text before after r → Replaces held rooms out yard field text before after′ r′ → (r ≡ r′) × (after ≡ after′)
+  pub same-replaced : {out yard field : ℕ} {text : Text} → Replaces held rooms out yard field text before after r → Replaces held rooms out yard field text before after′ r′ →
+      (r ≡ r′) × (after ≡ after′)
   same-replaced {out} {yard} {field} {text} a a′ =
       same-changed (λ b. replace b yard field text (Replacing.spaceFor rooms out (b .plan) yard field text)) 28 held rooms before told (a .answers) (a .fallen) (a′ .answers) (a′ .fallen)
 
@@ -164,7 +169,8 @@ module _ (held : Held) (rooms : Rooms) (before : Lists) (told : Told held rooms 
   same-cleared a a′ = same-changed (λ b. given (clear b)) 28 held rooms before told (a .answers) (a .broken) (a′ .answers) (a′ .broken)
 
 -- what is begun asks for no state
-pub same-begun : (plan : Plan) (room : ℕ) (space : Space) (before after after′ : Lists) (r r′ : Changed) → Begins plan room space before after r → Begins plan room space before after′ r′ → (r ≡ r′) × (after ≡ after′)
+pub same-begun : (plan : Plan) (room : ℕ) (space : Space) (before after after′ : Lists) (r r′ : Changed) → Begins plan room space before after r → Begins plan room space before after′ r′ →
+    (r ≡ r′) × (after ≡ after′)
 unfolding Begins
 same-begun plan room space before after after′ (C.Into held) (C.Into held′) a a′ = into-one (begin plan room space) before (blank before) after after′ held held′ a a′
 same-begun plan room space before after after′ (C.Into held) (C.Refused why) a a′ = never-both (a .1 .0) (a′ .0)
@@ -182,13 +188,15 @@ pub same-end : (reply : Reply (List ℕ)) (room : ℕ) (out out′ : List ℕ) (
 unfolding Finishes
 same-end reply room out out′ r r′ f f′ = let e = f ∙ sym f′ in (told-one r r′ (ap (λ (x : Replied). x .reply) e), ap (λ (x : Replied). x .out) e)
 
-pub same-finished : (held : Held) (rooms : Rooms) (lists : Lists) → Told held rooms lists → {room : ℕ} {out out′ : List ℕ} {r r′ : Built} → Files held rooms lists room out r → Files held rooms lists room out′ r′ → (r ≡ r′) × (out ≡ out′)
+pub same-finished : (held : Held) (rooms : Rooms) (lists : Lists) → Told held rooms lists → {room : ℕ} {out out′ : List ℕ} {r r′ : Built} → Files held rooms lists room out r →
+    Files held rooms lists room out′ r′ → (r ≡ r′) × (out ≡ out′)
 same-finished held rooms lists (inl (b, holds)) {room} {out} {out′} {r} {r′} f f′ = same-end (finish b room (spaceOf held rooms)) room out out′ r r′ (f .answers b holds) (f′ .answers b holds)
 same-finished held rooms lists (inr broken) f f′ = (f .broken broken ∙ sym (f′ .broken broken), f .emptied (plain 28) (f .broken broken) ∙ sym (f′ .emptied (plain 28) (f′ .broken broken)))
 
 -- ---- the lists that were worked in
 module _ {starts keys spare kept held words places out starts₁ keys₁ spare₁ kept₁ held₁ words₁ places₁ out₁ starts₂ keys₂ spare₂ kept₂ held₂ words₂ places₂ out₂ : List ℕ} where
-  pub same-idle : Idle starts keys spare kept held words places out starts₁ keys₁ spare₁ kept₁ held₁ words₁ places₁ out₁ → Idle starts keys spare kept held words places out starts₂ keys₂ spare₂ kept₂ held₂ words₂ places₂ out₂
+  pub same-idle : Idle starts keys spare kept held words places out starts₁ keys₁ spare₁ kept₁ held₁ words₁ places₁ out₁ →
+      Idle starts keys spare kept held words places out starts₂ keys₂ spare₂ kept₂ held₂ words₂ places₂ out₂
       → (starts₁ ≡ starts₂) × (keys₁ ≡ keys₂) × (spare₁ ≡ spare₂) × (kept₁ ≡ kept₂) × (held₁ ≡ held₂) × (words₁ ≡ words₂) × (places₁ ≡ places₂) × (out₁ ≡ out₂)
   same-idle a b = (
     a .starts-zero ∙ sym (b .starts-zero),

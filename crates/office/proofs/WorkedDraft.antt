@@ -29,7 +29,8 @@ begun-holds =
       is = refl;
       sound = begun-sound plan 64 (record { bytes = 64; lists = true }) begun begins;
       fresh = refl;
-      lies = none-lies plan lists (front-made (pos 0) [] [] 0 refl) (front-made 0 [] [] 0 refl) (front-made 0 (0 ∷ []) (0 ∷ []) 0 refl) (front-made 0 [] [] 0 refl) (front-made 0 (0 ∷ []) (0 ∷ []) 0 refl);
+      lies = none-lies plan lists (front-made (pos 0) [] [] 0 refl) (front-made 0 [] [] 0 refl) (front-made 0 (0 ∷ []) (0 ∷ []) 0 refl) (front-made 0 [] [] 0 refl)
+          (front-made 0 (0 ∷ []) (0 ∷ []) 0 refl);
     }
 
 -- and its words are read back

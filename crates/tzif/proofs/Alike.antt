@@ -6,7 +6,8 @@ use mathlib.Core.{Bool.{Bool, true, false, _&&_}, List.{List}, Path.{_≡_, refl
 use native.Mathlib.Omega.{arith}
 use Rattle.tzif.proofs.{Lasts.{last-same}, Widths.{row}}
 use Rattle.tzif.specs.Block.{timePlace, indicesOf, designationsOf, standardsOf, utsOf, endOf}
-use Rattle.tzif.specs.Check.{nulEnd, isNul, typePlace, leapPlace, correctionOf, correctionBefore, occursLater, isExpiry, isStandard, checkTime, checkIndex, checkType, checkLeap, checkLeaps, checkStandard, checkUt}
+use Rattle.tzif.specs.Check.{nulEnd, isNul, typePlace, leapPlace, correctionOf, correctionBefore, occursLater, isExpiry, isStandard, checkTime, checkIndex, checkType, checkLeap}
+use Rattle.tzif.specs.Check.{checkLeaps, checkStandard, checkUt}
 use Rattle.tzif.specs.{Header.{checkBlock}, Number.{octet, be32, raised, timeAt}, Part.{countOf, checkOf, checkPart}}
 use Rattle.tzif.specs.{Reply.{Reply, each, _>>_}, Text.{firstWith}}
 use Rattle.numbers.specs.Answer.{if_then_else_}
@@ -31,7 +32,8 @@ pub record Same (file other : List ℕ) (place size : ℕ) : Type 0 where
 module _ {file other : List ℕ} where
   pub be32-same : (place : ℕ) → Same file other place 4 → be32 file place ≡ be32 other place
   unfolding be32
-  be32-same place s = λ i. s .at place (omega arith) (omega arith) i * 2 ^ 24 + s .at (place + 1) (omega arith) (omega arith) i * 2 ^ 16 + s .at (place + 2) (omega arith) (omega arith) i * 2 ^ 8 + s .at (place + 3) (omega arith) (omega arith) i
+  be32-same place s = λ i. s .at place (omega arith) (omega arith) i * 2 ^ 24 + s .at (place + 1) (omega arith) (omega arith) i * 2 ^ 16 + s .at (place + 2) (omega arith) (omega arith) i * 2
+      ^ 8 + s .at (place + 3) (omega arith) (omega arith) i
 
   pub time-same : (width place : ℕ) → 4 ≤ width → Same file other place width → timeAt file width place ≡ timeAt other width place
   unfolding timeAt
@@ -76,7 +78,11 @@ module _ (file other : List ℕ) (block : Block) (wide : 4 ≤ block .width) (sa
 
   type-checked : (nul i : ℕ) → i < block .typecnt → checkType file block nul i ≡ checkType other block nul i
   unfolding checkType
-  type-checked nul i l = rw (be32-same {file = file} {other = other} (typePlace block i) (record { at = λ p a b. same p (omega arith) (omega arith) }), same (typePlace block i + 4) (omega arith) (omega arith), same (typePlace block i + 5) (omega arith) (omega arith)) refl
+  type-checked nul i l = rw (
+    be32-same {file = file} {other = other} (typePlace block i) (record { at = λ p a b. same p (omega arith) (omega arith) }),
+    same (typePlace block i + 4) (omega arith) (omega arith),
+    same (typePlace block i + 5) (omega arith) (omega arith),
+  ) refl
 
   before : (i : ℕ) → i < block .leapcnt → correctionBefore file block i ≡ correctionBefore other block i
   unfolding correctionBefore

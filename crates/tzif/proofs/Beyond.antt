@@ -66,11 +66,13 @@ module _ (file other : List ℕ) (from : ℕ) (b : Beyond file other from) where
 
     last-transition : (instant : ℕ) → lastNotAfter file (transitionsOf block) instant ≡ lastNotAfter other (transitionsOf block) instant
     unfolding lastNotAfter
-    last-transition instant = last-same (λ i. leb (timeIn file (transitionsOf block) i) instant) (λ i. leb (timeIn other (transitionsOf block) i) instant) (block .timecnt) (λ k l. ap (λ (t : ℕ). leb t instant) (transition-same k))
+    last-transition instant = last-same (λ i. leb (timeIn file (transitionsOf block) i) instant) (λ i. leb (timeIn other (transitionsOf block) i) instant) (block .timecnt)
+        (λ k l. ap (λ (t : ℕ). leb t instant) (transition-same k))
 
     last-occurrence : (instant : ℕ) → lastNotAfter file (occurrencesOf block) instant ≡ lastNotAfter other (occurrencesOf block) instant
     unfolding lastNotAfter
-    last-occurrence instant = last-same (λ i. leb (timeIn file (occurrencesOf block) i) instant) (λ i. leb (timeIn other (occurrencesOf block) i) instant) (block .leapcnt) (λ k l. ap (λ (t : ℕ). leb t instant) (occurrence-same k))
+    last-occurrence instant = last-same (λ i. leb (timeIn file (occurrencesOf block) i) instant) (λ i. leb (timeIn other (occurrencesOf block) i) instant) (block .leapcnt)
+        (λ k l. ap (λ (t : ℕ). leb t instant) (occurrence-same k))
 
     before-same : (i : ℕ) → correctionBefore file block i ≡ correctionBefore other block i
     unfolding correctionBefore correctionOf
@@ -94,7 +96,8 @@ module _ (file other : List ℕ) (from : ℕ) (b : Beyond file other from) where
 
         name : runTo 0 file (designationsOf block + octet file (typePlace block type + 5)) (block .charcnt - octet file (typePlace block type + 5))
             ≡ runTo 0 other (designationsOf block + octet other (typePlace block type + 5)) (block .charcnt - octet other (typePlace block type + 5))
-        name = run-same 0 (designationsOf block + octet file (typePlace block type + 5)) (block .charcnt - octet file (typePlace block type + 5)) (omega arith) ∙ ap (λ (k : ℕ). runTo 0 other (designationsOf block + k) (block .charcnt - k)) index
+        name = run-same 0 (designationsOf block + octet file (typePlace block type + 5)) (block .charcnt - octet file (typePlace block type + 5)) (omega arith) ∙
+            ap (λ (k : ℕ). runTo 0 other (designationsOf block + k) (block .charcnt - k)) index
 
     -- its abbreviation stands behind it too
     pub type-behind : (type : ℕ) → from ≤ typeIn file block type .place
@@ -116,7 +119,8 @@ module _ (file other : List ℕ) (from : ℕ) (b : Beyond file other from) where
         index : typeBehind file block (lastNotAfter file (transitionsOf block) instant) ≡ typeBehind other block (lastNotAfter other (transitionsOf block) instant)
         index = behind-same (lastNotAfter file (transitionsOf block) instant) ∙ ap (typeBehind other block) (last-transition instant)
 
-        type : typeIn file block (typeBehind file block (lastNotAfter file (transitionsOf block) instant)) ≡ typeIn other block (typeBehind other block (lastNotAfter other (transitionsOf block) instant))
+        type : typeIn file block (typeBehind file block (lastNotAfter file (transitionsOf block) instant)) ≡ typeIn other block
+            (typeBehind other block (lastNotAfter other (transitionsOf block) instant))
         type = type-same (typeBehind file block (lastNotAfter file (transitionsOf block) instant)) ∙ ap (typeIn other block) index
 
   -- ---- the reply

@@ -63,7 +63,12 @@ block-read file wide at {block} e =
     let checked = both-given _ _ (counted .1) in
     let same : blockAt file wide at ≡ block = cc (checked .1) in
     let counts = counts-passed file at (blockAt file wide at) (counted .0) in
-    rw (← same) (record { within = record { wide = width-of file wide at; end = counts .end }; some = counts .some; passed = parts-passed file (isFourth rfc9636 (octet file 4)) (blockAt file wide at) (checked .0) })
+    rw (← same) (record {
+      within = record { wide = width-of file wide at; end = counts .end };
+      some = counts .some;
+      passed = parts-passed file (isFourth rfc9636 (octet file 4))
+          (blockAt file wide at) (checked .0);
+    })
 
 -- ---- a good block
 index-below : (file : List ℕ) (block : Block) (i : ℕ) → checkIndex file block i ≡ given tt → octet file (indicesOf block + i) < block .typecnt
@@ -146,7 +151,14 @@ module _ {file : List ℕ} {block : Block} (g : Good file block) where
   -- a type's abbreviation lies within the file
   pub type-held : (i : ℕ) → i < block .typecnt → Held (length file) (typeIn file block i)
   unfolding typeIn runTo
-  type-held i l = record { held = omega (arith, g .inside i l, g .within .end, first-within (λ k. isStop 0 (octet file (designationsOf block + octet file (typePlace block i + 5) + k))) (block .charcnt - octet file (typePlace block i + 5))) }
+  type-held i l = record {
+    held = omega (
+      arith,
+      g .inside i l,
+      g .within .end,
+      first-within (λ k. isStop 0 (octet file (designationsOf block + octet file (typePlace block i + 5) + k))) (block .charcnt - octet file (typePlace block i + 5)),
+    );
+  }
 
   -- and so does that of an answer
   pub found-held : (instant : ℕ) {found : Found} → byTable file block instant ≡ A.Found found → Held (length file) found

@@ -56,9 +56,12 @@ module _ (file : List ℕ) (block : Block) (plain : Plain file block) where
           let all : i + 1 ≡ block .leapcnt = eqb-true (i + 1) (block .leapcnt) f in
           let last : i ≡ block .leapcnt - 1 = omega arith in
           let prior : i - 1 ≡ block .leapcnt - 2 = omega arith in
-          ne-eqb (correctionOf file block i) (correctionOf file block (i - 1)) (λ same. plain .ends (omega (arith, some, all, l)) (sym (ap (correctionOf file block) last) ∙ same ∙ ap (correctionOf file block) prior))
+          ne-eqb (correctionOf file block i) (correctionOf file block (i - 1))
+          (λ same. plain .ends (omega (arith, some, all, l)) (sym (ap (correctionOf file block) last) ∙ same ∙ ap (correctionOf file block) prior))
 
-  begins-plain : (i : ℕ) → i < block .leapcnt → ((eqb i 0 && true) || oneApart (correctionBefore file block i) (correctionOf file block i)) ≡ ((eqb i 0 && false) || oneApart (correctionBefore file block i) (correctionOf file block i))
+  begins-plain : (i : ℕ) → i < block .leapcnt →
+      ((eqb i 0 && true) || oneApart (correctionBefore file block i) (correctionOf file block i)) ≡
+      ((eqb i 0 && false) || oneApart (correctionBefore file block i) (correctionOf file block i))
   unfolding correctionBefore
   begins-plain zero l = sym (plain .begins l)
   begins-plain (suc i) l = rw (ne-eqb (suc i) 0 (λ e. omega (arith, e))) refl
@@ -73,7 +76,8 @@ module _ (file : List ℕ) (block : Block) (plain : Plain file block) where
 
   pub block-plain : checkBlock file true block ≡ checkBlock file false block
   unfolding checkBlock
-  block-plain = λ i. checkPart file block P.Times >> (checkPart file block P.Indices >> (checkPart file block (P.Types (nulEnd file block)) >> (leaps-plain i >> (checkPart file block P.Standards >> checkPart file block P.Uts))))
+  block-plain = λ i. checkPart file block P.Times >>
+      (checkPart file block P.Indices >> (checkPart file block (P.Types (nulEnd file block)) >> (leaps-plain i >> (checkPart file block P.Standards >> checkPart file block P.Uts))))
 
 -- ---- the two files
 drop-set : (xs : List ℕ) (n p b : ℕ) → n < p → drop p xs ≡ drop p (set xs n b)
@@ -244,9 +248,12 @@ module _ (file : List ℕ) (h : PlainFour file) where
   long-read = rw (← second-read) (go (readBlock rfc9636 file true (endOf (firstBlock file))) refl)
     where
       ending : (block : Block) (begin : mark + 1 ≤ block .begin) (wide : 4 ≤ block .width) (footer : Reply ℕ)
-          → ReadAlike (mark + 1) (footer >>= λ size. given (record { version = octet file 4; block = block; string = endOf block + 1; size = size })) (footer >>= λ size. given (record { version = octet other 4; block = block; string = endOf block + 1; size = size }))
+          → ReadAlike (mark + 1) (footer >>= λ size. given (record { version = octet file 4; block = block; string = endOf block + 1; size = size }))
+          (footer >>= λ size. given (record { version = octet other 4; block = block; string = endOf block + 1; size = size }))
       ending block begin wide (refused why) = refuses
-      ending block begin wide (given n) = rw three-first (gives {zone = record { version = octet file 4; block = block; string = endOf block + 1; size = n }} (record { version = h .first; block = begin; string = omega (arith, begin); wide = wide }))
+      ending block begin wide (given n) =
+          rw three-first (gives {zone = record { version = octet file 4; block = block; string = endOf block + 1; size = n }}
+          (record { version = h .first; block = begin; string = omega (arith, begin); wide = wide }))
 
       go : (reading : Reply Block) → readBlock rfc9636 file true (endOf (firstBlock file)) ≡ reading
           → ReadAlike (mark + 1) (reading >>= λ block. readFooter file (endOf block) >>= λ size. given (record { version = octet file 4; block = block; string = endOf block + 1; size = size }))
@@ -262,11 +269,13 @@ module _ (file : List ℕ) (h : PlainFour file) where
   unfolding readZoneBy _>>=_ _>>_ demand
   zone-read = rw (← size, ← first-read, h .first, three-first) (whole (leb (length file) (2 ^ 30)))
     where
-      go : (reading : Reply Block) → readBlock rfc9636 file false 0 ≡ reading → ReadAlike (mark + 1) (reading >>= λ first. readLong rfc9636 file first) (reading >>= λ first. readLong rfc9636 other first)
+      go : (reading : Reply Block) → readBlock rfc9636 file false 0 ≡ reading →
+          ReadAlike (mark + 1) (reading >>= λ first. readLong rfc9636 file first) (reading >>= λ first. readLong rfc9636 other first)
       go (refused why) e = refuses
       go (given first) e = rw (← read-is file false 0 e) long-read
 
-      whole : (t : Bool) → ReadAlike (mark + 1) (demand t (refusal 1 0) >> (readBlock rfc9636 file false 0 >>= λ first. readLong rfc9636 file first)) (demand t (refusal 1 0) >> (readBlock rfc9636 file false 0 >>= λ first. readLong rfc9636 other first))
+      whole : (t : Bool) → ReadAlike (mark + 1) (demand t (refusal 1 0) >> (readBlock rfc9636 file false 0 >>= λ first. readLong rfc9636 file first))
+          (demand t (refusal 1 0) >> (readBlock rfc9636 file false 0 >>= λ first. readLong rfc9636 other first))
       whole true = go (readBlock rfc9636 file false 0) refl
       whole false = refuses
 

@@ -90,7 +90,8 @@ pub time-is-signed : (file : List ℕ) (width place : ℕ) → Octets file → t
 unfolding timeAt signedAt
 time-is-signed file width place o = go (eqb width 8)
   where
-    go : (t : Bool) → (if t then raised (be32 file place) * 2 ^ 32 + be32 file (place + 4) else raised (be32 file place) + (2 ^ 63 - 2 ^ 31)) ≡ lift (if t then toZ w64 (be32 file place * 2 ^ 32 + be32 file (place + 4)) else toZ w32 (be32 file place))
+    go : (t : Bool) → (if t then raised (be32 file place) * 2 ^ 32 + be32 file (place + 4) else raised (be32 file place) + (2 ^ 63 - 2 ^ 31)) ≡ lift
+        (if t then toZ w64 (be32 file place * 2 ^ 32 + be32 file (place + 4)) else toZ w32 (be32 file place))
     go true = wide-form (be32 file place) (be32 file (place + 4)) (be32-fits file place o) (be32-fits file (place + 4) o)
     go false = narrow-form (be32 file place) (be32-fits file place o)
 

@@ -12,7 +12,8 @@ use Rattle.tzif.specs.{Block.{timePlace, indicesOf}, Local.{typeBehind, 
 use Rattle.tzif.specs.{Number.{octet, signedAt, lift}, Reply.{Reply, given, refused, refusal, each, _>>=_}, Text.{slice}}
 use Rattle.numbers.specs.{Answer.{if_then_else_}, Lists.{zeros, padded}}
 use Rattle.tzif.specs.{Header.{rfc9636, readBlock}, Times.{timeIn, transitionsOf, lastWith, lastNotAfter, Rises}, inner.Told.{toldBlock, toldZone}, Zone.{readZone}}
-use Rattle.tzif.specs.declared.{block.Block.{Block}, header.Reading.{Reading}, local.{Answer.{Answer}, Found.{Found}, Local.{Local}, LocalTime.{LocalTime}}, refusal.Refusal.{Refusal}, zone.Read.{Read}}
+use Rattle.tzif.specs.declared.{block.Block.{Block}, header.Reading.{Reading}, local.{Answer.{Answer}, Found.{Found}, Local.{Local}, LocalTime.{LocalTime}}, refusal.Refusal.{Refusal}}
+use Rattle.tzif.specs.declared.zone.Read.{Read}
 use Rattle.tzif.specs.declared.header.Reading.the-variants as R
 use Rattle.tzif.specs.declared.zone.Read.the-variants as Z
 use Rattle.tzif.specs.declared.local.Answer.the-variants as A
@@ -132,7 +133,8 @@ zeroed file room (given (A.Found found)) n = go (leb (found .length) room) n
     local : Replied
     local = replied (L.Local (record { offset = found .offset; daylight = found .daylight; length = found .length })) (padded room (slice file (found .place) (found .length)))
 
-    go : (t : Bool) → NoLocal ((if t then local else replied (L.Refused (refusal 18 0)) (zeros room)) .reply) → (if t then local else replied (L.Refused (refusal 18 0)) (zeros room)) .text ≡ zeros room
+    go : (t : Bool) → NoLocal ((if t then local else replied (L.Refused (refusal 18 0)) (zeros room)) .reply) →
+        (if t then local else replied (L.Refused (refusal 18 0)) (zeros room)) .text ≡ zeros room
     go true n = absurd (no-local n refl)
     go false n = refl
 zeroed file room (given A.Unknown) n = refl

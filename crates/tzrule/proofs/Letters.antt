@@ -100,7 +100,8 @@ module _ (text : List ℕ) (at : ℕ) where
 
       pub quoted-read : byte ≡ 62 → toldName (Name (record { start = at; end = end }) (end + 1)) ≡ quotedOf text at
       unfolding toldName quotedOf
-      quoted-read t = ap (λ (x : ℕ). read (record { start = at; end = x }) (x + 1)) e ∙ simp (le-ltb (endOf true text at) (at + 3) (rw e at h), eq-eqb (byteAt text (endOf true text at)) 62 (byte-there ∙ t))
+      quoted-read t = ap (λ (x : ℕ). read (record { start = at; end = x }) (x + 1)) e ∙
+          simp (le-ltb (endOf true text at) (at + 3) (rw e at h), eq-eqb (byteAt text (endOf true text at)) 62 (byte-there ∙ t))
 
       pub quoted-open : (byte ≡ 62 → ⊥) → toldName (Fault end) ≡ quotedOf text at
       unfolding toldName quotedOf

@@ -51,7 +51,14 @@ pub record Taken (text : List ℕ) (at most value next : ℕ) : Type 0 where
 
 pub taken-first : (text : List ℕ) (at most : ℕ) → at ≤ length text → Taken text at most 0 at
 unfolding tens
-taken-first text at most h = record { goes = ap (λ (k : ℕ). digitsOf k text at 0) (let e : at + most - at ≡ most = omega arith in e); from = omega arith; to = omega arith; inside = h; small = subst (λ (k : ℕ). 0 < tens k) (let e : 0 ≡ at - at = omega arith in e) (omega arith) }
+taken-first text at most h = record {
+  goes = ap (λ (k : ℕ). digitsOf k text at 0) (let e : at + most - at ≡ most = omega arith in
+      e);
+  from = omega arith;
+  to = omega arith;
+  inside = h;
+  small = subst (λ (k : ℕ). 0 < tens k) (let e : 0 ≡ at - at = omega arith in e) (omega arith);
+}
 
 tens-next : (n : ℕ) → tens (suc n) ≡ 10 * tens n
 unfolding tens
@@ -87,7 +94,8 @@ module _ {text : List ℕ} {at most value next : ℕ} (t : Taken text at most va
     pub taken-more : isDigit byte ≡ true → Taken text at most (10 * value + (byte - 48)) (next + 1)
     taken-more d =
         record {
-          goes = ap (λ (x : ℕ). digitsOf (at + most - (next + 1)) text (next + 1) (10 * value + (x - 48))) b ∙ sym (digits-more (at + most - (next + 1)) text next value (ap isDigit (sym b) ∙ d)) ∙ ap (λ (k : ℕ). digitsOf k text next value) (sym left) ∙ t .goes;
+          goes = ap (λ (x : ℕ). digitsOf (at + most - (next + 1)) text (next + 1) (10 * value + (x - 48))) b ∙
+              sym (digits-more (at + most - (next + 1)) text next value (ap isDigit (sym b) ∙ d)) ∙ ap (λ (k : ℕ). digitsOf k text next value) (sym left) ∙ t .goes;
           from = omega (arith, t .from);
           to = omega arith;
           inside = omega (arith, not-past d);

@@ -62,7 +62,8 @@ unfolding IsRead
 no-read place a next e = absurd (subst IsRead (sym e) tt)
 
 -- a number that is read is in its range
-range-cases : (a b c : Bool) (low high value next at place v n : ℕ) → ltb value low ≡ b → ltb high value ≡ c → (if a then fault place else if b then fault at else if c then fault at else read value next) ≡ read v n → (low ≤ v) × (v ≤ high)
+range-cases : (a b c : Bool) (low high value next at place v n : ℕ) → ltb value low ≡ b → ltb high value ≡ c →
+    (if a then fault place else if b then fault at else if c then fault at else read value next) ≡ read v n → (low ≤ v) × (v ≤ high)
 range-cases true b c low high value next at place v n p q e = no-read place v n e
 range-cases false true c low high value next at place v n p q e = no-read at v n e
 range-cases false false true low high value next at place v n p q e = no-read at v n e
@@ -74,7 +75,8 @@ range-cases false false false low high value next at place v n p q e = omega (ar
 
 pub number-range : (shape : Shape) (text : List ℕ) (at v n : ℕ) → numberOf shape text at ≡ read v n → (shape .low ≤ v) × (v ≤ shape .high)
 unfolding numberOf ranged
-number-range shape text at v n e = let digits = digitsOf (shape .most) text at 0 in range-cases (ltb (digits .next) (at + shape .least)) _ _ (shape .low) (shape .high) (digits .value) (digits .next) at (digits .next) v n refl refl e
+number-range shape text at v n e = let digits = digitsOf (shape .most) text at 0 in
+    range-cases (ltb (digits .next) (at + shape .least)) _ _ (shape .low) (shape .high) (digits .value) (digits .next) at (digits .next) v n refl refl e
 
 dot-cases : (t : Bool) (shape : Shape) (text : List ℕ) (at v n : ℕ) → (if t then numberOf shape text (at + 1) else fault at) ≡ read v n → (shape .low ≤ v) × (v ≤ shape .high)
 dot-cases true shape text at v n e = number-range shape text (at + 1) v n e

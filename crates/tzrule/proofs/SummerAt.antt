@@ -23,7 +23,8 @@ module _ (rule : Rule) (instant : ℕ) where
   true-in year s = simp (le-leb (startOf rule year) instant (s .from), lt-ltb instant (closeOf rule year) (s .to))
 
   -- one of the first so many years
-  some-if : (n : ℕ) (test : Bool) → inSummer rule n instant ≡ test → (summerAmong n rule instant ≡ true → IsSummer rule instant) → (if test then true else summerAmong n rule instant) ≡ true → IsSummer rule instant
+  some-if : (n : ℕ) (test : Bool) → inSummer rule n instant ≡ test → (summerAmong n rule instant ≡ true → IsSummer rule instant) →
+      (if test then true else summerAmong n rule instant) ≡ true → IsSummer rule instant
   some-if n true e rest t = record { year = n; inside = in-true n e }
   some-if n false e rest t = rest t
 
@@ -32,7 +33,8 @@ module _ (rule : Rule) (instant : ℕ) where
   among-some zero t = differ t
   among-some (suc n) t = some-if n (inSummer rule n instant) refl (among-some n) t
 
-  has-if : (n year : ℕ) (test : Bool) → inSummer rule n instant ≡ test → year < suc n → inSummer rule year instant ≡ true → (year < n → summerAmong n rule instant ≡ true) → (if test then true else summerAmong n rule instant) ≡ true
+  has-if : (n year : ℕ) (test : Bool) → inSummer rule n instant ≡ test → year < suc n → inSummer rule year instant ≡ true → (year < n → summerAmong n rule instant ≡ true) →
+      (if test then true else summerAmong n rule instant) ≡ true
   has-if n year true e h s rest = refl
   has-if n year false e h s rest =
       let other : year ≡ n → ⊥ = λ x. differ (sym e ∙ ap (λ (y : ℕ). inSummer rule y instant) (sym x) ∙ s) in

@@ -5,7 +5,8 @@ use mathlib.Core.{Bool.{Bool, true, false}, List.{List}, Path.{_≡_, refl, subs
 use native.Mathlib.Omega.{arith}
 use Rattle.numbers.specs.Answer.{if_then_else_}
 use Rattle.tzrule.specs.Answer.{Answer, read, fault, onward}
-use Rattle.tzrule.specs.Grammar.{ranged, numberOf, sixty, secondsOf, minutesOf, clockOf, laterOf, earlierOf, signedOf, dottedOf, days, months, weeks, weekdays, julianOf, zeroOf, weekdayFrom, weekFrom, monthFrom, dateOf}
+use Rattle.tzrule.specs.Grammar.{ranged, numberOf, sixty, secondsOf, minutesOf, clockOf, laterOf, earlierOf, signedOf, dottedOf, days, months, weeks, weekdays, julianOf, zeroOf}
+use Rattle.tzrule.specs.Grammar.{weekdayFrom, weekFrom, monthFrom, dateOf}
 use Rattle.tzrule.specs.Names.{inName, nameEnd, endOf, bareOf, quotedOf, nameOf}
 use Rattle.tzrule.specs.{String.{dayHours, weekHours, hoursOf, timeOf, changeOf, summerOf, changingOf, stringOf}, Text.{byteAt, isDigit, digitsOf}}
 use Rattle.tzrule.specs.declared.{name.Span.{Span}, number.{Digits.{Digits}, Shape.{Shape}}, rule.{Clock.{Clock}, Tz.{the-variants.{Fixed, Changing}, Tz}}}
@@ -34,13 +35,16 @@ module _ (text other : List ℕ) (from : ℕ) (size : length text ≡ length oth
   byte at h = same at h
 
   -- ---- one thing after another
-  and-on : {A B : Type 0} {fact : A → Type 0} {fact′ : B → Type 0} {a b : Answer A} {k l : A → ℕ → Answer B} → Alike from fact a b → ((x : A) (next : ℕ) → from ≤ next → fact x → Alike from fact′ (k x next) (l x next)) → Alike from fact′ (onward a k) (onward b l)
+  and-on : {A B : Type 0} {fact : A → Type 0} {fact′ : B → Type 0} {a b : Answer A} {k l : A → ℕ → Answer B} → Alike from fact a b →
+      ((x : A) (next : ℕ) → from ≤ next → fact x → Alike from fact′ (k x next) (l x next)) → Alike from fact′ (onward a k) (onward b l)
   unfolding onward
   and-on faults go = faults
   and-on (reads h f) go = go _ _ h f
 
-  if-byte : {A : Type 0} {fact : A → Type 0} (at stop : ℕ) {a b c d : Answer A} → from ≤ at → Alike from fact a b → Alike from fact c d → Alike from fact (if eqb (byteAt text at) stop then a else c) (if eqb (byteAt other at) stop then b else d)
-  if-byte {fact = fact} at stop {a} {b} {c} {d} h there away = subst (λ (n : ℕ). Alike from fact (if eqb (byteAt text at) stop then a else c) (if eqb n stop then b else d)) (byte at h) (go (eqb (byteAt text at) stop))
+  if-byte : {A : Type 0} {fact : A → Type 0} (at stop : ℕ) {a b c d : Answer A} → from ≤ at → Alike from fact a b → Alike from fact c d →
+      Alike from fact (if eqb (byteAt text at) stop then a else c) (if eqb (byteAt other at) stop then b else d)
+  if-byte {fact = fact} at stop {a} {b} {c} {d} h there away =
+      subst (λ (n : ℕ). Alike from fact (if eqb (byteAt text at) stop then a else c) (if eqb n stop then b else d)) (byte at h) (go (eqb (byteAt text at) stop))
     where
       go : (t : Bool) → Alike from fact (if t then a else c) (if t then b else d)
       go true = there
@@ -57,7 +61,8 @@ module _ (text other : List ℕ) (from : ℕ) (size : length text ≡ length oth
   digits (suc more) at value h = rw (← byte at h) (go (isDigit (byteAt text at)) (digits more (at + 1) (10 * value + (byteAt text at - 48)) (omega arith)))
     where
       go : (t : Bool) → DigitsFrom (digitsOf more text (at + 1) (10 * value + (byteAt text at - 48))) (digitsOf more other (at + 1) (10 * value + (byteAt text at - 48)))
-          → DigitsFrom (if t then digitsOf more text (at + 1) (10 * value + (byteAt text at - 48)) else record { value = value; next = at }) (if t then digitsOf more other (at + 1) (10 * value + (byteAt text at - 48)) else record { value = value; next = at })
+          → DigitsFrom (if t then digitsOf more text (at + 1) (10 * value + (byteAt text at - 48)) else record { value = value; next = at })
+          (if t then digitsOf more other (at + 1) (10 * value + (byteAt text at - 48)) else record { value = value; next = at })
       go true d = d
       go false d = record { is = refl; next = h }
 
@@ -65,7 +70,8 @@ module _ (text other : List ℕ) (from : ℕ) (size : length text ≡ length oth
   unfolding ranged
   in-range shape at d h = go (ltb (d .next) (at + shape .least)) (ltb (d .value) (shape .low)) (ltb (shape .high) (d .value))
     where
-      go : (s t u : Bool) → Alike from Any (if s then fault (d .next) else if t then fault at else if u then fault at else read (d .value) (d .next)) (if s then fault (d .next) else if t then fault at else if u then fault at else read (d .value) (d .next))
+      go : (s t u : Bool) → Alike from Any (if s then fault (d .next) else if t then fault at else if u then fault at else read (d .value) (d .next))
+          (if s then fault (d .next) else if t then fault at else if u then fault at else read (d .value) (d .next))
       go true t u = faults
       go false true u = faults
       go false false true = faults
@@ -151,7 +157,8 @@ module _ (text other : List ℕ) (from : ℕ) (size : length text ≡ length oth
   name-end zero quoted at h = record { is = refl; next = omega arith }
   name-end (suc more) quoted at h = rw (← byte at h) (go (inName quoted (byteAt text at)) (name-end more quoted (at + 1) (omega arith)))
     where
-      go : (t : Bool) → EndFrom (nameEnd more quoted text (at + 1)) (nameEnd more quoted other (at + 1)) (at + 1) → EndFrom (if t then nameEnd more quoted text (at + 1) else at) (if t then nameEnd more quoted other (at + 1) else at) at
+      go : (t : Bool) → EndFrom (nameEnd more quoted text (at + 1)) (nameEnd more quoted other (at + 1)) (at + 1) →
+          EndFrom (if t then nameEnd more quoted text (at + 1) else at) (if t then nameEnd more quoted other (at + 1) else at) at
       go true e = record { is = e .is; next = omega (arith, e .next) }
       go false e = record { is = refl; next = omega arith }
 
@@ -166,7 +173,9 @@ module _ (text other : List ℕ) (from : ℕ) (size : length text ≡ length oth
   unfolding bareOf SpanFrom
   bare at h = let e = end false at h in rw (← e .is) (go (ltb (endOf false text at) (at + 3)) (omega (arith, e .next)))
     where
-      go : (t : Bool) → from ≤ endOf false text at → Alike from SpanFrom (if t then fault (endOf false text at) else read (record { start = at; end = endOf false text at }) (endOf false text at)) (if t then fault (endOf false text at) else read (record { start = at; end = endOf false text at }) (endOf false text at))
+      go : (t : Bool) → from ≤ endOf false text at →
+          Alike from SpanFrom (if t then fault (endOf false text at) else read (record { start = at; end = endOf false text at }) (endOf false text at))
+          (if t then fault (endOf false text at) else read (record { start = at; end = endOf false text at }) (endOf false text at))
       go true g = faults
       go false g = reads g h
 
@@ -175,8 +184,11 @@ module _ (text other : List ℕ) (from : ℕ) (size : length text ≡ length oth
   quoted-name at h = let e = end true at h in rw (← e .is) (go (ltb (endOf true text at) (at + 3)) (omega (arith, e .next)))
     where
       go : (t : Bool) → from ≤ endOf true text at
-          → Alike from SpanFrom (if t then fault (endOf true text at) else if eqb (byteAt text (endOf true text at)) 62 then read (record { start = at; end = endOf true text at }) (endOf true text at + 1) else fault (endOf true text at))
-          (if t then fault (endOf true text at) else if eqb (byteAt other (endOf true text at)) 62 then read (record { start = at; end = endOf true text at }) (endOf true text at + 1) else fault (endOf true text at))
+          → Alike from SpanFrom
+          (if t then fault (endOf true text at) else if eqb (byteAt text (endOf true text at)) 62 then read (record { start = at; end = endOf true text at }) (endOf true text at + 1)
+          else fault (endOf true text at))
+          (if t then fault (endOf true text at) else if eqb (byteAt other (endOf true text at)) 62 then read (record { start = at; end = endOf true text at }) (endOf true text at + 1) else
+          fault (endOf true text at))
       go true g = faults
       go false g = if-byte (endOf true text at) 62 g (reads (omega (arith, g)) h) faults
 
@@ -185,7 +197,8 @@ module _ (text other : List ℕ) (from : ℕ) (size : length text ≡ length oth
   name at h = if-byte at 60 h (quoted-name (at + 1) (omega arith)) (bare at h)
 
   -- ---- the string
-  named-clock : (offset offset′ : ℕ → Answer ℕ) → ((at : ℕ) → from ≤ at → Alike from Any (offset at) (offset′ at)) → (at : ℕ) → from ≤ at → Alike from (ClockFrom from) (string.clockOf offset text at) (string.clockOf offset′ other at)
+  named-clock : (offset offset′ : ℕ → Answer ℕ) → ((at : ℕ) → from ≤ at → Alike from Any (offset at) (offset′ at)) → (at : ℕ) → from ≤ at →
+      Alike from (ClockFrom from) (string.clockOf offset text at) (string.clockOf offset′ other at)
   unfolding string.clockOf SpanFrom
   named-clock offset offset′ west at h = and-on (name at h) (λ span next g f. and-on (west next g) (λ n last k e. reads k (record { start = f })))
 

@@ -24,11 +24,13 @@ module _ (shape : Shape) (text : List ℕ) (at : ℕ) {digits : Digits} (e : dig
 
   pub number-high : at + shape .least ≤ digits .next → shape .low ≤ digits .value → shape .high < digits .value → told (Fault at) ≡ numberOf shape text at
   unfolding told ranged
-  number-high h k l = (let s : fault at ≡ ranged shape at digits = simp (le-ltb (digits .next) (at + shape .least) h, le-ltb (digits .value) (shape .low) k, lt-ltb (shape .high) (digits .value) l) in s) ∙ plain
+  number-high h k l = (let s : fault at ≡ ranged shape at digits = simp
+      (le-ltb (digits .next) (at + shape .least) h, le-ltb (digits .value) (shape .low) k, lt-ltb (shape .high) (digits .value) l) in s) ∙ plain
 
   pub number-read : at + shape .least ≤ digits .next → shape .low ≤ digits .value → digits .value ≤ shape .high → told (Read (digits .value) (digits .next)) ≡ numberOf shape text at
   unfolding told ranged
-  number-read h k l = (let s : read (digits .value) (digits .next) ≡ ranged shape at digits = simp (le-ltb (digits .next) (at + shape .least) h, le-ltb (digits .value) (shape .low) k, le-ltb (shape .high) (digits .value) l) in s) ∙ plain
+  number-read h k l = (let s : read (digits .value) (digits .next) ≡ ranged shape at digits = simp
+      (le-ltb (digits .next) (at + shape .least) h, le-ltb (digits .value) (shape .low) k, le-ltb (shape .high) (digits .value) l) in s) ∙ plain
 
 -- what an answer says, where it is known
 module _ {answer : Number} {value next : ℕ} (is : answer ≡ Read value next) where

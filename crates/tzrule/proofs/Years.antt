@@ -37,7 +37,10 @@ module _ (u : ℕ) where
   to-years : OfYears u → inYears u ≡ true
   unfolding inYears secondsTo
   to-years o =
-      simp (le-leb (2 ^ 63 - 62135596800) u (omega (arith, o .is .there, epoch-seconds)), le-leb u (2 ^ 63 + 253402300799) (omega (arith, o .is .there, o .is .inside .day-to, o .is .inside .second-to, days-in-all, epoch-seconds)))
+      simp (
+        le-leb (2 ^ 63 - 62135596800) u (omega (arith, o .is .there, epoch-seconds)),
+        le-leb u (2 ^ 63 + 253402300799) (omega (arith, o .is .there, o .is .inside .day-to, o .is .inside .second-to, days-in-all, epoch-seconds)),
+      )
 
   -- `inYears` is exactly the seconds of the days of the years 1 to 9999
   pub in-years-days : (inYears u ≡ true → OfYears u) × (OfYears u → inYears u ≡ true)

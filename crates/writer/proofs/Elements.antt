@@ -69,7 +69,8 @@ module _ (lats lons : List ℤ) (i direction value : ℕ) (by : RawPoint) (is : 
     unfolding sameMove
     lent-lat other = ap (λ (t : Bool). t && lon-test) (sym (ne-eqb r s other) ∙ lat-test) ∙ ap (λ (m : RawPoint). sameMove m (own ahead)) is
 
-    pub lent-lon : r ≡ s → {u v : ℕ} → SFits w32 (by .lon) → u ≡ signedForm (toZ w32 (ofZ w32 (by .lon)) -ℤ toZ w32 (ofZ w32 (pos 0))) → v ≡ signedForm (turnedAt ahead (gapAt lons i)) → eqb u v ≡ sameMove (pointOf value) (own ahead)
+    pub lent-lon : r ≡ s → {u v : ℕ} → SFits w32 (by .lon) → u ≡ signedForm (toZ w32 (ofZ w32 (by .lon)) -ℤ toZ w32 (ofZ w32 (pos 0))) → v ≡ signedForm (turnedAt ahead (gapAt lons i)) →
+        eqb u v ≡ sameMove (pointOf value) (own ahead)
     unfolding sameMove
     lent-lon same fits₂ e₂ g₂ =
         same-form (by .lon) (turnedAt ahead (gapAt lons i)) fits₂ e₂ g₂

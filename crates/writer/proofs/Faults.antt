@@ -47,7 +47,8 @@ module _ (version : ℕ) (lats lons : List ℤ) (earlier : List ℕ) where
   not-sized e₁ e₂ h = rw (le-leb (length earlier) (2 ^ 30) e₁, lt-ltb version 2 e₂, h)
 
 module _ {version : ℕ} {lats lons : List ℤ} {earlier : List ℕ} (g : Early version lats lons earlier) where
-  left : (demand (every near lats && every near lons) (plain 20) >> (demand (every isMove (drop 1 (movesOf lats lons))) (plain 21) >> demand (every isMove (take 1 (movesOf lats lons))) (plain 22))) ≡ checks version lats lons earlier
+  left : (demand (every near lats && every near lons) (plain 20) >>
+      (demand (every isMove (drop 1 (movesOf lats lons))) (plain 21) >> demand (every isMove (take 1 (movesOf lats lons))) (plain 22))) ≡ checks version lats lons earlier
   unfolding checks
   left = rw (le-leb (length earlier) (2 ^ 30) (g .short), lt-ltb version 2 (g .version-known), g .right)
 

@@ -50,12 +50,14 @@ module _ (earlier : List ℕ) (moves : List RawPoint) where
       go false h k = refl
 
   -- while all are good, the next one decides
-  good-more : (free : ℕ) (ps : List Piece) (p : Piece) → goodPieces earlier moves free ps ≡ length ps → goodPieces earlier moves free (more ps p) ≡ (if accepted earlier moves (endOf free ps) p then length ps + 1 else length ps)
+  good-more : (free : ℕ) (ps : List Piece) (p : Piece) → goodPieces earlier moves free ps ≡ length ps →
+      goodPieces earlier moves free (more ps p) ≡ (if accepted earlier moves (endOf free ps) p then length ps + 1 else length ps)
   unfolding goodPieces endOf
   good-more free [] p e = refl
   good-more free (q ∷ ps) p e = go (accepted earlier moves free q) (accepted earlier moves (endOf (q .first + q .count) ps) p) e (good-more (q .first + q .count) ps p)
     where
-      go : (t u : Bool) {n m : ℕ} → (if t then suc n else 0) ≡ suc (length ps) → (n ≡ length ps → m ≡ (if u then length ps + 1 else length ps)) → (if t then suc m else 0) ≡ (if u then suc (length ps) + 1 else suc (length ps))
+      go : (t u : Bool) {n m : ℕ} → (if t then suc n else 0) ≡ suc (length ps) → (n ≡ length ps → m ≡ (if u then length ps + 1 else length ps)) →
+          (if t then suc m else 0) ≡ (if u then suc (length ps) + 1 else suc (length ps))
       go true true e k = ap suc (k (omega arith)) ∙ omega arith
       go true false e k = ap suc (k (omega arith))
       go false u e k = absurd (omega arith)

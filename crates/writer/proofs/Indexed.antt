@@ -57,7 +57,8 @@ module _ (lats lons : List ℤ) (i : ℕ) (h : i < length lats) (k : i < length 
       drop-cons moves i still (omega (arith, border-length lats lons)) ∙ rw (move-at, ← n)
 
   -- what is left to write
-  pub each-next : (each : RawPoint → List ℕ) (to : ℕ) → i < to → to ≤ length lats → to ≤ length lons → flatMap each (slice i to moves) ≡ each (moveAt lats lons i) ++ flatMap each (slice (i + 1) to moves)
+  pub each-next : (each : RawPoint → List ℕ) (to : ℕ) → i < to → to ≤ length lats → to ≤ length lons →
+      flatMap each (slice i to moves) ≡ each (moveAt lats lons i) ++ flatMap each (slice (i + 1) to moves)
   unfolding flatMap
   each-next each to l m n =
       let next : suc i ≡ i + 1 = omega arith in

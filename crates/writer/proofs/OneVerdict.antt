@@ -13,7 +13,8 @@ use Rattle.writer.proofs.WrittenTrace.{written-stands}
 -- distance so far, `point_in_polygon` replies the same.
 pub standing-border-one-verdict : {version version′ : Version} {file file′ : List ℕ} {base base′ place place′ : ℕ} {points : List Point}
     → Stands version file base place points → Stands version′ file′ base′ place′ points
-    → (lat : FixedLat) (lon : FixedLon) (asked : Bool) (least : ℕ) → judgedAt file (encodedIn version base) place lat lon asked least ≡ judgedAt file′ (encodedIn version′ base′) place′ lat lon asked least
+    → (lat : FixedLat) (lon : FixedLon) (asked : Bool) (least : ℕ) →
+    judgedAt file (encodedIn version base) place lat lon asked least ≡ judgedAt file′ (encodedIn version′ base′) place′ lat lon asked least
 unfolding judgedAt
 standing-border-one-verdict h k lat lon asked least = one-border-one-judgement (judge (record { lat = lat; lon = lon }) asked none (record { winding = pos 0; least = least })) h k
 

@@ -83,7 +83,8 @@ module _ {lats lons : List ℤ} {kept : List Piece} {count : ℕ} (known : Known
         pub piece-room : {here : ℕ} {middle : List ℕ} → Stored now place put middle here → here < 2 ^ 60
         piece-room s = omega (arith, ap length put-own, own-room, s .place-after)
 
-        pub again : {middle after : List ℕ} {here end : ℕ} → Stored now place put middle here → Stored middle here (pieceBytes p) after end → Packing before ms kept count (j + 1) (p .first + p .count) after end
+        pub again : {middle after : List ℕ} {here end : ℕ} → Stored now place put middle here → Stored middle here (pieceBytes p) after end →
+            Packing before ms kept count (j + 1) (p .first + p .count) after end
         unfolding packedFrom
         again {middle} {after} {here} s u =
             let own-stored = subst (λ (bs : List ℕ). Stored now place bs middle here) put-own s in

@@ -30,7 +30,9 @@ module _ (n : ℕ) (answer : Reply (List ℕ)) where
       ∙ by-test (leb (length bytes) n) refl size
       ∙ ap (fitted n) (sym is)
     where
-      by-test : (t : Bool) → leb (length bytes) n ≡ t → length before ≡ n → (if t then replied (Wrote (length bytes)) after else replied (Refused 24 0) (zeros n)) ≡ (if t then replied (Wrote (length bytes)) (bytes ++ zeros (n - length bytes)) else replied (Refused 24 0) (zeros n))
+      by-test : (t : Bool) → leb (length bytes) n ≡ t → length before ≡ n →
+          (if t then replied (Wrote (length bytes)) after else replied (Refused 24 0) (zeros n)) ≡
+          (if t then replied (Wrote (length bytes)) (bytes ++ zeros (n - length bytes)) else replied (Refused 24 0) (zeros n))
       by-test true t size =
           ap (replied (Wrote (length bytes)))
           (stored-front before bytes after next s (omega (arith, leb-true (length bytes) n t))

@@ -14,7 +14,8 @@ reverse-at : (ms : List RawPoint) (j : ℕ) → j < length ms → getD (reverse 
 reverse-at [] j h = absurd (omega arith)
 reverse-at (m ∷ ms) j h = ap (λ (xs : List RawPoint). getD xs j still) (reverse-cons m ms) ∙ in-part (ltb j (length ms)) refl (λ l. reverse-at ms j l)
   where
-    in-part : (t : Bool) → ltb j (length ms) ≡ t → (j < length ms → getD (reverse ms) j still ≡ getD ms (length ms - 1 - j) still) → getD (reverse ms ++ (m ∷ [])) j still ≡ getD (m ∷ ms) (suc (length ms) - 1 - j) still
+    in-part : (t : Bool) → ltb j (length ms) ≡ t → (j < length ms → getD (reverse ms) j still ≡ getD ms (length ms - 1 - j) still) →
+        getD (reverse ms ++ (m ∷ [])) j still ≡ getD (m ∷ ms) (suc (length ms) - 1 - j) still
     in-part true e before =
         let l : j < length ms = ltb-true j (length ms) e in
         let n : suc (length ms - 1 - j) ≡ suc (length ms) - 1 - j = omega arith in
@@ -130,7 +131,8 @@ module _ (lats lons : List ℤ) (p : Piece) (lats-long : p .first + p .count ≤
           of-zero l z = sym (read ∙ rw (le-leb (number .place) (length run) l, eq-eqb (number .value) 0 z))
 
           -- what was read, held against the move at an index
-          module _ (l : number .place ≤ length run) (some : number .value ≡ 0 → ⊥) {at : ℕ} (is : at ≡ i) {same : Bool} (held : same ≡ sameMove (pointOf (number .value)) (turnedAt (eqb (p .direction) 0) (moveAt lats lons at))) where
+          module _ (l : number .place ≤ length run) (some : number .value ≡ 0 → ⊥) {at : ℕ} (is : at ≡ i) {same : Bool}
+              (held : same ≡ sameMove (pointOf (number .value)) (turnedAt (eqb (p .direction) 0) (moveAt lats lons at))) where
             holds : same ≡ sameMove (pointOf (number .value)) here
             holds = held ∙ ap (λ (k : ℕ). sameMove (pointOf (number .value)) (turnedAt (eqb (p .direction) 0) (moveAt lats lons k))) is
 

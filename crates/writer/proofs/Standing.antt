@@ -138,7 +138,8 @@ record Tested (run : List ℕ) (place : ℕ) (m : RawPoint) (ms : List RawPoint)
   rest : spells run (number .place) ms ≡ true
 
 tested : (run : List ℕ) (place : ℕ) (m : RawPoint) (ms : List RawPoint) (answer : Answer Numeral) → answer ≡ forwardAt run place
-    → readAnd answer (λ number. leb (number .place) (length run) && (not (eqb (number .value) 0) && (sameMove (pointOf (number .value)) m && spells run (number .place) ms))) ≡ true → Tested run place m ms
+    → readAnd answer (λ number. leb (number .place) (length run) && (not (eqb (number .value) 0) && (sameMove (pointOf (number .value)) m && spells run (number .place) ms))) ≡ true →
+    Tested run place m ms
 unfolding readAnd
 tested run place m ms (found number) is e =
     let same = sameMove (pointOf (number .value)) m in
@@ -258,7 +259,8 @@ module _ (earlier : List ℕ) (room : length earlier ≤ 2 ^ 30) where
         subst (λ (n : ℕ). Borrowed earlier n (2 * p .bytes + 1) own) place
         (W.backward front byte run after split (ltb-true byte 128 (h .1)) (odd-back (p .bytes) (omega arith) ∙ ap (λ (n : ℕ). negℤ (pos n)) (sym run-length)) s (turned-round g))
 
-    lends : (t : Bool) {own more : List RawPoint} {bytes : List ℕ} → (t || clearBefore earlier (p .start)) ≡ true → Going own → Splits run (if t then own else reverse (map turnedBack own)) → Version1 earlier bytes more
+    lends : (t : Bool) {own more : List RawPoint} {bytes : List ℕ} → (t || clearBefore earlier (p .start)) ≡ true → Going own → Splits run (if t then own else reverse (map turnedBack own)) →
+        Version1 earlier bytes more
         → Version1 earlier ((0 ∷ 1 ∷ (if t then (varintOf (p .start) ++ varintOf (2 * p .bytes)) else (varintOf (p .start + p .bytes) ++ varintOf (2 * p .bytes + 1)))) ++ bytes) (own ++ more)
     lends true {own} {more} {bytes} clear g s v =
         subst (λ (bs : List ℕ). Version1 earlier (0 ∷ 1 ∷ bs) (own ++ more)) (sym (append-assoc (varintOf (p .start)) (varintOf (2 * p .bytes)) bytes))
@@ -269,7 +271,8 @@ module _ (earlier : List ℕ) (room : length earlier ≤ 2 ^ 30) where
 
   -- ---- all pieces
   module _ (ms : List RawPoint) (going : Going ms) where
-    piece-lent : (p : Piece) (free : ℕ) {bytes : List ℕ} {more : List RawPoint} → Accepted earlier ms free p → Version1 earlier bytes more → Version1 earlier (pieceBytes p ++ bytes) (take (p .count) (drop (p .first) ms) ++ more)
+    piece-lent : (p : Piece) (free : ℕ) {bytes : List ℕ} {more : List RawPoint} → Accepted earlier ms free p → Version1 earlier bytes more →
+        Version1 earlier (pieceBytes p ++ bytes) (take (p .count) (drop (p .first) ms) ++ more)
     unfolding pieceBytes lentMoves
     piece-lent p free h v = lends p (h .lies) (eqb (p .direction) 0) (h .behind) (going-take (p .count) (going-drop (p .first) going)) (h .repeats) v
 
@@ -331,7 +334,8 @@ module _ (version : ℕ) (lats lons : List ℤ) (pieces : List Piece) (earlier b
       last true e = refl
       last false e = absurd (let z : _≡_ {A = ℕ} 0 1 = cc in omega arith)
 
-  encoded : (t : Bool) → Passes → (if t then plainBorder (movesOf lats lons) pieces else packedBorder (movesOf lats lons) pieces earlier) ≡ given bytes → W.Encodes (if t then Plain else Packed) earlier bytes (movesOf lats lons)
+  encoded : (t : Bool) → Passes → (if t then plainBorder (movesOf lats lons) pieces else packedBorder (movesOf lats lons) pieces earlier) ≡ given bytes →
+      W.Encodes (if t then Plain else Packed) earlier bytes (movesOf lats lons)
   unfolding plainBorder packedBorder movesOf
   encoded true h e =
       let d = demanded (eqb (length pieces) 0) (plain 23) (sym e) in
@@ -340,7 +344,8 @@ module _ (version : ℕ) (lats lons : List ℤ) (pieces : List Piece) (earlier b
       let good = goodPieces earlier (movesOf lats lons) 0 pieces in
       let d = demanded (leb (length pieces) 16) (refusal 23 0 16) (sym e) in
       let d′ = demanded (eqb good (length pieces)) (refusal 23 0 good) (d .1) in
-      subst (λ (bs : List ℕ). Version1 earlier bs (movesOf lats lons)) (given-one (sym (d′ .1))) (packed earlier (h .room) (movesOf lats lons) (h .walked .going) pieces 0 (eqb-true good (length pieces) (d′ .0)))
+      subst (λ (bs : List ℕ). Version1 earlier bs (movesOf lats lons)) (given-one (sym (d′ .1)))
+      (packed earlier (h .room) (movesOf lats lons) (h .walked .going) pieces 0 (eqb-true good (length pieces) (d′ .0)))
 
   leads : Passes → Leads (pointAt (pos 0) (pos 0)) (movesOf lats lons) (pointsOf lats lons)
   unfolding movesOf
@@ -353,5 +358,6 @@ module _ (version : ℕ) (lats lons : List ℤ) (pieces : List Piece) (earlier b
       let h = then-given (checks version lats lons earlier) e in
       go (eqb version 0) (passes (h .0)) (h .1)
     where
-      go : (t : Bool) → Passes → (if t then plainBorder (movesOf lats lons) pieces else packedBorder (movesOf lats lons) pieces earlier) ≡ given bytes → Border (if t then Plain else Packed) earlier bytes (pointsOf lats lons)
+      go : (t : Bool) → Passes → (if t then plainBorder (movesOf lats lons) pieces else packedBorder (movesOf lats lons) pieces earlier) ≡ given bytes →
+          Border (if t then Plain else Packed) earlier bytes (pointsOf lats lons)
       go t h e = record { some = h .some; moves = movesOf lats lons; encoded = encoded t h e; leads = leads h }

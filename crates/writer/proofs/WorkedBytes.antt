@@ -16,7 +16,8 @@ abbrev lons : List ℤ
 lons = pos 2 ∷ pos 2 ∷ pos 10 ∷ pos 10 ∷ []
 
 pub packed-bytes : borderOf 1 lats lons [] [] ≡ given (0x30 ∷ 0x80 ∷ 0x02 ∷ 0x80 ∷ 0x04 ∷ 0x81 ∷ 0x02 ∷ 0x00 ∷ 0x00 ∷ [])
-unfolding digitsOf varintOf signedForm interleaved packedNumber packedMoveBytes moveTo movesFrom pointsOf movesOf zipWith flatMap isStill goodPieces packedFrom every sized near checks packedBorder borderOf
+unfolding digitsOf varintOf signedForm interleaved packedNumber packedMoveBytes moveTo movesFrom pointsOf movesOf zipWith flatMap isStill goodPieces packedFrom every sized near checks
+    packedBorder borderOf
 packed-bytes = refl
 
 pub plain-bytes : borderOf 0 lats lons [] [] ≡ given (0x04 ∷ 0x04 ∷ 0x04 ∷ 0x10 ∷ 0x00 ∷ 0x00 ∷ 0x10 ∷ 0x11 ∷ 0x00 ∷ 0x02 ∷ 0x02 ∷ [])
@@ -28,9 +29,11 @@ abbrev back : ℕ → Piece
 back start = record { start = start; bytes = 5; direction = 1; first = 0; count = 3 }
 
 pub borrowed-bytes : borderOf 1 lats lons (back 1 ∷ []) (0x00 ∷ 0x82 ∷ 0x04 ∷ 0x81 ∷ 0x02 ∷ 0x33 ∷ []) ≡ given (0x00 ∷ 0x01 ∷ 0x06 ∷ 0x0b ∷ 0x81 ∷ 0x02 ∷ 0x00 ∷ 0x00 ∷ [])
-unfolding digitsOf varintOf signedForm interleaved packedNumber packedMoveBytes moveTo movesFrom pointsOf movesOf sameMove zipWith flatMap isStill lentMoves readAnd spells clearBefore accepted goodPieces pieceBytes packedFrom every sized near checks packedBorder borderOf forwardAt valueOf sizeOf tooLong signedOf evenBits pointOf
+unfolding digitsOf varintOf signedForm interleaved packedNumber packedMoveBytes moveTo movesFrom pointsOf movesOf sameMove zipWith flatMap isStill lentMoves readAnd spells clearBefore
+    accepted goodPieces pieceBytes packedFrom every sized near checks packedBorder borderOf forwardAt valueOf sizeOf tooLong signedOf evenBits pointOf
 borrowed-bytes = refl
 
 pub at-byte-zero : borderOf 1 lats lons (back 0 ∷ []) (0x82 ∷ 0x04 ∷ 0x81 ∷ 0x02 ∷ 0x33 ∷ []) ≡ refused (plain 23)
-unfolding digitsOf varintOf signedForm interleaved packedNumber packedMoveBytes moveTo movesFrom pointsOf movesOf sameMove zipWith flatMap isStill lentMoves readAnd spells clearBefore accepted goodPieces pieceBytes packedFrom every sized near checks packedBorder borderOf forwardAt valueOf sizeOf tooLong signedOf evenBits pointOf
+unfolding digitsOf varintOf signedForm interleaved packedNumber packedMoveBytes moveTo movesFrom pointsOf movesOf sameMove zipWith flatMap isStill lentMoves readAnd spells clearBefore
+    accepted goodPieces pieceBytes packedFrom every sized near checks packedBorder borderOf forwardAt valueOf sizeOf tooLong signedOf evenBits pointOf
 at-byte-zero = refl

@@ -17,7 +17,8 @@ wrote room size out (refused why) e =
     absurd (omega arith)
 wrote room size out (given bytes) e = by-test (leb (length bytes) room) e
   where
-    by-test : (t : Bool) → replied (Wrote size) out ≡ (if t then record { reply = given (length bytes); out = padded room bytes } else record { reply = refused (plain 24); out = zeros room }) → given bytes ≡ given (take size out)
+    by-test : (t : Bool) → replied (Wrote size) out ≡
+        (if t then record { reply = given (length bytes); out = padded room bytes } else record { reply = refused (plain 24); out = zeros room }) → given bytes ≡ given (take size out)
     by-test true g =
         let r : given size ≡ given (length bytes) = ap (λ (x : Replied). x .reply) g in
         let n : size ≡ length bytes = cc in

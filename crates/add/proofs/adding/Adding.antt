@@ -18,14 +18,16 @@ use Rattle.writer.specs.Writer.{checks}
 use Rattle.add.specs.{Adding.Adds.{Adds, spaceFor, notesEnough}, declared.adding.room.NoteRooms.{NoteRooms}}
 
 -- ---- the steps of an add
-grouped : {A : Type 0} (c : Reply (Unit {0})) (x y : Bool) (rest : Reply A) → (c >> (demand x (plain 25) >> (demand y (plain 26) >> rest))) ≡ ((c >> (demand x (plain 25) >> demand y (plain 26))) >> rest)
+grouped : {A : Type 0} (c : Reply (Unit {0})) (x y : Bool) (rest : Reply A) →
+    (c >> (demand x (plain 25) >> (demand y (plain 26) >> rest))) ≡ ((c >> (demand x (plain 25) >> demand y (plain 26))) >> rest)
 grouped (given u) true true rest = refl
 grouped (given u) true false rest = refl
 grouped (given u) false y rest = refl
 grouped (refused why) x y rest = refl
 
 add-steps : (b : Builder) (o : Offered) (space : Space)
-    → add b o space ≡ (offerGood (length (b .plan .yards)) (length (b .plan .names)) o >> (withBorder (b .plan .version) (upTo (min (b .room) (space .bytes))) (dataOf (b .plan) .bytes) (yardOf o) >> fitting space (summed (joined (b .plan) o) (b .room))))
+    → add b o space ≡ (offerGood (length (b .plan .yards)) (length (b .plan .names)) o >>
+    (withBorder (b .plan .version) (upTo (min (b .room) (space .bytes))) (dataOf (b .plan) .bytes) (yardOf o) >> fitting space (summed (joined (b .plan) o) (b .room))))
 unfolding add offerGood
 add-steps b o space = grouped (checks 0 (o .lats) (o .lons) []) (ltb (length (b .plan .yards)) 4096 && eqb (length (b .plan .names)) (length (o .lengths))) (areTexts (o .lengths) (o .texts)) _
 
@@ -85,7 +87,8 @@ pub as-changed : (r : Added) (x y : Changed) (noted : ℕ) → r ≡ record { ch
 as-changed r x y noted e is = e ∙ ap (λ (z : Changed). record { changed = z; noted = noted }) is
 
 -- ---- the ways out
-module _ (held : Held) (noted : ℕ) (lats lons : List ℤ) (pieces sizes values : List ℕ) (rooms : Rooms) (lent : NoteRooms) (out : ℕ) (before : Lists) (notes : Notes) (bytes-are : rooms .bytes ≡ length (before .bytes)) where
+module _ (held : Held) (noted : ℕ) (lats lons : List ℤ) (pieces sizes values : List ℕ) (rooms : Rooms) (lent : NoteRooms) (out : ℕ) (before : Lists) (notes : Notes)
+    (bytes-are : rooms .bytes ≡ length (before .bytes)) where
   abbrev o : Offered
   o = offeredAs lats lons pieces sizes values
 
@@ -118,11 +121,13 @@ module _ (held : Held) (noted : ℕ) (lats lons : List ℤ) (pieces sizes values
     not-low f = absurd (never-both (standing held rooms) stood f)
 
     -- a refusal with its reason
-    refused-as : (why : Refusal) → ((b : Builder) → Holds b held before → Answers (add b o space) before before (C.Refused why)) → (r : Added) → r ≡ same why → Adds held noted o rooms lent out before before notes notes r
+    refused-as : (why : Refusal) → ((b : Builder) → Holds b held before → Answers (add b o space) before before (C.Refused why)) → (r : Added) → r ≡ same why →
+        Adds held noted o rooms lent out before before notes notes r
     refused-as why answers r is =
         subst (Adds held noted o rooms lent out before before notes notes) (sym is) (record { answers = λ b h right. (answers b h, nothing-noted (held .names) why b); stands-not = λ f. not-low f })
 
-    pub refused-adds : (after : List ℕ) (r : Border) → Offers held o (before .bytes) out after r → (why : Refusal) → r ≡ B.Refused why → (s : Added) → s ≡ same why → Adds held noted o rooms lent out before before notes notes s
+    pub refused-adds : (after : List ℕ) (r : Border) → Offers held o (before .bytes) out after r → (why : Refusal) → r ≡ B.Refused why → (s : Added) → s ≡ same why →
+        Adds held noted o rooms lent out before before notes notes s
     unfolding Offers
     refused-adds after r offers why is =
         let bad : Offers held o (before .bytes) out after (B.Refused why) = subst (Offers held o (before .bytes) out after) is offers in
@@ -144,7 +149,8 @@ module _ (held : Held) (noted : ℕ) (lats lons : List ℤ) (pieces sizes values
       unfolding offered
       drawn-here = drew .1 .0
 
-      module _ (sum : ℕ) (sum-is : sum ≡ sumOf sizes) (u : Bool) (long-is : u ≡ (longEnough rooms (held .names) (held .yards + 1) (held .front) (held .strings + sum) && notesEnough lent (held .names) (held .yards + 1))) where
+      module _ (sum : ℕ) (sum-is : sum ≡ sumOf sizes) (u : Bool)
+          (long-is : u ≡ (longEnough rooms (held .names) (held .yards + 1) (held .front) (held .strings + sum) && notesEnough lent (held .names) (held .yards + 1))) where
         asked : u ≡ space .lists
         asked = long-is ∙ ap (λ (n : ℕ). longEnough rooms (held .names) (held .yards + 1) (held .front) (held .strings + n) && notesEnough lent (held .names) (held .yards + 1)) sum-is
 
@@ -153,7 +159,8 @@ module _ (held : Held) (noted : ℕ) (lats lons : List ℤ) (pieces sizes values
             let low : space .lists ≡ false = sym asked ∙ not-true u low-is in
             refused-as (plain 28) (λ b h. full-here b held before h o out space room-here (take (held .bytes) (before .bytes) ++ take size after) good-here drawn-here low)
 
-        pub joined-adds : not u ≡ false → (again : Lists) (notes′ : Notes) (s : Added) → Joins held noted lats lons sizes (take sum values) (take size after) before again notes notes′ s → Adds held noted o rooms lent out before again notes notes′ s
+        pub joined-adds : not u ≡ false → (again : Lists) (notes′ : Notes) (s : Added) → Joins held noted lats lons sizes (take sum values) (take size after) before again notes notes′ s →
+            Adds held noted o rooms lent out before again notes notes′ s
         unfolding Joins
         joined-adds long-too again notes′ s joins =
             let long : space .lists ≡ true = sym asked ∙ not-false u long-too in
@@ -166,7 +173,10 @@ module _ (held : Held) (noted : ℕ) (lats lons : List ℤ) (pieces sizes values
                     wide = wide b held before h o out;
                     narrow = omega arith;
                     drawn = sym (data-as b held before h o out) ∙ (drawn-here ∙ ap (λ (l : List ℕ). given (l ++ take size after)) (data-here b held before h o out));
-                  }) right in
-                  (subst (λ (x : Reply Builder). Answers x before again (s .changed)) (sym (add-last b held before h o out space room-here (take (held .bytes) (before .bytes) ++ take size after) good-here drawn-here)) (both .0), both .1);
+                  }) right in (
+                    subst (λ (x : Reply Builder). Answers x before again (s .changed))
+                        (sym (add-last b held before h o out space room-here (take (held .bytes) (before .bytes) ++ take size after) good-here drawn-here)) (both .0),
+                    both .1,
+                  );
               stands-not = λ f. not-low f;
             }

@@ -123,15 +123,18 @@ module _ (held : Held) (lats lons : List ℤ) (pieces sizes values : List ℕ) (
   data-fits : held .bytes + size ≤ upTo (min (held .room) (min (length bytes) out))
   data-fits =
       let fits : length (take (held .bytes) bytes ++ take size after) ≤ upTo (min (held .room) (min (length bytes) out)) =
-      appended-fits (upTo (min (held .room) (min (length bytes) out))) (take (held .bytes) bytes) false (length (piecesOf pieces)) (borderOf (held .version) lats lons (piecesOf pieces) (take (held .bytes) bytes)) (take (held .bytes) bytes ++ take size after) drawn in
+      appended-fits (upTo (min (held .room) (min (length bytes) out))) (take (held .bytes) bytes) false (length (piecesOf pieces))
+      (borderOf (held .version) lats lons (piecesOf pieces) (take (held .bytes) bytes)) (take (held .bytes) bytes ++ take size after) drawn in
       omega (arith, fits, length-append (take (held .bytes) bytes) (take size after), length-take-le (held .bytes) bytes (omega (arith, s .bytes-room, bytes-are)), length-take-le size after size-in)
 
-  module _ (lent : NoteRooms) (sum : ℕ) (sum-is : sum ≡ sumOf sizes) (t : Bool) (e : t ≡ (longEnough rooms (held .names) (held .yards + 1) (held .front) (held .strings + sum) && notesEnough lent (held .names) (held .yards + 1))) (n : not t ≡ false) where
+  module _ (lent : NoteRooms) (sum : ℕ) (sum-is : sum ≡ sumOf sizes) (t : Bool)
+      (e : t ≡ (longEnough rooms (held .names) (held .yards + 1) (held .front) (held .strings + sum) && notesEnough lent (held .names) (held .yards + 1))) (n : not t ≡ false) where
     all-long : (longEnough rooms (held .names) (held .yards + 1) (held .front) (held .strings + sum) ≡ true) × (notesEnough lent (held .names) (held .yards + 1) ≡ true)
     all-long = both (longEnough rooms (held .names) (held .yards + 1) (held .front) (held .strings + sum)) _ (sym e ∙ not-false t n)
 
     parts : (ownEnough rooms (held .names) (held .yards + 1) (held .strings + sum) ≡ true)
-        × (enough (workOf (rooms .starts) (rooms .keys) (rooms .spare) (rooms .kept) (rooms .held) (rooms .words) (rooms .places) (rooms .boxes)) (held .yards + 1) (held .names * (held .yards + 1)) (held .strings + sum - held .front) ≡ true)
+        × (enough (workOf (rooms .starts) (rooms .keys) (rooms .spare) (rooms .kept) (rooms .held) (rooms .words) (rooms .places) (rooms .boxes)) (held .yards + 1)
+        (held .names * (held .yards + 1)) (held .strings + sum - held .front) ≡ true)
     unfolding longEnough
     parts = both (ownEnough rooms (held .names) (held .yards + 1) (held .strings + sum)) _ (all-long .0)
 
@@ -150,7 +153,8 @@ module _ (held : Held) (lats lons : List ℤ) (pieces sizes values : List ℕ) (
     times : held .names * (held .yards + 1) ≡ held .names * held .yards + held .names
     times = ap (λ (k : ℕ). held .names * k) (add-one (held .yards)) ∙ mul-suc (held .names) (held .yards)
 
-    pub placed-here : (before : Lists) → before .bytes ≡ bytes → rooms .boxes ≡ length (before .boxes) → rooms .borders ≡ length (before .borders) → rooms .lengths ≡ length (before .lengths) → rooms .texts ≡ length (before .texts)
+    pub placed-here : (before : Lists) → before .bytes ≡ bytes → rooms .boxes ≡ length (before .boxes) → rooms .borders ≡ length (before .borders) →
+        rooms .lengths ≡ length (before .lengths) → rooms .texts ≡ length (before .texts)
         → Placed held (length sizes) (length (take sum values)) (length (take size after)) before
     placed-here before same boxes borders lengths texts =
         record {
@@ -167,7 +171,8 @@ module _ (held : Held) (lats lons : List ℤ) (pieces sizes values : List ℕ) (
         }
 
     pub measuring-here : (strings : ℕ) → strings ≡ held .strings + sum
-        → Measuring held sizes strings (length (take size after)) (rooms .borders) (rooms .lengths) (rooms .texts) (workOf (rooms .starts) (rooms .keys) (rooms .spare) (rooms .kept) (rooms .held) (rooms .words) (rooms .places) (rooms .boxes))
+        → Measuring held sizes strings (length (take size after)) (rooms .borders) (rooms .lengths) (rooms .texts)
+        (workOf (rooms .starts) (rooms .keys) (rooms .spare) (rooms .kept) (rooms .held) (rooms .words) (rooms .places) (rooms .boxes))
         (lent .marks) (lent .chains) (lent .groups) (lent .begins)
     measuring-here strings end =
         record {
@@ -182,7 +187,8 @@ module _ (held : Held) (lats lons : List ℤ) (pieces sizes values : List ℕ) (
           borders-room = lists .borders-room;
           lengths-room = lists .lengths-all;
           texts-room = omega (arith, end, lists .texts-room);
-          work-room = ap (λ (k : ℕ). enough (workOf (rooms .starts) (rooms .keys) (rooms .spare) (rooms .kept) (rooms .held) (rooms .words) (rooms .places) (rooms .boxes)) (held .yards + 1) (held .names * (held .yards + 1)) (k - held .front)) end ∙ parts .1;
+          work-room = ap (λ (k : ℕ). enough (workOf (rooms .starts) (rooms .keys) (rooms .spare) (rooms .kept) (rooms .held) (rooms .words) (rooms .places) (rooms .boxes)) (held .yards + 1)
+              (held .names * (held .yards + 1)) (k - held .front)) end ∙ parts .1;
           noted = notes-parts lent (held .names) (held .yards + 1) (all-long .1);
         }
 

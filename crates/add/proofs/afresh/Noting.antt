@@ -42,7 +42,8 @@ module _ (yards : List Yard) (names count : ℕ) (lengths texts places : List �
   never-other b e n notes = absurd (eqb-false (sumOf lengths) (length texts) (sym e ∙ not-true b n) (sym whole))
 
 -- ---- the marks: where the values begin, over the front of zeros
-module _ (lengths zeroed lent : List ℕ) (marks : ℕ) (z : zeroed ≡ zeros marks) (m : lent ≡ startsFrom 0 lengths) (room : length lengths + 1 ≤ marks) (same : length lent ≡ length (take (length lengths + 1) zeroed)) where
+module _ (lengths zeroed lent : List ℕ) (marks : ℕ) (z : zeroed ≡ zeros marks) (m : lent ≡ startsFrom 0 lengths) (room : length lengths + 1 ≤ marks)
+    (same : length lent ≡ length (take (length lengths + 1) zeroed)) where
   zeroed-size : length zeroed ≡ marks
   zeroed-size = ap length z ∙ length-replicate marks 0
 

@@ -22,7 +22,8 @@ module _ (held : Held) (strings size : ℕ) (sums : Sums) (fit : Bool) (e : fit 
   grows-not n r is = is ∙ rw (same-size ∙ not-true fit n) refl
 
   pub grows-into : not fit ≡ false → (greatest : ℤ) → greatest ≡ sums .greatest
-      → C.Into (heldWith held strings (record { table = sums .table; metadata = sums .metadata; bytes = held .bytes + size; yards = held .yards + 1; greatest = greatest })) ≡ measuredAs held strings (totalsWith held size sums)
+      → C.Into (heldWith held strings (record { table = sums .table; metadata = sums .metadata; bytes = held .bytes + size; yards = held .yards + 1; greatest = greatest })) ≡ measuredAs held
+      strings (totalsWith held size sums)
   unfolding measuredAs
   grows-into n greatest is =
       ap (λ (z : ℤ). C.Into (heldWith held strings (record { table = sums .table; metadata = sums .metadata; bytes = held .bytes + size; yards = held .yards + 1; greatest = z }))) is

@@ -32,7 +32,8 @@ notes-as names yards a b c d a′ b′ c′ d′ ea eb ec ed n =
     record { marked = omega (arith, n .marked, ea); chained = omega (arith, n .chained, eb); grouped = omega (arith, n .grouped, ec); begun = omega (arith, n .begun, ed) }
 
 -- ---- the lists to work in, from where they were lent
-pub idle-as : (a b c d e f g a₁ b₁ c₁ d₁ e₁ f₁ g₁ a₂ b₂ c₂ d₂ e₂ f₂ g₂ : List ℕ) → length a₁ ≡ length a → length b₁ ≡ length b → length c₁ ≡ length c → length d₁ ≡ length d → length e₁ ≡ length e → length f₁ ≡ length f → length g₁ ≡ length g
+pub idle-as : (a b c d e f g a₁ b₁ c₁ d₁ e₁ f₁ g₁ a₂ b₂ c₂ d₂ e₂ f₂ g₂ : List ℕ) → length a₁ ≡ length a → length b₁ ≡ length b → length c₁ ≡ length c → length d₁ ≡ length d →
+    length e₁ ≡ length e → length f₁ ≡ length f → length g₁ ≡ length g
     → Idle a₁ b₁ c₁ d₁ e₁ f₁ g₁ [] a₂ b₂ c₂ d₂ e₂ f₂ g₂ [] → Rests a b c d e f g a₂ b₂ c₂ d₂ e₂ f₂ g₂
 idle-as a b c d e f g a₁ b₁ c₁ d₁ e₁ f₁ g₁ a₂ b₂ c₂ d₂ e₂ f₂ g₂ ea eb ec ed ee ef eg at-rest =
     idle
@@ -88,12 +89,14 @@ module _ (held : Held) (sizes : List ℕ) (strings size borders : ℕ) (lengths 
   -- ---- what was settled
   module _ (noted : ℕ) (boxes : List ℤ) (border-places : List ℕ) (before middle : Notes) (s : Surely)
       (sure : Sure.Joins held noted strings size sizes boxes border-places (valueTexts held strings texts) before middle s) where
-    surely : (yards : List Yard) (y : Yard) (drawn drawn′ : Drawn) → Growing yards y drawn drawn′ held size boxes border-places (valueLengths held lengths) (valueTexts held strings texts) → sizes ≡ map length (y .values)
+    surely : (yards : List Yard) (y : Yard) (drawn drawn′ : Drawn) → Growing yards y drawn drawn′ held size boxes border-places (valueLengths held lengths) (valueTexts held strings texts) →
+        sizes ≡ map length (y .values)
         → held .strings + sumOf sizes ≡ strings → NotedBy (held .names) yards noted before → SurelyAs held strings (yards ++ (y ∷ [])) drawn′ before middle s
     surely yards y drawn drawn′ g sizes-are end right =
         sure yards y drawn drawn′ (valueLengths held lengths) g sizes-are (omega (arith, texts-many, end, m .order)) right
 
-    pub settled-into : (next : Held) (noted′ : ℕ) → s ≡ S.Into next noted′ → Settles held noted strings size sizes boxes border-places lengths texts before middle (record { changed = C.Into next; noted = noted′ })
+    pub settled-into : (next : Held) (noted′ : ℕ) → s ≡ S.Into next noted′ →
+        Settles held noted strings size sizes boxes border-places lengths texts before middle (record { changed = C.Into next; noted = noted′ })
     unfolding SurelyAs Renoted
     settled-into next noted′ is yards y drawn drawn′ g sizes-are end right =
         let two = subst (SurelyAs held strings (yards ++ (y ∷ [])) drawn′ before middle) is (surely yards y drawn drawn′ g sizes-are end right) in
@@ -115,7 +118,8 @@ module _ (held : Held) (sizes : List ℕ) (strings size borders : ℕ) (lengths 
 
 -- ---- after the yard was put
 pub measuring-as : (held : Held) (sizes : List ℕ) (strings size a b c d a′ b′ c′ d′ starts keys spare kept bytes words places marks chains groups begins : ℕ) → a′ ≡ a → b′ ≡ b → c′ ≡ c → d′ ≡ d
-    → Measuring held sizes strings size a b c (workOf starts keys spare kept bytes words places d) marks chains groups begins → Measuring held sizes strings size a′ b′ c′ (workOf starts keys spare kept bytes words places d′) marks chains groups begins
+    → Measuring held sizes strings size a b c (workOf starts keys spare kept bytes words places d) marks chains groups begins →
+    Measuring held sizes strings size a′ b′ c′ (workOf starts keys spare kept bytes words places d′) marks chains groups begins
 measuring-as held sizes strings size a b c d a′ b′ c′ d′ starts keys spare kept bytes words places marks chains groups begins ea eb ec ed m =
     subst (λ (n : ℕ). Measuring held sizes strings size n b′ c′ (workOf starts keys spare kept bytes words places d′) marks chains groups begins) (sym ea)
     (subst (λ (n : ℕ). Measuring held sizes strings size a n c′ (workOf starts keys spare kept bytes words places d′) marks chains groups begins) (sym eb)
@@ -123,7 +127,8 @@ measuring-as held sizes strings size a b c d a′ b′ c′ d′ starts keys spa
     (subst (λ (n : ℕ). Measuring held sizes strings size a b c (workOf starts keys spare kept bytes words places n) marks chains groups begins) (sym ed) m)))
 
 pub placed-after : (held : Held) (sizes values border : ℕ) (before after : Lists) → Placed held sizes values border before
-    → length (after .boxes) ≡ length (before .boxes) → length (after .borders) ≡ length (before .borders) → length (after .lengths) ≡ length (before .lengths) → length (after .texts) ≡ length (before .texts) → length (after .bytes) ≡ length (before .bytes)
+    → length (after .boxes) ≡ length (before .boxes) → length (after .borders) ≡ length (before .borders) → length (after .lengths) ≡ length (before .lengths) →
+    length (after .texts) ≡ length (before .texts) → length (after .bytes) ≡ length (before .bytes)
     → Placed held 0 0 0 after
 placed-after held sizes values border before after p boxes borders lengths texts bytes =
     record {

@@ -72,7 +72,8 @@ offer-draws version room bytes out most limit e f earlier lats lons pieces after
     ∙ ap (λ (n : ℕ). appended (upTo (min room (min bytes out))) earlier false n (borderOf version lats lons (piecesOf pieces) earlier)) (sym (pieces-many pieces)))
 
 -- ---- both
-pub lent-enough : (yards names : ℕ) (o : Offered) (c : Border) → passed c ≡ offerGood yards names o → passed c ≡ given tt → (wide lent : ℕ) → LentFor (min (length (o .lats)) 65536) wide lent → LentFor (length (o .lats)) wide lent
+pub lent-enough : (yards names : ℕ) (o : Offered) (c : Border) → passed c ≡ offerGood yards names o → passed c ≡ given tt → (wide lent : ℕ) →
+    LentFor (min (length (o .lats)) 65536) wide lent → LentFor (length (o .lats)) wide lent
 unfolding offerGood
 lent-enough yards names o c e t wide lent l =
     let few : length (o .lats) ≤ 65535 = few-points (o .lats) (o .lons) (passed-first (checks 0 (o .lats) (o .lons) []) _ (sym e ∙ t)) in

@@ -6,7 +6,8 @@ use native.Mathlib.Omega.{arith}
 use Rattle.builder.specs.{Entries.{boxOf}, declared.boxes.Bounds.{Bounds}}
 use Rattle.add.specs.inner.Offered.Puts.{cornersFor, endedAt}
 
-pub corners-put : (bounds : Bounds) (lats lons : List ℤ) → bounds ≡ boxOf lats lons → (boxes after : List ℤ) (at : ℕ) → after ≡ sets boxes at (bounds .south ∷ bounds .west ∷ bounds .north ∷ bounds .east ∷ []) → after ≡ sets boxes at (cornersFor lats lons)
+pub corners-put : (bounds : Bounds) (lats lons : List ℤ) → bounds ≡ boxOf lats lons → (boxes after : List ℤ) (at : ℕ) →
+    after ≡ sets boxes at (bounds .south ∷ bounds .west ∷ bounds .north ∷ bounds .east ∷ []) → after ≡ sets boxes at (cornersFor lats lons)
 corners-put bounds lats lons is boxes after at e = e ∙ ap (λ (b : Bounds). sets boxes at (b .south ∷ b .west ∷ b .north ∷ b .east ∷ [])) is
 
 module _ {A : Type 0} where

@@ -26,12 +26,14 @@ totals-same : (a b c d a′ b′ c′ d′ : ℕ) (e e′ : ℤ) → a ≡ a′ 
     → _≡_ {A = Totals} (record { table = a; metadata = b; bytes = c; yards = d; greatest = e }) (record { table = a′; metadata = b′; bytes = c′; yards = d′; greatest = e′ })
 totals-same a b c d a′ b′ c′ d′ e e′ p q r s t = rw (p, q, r, s, t)
 
-same-totals : (yards : List Yard) (y : Yard) (drawn drawn′ : Drawn) (held : Held) (size : ℕ) (boxes : List ℤ) (borders lengths texts : List ℕ) → Growing yards y drawn drawn′ held size boxes borders lengths texts
+same-totals : (yards : List Yard) (y : Yard) (drawn drawn′ : Drawn) (held : Held) (size : ℕ) (boxes : List ℤ) (borders lengths texts : List ℕ) →
+    Growing yards y drawn drawn′ held size boxes borders lengths texts
     → (s : Stepped) → Grown yards y drawn′ s → totalsBy held size s ≡ totalsFor (yards ++ (y ∷ [])) drawn′
 unfolding totalsFor
 same-totals yards y drawn drawn′ held size boxes borders lengths texts g s grown =
     let t : Totals = totalsFor (yards ++ (y ∷ [])) drawn′ in
-    totals-same (s .table) (s .metadata) (held .bytes + size) (held .yards + 1) (t .table) (t .metadata) (t .bytes) (t .yards) (s .greatest) (t .greatest) (grown .table) (grown .metadata) (sym (g .bytes)) (g .stands .many) (grown .greatest)
+    totals-same (s .table) (s .metadata) (held .bytes + size) (held .yards + 1) (t .table) (t .metadata) (t .bytes) (t .yards) (s .greatest) (t .greatest) (grown .table) (grown .metadata)
+    (sym (g .bytes)) (g .stands .many) (grown .greatest)
 
 module _ (held : Held) (noted strings size : ℕ) (sizes : List ℕ) (boxes : List ℤ) (borders texts marks chains groups begins after : List ℕ) (weighed : Sureness) (growth : Growth)
     (pre : Joinable held size sizes (length texts) (length boxes) (length borders) (length marks) (length chains) (length groups) (length begins)) (some : noted ≡ 0 → ⊥)
@@ -42,9 +44,11 @@ module _ (held : Held) (noted strings size : ℕ) (sizes : List ℕ) (boxes : Li
     pub joins-unsure : Joins held noted strings size sizes boxes borders texts (notesAs marks chains groups begins) (notesAs again chains groups begins) S.Unsure
     unfolding SurelyAs NotedBy
     joins-unsure = λ yards y drawn drawn′ lengths g valued whole n.
-        ap (λ (l : List ℕ). notesAs l chains groups begins) (unmarked yards y drawn drawn′ held size boxes borders lengths texts g sizes valued whole noted marks chains groups begins (n (omega (arith, some))) after put again cut)
+        ap (λ (l : List ℕ). notesAs l chains groups begins)
+        (unmarked yards y drawn drawn′ held size boxes borders lengths texts g sizes valued whole noted marks chains groups begins (n (omega (arith, some))) after put again cut)
 
-    pub joins-refused : (why : Refusal) → growth ≡ G.Refused why → Joins held noted strings size sizes boxes borders texts (notesAs marks chains groups begins) (notesAs again chains groups begins) (S.Refused why)
+    pub joins-refused : (why : Refusal) → growth ≡ G.Refused why →
+        Joins held noted strings size sizes boxes borders texts (notesAs marks chains groups begins) (notesAs again chains groups begins) (S.Refused why)
     unfolding SurelyAs NotedBy Growths Steps
     joins-refused why is = λ yards y drawn drawn′ lengths g valued whole n.
         let notes = n (omega (arith, some)) in
@@ -53,7 +57,8 @@ module _ (held : Held) (noted strings size : ℕ) (sizes : List ℕ) (boxes : Li
         let all = stepping yards y drawn drawn′ held size boxes borders lengths texts g sizes valued whole noted marks chains groups begins notes after put (pre .valued) (pre .room .noted .marked) in
         let grown : Grown yards y drawn′ s = subst (Steps yards y drawn′) (by .1 .0) (told yards y drawn drawn′ lengths all) in (
           by .1 .1 ∙ ap (measuredAs held strings) (same-totals yards y drawn drawn′ held size boxes borders lengths texts g s grown),
-          ap (λ (l : List ℕ). notesAs l chains groups begins) (unmarked yards y drawn drawn′ held size boxes borders lengths texts g sizes valued whole noted marks chains groups begins notes after put again cut),
+          ap (λ (l : List ℕ). notesAs l chains groups begins)
+              (unmarked yards y drawn drawn′ held size boxes borders lengths texts g sizes valued whole noted marks chains groups begins notes after put again cut),
         )
 
   -- ---- it is in
@@ -67,7 +72,8 @@ module _ (held : Held) (noted strings size : ℕ) (sizes : List ℕ) (boxes : Li
       let s : Stepped = by .0 in
       let all = stepping yards y drawn drawn′ held size boxes borders lengths texts g sizes valued whole noted marks chains groups begins notes after put (pre .valued) (pre .room .noted .marked) in
       let grown : Grown yards y drawn′ s = subst (Steps yards y drawn′) (by .1 .0) (told yards y drawn drawn′ lengths all) in
-      let more = noted-more yards y drawn drawn′ held size boxes borders lengths texts g sizes valued whole noted marks chains groups begins notes after put (pre .valued) (pre .room .noted .marked) s grown (omega (arith, pre .room .noted .begun)) chains′ groups′ begins′ one (begun ∙ ap (set begins (held .yards)) (by .1 .1 .1 .1)) in (
+      let more = noted-more yards y drawn drawn′ held size boxes borders lengths texts g sizes valued whole noted marks chains groups begins notes after put (pre .valued)
+      (pre .room .noted .marked) s grown (omega (arith, pre .room .noted .begun)) chains′ groups′ begins′ one (begun ∙ ap (set begins (held .yards)) (by .1 .1 .1 .1)) in (
         by .1 .1 .0 ∙ ap (measuredAs held strings) (same-totals yards y drawn drawn′ held size boxes borders lengths texts g s grown),
         subst (λ (k : ℕ). Noted (held .names) (yards ++ (y ∷ [])) k (notesAs after chains′ groups′ begins′)) (sym (by .1 .1 .1 .0)) more,
       )

@@ -25,7 +25,8 @@ starts-more at (n ∷ xs) ys =
     ap (λ (l : List ℕ). at ∷ l) (starts-more (at + n) xs ys ∙ ap (λ (k : ℕ). startsFrom (at + n) xs ++ drop 1 (startsFrom k ys)) e)
 
 -- ---- some yards in a builder's lists, with one more
-module _ (yards : List Yard) (y : Yard) (drawn drawn′ : Drawn) (held : Held) (size : ℕ) (boxes : List ℤ) (borders lengths texts : List ℕ) (g : Growing yards y drawn drawn′ held size boxes borders lengths texts)
+module _ (yards : List Yard) (y : Yard) (drawn drawn′ : Drawn) (held : Held) (size : ℕ) (boxes : List ℤ) (borders lengths texts : List ℕ)
+    (g : Growing yards y drawn drawn′ held size boxes borders lengths texts)
     (sizes : List ℕ) (valued : sizes ≡ map length (y .values)) (whole : held .strings - held .front + sumOf sizes ≡ length texts)
     (noted : ℕ) (marks chains groups begins : List ℕ) (n : Noted (held .names) yards noted (notesAs marks chains groups begins))
     (after : List ℕ) (put : after ≡ sets marks (held .yards * held .names + 1) (drop 1 (startsFrom (held .strings - held .front) sizes))) where
@@ -83,7 +84,8 @@ module _ (yards : List Yard) (y : Yard) (drawn drawn′ : Drawn) (held : Held) (
         put ∙ (ap (λ (l : List ℕ). sets marks (held .yards * held .names + 1) (drop 1 l)) begin ∙ ap (λ (k : ℕ). sets marks k more) (sym front-many)) in
         let many : length more ≡ held .names = omega (arith, length-drop 1 (startsFrom (sumOf old) sizes), starts-many (sumOf old) sizes, named) in
         let none : 0 + sumOf old ≡ sumOf old = omega arith in
-        let all : startsFrom 0 lengths ≡ startsFrom 0 old ++ more = ap (startsFrom 0) lengths-split ∙ (starts-more 0 old sizes ∙ ap (λ (k : ℕ). startsFrom 0 old ++ drop 1 (startsFrom k sizes)) none) in
+        let all : startsFrom 0 lengths ≡ startsFrom 0 old ++ more =
+        ap (startsFrom 0) lengths-split ∙ (starts-more 0 old sizes ∙ ap (λ (k : ℕ). startsFrom 0 old ++ drop 1 (startsFrom k sizes)) none) in
         subst (λ (l : List ℕ). Front 0 l after) (sym all)
         (front-put 0 (n .lists .marks-are) more after (omega (arith, many, front-many, room, yard-next (held .yards) (held .names))) here)
 
@@ -96,7 +98,8 @@ module _ (yards : List Yard) (y : Yard) (drawn drawn′ : Drawn) (held : Held) (
     indexed-all : Indexed (held .names) lengths texts (held .yards) chains groups
     unfolding old
     indexed-all =
-        let i : Indexed (held .names) old (joined (valuesIn yards)) (held .yards) chains groups = subst (λ (k : ℕ). Indexed (held .names) old (joined (valuesIn yards)) k chains groups) (sym (g .many)) (n .lists .indexed) in
+        let i : Indexed (held .names) old (joined (valuesIn yards)) (held .yards) chains groups =
+        subst (λ (k : ℕ). Indexed (held .names) old (joined (valuesIn yards)) k chains groups) (sym (g .many)) (n .lists .indexed) in
         let more : Indexed (held .names) (old ++ sizes) (joined (valuesIn yards) ++ joined (y .values)) (held .yards) chains groups =
         indexed-more old (joined (valuesIn yards)) sizes (joined (y .values)) (omega (arith, old-sum)) (held .names) (held .yards) (omega (arith, old-many)) chains groups i in
         subst (λ (l : List ℕ). Indexed (held .names) l texts (held .yards) chains groups) (sym lengths-split)
@@ -123,7 +126,8 @@ module _ (yards : List Yard) (y : Yard) (drawn drawn′ : Drawn) (held : Held) (
 
     -- ---- the notes with the yard
     module _ (s : Stepped) (grown : Grown yards y drawn′ s) (space : held .yards < length begins) (chains′ groups′ begins′ : List ℕ)
-        (one : NotesOne (held .names) (held .yards) (take ((held .yards + 1) * held .names + 1) after) texts chains groups chains′ groups′) (begun : begins′ ≡ set begins (held .yards) (s .begin)) where
+        (one : NotesOne (held .names) (held .yards) (take ((held .yards + 1) * held .names + 1) after) texts chains groups chains′ groups′)
+        (begun : begins′ ≡ set begins (held .yards) (s .begin)) where
       indexed-new : Indexed (held .names) lengths texts (held .yards + 1) chains′ groups′
       indexed-new =
           let sum : sumOf lengths ≡ length texts = ap sumOf (g .stands .lengths-are) ∙ (sym (joined-sum (valuesIn (yards ++ (y ∷ [])))) ∙ ap length (sym (g .stands .texts-are))) in

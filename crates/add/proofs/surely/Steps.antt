@@ -35,12 +35,14 @@ step-room held boxes borders marks chains groups begins r =
 -- the greatest lower latitude is passed on as a signed number
 pub weighs : (held : Held) (noted : ℕ) (boxes : List ℤ) (borders texts marks chains groups begins : List ℕ) (r : Sureness) (greatest : ℤ) → greatest ≡ held .greatest
     → ((yards : List Yard) (y : Yard) (drawn drawn′ : Drawn) (lengths : List ℕ)
-    → Stepping yards y drawn drawn′ (held .names) (held .yards) (record { records = noted - 1; metadata = held .metadata; table = held .table; greatest = greatest }) boxes borders lengths (take ((held .yards + 1) * held .names + 1) marks) texts chains groups begins
+    → Stepping yards y drawn drawn′ (held .names) (held .yards) (record { records = noted - 1; metadata = held .metadata; table = held .table; greatest = greatest }) boxes borders lengths
+    (take ((held .yards + 1) * held .names + 1) marks) texts chains groups begins
     → Steps yards y drawn′ r)
     → Weighing held noted boxes borders texts marks chains groups begins r
 weighs held noted boxes borders texts marks chains groups begins r greatest e told = λ yards y drawn drawn′ lengths s.
     told yards y drawn drawn′ lengths
-    (subst (λ (z : ℤ). Stepping yards y drawn drawn′ (held .names) (held .yards) (record { records = noted - 1; metadata = held .metadata; table = held .table; greatest = z }) boxes borders lengths (take ((held .yards + 1) * held .names + 1) marks) texts chains groups begins) (sym e) s)
+    (subst (λ (z : ℤ). Stepping yards y drawn drawn′ (held .names) (held .yards) (record { records = noted - 1; metadata = held .metadata; table = held .table; greatest = z }) boxes borders
+    lengths (take ((held .yards + 1) * held .names + 1) marks) texts chains groups begins) (sym e) s)
 
 -- ---- the builder's numbers
 module _ (held : Held) (strings size : ℕ) (weighed : Sureness) (s : Stepped) (sure : weighed ≡ Q.Sure s) (greatest : ℤ) (same : greatest ≡ s .greatest) (records : ℕ) (r : Changed)

@@ -50,7 +50,8 @@ four-size l at a b c d =
 -- the box of a part
 pub part-box : (lats : List ℤ) (lat tall : ℕ) (lons : List ℤ) (lon wide e f : ℕ) → e ≡ partEnd (length lats) lat tall → f ≡ partEnd (length lons) lon wide
     → (r : Bounds) → r ≡ boxOf (take (e - lat) (drop lat lats)) (take (f - lon) (drop lon lons)) → r ≡ boxOf (partOf tall (drop lat lats)) (partOf wide (drop lon lons))
-part-box lats lat tall lons lon wide e f is it r b = b ∙ (ap (λ (l : List ℤ). boxOf l (take (f - lon) (drop lon lons))) (part-is lats lat tall e is) ∙ ap (boxOf (partOf tall (drop lat lats))) (part-is lons lon wide f it))
+part-box lats lat tall lons lon wide e f is it r b =
+    b ∙ (ap (λ (l : List ℤ). boxOf l (take (f - lon) (drop lon lons))) (part-is lats lat tall e is) ∙ ap (boxOf (partOf tall (drop lat lats))) (part-is lons lon wide f it))
 
 abbrev cornersFrom : List ℕ → List ℤ → List ℤ → List ℤ
 cornersFrom ns ys xs = cornersOf (yardsFrom ns ys xs [] [])
@@ -74,11 +75,14 @@ module _ (yards : List ℕ) (lats lons before boxes : List ℤ) (lat lon i : ℕ
     abbrev here : Bounds
     here = boxOf (partOf (getD yards i 0) (drop lat lats)) (partOf (getD yards (i + 1) 0) (drop lon lons))
 
-    step : cornersFrom (drop i yards) (drop lat lats) (drop lon lons) ≡ here .south ∷ here .west ∷ here .north ∷ here .east ∷ cornersFrom (drop (i + 4) yards) (drop (getD yards i 0) (drop lat lats)) (drop (getD yards (i + 1) 0) (drop lon lons))
+    step : cornersFrom (drop i yards) (drop lat lats) (drop lon lons) ≡ here .south ∷ here .west ∷ here .north ∷ here .east ∷ cornersFrom (drop (i + 4) yards)
+        (drop (getD yards i 0) (drop lat lats)) (drop (getD yards (i + 1) 0) (drop lon lons))
     unfolding yardsFrom cornersOf
     step =
         ap (λ (ns : List ℕ). cornersFrom ns (drop lat lats) (drop lon lons)) (four-words yards i more)
-        ∙ ap (λ (l : List ℤ). here .south ∷ here .west ∷ here .north ∷ here .east ∷ l) (corners-alone (drop (i + 4) yards) (drop (getD yards i 0) (drop lat lats)) (drop (getD yards (i + 1) 0) (drop lon lons)) (drop (5 * getD yards (i + 2) 0) []) [] (drop (getD yards (i + 3) 0) []) [])
+        ∙ ap (λ (l : List ℤ). here .south ∷ here .west ∷ here .north ∷ here .east ∷ l)
+        (corners-alone (drop (i + 4) yards) (drop (getD yards i 0) (drop lat lats)) (drop (getD yards (i + 1) 0) (drop lon lons)) (drop (5 * getD yards (i + 2) 0) []) []
+        (drop (getD yards (i + 3) 0) []) [])
 
     pub box-goes : (bounds : Bounds) → bounds ≡ here → (boxes′ : List ℤ) → boxes′ ≡ sets boxes i (bounds .south ∷ bounds .west ∷ bounds .north ∷ bounds .east ∷ [])
         → (lat′ lon′ : ℕ) → lat′ ≡ nextPart (length lats) lat (getD yards i 0) → lon′ ≡ nextPart (length lons) lon (getD yards (i + 1) 0)

@@ -27,18 +27,21 @@ pub field-written : (fields : List Text) (records : ℕ) (t : Text) → wordByte
 unfolding wordBytes wordIn written
 field-written fields records t = go (isRemote fields t)
   where
-    go : (far : Bool) → (if eqb (if far then suc (offsetOf fields t) else 0) 0 then inlined t else varintOf (255 + records + (if far then suc (offsetOf fields t) else 0))) ≡ (if far then varintOf (256 + records + offsetOf fields t) else inlined t)
+    go : (far : Bool) → (if eqb (if far then suc (offsetOf fields t) else 0) 0 then inlined t else varintOf (255 + records + (if far then suc (offsetOf fields t) else 0))) ≡
+        (if far then varintOf (256 + records + offsetOf fields t) else inlined t)
     go true =
         let e : 255 + records + suc (offsetOf fields t) ≡ 256 + records + offsetOf fields t = omega arith in
         ap (λ (b : Bool). if b then inlined t else varintOf (255 + records + suc (offsetOf fields t))) (ne-eqb (suc (offsetOf fields t)) 0 (λ z. omega arith)) ∙ ap varintOf e
     go false = refl
 
-joined-written : (fields : List Text) (records : ℕ) (front : List ℕ) (ts : List Text) → joinedFrom (fieldBytes records (front ++ map (wordIn fields) ts)) (length front) ts ≡ flatMap (written fields records) ts
+joined-written : (fields : List Text) (records : ℕ) (front : List ℕ) (ts : List Text) →
+    joinedFrom (fieldBytes records (front ++ map (wordIn fields) ts)) (length front) ts ≡ flatMap (written fields records) ts
 unfolding joinedFrom flatMap
 joined-written fields records front [] = refl
 joined-written fields records front (t ∷ ts) =
     let here : getD (front ++ wordIn fields t ∷ map (wordIn fields) ts) (length front) 0 ≡ wordIn fields t = getD-append-seam front (wordIn fields t) (map (wordIn fields) ts) 0 in
-    let shift : front ++ wordIn fields t ∷ map (wordIn fields) ts ≡ (front ++ (wordIn fields t ∷ [])) ++ map (wordIn fields) ts = sym (append-assoc front (wordIn fields t ∷ []) (map (wordIn fields) ts)) in
+    let shift : front ++ wordIn fields t ∷ map (wordIn fields) ts ≡ (front ++ (wordIn fields t ∷ [])) ++ map (wordIn fields) ts =
+    sym (append-assoc front (wordIn fields t ∷ []) (map (wordIn fields) ts)) in
     let next : suc (length front) ≡ length (front ++ (wordIn fields t ∷ [])) = sym (length-append front (wordIn fields t ∷ []) ∙ add-one (length front)) in
     ap (λ (w : ℕ). wordBytes records w t ++ joinedFrom (fieldBytes records (front ++ wordIn fields t ∷ map (wordIn fields) ts)) (suc (length front)) ts) here
     ∙ (ap (λ (l : List ℕ). l ++ joinedFrom (fieldBytes records (front ++ wordIn fields t ∷ map (wordIn fields) ts)) (suc (length front)) ts) (field-written fields records t)
@@ -126,7 +129,11 @@ module _ (names : ℕ) (lengths texts : List ℕ) where
 
       go : (b : Bool) → isIn sameTexts (item (yard + more)) (values (yard + more)) ≡ b → Front yard more → Front yard (suc more)
       go true k f = record { rest = f .rest; is = ap fields e ∙ (fields-old (yard + more) k ∙ f .is) }
-      go false k f = record { rest = f .rest ++ item (yard + more); is = ap fields e ∙ (fields-new (yard + more) k ∙ (ap (λ (l : List Text). l ++ item (yard + more)) (f .is) ∙ append-assoc (fields yard) (f .rest) (item (yard + more)))) }
+      go false k f = record {
+        rest = f .rest ++ item (yard + more);
+        is = ap fields e ∙
+            (fields-new (yard + more) k ∙ (ap (λ (l : List Text). l ++ item (yard + more)) (f .is) ∙ append-assoc (fields yard) (f .rest) (item (yard + more))));
+      }
 
   -- a yard with a record of its own: where its fields stand among all
   module _ (count yard : ℕ) (h : yard < count) (new : isIn sameTexts (item yard) (values yard) ≡ false) where

@@ -25,7 +25,8 @@ cut-lengths (n ∷ ns) texts h =
     let l : length (take n texts) ≡ n = length-take-le n texts (omega arith) in
     ap (λ (k : ℕ). k ∷ map length (cutBy ns (drop n texts))) l ∙ ap (λ (ks : List ℕ). n ∷ ks) (cut-lengths ns (drop n texts) (omega (arith, length-drop n texts)))
 
-pub item-lengths : (lengths texts : List ℕ) → sumOf lengths ≤ length texts → (at width : ℕ) → at + width ≤ length lengths → map length (itemAt (startsFrom 0 lengths) texts at width) ≡ take width (drop at lengths)
+pub item-lengths : (lengths texts : List ℕ) → sumOf lengths ≤ length texts → (at width : ℕ) → at + width ≤ length lengths →
+    map length (itemAt (startsFrom 0 lengths) texts at width) ≡ take width (drop at lengths)
 item-lengths lengths texts h at width k =
     ap (map length) (item-part lengths texts at width k)
     ∙ (map-take length width (drop at (cutBy lengths texts))

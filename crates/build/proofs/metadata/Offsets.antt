@@ -36,10 +36,13 @@ module _ {A : Type 0} (same : A → A → Bool) (equal : (x y : A) → same x y 
   at-front t y ys e = ap (λ (b : Bool). if b then 0 else (size y + sizeBefore same size t ys)) e
 
   -- one that is new lies behind those before it
-  pub new-place : (seen before : List A) (t : A) (rest : List A) → good t ≡ true → isIn same t seen ≡ false → isIn same t before ≡ false → sizeBefore same size t (used seen (before ++ (t ∷ rest))) ≡ total (used seen before)
+  pub new-place : (seen before : List A) (t : A) (rest : List A) → good t ≡ true → isIn same t seen ≡ false → isIn same t before ≡ false →
+      sizeBefore same size t (used seen (before ++ (t ∷ rest))) ≡ total (used seen before)
   unfolding isIn total goodOnes firstsAfter
   new-place seen [] t rest g s p = ap (sizeBefore same size t) (used-good seen t rest g false s) ∙ at-front t t (used (t ∷ seen) rest) (itself t)
-  new-place seen (y ∷ before) t rest g s p = split (good y) refl (isIn same y seen) refl (new-place seen before t rest g s (both .1)) (new-place (y ∷ seen) before t rest g (ap (λ (b : Bool). b || isIn same t seen) (both .0) ∙ s) (both .1))
+  new-place seen (y ∷ before) t rest g s p =
+      split (good y) refl (isIn same y seen) refl (new-place seen before t rest g s (both .1))
+      (new-place (y ∷ seen) before t rest g (ap (λ (b : Bool). b || isIn same t seen) (both .0) ∙ s) (both .1))
     where
       both : (same t y ≡ false) × (isIn same t before ≡ false)
       both = neither (same t y) (isIn same t before) p
@@ -57,7 +60,8 @@ module _ {A : Type 0} (same : A → A → Bool) (equal : (x y : A) → same x y 
           ∙ (behind t y (used (y ∷ seen) all) (both .0) ∙ (ap (λ (n : ℕ). size y + n) there ∙ sym (ap total (used-good seen y before e false f))))
 
   -- one that came before lies whole among those before
-  pub old-place : (seen before : List A) (t : A) (rest : List A) → good t ≡ true → isIn same t seen ≡ false → isIn same t before ≡ true → sizeBefore same size t (used seen (before ++ rest)) + size t ≤ total (used seen before)
+  pub old-place : (seen before : List A) (t : A) (rest : List A) → good t ≡ true → isIn same t seen ≡ false → isIn same t before ≡ true →
+      sizeBefore same size t (used seen (before ++ rest)) + size t ≤ total (used seen before)
   unfolding isIn total
   old-place seen [] t rest g s p = differ p
   old-place seen (y ∷ before) t rest g s p = split (good y) refl (isIn same y seen) refl (same t y) refl (λ h. old-place seen before t rest g s h) (λ h k. old-place (y ∷ seen) before t rest g h k)
@@ -88,7 +92,8 @@ module _ {A : Type 0} (same : A → A → Bool) (equal : (x y : A) → same x y 
           let z : size t ≡ size y = ap size (equal t y k) in
           omega (arith, a, b, z)
       split true e false f false k here there =
-          let a : sizeBefore same size t (used seen (y ∷ all)) ≡ size y + sizeBefore same size t (used (y ∷ seen) all) = ap (sizeBefore same size t) (used-good seen y all e false f) ∙ behind t y (used (y ∷ seen) all) k in
+          let a : sizeBefore same size t (used seen (y ∷ all)) ≡ size y + sizeBefore same size t (used (y ∷ seen) all) =
+          ap (sizeBefore same size t) (used-good seen y all e false f) ∙ behind t y (used (y ∷ seen) all) k in
           let b : total (used seen (y ∷ before)) ≡ size y + total (used (y ∷ seen) before) = ap total (used-good seen y before e false f) in
           omega (arith, a, b, there (ap (λ (x : Bool). x || isIn same t seen) k ∙ s) (later k))
 

@@ -24,7 +24,8 @@ pub record Placing (lengths texts out₀ : List ℕ) (place : ℕ) (out : List �
   pub stored : Stored out₀ place (flatMap inlined (firstsAfter sameText [] (goodOnes (isRemote (cutBy lengths texts)) (take i (cutBy lengths texts))))) out next
   pub bound : next + sumOf (drop i lengths) + 10 * length (drop i lengths) < 2 ^ 60
 
-module _ (lengths texts words : List ℕ) (sum : sumOf lengths ≤ length texts) (words-are : take (length lengths) words ≡ map (wordIn (cutBy lengths texts)) (cutBy lengths texts)) (out₀ : List ℕ) (place : ℕ) where
+module _ (lengths texts words : List ℕ) (sum : sumOf lengths ≤ length texts) (words-are : take (length lengths) words ≡ map (wordIn (cutBy lengths texts)) (cutBy lengths texts))
+    (out₀ : List ℕ) (place : ℕ) where
   abbrev fields : List Text
   fields = cutBy lengths texts
 
@@ -80,7 +81,8 @@ module _ (lengths texts words : List ℕ) (sum : sumOf lengths ≤ length texts)
     snoc : take (i + 1) fields ≡ take i fields ++ (field i ∷ [])
     snoc = ap (λ (n : ℕ). take n fields) (add-one i) ∙ take-suc fields i [] (omega (arith, many lengths texts sum, h))
 
-    on : (out′ : List ℕ) (next′ : ℕ) → Stored out₀ place (flatMap inlined (usedTo (i + 1))) out′ next′ → next′ ≤ next + (10 + getD lengths i 0) → Placing lengths texts out₀ place out′ next′ (at + getD lengths i 0) (i + 1)
+    on : (out′ : List ℕ) (next′ : ℕ) → Stored out₀ place (flatMap inlined (usedTo (i + 1))) out′ next′ → next′ ≤ next + (10 + getD lengths i 0) →
+        Placing lengths texts out₀ place out′ next′ (at + getD lengths i 0) (i + 1)
     on out′ next′ s less =
         let drops : drop (i + 1) lengths ≡ drop (suc i) lengths = ap (λ (n : ℕ). drop n lengths) (add-one i) in
         let d : sumOf (drop (i + 1) lengths) ≡ sumOf (drop (suc i) lengths) = ap sumOf drops in
@@ -96,7 +98,8 @@ module _ (lengths texts words : List ℕ) (sum : sumOf lengths ≤ length texts)
         }
 
     -- the first use of a text
-    pub place-new : (word : ℕ) → word ≡ getD words i 0 → word ≡ next - place + 1 → (out′ : List ℕ) (next′ : ℕ) → Stored out next (inlined (take (at + getD lengths i 0 - at) (drop at texts))) out′ next′ → Placing lengths texts out₀ place out′ next′ (at + getD lengths i 0) (i + 1)
+    pub place-new : (word : ℕ) → word ≡ getD words i 0 → word ≡ next - place + 1 → (out′ : List ℕ) (next′ : ℕ) →
+        Stored out next (inlined (take (at + getD lengths i 0 - at) (drop at texts))) out′ next′ → Placing lengths texts out₀ place out′ next′ (at + getD lengths i 0) (i + 1)
     place-new word is e out′ next′ s = go (isRemote fields (field i)) refl (isIn sameText (field i) (take i fields)) refl
       where
         w : getD words i 0 ≡ remoteIn fields (take i fields) + 1
@@ -114,7 +117,8 @@ module _ (lengths texts words : List ℕ) (sum : sumOf lengths ≤ length texts)
             ∙ (ap (flatMap inlined) (used-first sameText text-equal text-itself (isRemote fields) (λ (x : Text). length (inlined x)) (take i fields) (field i) f g)
             ∙ (flat-more inlined (usedTo i) (field i ∷ []) ∙ ap (λ (l : List ℕ). flatMap inlined (usedTo i) ++ l) (one (field i)))) in
             let few : length (field i) ≤ getD lengths i 0 = let l = length-take (at + getD lengths i 0 - at) (drop at texts) in let q = ap length here in omega (arith, l, q) in
-            on out′ next′ (subst (λ (l : List ℕ). Stored out₀ place l out′ next′) (sym more) (stored-then (flatMap inlined (usedTo i)) (inlined (field i)) (c .stored) t)) (omega (arith, t .place-after, inlined-few (field i), few))
+            on out′ next′ (subst (λ (l : List ℕ). Stored out₀ place l out′ next′) (sym more) (stored-then (flatMap inlined (usedTo i)) (inlined (field i)) (c .stored) t))
+            (omega (arith, t .place-after, inlined-few (field i), few))
 
     -- no text, or one that came before
     pub place-old : (word : ℕ) → word ≡ getD words i 0 → (word ≡ next - place + 1 → ⊥) → Placing lengths texts out₀ place out next (at + getD lengths i 0) (i + 1)
@@ -124,8 +128,11 @@ module _ (lengths texts words : List ℕ) (sum : sumOf lengths ≤ length texts)
         kept e = on out next (subst (λ (l : List Text). Stored out₀ place (flatMap inlined l) out next) (sym e) (c .stored)) (omega arith)
 
         go : (f : Bool) → isRemote fields (field i) ≡ f → (o : Bool) → isIn sameText (field i) (take i fields) ≡ o → Placing lengths texts out₀ place out next (at + getD lengths i 0) (i + 1)
-        go false f o g = kept (ap (λ (l : List Text). firstsAfter sameText [] (goodOnes (isRemote fields) l)) snoc ∙ used-plain sameText text-equal text-itself (isRemote fields) (λ (x : Text). length (inlined x)) (take i fields) (field i) f)
-        go true f true g = kept (ap (λ (l : List Text). firstsAfter sameText [] (goodOnes (isRemote fields) l)) snoc ∙ used-again sameText text-equal text-itself (isRemote fields) (λ (x : Text). length (inlined x)) (take i fields) (field i) f g)
+        go false f o g = kept (ap (λ (l : List Text). firstsAfter sameText [] (goodOnes (isRemote fields) l)) snoc ∙
+            used-plain sameText text-equal text-itself (isRemote fields) (λ (x : Text). length (inlined x)) (take i fields) (field i) f)
+        go true f true g = kept
+            (ap (λ (l : List Text). firstsAfter sameText [] (goodOnes (isRemote fields) l)) snoc ∙
+            used-again sameText text-equal text-itself (isRemote fields) (λ (x : Text). length (inlined x)) (take i fields) (field i) f g)
         go true f false g =
             let z : getD words i 0 ≡ suc (offsetOf fields (field i)) = word-is ∙ sym (far-word lengths texts sum (field i) f) in
             absurd (not (is ∙ (z ∙ (ap suc (offset-new lengths texts sum i h f g ∙ sym far) ∙ sym (add-one (next - place))))))

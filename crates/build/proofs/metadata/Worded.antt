@@ -148,7 +148,8 @@ module _ (lengths texts : List ℕ) (sum : sumOf lengths ≤ length texts) where
   pub offset-old : (i : ℕ) → isRemote fields (field i) ≡ true → isIn sameText (field i) (take i fields) ≡ true → offsetOf fields (field i) + size (field i) ≤ remoteIn fields (take i fields)
   unfolding offsetOf remotes isIn
   offset-old i far old =
-      let e : offsetOf fields (field i) ≡ sizeBefore sameText size (field i) (firstsAfter sameText [] (goodOnes (isRemote fields) (take i fields ++ drop i fields))) = ap (λ (l : List Text). sizeBefore sameText size (field i) (firstsAfter sameText [] (goodOnes (isRemote fields) l))) (sym (take-append-drop i fields)) in
+      let e : offsetOf fields (field i) ≡ sizeBefore sameText size (field i) (firstsAfter sameText [] (goodOnes (isRemote fields) (take i fields ++ drop i fields))) =
+      ap (λ (l : List Text). sizeBefore sameText size (field i) (firstsAfter sameText [] (goodOnes (isRemote fields) l))) (sym (take-append-drop i fields)) in
       let p = old-place sameText text-equal text-itself (isRemote fields) size [] (take i fields) (field i) (drop i fields) far refl old in
       omega (arith, e, p, as-total (take i fields))
 
@@ -165,7 +166,8 @@ module _ (lengths texts : List ℕ) (sum : sumOf lengths ≤ length texts) where
 
   pub inlined-size : (i : ℕ) → i < length lengths → size (field i) ≡ length (varintOf (getD lengths i 0)) + getD lengths i 0
   unfolding inlined
-  inlined-size i h = length-append (varintOf (length (field i))) (map unmasked (field i)) ∙ (ap (λ (n : ℕ). length (varintOf (length (field i))) + n) (length-map (field i) unmasked) ∙ ap (λ (n : ℕ). length (varintOf n) + n) (field-size i h))
+  inlined-size i h = length-append (varintOf (length (field i))) (map unmasked (field i)) ∙
+      (ap (λ (n : ℕ). length (varintOf (length (field i))) + n) (length-map (field i) unmasked) ∙ ap (λ (n : ℕ). length (varintOf n) + n) (field-size i h))
 
   pub some-size : (i : ℕ) → i < length lengths → 1 ≤ size (field i)
   some-size i h = omega (arith, inlined-size i h, size-least (getD lengths i 0))
@@ -176,7 +178,8 @@ module _ (lengths texts : List ℕ) (sum : sumOf lengths ≤ length texts) where
   word-empty i h e =
       plain-word (field i) (ap (λ (b : Bool). not b && leb 2 (timesIn sameText (field i) fields)) (eq-eqb (length (field i)) 0 (field-size i h ∙ e)))
 
-  module _ (i count : ℕ) (h : i < length lengths) (all : count ≡ length lengths) (some : getD lengths i 0 ≡ 0 → ⊥) (b : Bool) (is : b ≡ leb 2 (timesIn (alike starts texts 1) i (numbersFrom 0 count))) where
+  module _ (i count : ℕ) (h : i < length lengths) (all : count ≡ length lengths) (some : getD lengths i 0 ≡ 0 → ⊥) (b : Bool)
+      (is : b ≡ leb 2 (timesIn (alike starts texts 1) i (numbersFrom 0 count))) where
     remote-by : isRemote fields (field i) ≡ b
     unfolding isRemote
     remote-by =
@@ -231,20 +234,29 @@ module _ (lengths texts : List ℕ) (sum : sumOf lengths ≤ length texts) where
           let w : word ≡ 0 = is ∙ sym (plain-word (field i) f) in
           let a : inline′ ≡ inline + s = d .inline-on ∙ ap (λ (b : Bool). inline + (if b then s else 0)) (eq-eqb word 0 w) in
           let b : remote′ ≡ remote + 0 = d .remote-on ∙ ap (λ (b : Bool). remote + (if b then s else 0)) (ne-eqb word (remote + 1) (λ z. omega (arith, w, z))) in
-          let t : remoteIn fields (take (i + 1) fields) ≡ remoteIn fields (take i fields) = as-total (take (i + 1) fields) ∙ (ap (λ (l : List Text). total sameText text-equal text-itself (isRemote fields) size (used sameText text-equal text-itself (isRemote fields) size [] l)) snoc ∙ (total-bad sameText text-equal text-itself (isRemote fields) size (take i fields) (field i) f ∙ sym (as-total (take i fields)))) in
+          let t : remoteIn fields (take (i + 1) fields) ≡ remoteIn fields (take i fields) =
+          as-total (take (i + 1) fields) ∙
+          (ap (λ (l : List Text). total sameText text-equal text-itself (isRemote fields) size (used sameText text-equal text-itself (isRemote fields) size [] l)) snoc ∙
+          (total-bad sameText text-equal text-itself (isRemote fields) size (take i fields) (field i) f ∙ sym (as-total (take i fields)))) in
           (omega (arith, a, s-is, c .inline-is), omega (arith, b, t, c .remote-is))
       sums true f true g =
           let w : word ≡ suc (offsetOf fields (field i)) = is ∙ sym (far-word (field i) f) in
           let low : offsetOf fields (field i) + size (field i) ≤ remote = omega (arith, offset-old i f g, c .remote-is) in
           let a : inline′ ≡ inline + 0 = d .inline-on ∙ ap (λ (b : Bool). inline + (if b then s else 0)) (ne-eqb word 0 (λ z. omega (arith, w, z))) in
           let b : remote′ ≡ remote + 0 = d .remote-on ∙ ap (λ (b : Bool). remote + (if b then s else 0)) (ne-eqb word (remote + 1) (λ z. omega (arith, w, z, low, some-size i h))) in
-          let t : remoteIn fields (take (i + 1) fields) ≡ remoteIn fields (take i fields) = as-total (take (i + 1) fields) ∙ (ap (λ (l : List Text). total sameText text-equal text-itself (isRemote fields) size (used sameText text-equal text-itself (isRemote fields) size [] l)) snoc ∙ (total-old sameText text-equal text-itself (isRemote fields) size (take i fields) (field i) f g ∙ sym (as-total (take i fields)))) in
+          let t : remoteIn fields (take (i + 1) fields) ≡ remoteIn fields (take i fields) =
+          as-total (take (i + 1) fields) ∙
+          (ap (λ (l : List Text). total sameText text-equal text-itself (isRemote fields) size (used sameText text-equal text-itself (isRemote fields) size [] l)) snoc ∙
+          (total-old sameText text-equal text-itself (isRemote fields) size (take i fields) (field i) f g ∙ sym (as-total (take i fields)))) in
           (omega (arith, a, c .inline-is), omega (arith, b, t, c .remote-is))
       sums true f false g =
           let w : word ≡ remote + 1 = is ∙ (sym (far-word (field i) f) ∙ (ap suc (offset-new i h f g ∙ sym (c .remote-is)) ∙ sym (add-one remote))) in
           let a : inline′ ≡ inline + 0 = d .inline-on ∙ ap (λ (b : Bool). inline + (if b then s else 0)) (ne-eqb word 0 (λ z. omega (arith, w, z))) in
           let b : remote′ ≡ remote + s = d .remote-on ∙ ap (λ (b : Bool). remote + (if b then s else 0)) (eq-eqb word (remote + 1) w) in
-          let t : remoteIn fields (take (i + 1) fields) ≡ remoteIn fields (take i fields) + size (field i) = as-total (take (i + 1) fields) ∙ (ap (λ (l : List Text). total sameText text-equal text-itself (isRemote fields) size (used sameText text-equal text-itself (isRemote fields) size [] l)) snoc ∙ (total-new sameText text-equal text-itself (isRemote fields) size (take i fields) (field i) f g ∙ ap (λ (n : ℕ). n + size (field i)) (sym (as-total (take i fields))))) in
+          let t : remoteIn fields (take (i + 1) fields) ≡ remoteIn fields (take i fields) + size (field i) =
+          as-total (take (i + 1) fields) ∙
+          (ap (λ (l : List Text). total sameText text-equal text-itself (isRemote fields) size (used sameText text-equal text-itself (isRemote fields) size [] l)) snoc ∙
+          (total-new sameText text-equal text-itself (isRemote fields) size (take i fields) (field i) f g ∙ ap (λ (n : ℕ). n + size (field i)) (sym (as-total (take i fields))))) in
           (omega (arith, a, c .inline-is), omega (arith, b, t, s-is, c .remote-is))
 
       most : inline′ + remote′ ≤ inline + remote + s
@@ -324,5 +336,6 @@ module _ (lengths texts starts keys : List ℕ) (m : Marked lengths texts starts
       pub once-word : b ≡ false → 0 ≡ wordIn (cutBy lengths texts) (getD (cutBy lengths texts) i [])
       once-word e = word-once lengths texts (m .whole) i (length keys) h (m .many) some b is-b′ e
 
-      pub new-word : b ≡ true → r ≡ i → (remote : ℕ) → remote ≡ remoteIn (cutBy lengths texts) (take i (cutBy lengths texts)) → remote + 1 ≡ wordIn (cutBy lengths texts) (getD (cutBy lengths texts) i [])
+      pub new-word : b ≡ true → r ≡ i → (remote : ℕ) → remote ≡ remoteIn (cutBy lengths texts) (take i (cutBy lengths texts)) →
+          remote + 1 ≡ wordIn (cutBy lengths texts) (getD (cutBy lengths texts) i [])
       new-word e own remote re = word-new lengths texts (m .whole) i (length keys) h (m .many) some b is-b′ e (is-new lengths texts (m .whole) i (length keys) r h (m .many) is′ own) remote re

@@ -27,5 +27,6 @@ module _ (fields : List Text) (inline : ℕ) (words : List ℕ) (ei : inline ≡
 
   pub layout-there : Least inline words (layoutOf fields)
   layout-there =
-      let a : Least inline (map (wordOf fields) fields) (layoutOf fields) = subst (λ (n : ℕ). Least n (map (wordOf fields) fields) (layoutOf fields)) (sym (ei ∙ inline-same fields fields)) (layout-least fields) in
+      let a : Least inline (map (wordOf fields) fields) (layoutOf fields) =
+      subst (λ (n : ℕ). Least n (map (wordOf fields) fields) (layoutOf fields)) (sym (ei ∙ inline-same fields fields)) (layout-least fields) in
       subst (λ (ws : List ℕ). Least inline ws (layoutOf fields)) (sym (ew ∙ words-same fields fields)) a

@@ -39,7 +39,8 @@ least-there inline words s (Records n) l t records = absurd (omega (arith, t))
 least-there inline words s TooLong l t records = absurd (omega (arith, l (s .records) (s .is .fits), s .small))
 
 -- ---- the records that yards share
-pub share-inside : (names count : ℕ) (lengths texts : List ℕ) (starts spare places : ℕ) → Shares names count lengths texts starts spare places → (begins : List ℕ) → begins ≡ startsFrom 0 lengths → Inside begins texts (count * names)
+pub share-inside : (names count : ℕ) (lengths texts : List ℕ) (starts spare places : ℕ) → Shares names count lengths texts starts spare places → (begins : List ℕ) →
+    begins ≡ startsFrom 0 lengths → Inside begins texts (count * names)
 share-inside names count lengths texts starts spare places s begins e =
     subst (λ (b : List ℕ). Inside b texts (count * names)) (sym e) (subst (λ (n : ℕ). Inside (startsFrom 0 lengths) texts n) (s .all) (starts-inside lengths texts (omega (arith, s .whole))))
 
@@ -50,7 +51,8 @@ order-own starts texts width count order many is = is ∙ ap (keysOf starts text
 pub share-all : (names count : ℕ) (lengths texts : List ℕ) (starts spare places : ℕ) → Shares names count lengths texts starts spare places → (n : ℕ) → n ≡ count → length lengths ≡ n * names
 share-all names count lengths texts starts spare places s n e = s .all ∙ ap (λ (k : ℕ). k * names) (sym e)
 
-pub keeps-as : (names n m : ℕ) (lengths texts before places kept kept′ held held′ : List ℕ) (sizes bytes : ℕ) → n ≡ m → Keeps names n lengths texts before places kept kept′ held held′ sizes bytes → Keeps names m lengths texts before places kept kept′ held held′ sizes bytes
+pub keeps-as : (names n m : ℕ) (lengths texts before places kept kept′ held held′ : List ℕ) (sizes bytes : ℕ) → n ≡ m →
+    Keeps names n lengths texts before places kept kept′ held held′ sizes bytes → Keeps names m lengths texts before places kept kept′ held held′ sizes bytes
 keeps-as names n m lengths texts before places kept kept′ held held′ sizes bytes e k = subst (λ (c : ℕ). Keeps names c lengths texts before places kept kept′ held held′ sizes bytes) e k
 
 -- ---- the words of the records' fields
@@ -109,7 +111,8 @@ module _ (names count : ℕ) (lengths texts : List ℕ) (starts keys spare kept 
   bytes-most : length (joined all-fields) ≤ sumOf lengths
   bytes-most = fields-short names count lengths texts (l .all) (omega (arith, l .whole))
 
-  module _ (before middle kept₀ kept′ held₀ held′ : List ℕ) (sizes bytes : ℕ) (ek : length kept₀ ≡ kept) (eh : length held₀ ≡ held) (k : Keeps names count lengths texts before middle kept₀ kept′ held₀ held′ sizes bytes) where
+  module _ (before middle kept₀ kept′ held₀ held′ : List ℕ) (sizes bytes : ℕ) (ek : length kept₀ ≡ kept) (eh : length held₀ ≡ held)
+      (k : Keeps names count lengths texts before middle kept₀ kept′ held₀ held′ sizes bytes) where
     sizes-are : sizes ≡ length all-fields
     sizes-are = omega (arith, k .lengths-are .place-after, length-map all-fields length)
 
@@ -173,11 +176,13 @@ module _ (names count : ℕ) (lengths texts : List ℕ) (starts keys spare kept 
             room = omega (arith, fields-most, l .words-room, ew);
             words-are = laid .words-are;
             layout = laid .records-are;
-            first = λ yard h. ap (λ (x : List ℕ). getD x (2 * yard) 0) (k .first) ∙ spread-read (firstOf (startsFrom 0 lengths) texts names count) count before yard h (omega (arith, l .places-room, eb));
+            first = λ yard h. ap (λ (x : List ℕ). getD x (2 * yard) 0) (k .first) ∙
+                spread-read (firstOf (startsFrom 0 lengths) texts names count) count before yard h (omega (arith, l .places-room, eb));
             places-room = omega (arith, l .places-room, eb, ap length (k .first), spread-size 0 (map (firstOf (startsFrom 0 lengths) texts names count) (numbersFrom 0 count)) before);
           }
 
-      pub laying-ends : (after : List ℕ) → after ≡ spread 0 (map (beginOf names lengths texts count) (numbersFrom 0 count)) middle → Recorded names count lengths texts before kept′ held′ words′ after records remote sizes bytes
+      pub laying-ends : (after : List ℕ) → after ≡ spread 0 (map (beginOf names lengths texts count) (numbersFrom 0 count)) middle →
+          Recorded names count lengths texts before kept′ held′ words′ after records remote sizes bytes
       laying-ends after e =
           record {
             kept-in = omega (arith, sizes-few, l .kept-room, kept-size);
@@ -188,5 +193,7 @@ module _ (names count : ℕ) (lengths texts : List ℕ) (starts keys spare kept 
             words-are = ap (λ (n : ℕ). take n words′) sizes-are ∙ laid .words-are;
             records-are = laid .records-are;
             remote-is = laid .remote-is;
-            placed = e ∙ (ap (spread 0 (map (beginOf names lengths texts count) (numbersFrom 0 count))) (k .first) ∙ spread-again 0 (map (beginOf names lengths texts count) (numbersFrom 0 count)) (map (firstOf (startsFrom 0 lengths) texts names count) (numbersFrom 0 count)) before (numbered-many (beginOf names lengths texts count) count ∙ sym (numbered-many (firstOf (startsFrom 0 lengths) texts names count) count)));
+            placed = e ∙ (ap (spread 0 (map (beginOf names lengths texts count) (numbersFrom 0 count))) (k .first) ∙
+                spread-again 0 (map (beginOf names lengths texts count) (numbersFrom 0 count)) (map (firstOf (startsFrom 0 lengths) texts names count) (numbersFrom 0 count)) before
+                (numbered-many (beginOf names lengths texts count) count ∙ sym (numbered-many (firstOf (startsFrom 0 lengths) texts names count) count)));
           }

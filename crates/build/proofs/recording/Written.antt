@@ -11,7 +11,8 @@ use Rattle.build.specs.{Metadata.Kept.{valuesTo, fieldsTo}, inner.Metada
 use Rattle.build.proofs.recording.Fewer.{fields-few, fields-short, joined-sum}
 use Rattle.build.specs.inner.Recording.Recorded.{Recorded}
 
-module _ (names count : ℕ) (lengths texts before kept held words places : List ℕ) (records remote sizes bytes : ℕ) (r : Recorded names count lengths texts before kept held words places records remote sizes bytes) where
+module _ (names count : ℕ) (lengths texts before kept held words places : List ℕ) (records remote sizes bytes : ℕ)
+    (r : Recorded names count lengths texts before kept held words places records remote sizes bytes) where
   abbrev fields : List Text
   fields = fieldsTo names lengths texts count
 
@@ -36,7 +37,15 @@ module _ (names count : ℕ) (lengths texts before kept held words places : List
 
   module _ (all : length lengths ≡ count * names) (whole : sumOf lengths ≤ length texts) where
     pub recorded-few : sumOf (take sizes kept) + 10 * length (take sizes kept) ≤ sumOf lengths + 10 * length lengths
-    recorded-few = omega (arith, ap sumOf (r .lengths-are), joined-sum fields, ap length (r .lengths-are), length-map fields length, fields-few names count lengths texts all, fields-short names count lengths texts all whole)
+    recorded-few = omega (
+      arith,
+      ap sumOf (r .lengths-are),
+      joined-sum fields,
+      ap length (r .lengths-are),
+      length-map fields length,
+      fields-few names count lengths texts all,
+      fields-short names count lengths texts all whole,
+    )
 
   -- ---- the section
   pub recorded-records : joinedFrom (fieldBytes records (take sizes words)) 0 (cutBy (take sizes kept) (take bytes held)) ≡ flatMap (written fields (layoutOf fields)) fields
@@ -45,7 +54,8 @@ module _ (names count : ℕ) (lengths texts before kept held words places : List
       ∙ (ap (λ (ws : List ℕ). joinedFrom (fieldBytes records ws) 0 fields) (r .words-are)
       ∙ (ap (λ (n : ℕ). joinedFrom (fieldBytes n (map (wordIn fields) fields)) 0 fields) (r .records-are) ∙ record-written fields (layoutOf fields) fields))
 
-  pub recorded-section : joinedFrom (fieldBytes records (take sizes words)) 0 (cutBy (take sizes kept) (take bytes held)) ++ flatMap inlined (remotes (cutBy (take sizes kept) (take bytes held))) ≡ section
+  pub recorded-section : joinedFrom (fieldBytes records (take sizes words)) 0 (cutBy (take sizes kept) (take bytes held)) ++ flatMap inlined
+      (remotes (cutBy (take sizes kept) (take bytes held))) ≡ section
   unfolding metadataOf
   recorded-section =
       ap (λ (bs : List ℕ). bs ++ flatMap inlined (remotes (cutBy (take sizes kept) (take bytes held)))) recorded-records

@@ -56,14 +56,18 @@ draws-longer reply earlier part rest (B.Refused why) d = d
 module _ (version room : ℕ) (earlier : List ℕ) (lats lons : List ℤ) (pieces : List ℕ) (lat tall lon wide piece words : ℕ) (deep : piece ≤ length pieces) where
   pub yard-drawn : (lat′ lon′ piece′ : ℕ) → lat′ ≡ partEnd (length lats) lat tall → lon′ ≡ partEnd (length lons) lon wide → piece′ ≡ nextPart (length pieces) piece words
       → (cut : Bool) → cut ≡ ltb (length pieces - piece) words → (part rest : List ℕ) (r : Border)
-      → Draws (appended room earlier cut (length (take (piece′ - piece) (drop piece pieces)) / 5) (borderOf version (take (lat′ - lat) (drop lat lats)) (take (lon′ - lon) (drop lon lons)) (piecesOf (take (piece′ - piece) (drop piece pieces))) earlier)) earlier part r
+      → Draws (appended room earlier cut (length (take (piece′ - piece) (drop piece pieces)) / 5)
+      (borderOf version (take (lat′ - lat) (drop lat lats)) (take (lon′ - lon) (drop lon lons)) (piecesOf (take (piece′ - piece) (drop piece pieces))) earlier)) earlier part r
       → Draws (yardAppended version room earlier (drop lat lats) tall (drop lon lons) wide (drop piece pieces) words) earlier (part ++ rest) r
   yard-drawn lat′ lon′ piece′ ea eo ep cut ec part rest r d =
       let p : take (piece′ - piece) (drop piece pieces) ≡ take words (drop piece pieces) = next-taken pieces piece words piece′ deep ep in
       let a : take (lat′ - lat) (drop lat lats) ≡ partOf tall (drop lat lats) = part-is lats lat tall lat′ ea in
       let o : take (lon′ - lon) (drop lon lons) ≡ partOf wide (drop lon lons) = part-is lons lon wide lon′ eo in
       let c : cut ≡ ltb (length (drop piece pieces)) words = ec ∙ ap (λ (n : ℕ). ltb n words) (sym (length-drop piece pieces)) in
-      let k : length (take (piece′ - piece) (drop piece pieces)) / 5 ≡ length (piecesOf (take words (drop piece pieces))) = ap (λ (ws : List ℕ). length ws / 5) p ∙ sym (pieces-many (take words (drop piece pieces))) in
-      let same : appended room earlier cut (length (take (piece′ - piece) (drop piece pieces)) / 5) (borderOf version (take (lat′ - lat) (drop lat lats)) (take (lon′ - lon) (drop lon lons)) (piecesOf (take (piece′ - piece) (drop piece pieces))) earlier)
+      let k : length (take (piece′ - piece) (drop piece pieces)) / 5 ≡ length (piecesOf (take words (drop piece pieces))) =
+      ap (λ (ws : List ℕ). length ws / 5) p ∙ sym (pieces-many (take words (drop piece pieces))) in
+      let same : appended room earlier cut (length (take (piece′ - piece) (drop piece pieces)) / 5)
+      (borderOf version (take (lat′ - lat) (drop lat lats)) (take (lon′ - lon) (drop lon lons)) (piecesOf (take (piece′ - piece) (drop piece pieces))) earlier)
       ≡ yardAppended version room earlier (drop lat lats) tall (drop lon lons) wide (drop piece pieces) words = rw (k, p, a, o, c) in
-      draws-longer (yardAppended version room earlier (drop lat lats) tall (drop lon lons) wide (drop piece pieces) words) earlier part rest r (subst (λ (x : Reply (List ℕ)). Draws x earlier part r) same d)
+      draws-longer (yardAppended version room earlier (drop lat lats) tall (drop lon lons) wide (drop piece pieces) words) earlier part rest r
+      (subst (λ (x : Reply (List ℕ)). Draws x earlier part r) same d)

@@ -144,11 +144,13 @@ module _ (starts texts : List ℕ) (width : ℕ) (keys : List ℕ) (m : Members 
       let lower = l .lower i h in
       rw (at-item keys i) (other-hash i (omega (arith, h, l .inside)) (λ e. omega (arith, lower, e)))
 
-  pub first-is : keys ≡ keysOf starts texts width (length keys) → length keys ≤ 2 ^ 32 → (r : ℕ) → r ≡ firstWith (alike starts texts width item) item (map itemOf (drop run keys)) → r ≡ firstOf starts texts width (length keys) item
+  pub first-is : keys ≡ keysOf starts texts width (length keys) → length keys ≤ 2 ^ 32 → (r : ℕ) → r ≡ firstWith (alike starts texts width item) item (map itemOf (drop run keys)) →
+      r ≡ firstOf starts texts width (length keys) item
   unfolding firstOf orderOf
   first-is order few r e =
       let good : ℕ → Bool = alike starts texts width item in
       let skip : firstWith good item (drop run (map itemOf keys)) ≡ firstWith good item (map itemOf keys) = first-skip good item run (map itemOf keys) not-before in
-      let sorted : firstWith good item (sortedBy (hashOf starts texts width) (numbersFrom 0 (length keys))) ≡ firstWith good item (numbersFrom 0 (length keys)) = first-sorted (hashOf starts texts width) good item (hashOf starts texts width item) (alike-hash starts texts width item) (numbersFrom 0 (length keys)) in
+      let sorted : firstWith good item (sortedBy (hashOf starts texts width) (numbersFrom 0 (length keys))) ≡ firstWith good item (numbersFrom 0 (length keys)) =
+      first-sorted (hashOf starts texts width) good item (hashOf starts texts width item) (alike-hash starts texts width item) (numbersFrom 0 (length keys)) in
       let items : map itemOf keys ≡ orderOf starts texts width (length keys) = ap (map itemOf) order ∙ items-are starts texts width (length keys) few in
       e ∙ ap (firstWith good item) (drop-items run keys) ∙ skip ∙ ap (firstWith good item) items ∙ sorted

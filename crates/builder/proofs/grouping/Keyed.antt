@@ -151,7 +151,8 @@ module _ (starts texts : List ℕ) (width : ℕ) where
     }
 
   -- the words that were written and sorted
-  pub sorting-is : (count : ℕ) (spare words after other : List ℕ) (has : Bool) → words ≡ map word (numbersFrom 0 count) → count ≤ length spare → Sorted words spare after other has → Sorting starts texts width count spare after other
+  pub sorting-is : (count : ℕ) (spare words after other : List ℕ) (has : Bool) → words ≡ map word (numbersFrom 0 count) → count ≤ length spare → Sorted words spare after other has →
+      Sorting starts texts width count spare after other
   unfolding keysOf
   sorting-is count spare words after other has e h s =
       let size : length words ≡ count = ap length e ∙ (length-map (numbersFrom 0 count) word ∙ numbers-many 0 count) in

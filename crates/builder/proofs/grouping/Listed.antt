@@ -24,14 +24,20 @@ module _ (word : ℕ → ℕ) where
     unfolding numbersFrom
     list-goes h w e =
         let more : length before - i ≡ suc (length before - (i + 1)) = omega (arith, h, c .left .size) in
-        let cut : map word (numbersFrom i (length before - i)) ≡ (w ∷ []) ++ map word (numbersFrom (i + 1) (length before - (i + 1))) = ap (λ (n : ℕ). map word (numbersFrom i n)) more ∙ rw (e, add-one i) in
-        record { index = omega (arith, h, c .left .size); left = left-step (w ∷ []) (subst (λ (r : List ℕ). Left before 0 (map word (numbersFrom 0 (length before))) now i r) cut (c .left)) (stored-one now i w) }
+        let cut : map word (numbersFrom i (length before - i)) ≡ (w ∷ []) ++ map word (numbersFrom (i + 1) (length before - (i + 1))) =
+        ap (λ (n : ℕ). map word (numbersFrom i n)) more ∙ rw (e, add-one i) in
+        record {
+          index = omega (arith, h, c .left .size);
+          left = left-step (w ∷ []) (subst (λ (r : List ℕ). Left before 0 (map word (numbersFrom 0 (length before))) now i r) cut (c .left))
+              (stored-one now i w);
+        }
 
     pub list-ends : length now ≤ i → now ≡ map word (numbersFrom 0 (length before))
     unfolding numbersFrom
     list-ends h =
         let none : length before - i ≡ 0 = omega (arith, c .left .size) in
-        let s : Stored before 0 (map word (numbersFrom 0 (length before))) now i = left-none (subst (λ (n : ℕ). Left before 0 (map word (numbersFrom 0 (length before))) now i (map word (numbersFrom i n))) none (c .left)) in
+        let s : Stored before 0 (map word (numbersFrom 0 (length before))) now i =
+        left-none (subst (λ (n : ℕ). Left before 0 (map word (numbersFrom 0 (length before))) now i (map word (numbersFrom i n))) none (c .left)) in
         let size : length (map word (numbersFrom 0 (length before))) ≡ length before = length-map (numbersFrom 0 (length before)) word ∙ numbers-many 0 (length before) in
         stored-front before (map word (numbersFrom 0 (length before))) now i s (omega (arith, size))
         ∙ ap (λ (n : ℕ). map word (numbersFrom 0 (length before)) ++ drop n before) size

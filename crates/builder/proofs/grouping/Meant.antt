@@ -61,7 +61,8 @@ item-part lengths texts at zero h = refl
 item-part lengths texts at (suc width) h =
     let fields : List Text = cutBy lengths texts in
     let here : at < length fields = omega (arith, h, cut-many lengths texts) in
-    let next : itemAt (startsFrom 0 lengths) texts (at + 1) width ≡ take width (drop (suc at) fields) = item-part lengths texts (at + 1) width (omega arith) ∙ ap (λ (n : ℕ). take width (drop n fields)) (add-one at) in
+    let next : itemAt (startsFrom 0 lengths) texts (at + 1) width ≡ take width (drop (suc at) fields) =
+    item-part lengths texts (at + 1) width (omega arith) ∙ ap (λ (n : ℕ). take width (drop n fields)) (add-one at) in
     ap (λ (t : Text). t ∷ itemAt (startsFrom 0 lengths) texts (at + 1) width) (text-is lengths texts at (omega arith))
     ∙ ap (λ (ts : List Text). getD fields at [] ∷ ts) next
     ∙ ap (take (suc width)) (sym (drop-cons fields at [] here))

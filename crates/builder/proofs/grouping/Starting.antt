@@ -33,7 +33,9 @@ module _ (before lengths now : List ℕ) (at i : ℕ) (c : Starting before lengt
           index = omega arith;
           room = c .room;
           bound = rw (add-one i) start-sum;
-          left = left-step (at ∷ []) (subst (λ (r : List ℕ). Left before 0 (startsFrom 0 lengths) now i r) (ap (startsFrom at) (rest ∙ ap (λ (n : ℕ). getD lengths i 0 ∷ drop n lengths) (sym (add-one i)))) (c .left)) (stored-one now i at);
+          left = left-step (at ∷ [])
+              (subst (λ (r : List ℕ). Left before 0 (startsFrom 0 lengths) now i r) (ap (startsFrom at) (rest ∙ ap (λ (n : ℕ). getD lengths i 0 ∷ drop n lengths) (sym (add-one i))))
+              (c .left)) (stored-one now i at);
         }
 
   pub start-inside : i < length now
@@ -46,7 +48,8 @@ module _ (before lengths now : List ℕ) (at i : ℕ) (c : Starting before lengt
       let none : drop i lengths ≡ [] = ap (λ (n : ℕ). drop n lengths) e ∙ drop-length lengths in
       let size : length (startsFrom 0 lengths) ≡ suc (length lengths) = starts-many 0 lengths in
       let all : length (startsFrom 0 lengths) ≡ length before = omega (arith, size, c .room) in
-      let s : Stored before 0 (startsFrom 0 lengths) (set now i at) (i + 1) = left-none (left-step (at ∷ []) (subst (λ (r : List ℕ). Left before 0 (startsFrom 0 lengths) now i r) (ap (startsFrom at) none) (c .left)) (stored-one now i at)) in
+      let s : Stored before 0 (startsFrom 0 lengths) (set now i at) (i + 1) =
+      left-none (left-step (at ∷ []) (subst (λ (r : List ℕ). Left before 0 (startsFrom 0 lengths) now i r) (ap (startsFrom at) none) (c .left)) (stored-one now i at)) in
       stored-front before (startsFrom 0 lengths) (set now i at) (i + 1) s (omega (arith, all))
       ∙ ap (λ (n : ℕ). startsFrom 0 lengths ++ drop n before) all
       ∙ ap (λ (xs : List ℕ). startsFrom 0 lengths ++ xs) (drop-length before)

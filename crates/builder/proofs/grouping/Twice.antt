@@ -111,7 +111,8 @@ module _ (starts texts : List ℕ) (keys : List ℕ) (m : Members starts texts 1
   good = alike starts texts 1
 
   -- past its hash there is none
-  pub count-past : Rising keyOf keys → (found i : ℕ) → Counting good item (map itemOf keys) run found i → i < length keys → (k : ℕ) → k ≡ keyOf (getD keys i 0) → (k ≡ key → ⊥) → false ≡ leb 2 (timesIn good item (map itemOf (drop run keys)))
+  pub count-past : Rising keyOf keys → (found i : ℕ) → Counting good item (map itemOf keys) run found i → i < length keys → (k : ℕ) → k ≡ keyOf (getD keys i 0) → (k ≡ key → ⊥) →
+      false ≡ leb 2 (timesIn good item (map itemOf (drop run keys)))
   count-past rises found i c h here e n′ =
       let n : keyOf (getD keys i 0) ≡ key → ⊥ = λ f. n′ (e ∙ f) in
       let above : key ≤ keyOf (getD keys i 0) = l .upper i (c .from) h in
@@ -122,10 +123,13 @@ module _ (starts texts : List ℕ) (keys : List ℕ) (m : Members starts texts 1
       ap (good item) (getD-drop i (map itemOf keys) j 0 ∙ item-is keys (i + j)) ∙ other-hash starts texts 1 keys m item key run is l (i + j) size (λ e. omega (arith, above, n, more, e)) in
       count-none good item (map itemOf keys) run found i c past ∙ ap (λ (xs : List ℕ). leb 2 (timesIn good item xs)) (sym (drop-items run keys))
 
-  pub twice-is : keys ≡ keysOf starts texts 1 (length keys) → length keys ≤ 2 ^ 32 → (r : Bool) → r ≡ leb 2 (timesIn good item (map itemOf (drop run keys))) → r ≡ leb 2 (timesIn good item (numbersFrom 0 (length keys)))
+  pub twice-is : keys ≡ keysOf starts texts 1 (length keys) → length keys ≤ 2 ^ 32 → (r : Bool) → r ≡ leb 2 (timesIn good item (map itemOf (drop run keys))) →
+      r ≡ leb 2 (timesIn good item (numbersFrom 0 (length keys)))
   unfolding orderOf
   twice-is order few r e =
-      let skip : timesIn good item (drop run (map itemOf keys)) ≡ timesIn good item (map itemOf keys) = times-skip good item run (map itemOf keys) (not-before starts texts 1 keys m item key run is l) in
+      let skip : timesIn good item (drop run (map itemOf keys)) ≡ timesIn good item (map itemOf keys) =
+      times-skip good item run (map itemOf keys) (not-before starts texts 1 keys m item key run is l) in
       let items : map itemOf keys ≡ orderOf starts texts 1 (length keys) = ap (map itemOf) order ∙ items-are starts texts 1 (length keys) few in
-      let sorted : timesIn good item (sortedBy (hashOf starts texts 1) (numbersFrom 0 (length keys))) ≡ timesIn good item (numbersFrom 0 (length keys)) = times-sorted good item (hashOf starts texts 1) (hashOf starts texts 1 item) (alike-hash starts texts 1 item) (numbersFrom 0 (length keys)) in
+      let sorted : timesIn good item (sortedBy (hashOf starts texts 1) (numbersFrom 0 (length keys))) ≡ timesIn good item (numbersFrom 0 (length keys)) =
+      times-sorted good item (hashOf starts texts 1) (hashOf starts texts 1 item) (alike-hash starts texts 1 item) (numbersFrom 0 (length keys)) in
       e ∙ ap (leb 2) (ap (timesIn good item) (drop-items run keys) ∙ skip ∙ ap (timesIn good item) items ∙ sorted)

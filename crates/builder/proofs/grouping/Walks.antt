@@ -122,11 +122,14 @@ module _ (starts texts : List ℕ) where
 
   module _ (a b width i : ℕ) (c : ItemSame a b width i) where
     module _ (h : i < width) where
-      two : sameTexts (itemAt starts texts (a + i) (width - i)) (itemAt starts texts (b + i) (width - i)) ≡ (sameText (textAt starts texts (a + i)) (textAt starts texts (b + i)) && sameTexts (itemAt starts texts (a + (i + 1)) (width - (i + 1))) (itemAt starts texts (b + (i + 1)) (width - (i + 1))))
+      two : sameTexts (itemAt starts texts (a + i) (width - i)) (itemAt starts texts (b + i) (width - i)) ≡
+          (sameText (textAt starts texts (a + i)) (textAt starts texts (b + i)) && sameTexts (itemAt starts texts (a + (i + 1)) (width - (i + 1)))
+          (itemAt starts texts (b + (i + 1)) (width - (i + 1))))
       unfolding sameBy
       two = rw (item-next a width i h, item-next b width i h)
 
-      pub same-differs : (r : Bool) → r ≡ sameText (textAt starts texts (a + i)) (textAt starts texts (b + i)) → not r ≡ true → false ≡ sameTexts (itemAt starts texts a width) (itemAt starts texts b width)
+      pub same-differs : (r : Bool) → r ≡ sameText (textAt starts texts (a + i)) (textAt starts texts (b + i)) → not r ≡ true →
+          false ≡ sameTexts (itemAt starts texts a width) (itemAt starts texts b width)
       same-differs r e n =
           let f : sameText (textAt starts texts (a + i)) (textAt starts texts (b + i)) ≡ false = sym e ∙ not-true r n in
           sym (two ∙ rw f) ∙ c .same

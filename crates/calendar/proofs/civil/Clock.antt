@@ -76,7 +76,8 @@ module _ (day second : ℕ) (d : InDays day second) where
   pub day-short : day < 3652059
   day-short = omega (arith, d .day-to, days-in-all)
 
-  pub shows : {year month date weekday : ℕ} → DateOf day year month date → weekday ≡ weekdayOf day → Shows (instantOf day second) (record { year = year; month = month; day = date; hour = second / 3600; minute = second / 60 % 60; second = second % 60; weekday = weekday })
+  pub shows : {year month date weekday : ℕ} → DateOf day year month date → weekday ≡ weekdayOf day →
+      Shows (instantOf day second) (record { year = year; month = month; day = date; hour = second / 3600; minute = second / 60 % 60; second = second % 60; weekday = weekday })
   shows p w =
       record {
         date = p .is;
@@ -84,7 +85,8 @@ module _ (day second : ℕ) (d : InDays day second) where
         minute = omega arith;
         second = omega arith;
         weekday = w ∙ ap weekdayOf (sym (p .numbered));
-        back = ap (λ (n : ℕ). instantOf n (3600 * (second / 3600) + 60 * (second / 60 % 60) + second % 60)) (p .numbered) ∙ ap (instantOf day) (let whole : 3600 * (second / 3600) + 60 * (second / 60 % 60) + second % 60 ≡ second = omega arith in whole);
+        back = ap (λ (n : ℕ). instantOf n (3600 * (second / 3600) + 60 * (second / 60 % 60) + second % 60)) (p .numbered) ∙
+            ap (instantOf day) (let whole : 3600 * (second / 3600) + 60 * (second / 60 % 60) + second % 60 ≡ second = omega arith in whole);
       }
 
 -- the two ways to the answer

@@ -36,7 +36,10 @@ shifted-short (negsuc n) h = omega arith
 -- the shifted instant tells day and second
 pub day-second : (z : ℤ) (n : ℕ) → n < 315537897600 → pos n -ℤ pos 62135596800 ≡ z → MomentOf z (At (n / 86400) (n % 86400))
 unfolding MomentOf
-day-second z n h e = (record { day-to = omega (arith, days-in-all); second-to = omega arith }, instant-plain (n / 86400) (n % 86400) ∙ ap (λ (s : ℕ). pos s -ℤ pos 62135596800) (let whole : 86400 * (n / 86400) + n % 86400 ≡ n = omega arith in whole) ∙ e)
+day-second z n h e = (
+  record { day-to = omega (arith, days-in-all); second-to = omega arith },
+  instant-plain (n / 86400) (n % 86400) ∙ ap (λ (s : ℕ). pos s -ℤ pos 62135596800) (let whole : 86400 * (n / 86400) + n % 86400 ≡ n = omega arith in whole) ∙ e,
+)
 
 -- what the machine works out, whose number reads back as itself
 module _ (z b : ℤ) (same : b ≡ z) (low : ltZ b (negsuc 62135596799) ≡ false) (high : ltZ (pos 253402300799) b ≡ false) where

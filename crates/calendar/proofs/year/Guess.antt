@@ -21,4 +21,9 @@ module _ (day n : ℕ) (short : day < 3652059) (low : 146097 * n ≤ 400 * day) 
 
   -- it is a year early
   pub early : daysOfYears (n + 1) ≤ day → InYear (n + 1 + 1) day
-  early h = record { range = omega (arith, mean-low (n + 1)); begun = subst (λ (x : ℕ). daysOfYears x ≤ day) (let e : n + 1 ≡ n + 1 + 1 - 1 = omega arith in e) h; lasts = omega (arith, mean-low (n + 1 + 1)) }
+  early h = record {
+    range = omega (arith, mean-low (n + 1));
+    begun = subst (λ (x : ℕ). daysOfYears x ≤ day) (let e : n + 1 ≡ n + 1 + 1 - 1 = omega arith in
+        e) h;
+    lasts = omega (arith, mean-low (n + 1 + 1));
+  }

@@ -48,7 +48,8 @@ module _ (plan : Plan) (room : ℕ) (sound : Sound plan room) (o : Offered) wher
 
     -- what fits is asked of the totals, or of the file
     fits-as : (more : List ℕ) → border ≡ given more
-        → (space .lists && leb (fileSize (length (headOf (joined plan o))) (totalsOf (joined plan o))) (upTo room)) ≡ (space .lists && leb (length (fileOf (joined plan o) (drawnWith (dataOf plan) more))) (upTo room))
+        → (space .lists && leb (fileSize (length (headOf (joined plan o))) (totalsOf (joined plan o))) (upTo room)) ≡
+        (space .lists && leb (length (fileOf (joined plan o) (drawnWith (dataOf plan) more))) (upTo room))
     unfolding totalsOf
     fits-as more e =
         let all : Plan = joined plan o in
@@ -65,7 +66,8 @@ abbrev stepped : (Drawn → Bool) → (Drawn → List ℕ) → Builder → Reply
 stepped fits file next good a b k drawn =
     (good >> (demand a (plain 25) >> (demand b (plain 26) >> (demand k (plain 27) >> (drawn >>= λ d. (demand (fits d) (plain 28) >> given (file d))))))) >>= λ f. given next
 
-compared : (fits : Drawn → Bool) (file : Drawn → List ℕ) (next : Builder) (c : Reply (Unit {0})) (a b fit : Bool) (w : Reply (List ℕ)) (drawn : List ℕ → Drawn) → ((more : List ℕ) → w ≡ given more → fit ≡ fits (drawn more))
+compared : (fits : Drawn → Bool) (file : Drawn → List ℕ) (next : Builder) (c : Reply (Unit {0})) (a b fit : Bool) (w : Reply (List ℕ)) (drawn : List ℕ → Drawn) →
+    ((more : List ℕ) → w ≡ given more → fit ≡ fits (drawn more))
     → (c >> (demand a (plain 25) >> (demand b (plain 26) >> (w >> (demand fit (plain 28) >> given next))))) ≡ stepped fits file next (c >> given tt) a b true (w >>= λ more. given (drawn more))
 compared fits file next (refused why) a b fit w drawn h = refl
 compared fits file next (given u) false b fit w drawn h = refl
@@ -92,7 +94,8 @@ module _ (b : Builder) (sound : Sound (b .plan) (b .room)) (o : Offered) (space 
   built-steps = refl
 
   -- An add gives the builder with the yard, or is refused, exactly as building the yards held and the new one is answered or refused, where the data held fits the room lent.
-  pub add-refuses-as-build : length (dataOf (b .plan) .bytes) ≤ space .bytes → add b o space ≡ (builtOf (joined (b .plan) o) (roomFor (b .room) space) >>= λ file. given (summed (joined (b .plan) o) (b .room)))
+  pub add-refuses-as-build : length (dataOf (b .plan) .bytes) ≤ space .bytes →
+      add b o space ≡ (builtOf (joined (b .plan) o) (roomFor (b .room) space) >>= λ file. given (summed (joined (b .plan) o) (b .room)))
   unfolding add fitting summed
   add-refuses-as-build inside =
       let plan : Plan = b .plan in
@@ -133,7 +136,8 @@ add-given b o space next e =
     let one = looked (checks 0 (o .lats) (o .lons) []) _ (sym e) in
     let two = demanded (ltb n 4096 && eqb (length (b .plan .names)) (length (o .lengths))) (plain 25) (one .1) in
     let three = demanded (areTexts (o .lengths) (o .texts)) (plain 26) (two .1) in
-    let four = past-border (withBorder (b .plan .version) (upTo (min (b .room) (space .bytes))) (dataOf (b .plan) .bytes) (yardOf o)) (fitting space (summed (joined (b .plan) o) (b .room))) (three .1) in
+    let four = past-border (withBorder (b .plan .version) (upTo (min (b .room) (space .bytes))) (dataOf (b .plan) .bytes) (yardOf o)) (fitting space (summed (joined (b .plan) o) (b .room)))
+    (three .1) in
     let five = demanded (space .lists && leb (fileSize (length (headOf (joined (b .plan) o))) (totalsOf (joined (b .plan) o))) (upTo (b .room))) (plain 28) (four .1 .1) in
     let last = five .1 in
     let counts = both (ltb n 4096) (eqb (length (b .plan .names)) (length (o .lengths))) (two .0) in

@@ -5,7 +5,8 @@ use lib.{Dec.{eqb}, ListN.{length, length-append}}
 use mathlib.Core.{Bool.{Bool, true, false, _||_}, List.{List, [], _∷_, _++_, map, flatMap, append-nil}, Path.{_≡_, refl, ap, sym, subst, _∙_}}
 use native.Mathlib.Omega.{arith}
 use Rattle.builder.proofs.Shortest.{wordOf, inlineOf, records-size, layout-least}
-use Rattle.builder.specs.{Metadata.{fieldsOf, inlined, isRemote, remotes, offsetOf, written, layoutOf, startOf, metadataOf}, Sharing.{sameText, sameTexts, isIn, firstsAfter, goodOnes, sizeBefore}, Yards.{Text}}
+use Rattle.builder.specs.Metadata.{fieldsOf, inlined, isRemote, remotes, offsetOf, written, layoutOf, startOf, metadataOf}
+use Rattle.builder.specs.{Sharing.{sameText, sameTexts, isIn, firstsAfter, goodOnes, sizeBefore}, Yards.{Text}}
 use Rattle.builder.proofs.grouping.{Keyed.{text-equal}, Meant.{text-itself, texts-itself}}
 use Rattle.layout.{proofs.{Everyone.{Every}, Sizes.{size-rises, size-least}}, specs.inner.Layout.{wordSize, wordsSize, next, Fits}}
 use Rattle.build.proofs.metadata.{Offsets.{total, old-place}, Shared.{fields-more, fields-one, flat-more, map-more}}
@@ -52,7 +53,13 @@ word-kept records by remote e w h = go (eqb w 0) refl
     go : (none : Bool) → eqb w 0 ≡ none → (if none then 0 else length (varintOf (255 + (records + by) + w))) ≡ (if none then 0 else length (varintOf (255 + records + w)))
     go true z = refl
     go false z =
-        omega (arith, e, size-rises (256 + records) (255 + records + w) (omega (arith, eqb-false w 0 z)), size-rises (255 + records + w) (255 + (records + by) + w) (omega arith), size-rises (255 + (records + by) + w) (255 + records + by + remote) (omega (arith, h)))
+        omega (
+          arith,
+          e,
+          size-rises (256 + records) (255 + records + w) (omega (arith, eqb-false w 0 z)),
+          size-rises (255 + records + w) (255 + (records + by) + w) (omega arith),
+          size-rises (255 + (records + by) + w) (255 + records + by + remote) (omega (arith, h)),
+        )
 
 module _ (fields : List Text) where
   total-flat : (ts : List Text) → total sameText text-equal text-itself (isRemote fields) (λ t. length (inlined t)) ts ≡ length (flatMap inlined ts)
@@ -72,7 +79,13 @@ module _ (fields : List Text) where
   unfolding offsetOf remotes isIn
   word-inside t e =
       let far = old-place sameText text-equal text-itself (isRemote fields) (λ t. length (inlined t)) [] fields t [] e refl (in-fields fields t e) in
-      omega (arith, far, inlined-some t, total-flat (firstsAfter sameText [] (goodOnes (isRemote fields) fields)), ap (λ (l : List Text). sizeBefore sameText (λ t. length (inlined t)) t (firstsAfter sameText [] (goodOnes (isRemote fields) l))) (append-nil fields))
+      omega (
+        arith,
+        far,
+        inlined-some t,
+        total-flat (firstsAfter sameText [] (goodOnes (isRemote fields) fields)),
+        ap (λ (l : List Text). sizeBefore sameText (λ t. length (inlined t)) t (firstsAfter sameText [] (goodOnes (isRemote fields) l))) (append-nil fields),
+      )
 
   word-most : (t : Text) → wordOf fields t ≤ remote
   word-most t = go (isRemote fields t) refl
@@ -111,13 +124,15 @@ module _ (records : List (List Text)) (r : List Text) where
     pub layout-on : layoutOf (fieldsOf records ++ r) ≡ layoutOf (fieldsOf records) + by
     layout-on =
         sure-layout fields r sure by by-words
-        (ap (λ (ws : List ℕ). wordsSize ws (layout + by)) (sym (map-more (wordOf fields) fields r)) ∙ (all-kept (fields ++ r) ∙ ap (λ (ws : List ℕ). wordsSize ws layout) (map-more (wordOf fields) fields r)))
+        (ap (λ (ws : List ℕ). wordsSize ws (layout + by)) (sym (map-more (wordOf fields) fields r)) ∙
+        (all-kept (fields ++ r) ∙ ap (λ (ws : List ℕ). wordsSize ws layout) (map-more (wordOf fields) fields r)))
 
     pub fields-on : fieldsOf (records ++ (r ∷ [])) ≡ fieldsOf records ++ r
     fields-on = fields-more records (r ∷ []) ∙ ap (λ (l : List Text). fields ++ l) (fields-one r)
 
     -- a record keeps its length
-    record-kept : (ts : List Text) → length (flatMap (written (fieldsOf records ++ r) (layoutOf (fieldsOf records ++ r))) ts) ≡ length (flatMap (written (fieldsOf records) (layoutOf (fieldsOf records))) ts)
+    record-kept : (ts : List Text) →
+        length (flatMap (written (fieldsOf records ++ r) (layoutOf (fieldsOf records ++ r))) ts) ≡ length (flatMap (written (fieldsOf records) (layoutOf (fieldsOf records))) ts)
     unfolding next
     record-kept ts =
         records-size (fields ++ r) (layoutOf (fields ++ r)) ts

@@ -39,7 +39,10 @@ module _ (b : Builder) (sound : Sound (b .plan) (b .room)) (fresh : b .totals �
 
   abbrev shape : Reply (Unit {0}) → Bool → Bool → Bool → ℕ → Reply (List ℕ)
   shape good a b k wide =
-      good >> (demand a (plain 25) >> (demand b (plain 26) >> (demand k (plain 27) >> (drawnOf (plan .version) wide (plan .yards) >>= λ x. (demand (space .lists && leb (length (fileOf plan x)) (upTo out)) (plain 28) >> given (fileOf plan x))))))
+      good >> (demand a (plain 25) >>
+      (demand b (plain 26) >>
+      (demand k (plain 27) >>
+      (drawnOf (plan .version) wide (plan .yards) >>= λ x. (demand (space .lists && leb (length (fileOf plan x)) (upTo out)) (plain 28) >> given (fileOf plan x))))))
 
   built-steps : builtOf plan (roomFor out (record { bytes = out; lists = space .lists })) ≡ shape (bordersGood (plan .yards)) (counted plan) (readable plan) (known plan) (upTo (min out out))
   unfolding builtOf
@@ -56,7 +59,8 @@ module _ (b : Builder) (sound : Sound (b .plan) (b .room)) (fresh : b .totals �
       let d : Drawn = dataOf plan in
       let wide : upTo (min out out) ≡ upTo out = omega arith in
       ap (λ (n : ℕ). demand some (plain 25) >> (demand (space .lists && leb n (upTo out)) (plain 28) >> given (fileOf plan d))) size
-      ∙ (ends plan d (space .lists) out some (drawnFrom (plan .version) (upTo out) (0 ∷ []) (plan .yards)) (redrawn (plan .version) (upTo (b .room)) (upTo out) (0 ∷ []) (plan .yards) d (sound-draws plan (b .room) sound))
+      ∙ (ends plan d (space .lists) out some (drawnFrom (plan .version) (upTo out) (0 ∷ []) (plan .yards))
+      (redrawn (plan .version) (upTo (b .room)) (upTo out) (0 ∷ []) (plan .yards) d (sound-draws plan (b .room) sound))
       ∙ sym (built-steps
       ∙ (ap (λ (x : Reply (Unit {0})). shape x (counted plan) (readable plan) (known plan) (upTo (min out out))) (sound .borders)
       ∙ (ap (λ (x : Bool). shape (given tt) x (readable plan) (known plan) (upTo (min out out))) counted-held

@@ -12,7 +12,8 @@ use Rattle.draft.proofs.held.{Adds.{Added, add-given}, Standing.{readab
 use Rattle.draft.specs.Held.{Builder.{Builder, Offered, holding, joined, summed, yardOf, fitting, add, dropLast}, Sound.{Sound}, Space.{Space}, Totals.{Totals, dataOf, fileSize, totalsOf}}
 
 -- the sums say how long the file is, so what fits is asked of them alone
-pub fits-by-sums : (space : Space) (b : Builder) → b .totals ≡ totalsOf (b .plan) → fitting space b ≡ (demand (space .lists && leb (length (fileOf (b .plan) (dataOf (b .plan)))) (upTo (b .room))) (plain 28) >> given b)
+pub fits-by-sums : (space : Space) (b : Builder) → b .totals ≡ totalsOf (b .plan) →
+    fitting space b ≡ (demand (space .lists && leb (length (fileOf (b .plan) (dataOf (b .plan)))) (upTo (b .room))) (plain 28) >> given b)
 unfolding fitting totalsOf
 fits-by-sums space b fresh =
     ap (λ (n : ℕ). demand (space .lists && leb n (upTo (b .room))) (plain 28) >> given b) (ap (fileSize (length (headOf (b .plan)))) fresh ∙ size-is (b .plan) (dataOf (b .plan)))
@@ -36,8 +37,28 @@ module _ (b : Builder) (sound : Sound (b .plan) (b .room)) (fresh : b .totals �
       ap (λ (x : Bool). x && eqb (length (p .names)) (length (o .lengths))) (sound .numbered) ∙ (eq-eqb (length (p .names)) (length (o .lengths)) (a .valued) ∙ sym (sound .numbered)) in
       let texts : (p .whole && leb (sumOf (o .lengths)) (length (o .texts))) ≡ p .whole =
       ap (λ (x : Bool). x && leb (sumOf (o .lengths)) (length (o .texts))) (readable-parts p (sound .texts) .0) ∙ (whole ∙ sym (readable-parts p (sound .texts) .0)) in
-      ap (λ (ys : List Yard). record { kind = p .kind; version = p .version; precision = p .precision; names = p .names; notice = p .notice; yards = ys; numbered = p .numbered && eqb (length (p .names)) (length (o .lengths)); whole = p .whole && leb (sumOf (o .lengths)) (length (o .texts)) }) back
-      ∙ (ap (λ (x : Bool). record { kind = p .kind; version = p .version; precision = p .precision; names = p .names; notice = p .notice; yards = p .yards; numbered = x; whole = p .whole && leb (sumOf (o .lengths)) (length (o .texts)) }) numbered
+      ap (λ (ys : List Yard). record {
+        kind = p .kind;
+        version = p .version;
+        precision = p .precision;
+        names = p .names;
+        notice = p .notice;
+        yards = ys;
+        numbered = p .numbered && eqb (length (p .names))
+            (length (o .lengths));
+        whole = p .whole && leb (sumOf (o .lengths)) (length (o .texts));
+      }) back
+      ∙ (ap (λ (x : Bool). record {
+        kind = p .kind;
+        version = p .version;
+        precision = p .precision;
+        names = p .names;
+        notice = p .notice;
+        yards = p .yards;
+        numbered = x;
+        whole = p .whole && leb (sumOf (o .lengths))
+            (length (o .texts));
+      }) numbered
       ∙ ap (λ (x : Bool). record { kind = p .kind; version = p .version; precision = p .precision; names = p .names; notice = p .notice; yards = p .yards; numbered = p .numbered; whole = x }) texts)
 
   same-builder : summed (b .plan) (b .room) ≡ b
@@ -50,5 +71,6 @@ module _ (b : Builder) (sound : Sound (b .plan) (b .room)) (fresh : b .totals �
   dropped-frees later =
       let all : Plan = joined (b .plan) o in
       ap (λ (x : Builder). dropLast x later) (a .is)
-      ∙ (sym (met (lt-ltb 0 (length (all .yards)) (omega (arith, joined-yards (b .plan) o))) (plain 29) (demand (later .lists) (plain 28) >> given (summed (holding all (take (length (all .yards) - 1) (all .yards))) (b .room))))
+      ∙ (sym (met (lt-ltb 0 (length (all .yards)) (omega (arith, joined-yards (b .plan) o))) (plain 29)
+      (demand (later .lists) (plain 28) >> given (summed (holding all (take (length (all .yards) - 1) (all .yards))) (b .room))))
       ∙ ap (λ (x : Builder). demand (later .lists) (plain 28) >> given x) (ap (λ (p : Plan). summed p (b .room)) plan-back ∙ same-builder))

@@ -27,7 +27,9 @@ summed-fresh plan room = refl
 
 fitting-fresh : (space : Space) (plan : Plan) (room : ℕ) → Gives (fitting space (summed plan room))
 unfolding fitting
-fitting-fresh space plan room = past (demand (space .lists && leb (fileSize (length (headOf (summed plan room .plan))) (summed plan room .totals)) (upTo (summed plan room .room))) (plain 28)) (given (summed plan room)) (summed-fresh plan room)
+fitting-fresh space plan room =
+    past (demand (space .lists && leb (fileSize (length (headOf (summed plan room .plan))) (summed plan room .totals)) (upTo (summed plan room .room))) (plain 28)) (given (summed plan room))
+    (summed-fresh plan room)
 
 begin-fresh : (plan : Plan) (room : ℕ) (space : Space) → Gives (begin plan room space)
 unfolding begin

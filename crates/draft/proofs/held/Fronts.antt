@@ -1,6 +1,7 @@
 -- A list that begins so, and has one item everywhere behind: what is read of it, put behind it, and cut off. Assumes nothing.
 use Prim.Native.Nat.{ℕ, zero, suc, _+_, _-_, _≤_, _<_}
-use lib.{ListN.{length, take, drop, set, replicate, length-append, length-drop, length-replicate, length-take, replicate-append-replicate, take-append-drop}, Seq.{sets, sets-eq, length-sets, drop-drop, set-append-left, take-all, take-at, drop-at, take-set-le}}
+use lib.ListN.{length, take, drop, set, replicate, length-append, length-drop, length-replicate, length-take, replicate-append-replicate, take-append-drop}
+use lib.Seq.{sets, sets-eq, length-sets, drop-drop, set-append-left, take-all, take-at, drop-at, take-set-le}
 use mathlib.Core.{List.{List, [], _∷_, _++_, append-assoc, append-nil}, Logic.{_⊎_, inl, inr}, Path.{_≡_, refl, sym, ap, _∙_}}
 use native.Mathlib.Omega.{arith}
 use Rattle.draft.specs.Held.State.{Front}
@@ -88,7 +89,8 @@ module _ {A : Type 0} (none : A) where
       ended (x ∷ l) (suc n) h = ended l n (omega arith)
 
   -- from the end of the front on
-  pub front-cut : (front list : List A) (at : ℕ) → at ≡ length front → take (length front) list ≡ front → (after : List A) → after ≡ take at list ++ replicate (length list - at) none → Front none front after
+  pub front-cut : (front list : List A) (at : ℕ) → at ≡ length front → take (length front) list ≡ front → (after : List A) → after ≡ take at list ++ replicate (length list - at) none →
+      Front none front after
   front-cut front list at same t after e =
       front-made front after (length list - at) (e ∙ ap (λ (l : List A). l ++ replicate (length list - at) none) (ap (λ (n : ℕ). take n list) same ∙ t))
 
@@ -99,7 +101,8 @@ module _ {A : Type 0} (none : A) where
       ap (take (length front)) (f .is ∙ append-assoc front more rest) ∙ take-at front (more ++ rest) (length front) refl
 
   -- ---- what was put behind the front, fitting or not, and cleared again
-  pub front-back : {front list : List A} → Front none front list → (more after again : List A) (at : ℕ) → at ≡ length front → after ≡ sets list at more → again ≡ take at after ++ replicate (length after - at) none → again ≡ list
+  pub front-back : {front list : List A} → Front none front list → (more after again : List A) (at : ℕ) → at ≡ length front → after ≡ sets list at more →
+      again ≡ take at after ++ replicate (length after - at) none → again ≡ list
   front-back {front} {list} f more after again at same put e =
       let size : length after ≡ length list = ap length put ∙ length-sets list at more in
       let kept : take (length front) after ≡ front =

@@ -29,7 +29,8 @@ summed-keeps plan room s = s
 fitting-keeps : (space : Space) (plan : Plan) (room : ℕ) → Sound plan room → Keeps (fitting space (summed plan room))
 unfolding fitting
 fitting-keeps space plan room s =
-    past (space .lists && leb (fileSize (length (headOf (summed plan room .plan))) (summed plan room .totals)) (upTo (summed plan room .room))) (plain 28) (given (summed plan room)) (λ e. summed-keeps plan room s)
+    past (space .lists && leb (fileSize (length (headOf (summed plan room .plan))) (summed plan room .totals)) (upTo (summed plan room .room))) (plain 28) (given (summed plan room))
+    (λ e. summed-keeps plan room s)
 
 given-keeps : (r : Reply Builder) → ((next : Builder) → r ≡ given next → Sound (next .plan) (next .room)) → Keeps r
 unfolding Keeps
@@ -77,7 +78,8 @@ ran-sound b [] h = h
 ran-sound b (call ∷ calls) h = ran-sound (after b (called b call)) calls (after-keeps b (called b call) h (called-keeps b h call))
 
 -- ---- the first one
-pub begin-sound : (plan : Plan) (room : ℕ) (names : leb (length (plan .names)) 255 ≡ true) (numbered : plan .numbered ≡ true) (texts : readable (holding plan []) ≡ true) (form : known plan ≡ true) → Sound (holding plan []) room
+pub begin-sound : (plan : Plan) (room : ℕ) (names : leb (length (plan .names)) 255 ≡ true) (numbered : plan .numbered ≡ true) (texts : readable (holding plan []) ≡ true)
+    (form : known plan ≡ true) → Sound (holding plan []) room
 unfolding bordersGood drawnOf drawnFrom every known
 begin-sound plan room names numbered texts form =
     record { borders = refl; few = omega arith; named = names; numbered = numbered; valued = refl; texts = texts; form = form; drawn = record { bytes = 0 ∷ []; places = [] }; draws = refl }

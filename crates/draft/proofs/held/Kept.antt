@@ -36,7 +36,8 @@ borders-changed field text zero (y ∷ ys) = refl
 borders-changed field text (suc n) (y ∷ ys) = ap (λ (r : Reply (Unit {0})). checks 0 (y .lats) (y .lons) [] >> r) (borders-changed field text n ys)
 
 -- ---- a value is no part of the data
-drawn-changed : (version room field : ℕ) (text : Text) (sofar : List ℕ) (n : ℕ) (ys : List Yard) → drawnFrom version room sofar (changedAt n (withValue field text) ys) ≡ drawnFrom version room sofar ys
+drawn-changed : (version room field : ℕ) (text : Text) (sofar : List ℕ) (n : ℕ) (ys : List Yard) →
+    drawnFrom version room sofar (changedAt n (withValue field text) ys) ≡ drawnFrom version room sofar ys
 unfolding drawnFrom changedAt withBorder
 drawn-changed version room field text sofar n [] = refl
 drawn-changed version room field text sofar zero (y ∷ ys) = refl
@@ -113,7 +114,8 @@ module _ (plan : Plan) (room : ℕ) (sound : Sound plan room) where
     replaced-sound e =
         with-yards others (borders-changed field text yard (plan .yards) ∙ sound .borders) (omega (arith, length-changed (withValue field text) yard (plan .yards), sound .few))
         (every-changed valuedYard (withValue field text) still-valued yard (plan .yards) (sound .valued))
-        (every-changed readableYard (withValue field text) (λ y h. every-changed isText (λ old. text) (λ old k. e) field (y .values) h) yard (plan .yards) (readable-parts plan (sound .texts) .1 .1 .1))
+        (every-changed readableYard (withValue field text) (λ y h. every-changed isText (λ old. text) (λ old k. e) field (y .values) h) yard (plan .yards)
+        (readable-parts plan (sound .texts) .1 .1 .1))
         (dataOf plan) same-drawn
 
     pub replaced-data : dataOf (holding plan others) ≡ dataOf plan
@@ -166,13 +168,15 @@ module _ (plan : Plan) (room : ℕ) (sound : Sound plan room) (o : Offered) wher
     more-drawn =
         let fits : length more ≤ wide = border-fits (plan .version) wide (dataOf plan .bytes) (yardOf o) more (sym border) in
         drawn-more (plan .version) (upTo room) (0 ∷ []) (plan .yards) (yardOf o) (dataOf plan) (sound-draws plan room sound)
-        ∙ ap (λ (w : Reply (List ℕ)). w >>= λ more. given (drawnWith (dataOf plan) more)) (border-same (plan .version) wide (dataOf plan .bytes) (yardOf o) more (sym border) (upTo room) (omega (arith, fits, narrow)))
+        ∙ ap (λ (w : Reply (List ℕ)). w >>= λ more. given (drawnWith (dataOf plan) more))
+        (border-same (plan .version) wide (dataOf plan .bytes) (yardOf o) more (sym border) (upTo room) (omega (arith, fits, narrow)))
 
     pub joined-data : dataOf (joined plan o) ≡ drawnWith (dataOf plan) more
     joined-data = data-is (joined plan o) (upTo room) (omega arith) (drawnWith (dataOf plan) more) more-drawn
 
     -- by the checks of an add
-    pub joined-sound : checks 0 (o .lats) (o .lons) [] ≡ given tt → length (plan .yards) < 4096 → length (plan .names) ≡ length (o .lengths) → areTexts (o .lengths) (o .texts) ≡ true → Sound (joined plan o) room
+    pub joined-sound : checks 0 (o .lats) (o .lons) [] ≡ given tt → length (plan .yards) < 4096 → length (plan .names) ≡ length (o .lengths) → areTexts (o .lengths) (o .texts) ≡ true →
+        Sound (joined plan o) room
     joined-sound good few valued texts =
         record {
           borders = borders-all ∙ ap (λ (c : Reply (Unit {0})). c >> given tt) good;

@@ -21,7 +21,8 @@ unfolding wordsSize
 words-more [] new a = omega arith
 words-more (w ∷ words) new a = omega (arith, words-more words new a)
 
-module _ (inline more : ℕ) (words new : List ℕ) (records by : ℕ) (l : Least inline words records) (size : by ≡ more + wordsSize new records) (steady : wordsSize (words ++ new) (records + by) ≡ wordsSize (words ++ new) records) where
+module _ (inline more : ℕ) (words new : List ℕ) (records by : ℕ) (l : Least inline words records) (size : by ≡ more + wordsSize new records)
+    (steady : wordsSize (words ++ new) (records + by) ≡ wordsSize (words ++ new) records) where
   longer-fits : next (inline + more) (words ++ new) (records + by) ≡ records + by
   unfolding next Fits
   longer-fits = omega (arith, steady, words-more words new records, l .fits, size)

@@ -70,7 +70,8 @@ module _ (version room : ℕ) where
   unfolding drawnFrom
   none-drawn sofar d e = cc
 
-  drawn-step : (sofar : List ℕ) (y : Yard) (ys : List Yard) (more : List ℕ) → withBorder version room sofar y ≡ given more → (r : Reply Drawn) → drawnFrom version room more ys ≡ r → drawnFrom version room sofar (y ∷ ys) ≡ (r >>= placed (length sofar))
+  drawn-step : (sofar : List ℕ) (y : Yard) (ys : List Yard) (more : List ℕ) → withBorder version room sofar y ≡ given more → (r : Reply Drawn) → drawnFrom version room more ys ≡ r →
+      drawnFrom version room sofar (y ∷ ys) ≡ (r >>= placed (length sofar))
   unfolding drawnFrom
   drawn-step sofar y ys more first r rest =
       ap (λ (w : Reply (List ℕ)). w >>= λ more. (drawnFrom version room more ys >>= placed (length sofar))) first ∙ ap (λ (x : Reply Drawn). x >>= placed (length sofar)) rest
@@ -124,7 +125,8 @@ module _ (version room other : ℕ) where
   none-same sofar d e = sym e
 
   -- where it fits the other room too, if it fits its own
-  pub drawn-same : (sofar : List ℕ) (yards : List Yard) (d : Drawn) → given d ≡ drawnFrom version room sofar yards → (length (d .bytes) ≤ room → length (d .bytes) ≤ other) → drawnFrom version other sofar yards ≡ given d
+  pub drawn-same : (sofar : List ℕ) (yards : List Yard) (d : Drawn) → given d ≡ drawnFrom version room sofar yards → (length (d .bytes) ≤ room → length (d .bytes) ≤ other) →
+      drawnFrom version other sofar yards ≡ given d
   drawn-same sofar [] d e h = none-same sofar d e
   drawn-same sofar (y ∷ ys) d e h =
       let s = drew version room sofar y ys d e in
@@ -145,11 +147,14 @@ unfolding drawnFrom
 drawn-more version room sofar [] y d e = ap (λ (d : Drawn). withBorder version room (d .bytes) y >>= λ more. given (drawnWith d more)) (sym (none-drawn version room sofar d e))
 drawn-more version room sofar (x ∷ ys) y d e =
     let s = drew version room sofar x ys d e in
-    drawn-step version room sofar x (ys ++ (y ∷ [])) (s .more) (sym (s .first)) (withBorder version room (s .later .bytes) y >>= λ more. given (drawnWith (s .later) more)) (drawn-more version room (s .more) ys y (s .later) (s .rest))
+    drawn-step version room sofar x (ys ++ (y ∷ [])) (s .more) (sym (s .first)) (withBorder version room (s .later .bytes) y >>= λ more. given (drawnWith (s .later) more))
+    (drawn-more version room (s .more) ys y (s .later) (s .rest))
     ∙ (go (s .later) (withBorder version room (s .later .bytes) y)
     ∙ ap (λ (d : Drawn). withBorder version room (d .bytes) y >>= λ more. given (drawnWith d more)) (sym (s .is)))
   where
-    go : (d : Drawn) (w : Reply (List ℕ)) → ((w >>= λ more. given (drawnWith d more)) >>= placed (length sofar)) ≡ (w >>= λ more. given (record { bytes = more; places = (length sofar ∷ d .places) ++ (length (d .bytes) ∷ []) }))
+    go : (d : Drawn) (w : Reply (List ℕ)) →
+        ((w >>= λ more. given (drawnWith d more)) >>= placed (length sofar)) ≡
+        (w >>= λ more. given (record { bytes = more; places = (length sofar ∷ d .places) ++ (length (d .bytes) ∷ []) }))
     go d (given more) = refl
     go d (refused why) = refl
 
@@ -158,7 +163,8 @@ abbrev pub drawnTo : Drawn → ℕ → Drawn
 drawnTo d n = record { bytes = take (getD (d .places) n 0) (d .bytes); places = take n (d .places) }
 
 module _ (version room : ℕ) where
-  pub drawn-take : (sofar : List ℕ) (yards : List Yard) (d : Drawn) → given d ≡ drawnFrom version room sofar yards → (n : ℕ) → n < length yards → drawnFrom version room sofar (take n yards) ≡ given (drawnTo d n)
+  pub drawn-take : (sofar : List ℕ) (yards : List Yard) (d : Drawn) → given d ≡ drawnFrom version room sofar yards → (n : ℕ) → n < length yards →
+      drawnFrom version room sofar (take n yards) ≡ given (drawnTo d n)
   unfolding drawnFrom
   drawn-take sofar [] d e n h = absurd (omega arith)
   drawn-take sofar (y ∷ ys) d e zero h =

@@ -33,7 +33,8 @@ module _ (r : Rooms) (names yards strings : ℕ) where
         ap (λ (b : Bool). b && work) e
 
     pub own-and-work : true ≡ ownEnough r names yards strings → (b : Bool)
-        → b ≡ enough (workOf (r .starts) (r .keys) (r .spare) (r .kept) (r .held) (r .words) (r .places) (r .boxes)) yards (names * yards) (strings - front) → b ≡ longEnough r names yards front strings
+        → b ≡ enough (workOf (r .starts) (r .keys) (r .spare) (r .kept) (r .held) (r .words) (r .places) (r .boxes)) yards (names * yards) (strings - front) →
+        b ≡ longEnough r names yards front strings
     unfolding longEnough
     own-and-work e b is =
         let work : Bool = enough (workOf (r .starts) (r .keys) (r .spare) (r .kept) (r .held) (r .words) (r .places) (r .boxes)) yards (names * yards) (strings - front) in
@@ -69,9 +70,23 @@ module _ (held : Held) (r : Rooms) where
             pub no-bytes : r .bytes < held .bytes → false ≡ standing held r
             unfolding standing
             no-bytes h =
-                rw (le-leb (held .names) 255 h0, le-leb (held .yards) 4096 h1, le-leb (held .front) (held .strings) h2, le-leb 1 (held .bytes) h3, le-leb (held .bytes) (2 ^ 30) h4, lt-leb (held .bytes) (r .bytes) h) refl
+                rw (
+                  le-leb (held .names) 255 h0,
+                  le-leb (held .yards) 4096 h1,
+                  le-leb (held .front) (held .strings) h2,
+                  le-leb 1 (held .bytes) h3,
+                  le-leb (held .bytes) (2 ^ 30) h4,
+                  lt-leb (held .bytes) (r .bytes) h,
+                ) refl
 
             pub own-last : held .bytes ≤ r .bytes → (b : Bool) → b ≡ ownEnough r (held .names) (held .yards) (held .strings) → b ≡ standing held r
             unfolding standing
             own-last h b e =
-                rw (le-leb (held .names) 255 h0, le-leb (held .yards) 4096 h1, le-leb (held .front) (held .strings) h2, le-leb 1 (held .bytes) h3, le-leb (held .bytes) (2 ^ 30) h4, le-leb (held .bytes) (r .bytes) h) e
+                rw (
+                  le-leb (held .names) 255 h0,
+                  le-leb (held .yards) 4096 h1,
+                  le-leb (held .front) (held .strings) h2,
+                  le-leb 1 (held .bytes) h3,
+                  le-leb (held .bytes) (2 ^ 30) h4,
+                  le-leb (held .bytes) (r .bytes) h,
+                ) e

@@ -34,13 +34,24 @@ unfolding every sumOf
 values-short [] e = omega arith
 values-short (t ∷ ts) e = let two = both (isText t) (every isText ts) e in omega (arith, text-short t (two .0), values-short ts (two .1))
 
-pub fields-short : (yards : List Yard) → every (λ y. every isText (y .values)) yards ≡ true → sumOf (map length (fieldsOf (map (λ y. y .values) yards))) ≤ 255 * length (fieldsOf (map (λ y. y .values) yards))
+pub fields-short : (yards : List Yard) → every (λ y. every isText (y .values)) yards ≡ true →
+    sumOf (map length (fieldsOf (map (λ y. y .values) yards))) ≤ 255 * length (fieldsOf (map (λ y. y .values) yards))
 unfolding every fieldsOf sumOf
 fields-short [] e = omega arith
 fields-short (y ∷ ys) e =
     let two = both (every isText (y .values)) (every (λ y. every isText (y .values)) ys) e in
     let rest : List Text = fieldsOf (map (λ y. y .values) ys) in
-    omega (arith, values-short (y .values) (two .0), fields-short ys (two .1), joined-sum (y .values), joined-sum rest, joined-sum (y .values ++ rest), ap length (flat-more (λ (t : Text). t) (y .values) rest), length-append (joined (y .values)) (joined rest), length-append (y .values) rest)
+    omega (
+      arith,
+      values-short (y .values) (two .0),
+      fields-short ys (two .1),
+      joined-sum (y .values),
+      joined-sum rest,
+      joined-sum (y .values ++ rest),
+      ap length (flat-more (λ (t : Text). t) (y .values) rest),
+      length-append (joined (y .values)) (joined rest),
+      length-append (y .values) rest,
+    )
 
 -- ---- what can be read
 pub readable-parts : (plan : Plan) → readable plan ≡ true
@@ -155,7 +166,8 @@ module _ (b : Builder) (held : Held) (lists : Lists) (h : Holds b held lists) wh
   strings-inside = omega (arith, held-strings, h .lies .texts-are .room)
 
   -- a builder that calls have made is not refused for its numbers
-  pub holds-standing : (rooms : Rooms) → rooms .boxes ≡ length (lists .boxes) → rooms .borders ≡ length (lists .borders) → rooms .lengths ≡ length (lists .lengths) → rooms .texts ≡ length (lists .texts) → rooms .bytes ≡ length (lists .bytes)
+  pub holds-standing : (rooms : Rooms) → rooms .boxes ≡ length (lists .boxes) → rooms .borders ≡ length (lists .borders) → rooms .lengths ≡ length (lists .lengths) →
+      rooms .texts ≡ length (lists .texts) → rooms .bytes ≡ length (lists .bytes)
       → standing held rooms ≡ true
   holds-standing r boxes borders lengths texts bytes =
       let plan : Plan = b .plan in
@@ -169,6 +181,7 @@ module _ (b : Builder) (held : Held) (lists : Lists) (h : Holds b held lists) wh
       sym (own-last held r few-names few-yards front-first some-bytes few-bytes (omega (arith, bytes, bytes-inside)) true own)
 
   pub holds-stands : (from to : ℕ) → from ≡ held .names + 1 → to ≡ held .names + 1 + held .names * held .yards
-      → Stands (b .plan .yards) (dataOf (b .plan)) (held .names) (held .yards) (lists .boxes) (lists .borders) (take (to - from) (drop from (lists .lengths))) (take (held .strings - held .front) (drop (held .front) (lists .texts)))
+      → Stands (b .plan .yards) (dataOf (b .plan)) (held .names) (held .yards) (lists .boxes) (lists .borders) (take (to - from) (drop from (lists .lengths)))
+      (take (held .strings - held .front) (drop (held .front) (lists .texts)))
   holds-stands from to ef et =
       stands-more (b .plan) (b .room) (h .sound) lists (h .lies) (held .names) (held .yards) from to (held .front) (held .strings) held-names held-yards ef et held-front held-strings

@@ -86,11 +86,13 @@ module _ (fields new : List Text) where
             some true e = le-leb 2 (timesIn sameText t (fields ++ new)) (omega (arith, leb-true 2 (timesIn sameText t fields) e, times-more t fields new)) ∙ sym e
             some false e = refl
         by (alone none one) =
-            ap (λ (b : Bool). not (eqb (length t) 0) && b) (lt-leb 2 (timesIn sameText t (fields ++ new)) (omega (arith, none, one, times-more t fields new)) ∙ sym (lt-leb 2 (timesIn sameText t fields) (omega (arith, none))))
+            ap (λ (b : Bool). not (eqb (length t) 0) && b)
+            (lt-leb 2 (timesIn sameText t (fields ++ new)) (omega (arith, none, one, times-more t fields new)) ∙ sym (lt-leb 2 (timesIn sameText t fields) (omega (arith, none))))
 
         go : (b : Bool) → isIn sameText t new ≡ b → (not (eqb (length t) 0) && leb 2 (timesIn sameText t (fields ++ new))) ≡ (not (eqb (length t) 0) && leb 2 (timesIn sameText t fields))
         go true e = by (of-one Sure t new sure e)
-        go false e = let same : timesIn sameText t (fields ++ new) ≡ timesIn sameText t fields = omega (arith, times-more t fields new, times-none t new e) in ap (λ (n : ℕ). not (eqb (length t) 0) && leb 2 n) same
+        go false e = let same : timesIn sameText t (fields ++ new) ≡ timesIn sameText t fields = omega (arith, times-more t fields new, times-none t new e) in
+            ap (λ (n : ℕ). not (eqb (length t) 0) && leb 2 n) same
 
     -- no text comes to stand behind the records
     used-same : (xs ys : List Text) → ((t : Text) → isRemote fields t ≡ true → isIn sameText t xs ≡ true)

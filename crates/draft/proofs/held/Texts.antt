@@ -115,11 +115,13 @@ module _ (plan : Plan) (o : Offered) where
 
   pub joined-lengths : areTexts (o .lengths) (o .texts) ≡ true → map length (textsOf (joined plan o)) ≡ map length (textsOf plan) ++ o .lengths
   joined-lengths e =
-      ap (map length) joined-texts ∙ (map-more length (textsOf plan) (cutBy (o .lengths) (o .texts)) ∙ ap (λ (l : List ℕ). map length (textsOf plan) ++ l) (cut-lengths (o .lengths) (o .texts) (whole-texts e)))
+      ap (map length) joined-texts ∙
+      (map-more length (textsOf plan) (cutBy (o .lengths) (o .texts)) ∙ ap (λ (l : List ℕ). map length (textsOf plan) ++ l) (cut-lengths (o .lengths) (o .texts) (whole-texts e)))
 
   pub joined-strings : Words.joined (textsOf (joined plan o)) ≡ Words.joined (textsOf plan) ++ take (sumOf (o .lengths)) (o .texts)
   joined-strings =
-      ap Words.joined joined-texts ∙ (flat-more (λ (t : Text). t) (textsOf plan) (cutBy (o .lengths) (o .texts)) ∙ ap (λ (l : List ℕ). Words.joined (textsOf plan) ++ l) (joined-cut (o .lengths) (o .texts)))
+      ap Words.joined joined-texts ∙
+      (flat-more (λ (t : Text). t) (textsOf plan) (cutBy (o .lengths) (o .texts)) ∙ ap (λ (l : List ℕ). Words.joined (textsOf plan) ++ l) (joined-cut (o .lengths) (o .texts)))
 
 -- ---- the first so many yards: what there was is theirs and then the rest's
 module _ (plan : Plan) (n : ℕ) where
@@ -159,7 +161,15 @@ module _ (plan : Plan) (room : ℕ) (sound : Sound plan room) (yard field : ℕ)
   pub index-inside : textIndex < length (textsOf plan)
   index-inside =
       let n : ℕ = length (plan .names) in
-      omega (arith, f, item-among yard (length (plan .yards)) n y, mul-comm (length (plan .yards)) n, length-append (frontOf plan) (valuesOf plan), length-append (plan .names) (plan .notice ∷ []), fields-many n (plan .yards) (sound .valued))
+      omega (
+        arith,
+        f,
+        item-among yard (length (plan .yards)) n y,
+        mul-comm (length (plan .yards)) n,
+        length-append (frontOf plan) (valuesOf plan),
+        length-append (plan .names) (plan .notice ∷ []),
+        fields-many n (plan .yards) (sound .valued),
+      )
 
   pub replaced-values : valuesOf changed ≡ set (valuesOf plan) (yard * length (plan .names) + field) text
   replaced-values = values-changed (length (plan .names)) field text f yard (plan .yards) (sound .valued) y

@@ -48,7 +48,8 @@ souths-from boxes i (y ∷ ys) rest e =
     let four : 4 * suc i ≡ 4 * i + 4 = omega arith in
     let here : getD boxes (4 * i) (pos 0) ≡ lowestOf (y .lats) = ap (λ (n : ℕ). getD boxes n (pos 0)) none ∙ (sym (getD-drop (4 * i) boxes 0 (pos 0)) ∙ ap (λ (l : List ℤ). getD l 0 (pos 0)) e) in
     let onward : drop (4 * suc i) boxes ≡ cornersOf ys ++ rest = ap (λ (n : ℕ). drop n boxes) four ∙ (sym (drop-drop 4 (4 * i) boxes) ∙ ap (drop 4) e) in
-    ap (λ (z : ℤ). z ∷ map (λ (yard : ℕ). getD boxes (4 * yard) (pos 0)) (numbersFrom (suc i) (length ys))) here ∙ ap (λ (l : List ℤ). lowestOf (y .lats) ∷ l) (souths-from boxes (suc i) ys rest onward)
+    ap (λ (z : ℤ). z ∷ map (λ (yard : ℕ). getD boxes (4 * yard) (pos 0)) (numbersFrom (suc i) (length ys))) here ∙
+    ap (λ (l : List ℤ). lowestOf (y .lats) ∷ l) (souths-from boxes (suc i) ys rest onward)
 
 module _ (yards : List Yard) (drawn : Drawn) (names count : ℕ) (boxes : List ℤ) (borders lengths texts : List ℕ) (s : Stands yards drawn names count boxes borders lengths texts) where
   abbrev fields : List Text

@@ -11,7 +11,8 @@ pub front-wider : {A : Type 0} (none : A) {front list : List A} (more : ℕ) →
 front-wider none {front} {list} more f =
     let left : ℕ = length list - length front in
     front-made none front (list ++ replicate more none) (left + more)
-    (ap (λ (l : List _). l ++ replicate more none) (f .is) ∙ (append-assoc front (replicate left none) (replicate more none) ∙ ap (λ (l : List _). front ++ l) (replicate-append-replicate left more none)))
+    (ap (λ (l : List _). l ++ replicate more none) (f .is) ∙
+    (append-assoc front (replicate left none) (replicate more none) ∙ ap (λ (l : List _). front ++ l) (replicate-append-replicate left more none)))
 
 lies-wider : (more : More) (plan : Plan) (drawn : Drawn) (lists : Lists) → Lies plan drawn lists → Lies plan drawn (wider more lists)
 lies-wider more plan drawn lists l =

@@ -30,26 +30,50 @@ abbrev begun : Builder
 begun = summed plan 64
 
 pub begins : begin plan 64 space ≡ given begun
-unfolding plainMoveBytes packedNumber packedMoveBytes moveTo movesFrom pointsOf movesOf goodPieces packedFrom firstPieces piecesOf isStill every sized near checks plainBorder packedBorder borderOf insertBy sortedBy digitsOf varintOf signedForm interleaved characters startedBy begunBy followed goesOn isUtf8 appended withBorder drawnFrom drawnOf lesser greater bestBy lowestOf highestOf boxBytes entryBytes tableFrom fromSouth tableOf headFrom headOf isText areTexts readable known inlined fieldsOf isRemote remotes offsetOf written fits firstFrom layoutOf startOf metadataOf sameBy isIn timesIn firstsAfter sizeBefore goodOnes cutBy sumOf flatMap zipWith drawnOr dataOf totalsFor totalsOf fileSize summed fitting begin joined add dropLast called after ran
+unfolding plainMoveBytes packedNumber packedMoveBytes moveTo movesFrom pointsOf movesOf goodPieces packedFrom firstPieces piecesOf isStill every sized near checks plainBorder packedBorder
+    borderOf insertBy sortedBy digitsOf varintOf signedForm interleaved characters startedBy begunBy followed goesOn isUtf8 appended withBorder drawnFrom drawnOf lesser greater bestBy
+    lowestOf highestOf boxBytes entryBytes tableFrom fromSouth tableOf headFrom headOf isText areTexts readable known inlined fieldsOf isRemote remotes offsetOf written fits firstFrom
+    layoutOf startOf metadataOf sameBy isIn timesIn firstsAfter sizeBefore goodOnes cutBy sumOf flatMap zipWith drawnOr dataOf totalsFor totalsOf fileSize summed fitting begin joined add
+    dropLast called after ran
 begins = refl
 
 pub one-yard : ran begun (add-yard yard space ∷ []) .totals ≡ record { table = 6; metadata = 0; bytes = 12; yards = 1; greatest = pos 6 }
-unfolding plainMoveBytes packedNumber packedMoveBytes moveTo movesFrom pointsOf movesOf goodPieces packedFrom firstPieces piecesOf isStill every sized near checks plainBorder packedBorder borderOf insertBy sortedBy digitsOf varintOf signedForm interleaved characters startedBy begunBy followed goesOn isUtf8 appended withBorder drawnFrom drawnOf lesser greater bestBy lowestOf highestOf boxBytes entryBytes tableFrom fromSouth tableOf headFrom headOf isText areTexts readable known inlined fieldsOf isRemote remotes offsetOf written fits firstFrom layoutOf startOf metadataOf sameBy isIn timesIn firstsAfter sizeBefore goodOnes cutBy sumOf flatMap zipWith drawnOr dataOf totalsFor totalsOf fileSize summed fitting begin joined add dropLast called after ran
+unfolding plainMoveBytes packedNumber packedMoveBytes moveTo movesFrom pointsOf movesOf goodPieces packedFrom firstPieces piecesOf isStill every sized near checks plainBorder packedBorder
+    borderOf insertBy sortedBy digitsOf varintOf signedForm interleaved characters startedBy begunBy followed goesOn isUtf8 appended withBorder drawnFrom drawnOf lesser greater bestBy
+    lowestOf highestOf boxBytes entryBytes tableFrom fromSouth tableOf headFrom headOf isText areTexts readable known inlined fieldsOf isRemote remotes offsetOf written fits firstFrom
+    layoutOf startOf metadataOf sameBy isIn timesIn firstsAfter sizeBefore goodOnes cutBy sumOf flatMap zipWith drawnOr dataOf totalsFor totalsOf fileSize summed fitting begin joined add
+    dropLast called after ran
 one-yard = refl
 
 pub one-dropped : ran begun (add-yard yard space ∷ drop-last space ∷ []) ≡ begun
-unfolding plainMoveBytes packedNumber packedMoveBytes moveTo movesFrom pointsOf movesOf goodPieces packedFrom firstPieces piecesOf isStill every sized near checks plainBorder packedBorder borderOf insertBy sortedBy digitsOf varintOf signedForm interleaved characters startedBy begunBy followed goesOn isUtf8 appended withBorder drawnFrom drawnOf lesser greater bestBy lowestOf highestOf boxBytes entryBytes tableFrom fromSouth tableOf headFrom headOf isText areTexts readable known inlined fieldsOf isRemote remotes offsetOf written fits firstFrom layoutOf startOf metadataOf sameBy isIn timesIn firstsAfter sizeBefore goodOnes cutBy sumOf flatMap zipWith drawnOr dataOf totalsFor totalsOf fileSize summed fitting begin joined add dropLast called after ran
+unfolding plainMoveBytes packedNumber packedMoveBytes moveTo movesFrom pointsOf movesOf goodPieces packedFrom firstPieces piecesOf isStill every sized near checks plainBorder packedBorder
+    borderOf insertBy sortedBy digitsOf varintOf signedForm interleaved characters startedBy begunBy followed goesOn isUtf8 appended withBorder drawnFrom drawnOf lesser greater bestBy
+    lowestOf highestOf boxBytes entryBytes tableFrom fromSouth tableOf headFrom headOf isText areTexts readable known inlined fieldsOf isRemote remotes offsetOf written fits firstFrom
+    layoutOf startOf metadataOf sameBy isIn timesIn firstsAfter sizeBefore goodOnes cutBy sumOf flatMap zipWith drawnOr dataOf totalsFor totalsOf fileSize summed fitting begin joined add
+    dropLast called after ran
 one-dropped = refl
 
 -- the file has 29 bytes: 8 of header, 3 of sizes, 18 of sections
 pub just-fits : ran (summed plan 29) (add-yard yard space ∷ []) .totals .yards ≡ 1
-unfolding plainMoveBytes packedNumber packedMoveBytes moveTo movesFrom pointsOf movesOf goodPieces packedFrom firstPieces piecesOf isStill every sized near checks plainBorder packedBorder borderOf insertBy sortedBy digitsOf varintOf signedForm interleaved characters startedBy begunBy followed goesOn isUtf8 appended withBorder drawnFrom drawnOf lesser greater bestBy lowestOf highestOf boxBytes entryBytes tableFrom fromSouth tableOf headFrom headOf isText areTexts readable known inlined fieldsOf isRemote remotes offsetOf written fits firstFrom layoutOf startOf metadataOf sameBy isIn timesIn firstsAfter sizeBefore goodOnes cutBy sumOf flatMap zipWith drawnOr dataOf totalsFor totalsOf fileSize summed fitting begin joined add dropLast called after ran
+unfolding plainMoveBytes packedNumber packedMoveBytes moveTo movesFrom pointsOf movesOf goodPieces packedFrom firstPieces piecesOf isStill every sized near checks plainBorder packedBorder
+    borderOf insertBy sortedBy digitsOf varintOf signedForm interleaved characters startedBy begunBy followed goesOn isUtf8 appended withBorder drawnFrom drawnOf lesser greater bestBy
+    lowestOf highestOf boxBytes entryBytes tableFrom fromSouth tableOf headFrom headOf isText areTexts readable known inlined fieldsOf isRemote remotes offsetOf written fits firstFrom
+    layoutOf startOf metadataOf sameBy isIn timesIn firstsAfter sizeBefore goodOnes cutBy sumOf flatMap zipWith drawnOr dataOf totalsFor totalsOf fileSize summed fitting begin joined add
+    dropLast called after ran
 just-fits = refl
 
 pub too-long : called (summed plan 28) (add-yard yard space) ≡ refused (plain 28)
-unfolding plainMoveBytes packedNumber packedMoveBytes moveTo movesFrom pointsOf movesOf goodPieces packedFrom firstPieces piecesOf isStill every sized near checks plainBorder packedBorder borderOf insertBy sortedBy digitsOf varintOf signedForm interleaved characters startedBy begunBy followed goesOn isUtf8 appended withBorder drawnFrom drawnOf lesser greater bestBy lowestOf highestOf boxBytes entryBytes tableFrom fromSouth tableOf headFrom headOf isText areTexts readable known inlined fieldsOf isRemote remotes offsetOf written fits firstFrom layoutOf startOf metadataOf sameBy isIn timesIn firstsAfter sizeBefore goodOnes cutBy sumOf flatMap zipWith drawnOr dataOf totalsFor totalsOf fileSize summed fitting begin joined add dropLast called after ran
+unfolding plainMoveBytes packedNumber packedMoveBytes moveTo movesFrom pointsOf movesOf goodPieces packedFrom firstPieces piecesOf isStill every sized near checks plainBorder packedBorder
+    borderOf insertBy sortedBy digitsOf varintOf signedForm interleaved characters startedBy begunBy followed goesOn isUtf8 appended withBorder drawnFrom drawnOf lesser greater bestBy
+    lowestOf highestOf boxBytes entryBytes tableFrom fromSouth tableOf headFrom headOf isText areTexts readable known inlined fieldsOf isRemote remotes offsetOf written fits firstFrom
+    layoutOf startOf metadataOf sameBy isIn timesIn firstsAfter sizeBefore goodOnes cutBy sumOf flatMap zipWith drawnOr dataOf totalsFor totalsOf fileSize summed fitting begin joined add
+    dropLast called after ran
 too-long = refl
 
 pub none-to-drop : called begun (drop-last space) ≡ refused (plain 29)
-unfolding plainMoveBytes packedNumber packedMoveBytes moveTo movesFrom pointsOf movesOf goodPieces packedFrom firstPieces piecesOf isStill every sized near checks plainBorder packedBorder borderOf insertBy sortedBy digitsOf varintOf signedForm interleaved characters startedBy begunBy followed goesOn isUtf8 appended withBorder drawnFrom drawnOf lesser greater bestBy lowestOf highestOf boxBytes entryBytes tableFrom fromSouth tableOf headFrom headOf isText areTexts readable known inlined fieldsOf isRemote remotes offsetOf written fits firstFrom layoutOf startOf metadataOf sameBy isIn timesIn firstsAfter sizeBefore goodOnes cutBy sumOf flatMap zipWith drawnOr dataOf totalsFor totalsOf fileSize summed fitting begin joined add dropLast called after ran
+unfolding plainMoveBytes packedNumber packedMoveBytes moveTo movesFrom pointsOf movesOf goodPieces packedFrom firstPieces piecesOf isStill every sized near checks plainBorder packedBorder
+    borderOf insertBy sortedBy digitsOf varintOf signedForm interleaved characters startedBy begunBy followed goesOn isUtf8 appended withBorder drawnFrom drawnOf lesser greater bestBy
+    lowestOf highestOf boxBytes entryBytes tableFrom fromSouth tableOf headFrom headOf isText areTexts readable known inlined fieldsOf isRemote remotes offsetOf written fits firstFrom
+    layoutOf startOf metadataOf sameBy isIn timesIn firstsAfter sizeBefore goodOnes cutBy sumOf flatMap zipWith drawnOr dataOf totalsFor totalsOf fileSize summed fitting begin joined add
+    dropLast called after ran
 none-to-drop = refl

@@ -32,11 +32,13 @@ module _ (yards : List Yard) (drawn : Drawn) (names count : ℕ) (boxes : List �
   unfolding southsOf
   held-greatest = ap (λ (n : ℕ). highestOf (southsOf boxes n)) (s .many) ∙ ap highestOf (souths-from boxes 0 yards (drop (4 * count) boxes) own-boxes)
 
-  module _ (before keys kept held words places : List ℕ) (records remote sizes bytes : ℕ) (a : Arranged names count boxes borders lengths texts before keys kept held words places records remote sizes bytes) where
+  module _ (before keys kept held words places : List ℕ) (records remote sizes bytes : ℕ)
+      (a : Arranged names count boxes borders lengths texts before keys kept held words places records remote sizes bytes) where
     pub held-table : 2 * count ≤ length before → tableFrom 0 0 (map (entryOfWord boxes places) (take count keys)) ≡ tableOf (zipWith (entryOf yards) yards (drawn .places))
     unfolding spread
     held-table room =
-        table-over yards boxes (drop (4 * count) boxes) (take count keys) (omega (arith, s .few, s .many)) own-boxes (a .order ∙ ap (λ (n : ℕ). sortedBy keyOf (map (wordOfYard boxes) (numbersFrom 0 n))) (s .many))
+        table-over yards boxes (drop (4 * count) boxes) (take count keys) (omega (arith, s .few, s .many)) own-boxes
+        (a .order ∙ ap (λ (n : ℕ). sortedBy keyOf (map (wordOfYard boxes) (numbersFrom 0 n))) (s .many))
         before (drawn .places) [] (map (beginOf names lengths texts count) (numbersFrom 0 count)) places (s .drawn-many) (omega (arith, room, s .many))
         (begins-are yards names lengths texts count own-values)
         (a .recorded .placed ∙ ap (λ (l : List ℕ). spread 0 (map (beginOf names lengths texts count) (numbersFrom 0 count)) (spread 1 l before)) (s .borders-are))

@@ -3,7 +3,8 @@ use Prim.Native.Nat.{ℕ, _+_, _-_, _*_, _≤_}
 use lib.{IntN.{ℤ}, ListN.{length, take, drop, length-drop, length-take}, Seq.{length-take-le}}
 use mathlib.Core.{List.{List, map, zipWith}, Path.{_≡_, refl, sym, ap, _∙_}}
 use native.Mathlib.{Nat.{mul-comm}, Omega.{arith}}
-use Rattle.builder.specs.{Entries.{entryOfWord, tableFrom, tableOf}, File.{assembled, entryOf, fileOf, headFrom, headOf}, Metadata.{metadataOf, recordsOf}, Sharing.{firsts, sameTexts}, Yards.{Text, Plan, cutBy}}
+use Rattle.builder.specs.{Entries.{entryOfWord, tableFrom, tableOf}, File.{assembled, entryOf, fileOf, headFrom, headOf}, Metadata.{metadataOf, recordsOf}, Sharing.{firsts, sameTexts}}
+use Rattle.builder.specs.Yards.{Text, Plan, cutBy}
 use Rattle.build.proofs.Filing.{Reach, laid-section, reaches}
 use Rattle.build.specs.{inner.Puts.{Headed, SectionIn, sectionFrom}, Room.{enough}, declared.room.Work.{Work}}
 use Rattle.builder.specs.inner.Drawing.Section.{spread}
@@ -85,13 +86,15 @@ module _ (b : Builder) (held : Held) (lists : Lists) (h : Holds b held lists) wh
   unfolding headOf
   head-is =
       let texts : cutBy (take (held .names + 1) (lists .lengths)) (take (held .front) (lists .texts)) ≡ frontOf plan =
-      ap (λ (l : List ℕ). cutBy l (take (held .front) (lists .texts))) (front-lengths b held lists h) ∙ (ap (cutBy (map length (frontOf plan))) (front-texts b held lists h) ∙ cut-join (frontOf plan)) in
+      ap (λ (l : List ℕ). cutBy l (take (held .front) (lists .texts))) (front-lengths b held lists h) ∙
+      (ap (cutBy (map length (frontOf plan))) (front-texts b held lists h) ∙ cut-join (frontOf plan)) in
       ap (headFrom (held .kind) (held .version) (held .precision) (held .names)) texts ∙ ap (λ (x : Held). headFrom (x .kind) (x .version) (x .precision) (x .names) (frontOf plan)) (h .is)
 
   pub file-is : (before keys kept store words places : List ℕ) (records remote sizes size : ℕ)
       → Arranged (held .names) (held .yards) (lists .boxes) (lists .borders) heldLengths heldTexts before keys kept store words places records remote sizes size → 2 * held .yards ≤ length before
       → assembled (headFrom (held .kind) (held .version) (held .precision) (held .names) (cutBy (take (held .names + 1) (lists .lengths)) (take (held .front) (lists .texts))))
-      (tableFrom 0 0 (map (entryOfWord (lists .boxes) places) (take (held .yards) keys))) (sectionFrom records (take sizes words) (take sizes kept) (take size store)) (take (held .bytes) (lists .bytes))
+      (tableFrom 0 0 (map (entryOfWord (lists .boxes) places) (take (held .yards) keys))) (sectionFrom records (take sizes words) (take sizes kept) (take size store))
+      (take (held .bytes) (lists .bytes))
       ≡ fileOf (b .plan) (dataOf (b .plan))
   unfolding fileOf sectionFrom
   file-is before keys kept store words places records remote sizes size a room =
@@ -102,8 +105,11 @@ module _ (b : Builder) (held : Held) (lists : Lists) (h : Holds b held lists) wh
       let own : List ℕ = tableOf (zipWith (entryOf (plan .yards)) (plan .yards) (dataOf plan .places)) in
       let is-section : section ≡ metadataOf (recordsOf (plan .yards)) =
       recorded-section (held .names) (held .yards) heldLengths heldTexts (spread 1 (take (held .yards) (lists .borders)) before) kept store words places records remote sizes size (a .recorded)
-      ∙ ap (λ (vs : List (List Text)). metadataOf (firsts sameTexts vs)) (sym (held-values (plan .yards) (dataOf plan) (held .names) (held .yards) (lists .boxes) (lists .borders) heldLengths heldTexts s)) in
+      ∙ ap (λ (vs : List (List Text)). metadataOf (firsts sameTexts vs))
+      (sym (held-values (plan .yards) (dataOf plan) (held .names) (held .yards) (lists .boxes) (lists .borders) heldLengths heldTexts s)) in
       let is-bytes : rest ≡ dataOf plan .bytes = ap (λ (n : ℕ). take n (lists .bytes)) (held-bytes b held lists h) ∙ front-take 0 (h .lies .bytes-are) in
       ap (λ (head : List ℕ). assembled head table section rest) head-is
-      ∙ (ap (λ (t : List ℕ). assembled (headOf plan) t section rest) (held-table (plan .yards) (dataOf plan) (held .names) (held .yards) (lists .boxes) (lists .borders) heldLengths heldTexts s before keys kept store words places records remote sizes size a room)
+      ∙ (ap (λ (t : List ℕ). assembled (headOf plan) t section rest)
+      (held-table (plan .yards) (dataOf plan) (held .names) (held .yards) (lists .boxes) (lists .borders) heldLengths heldTexts s before keys kept store words places records remote sizes
+      size a room)
       ∙ (ap (λ (x : List ℕ). assembled (headOf plan) own x rest) is-section ∙ ap (assembled (headOf plan) own (metadataOf (recordsOf (plan .yards)))) is-bytes))

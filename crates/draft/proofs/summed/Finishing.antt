@@ -79,8 +79,10 @@ module _ (held : Held) (boxes : List ℤ) (borders lengths texts bytes : List �
 
     module _ (some : held .yards ≡ 0 → ⊥) (w : Bool) (ew : w ≡ longEnough rooms (held .names) (held .yards) (held .front) (held .strings)) where
       said : (after : List ℕ) (r : Built) → ((b : Builder) → Holds b held lists → Fills (endsAs (spaceOf held rooms .lists) out (fileOf (b .plan) (dataOf (b .plan)))) out after r) → Said after r
-      said after r fills =
-          (λ b h. subst (λ (reply : Reply (List ℕ)). Fills reply out after r) (sym (finish-some b held lists h out (spaceOf held rooms) some)) (fills b h), λ f. absurd (differ (standing held rooms) good f))
+      said after r fills = (
+        λ b h. subst (λ (reply : Reply (List ℕ)). Fills reply out after r) (sym (finish-some b held lists h out (spaceOf held rooms) some)) (fills b h),
+        λ f. absurd (differ (standing held rooms) good f),
+      )
 
       pub no-space : not w ≡ true → (after : List ℕ) (r : Built) → r ≡ W.Refused (plain 28) → Said after r
       no-space nw after r er = said after r (λ b h. short-fills (spaceOf held rooms .lists) out (fileOf (b .plan) (dataOf (b .plan))) after (sym ew ∙ not-true w nw) r er)
@@ -92,7 +94,8 @@ module _ (held : Held) (boxes : List ℤ) (borders lengths texts bytes : List �
         pub not-whole : (v : Bool) → v ≡ textsWhole held lengths → not v ≡ true → (after : List ℕ) (r : Built) → r ≡ W.Refused (plain 28) → Said after r
         not-whole v ev nv after r er = said after r (λ b h. absurd (differ (textsWhole held lengths) (holds-whole b held lists h) (sym ev ∙ not-true v nv)))
 
-        pub putting : (v : Bool) → v ≡ textsWhole held lengths → not v ≡ false → Putting held lengths (length texts) (length borders) (length bytes) (workOf starts keys spare kept store words places (length boxes))
+        pub putting : (v : Bool) → v ≡ textsWhole held lengths → not v ≡ false →
+            Putting held lengths (length texts) (length borders) (length bytes) (workOf starts keys spare kept store words places (length boxes))
         putting v ev nv =
             let s = stood held rooms good in
             record {
@@ -116,7 +119,8 @@ module _ (held : Held) (boxes : List ℤ) (borders lengths texts bytes : List �
 never-length : (n : ℕ) (why : Refusal) → _≡_ {A = Built} (W.Length n) (W.Refused why) → ⊥
 never-length n why e = let z : _≡_ {A = ℕ} 0 1 = cc in omega (arith, z)
 
-pub settled-ends : (reply : Reply (List ℕ)) (room : ℕ) (before after : List ℕ) (built r : Built) → length before ≡ room → Fills reply room before built → Settles built before after r → Finishes reply room after r
+pub settled-ends : (reply : Reply (List ℕ)) (room : ℕ) (before after : List ℕ) (built r : Built) → length before ≡ room → Fills reply room before built → Settles built before after r →
+    Finishes reply room after r
 unfolding Finishes
 settled-ends reply room before after built r size f s = settled-fits reply room before after built r size f s
 

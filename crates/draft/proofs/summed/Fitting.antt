@@ -45,5 +45,6 @@ module _ (head table metadata bytes room : ℕ) where
       → leb (head + (a + b + c) + table + metadata + bytes) most ≡ leb (fileSize head (sized table metadata bytes)) (upTo room)
   unfolding fileSize
   size-adds a b c ea eb ec most em =
-      let s : head + (a + b + c) + table + metadata + bytes ≡ head + (length (varintOf table) + (length (varintOf metadata) + (length (varintOf bytes) + (table + (metadata + bytes))))) = omega (arith, ea, eb, ec) in
+      let s : head + (a + b + c) + table + metadata + bytes ≡ head + (length (varintOf table) + (length (varintOf metadata) + (length (varintOf bytes) + (table + (metadata + bytes))))) =
+      omega (arith, ea, eb, ec) in
       ap (λ (n : ℕ). leb n most) s ∙ ap (leb (head + (length (varintOf table) + (length (varintOf metadata) + (length (varintOf bytes) + (table + (metadata + bytes))))))) em

@@ -48,7 +48,8 @@ module _ (boxes : List ℤ) (count : ℕ) where
     seek-goes h later e =
         choose-goes greater (highestOf (southsOf boxes count)) (southsOf boxes count) so yard s (omega (arith, h, souths-many boxes count)) later (e ∙ ap (greater so) (south-at boxes count yard h))
 
-    pub seek-up : yard < count → SFits w32 (getD boxes (4 * yard) (pos 0)) → ltZ so (toZ w32 (ofZ w32 (getD boxes (4 * yard) (pos 0)))) ≡ true → Seeking (toZ w32 (ofZ w32 (getD boxes (4 * yard) (pos 0)))) (yard + 1)
+    pub seek-up : yard < count → SFits w32 (getD boxes (4 * yard) (pos 0)) → ltZ so (toZ w32 (ofZ w32 (getD boxes (4 * yard) (pos 0)))) ≡ true →
+        Seeking (toZ w32 (ofZ w32 (getD boxes (4 * yard) (pos 0)))) (yard + 1)
     unfolding greater
     seek-up h k e =
         let south : ℤ = getD boxes (4 * yard) (pos 0) in

@@ -70,13 +70,15 @@ module _ (b : Builder) (held : Held) (lists : Lists) (h : Holds b held lists) wh
   -- the names and the notice
   pub front-lengths : take (held .names + 1) (lists .lengths) ≡ map length (frontOf (b .plan))
   front-lengths =
-      let lies : Front 0 (map length (frontOf plan) ++ map length (valuesOf plan)) (lists .lengths) = subst (λ (l : List ℕ). Front 0 l (lists .lengths)) (lengths-split plan (b .room) (h .sound)) (h .lies .lengths-are) in
+      let lies : Front 0 (map length (frontOf plan) ++ map length (valuesOf plan)) (lists .lengths) =
+      subst (λ (l : List ℕ). Front 0 l (lists .lengths)) (lengths-split plan (b .room) (h .sound)) (h .lies .lengths-are) in
       let size : held .names + 1 ≡ length (map length (frontOf plan)) = omega (arith, held-names b held lists h, length-map (frontOf plan) length, front-many plan (b .room) (h .sound)) in
       ap (λ (n : ℕ). take n (lists .lengths)) size ∙ front-of-more 0 (map length (frontOf plan)) (map length (valuesOf plan)) lies
 
   pub front-texts : take (held .front) (lists .texts) ≡ joined (frontOf (b .plan))
   front-texts =
-      let lies : Front 0 (joined (frontOf plan) ++ joined (valuesOf plan)) (lists .texts) = subst (λ (l : List ℕ). Front 0 l (lists .texts)) (texts-split plan (b .room) (h .sound)) (h .lies .texts-are) in
+      let lies : Front 0 (joined (frontOf plan) ++ joined (valuesOf plan)) (lists .texts) =
+      subst (λ (l : List ℕ). Front 0 l (lists .texts)) (texts-split plan (b .room) (h .sound)) (h .lies .texts-are) in
       ap (λ (n : ℕ). take n (lists .texts)) (held-front b held lists h) ∙ front-of-more 0 (joined (frontOf plan)) (joined (valuesOf plan)) lies
 
   front-short : sumOf (map length (frontOf (b .plan))) ≤ 65280
@@ -88,7 +90,8 @@ module _ (b : Builder) (held : Held) (lists : Lists) (h : Holds b held lists) wh
       omega (arith, few, length-map fs length, front-many plan (b .room) (h .sound), names-few plan (b .room) (h .sound))
 
   values-size : length (take (held .strings - held .front) (drop (held .front) (lists .texts))) ≡ held .strings - held .front
-  values-size = length-take-le (held .strings - held .front) (drop (held .front) (lists .texts)) (omega (arith, length-drop (held .front) (lists .texts), strings-inside b held lists h, front-first b held lists h))
+  values-size = length-take-le (held .strings - held .front) (drop (held .front) (lists .texts))
+      (omega (arith, length-drop (held .front) (lists .texts), strings-inside b held lists h, front-first b held lists h))
 
   pub holds-whole : textsWhole held (lists .lengths) ≡ true
   holds-whole =
@@ -98,6 +101,15 @@ module _ (b : Builder) (held : Held) (lists : Lists) (h : Holds b held lists) wh
       let first : sumOf (take (held .names + 1) (lists .lengths)) ≡ held .front = ap sumOf front-lengths ∙ (sym (joined-sum (frontOf plan)) ∙ sym (held-front b held lists h)) in
       let second : sumOf (take (held .names + 1 + held .names * held .yards - (held .names + 1)) (drop (held .names + 1) (lists .lengths))) ≡ held .strings - held .front =
       sym (held-whole (plan .yards) (dataOf plan) (held .names) (held .yards) (lists .boxes) (lists .borders) ls ts s) ∙ values-size in
-      let short : held .strings ≤ 536870912 = omega (arith, first, ap sumOf front-lengths, front-short, front-first b held lists h, values-size, held-small (plan .yards) (dataOf plan) (held .names) (held .yards) (lists .boxes) (lists .borders) ls ts s (few-names b held lists h)) in
+      let short : held .strings ≤ 536870912 =
+      omega (
+        arith,
+        first,
+        ap sumOf front-lengths,
+        front-short,
+        front-first b held lists h,
+        values-size,
+        held-small (plan .yards) (dataOf plan) (held .names) (held .yards) (lists .boxes) (lists .borders) ls ts s (few-names b held lists h),
+      ) in
       sym (front-then held (lists .lengths) short true (sym (eq-eqb (sumOf (take (held .names + 1) (lists .lengths))) (held .front) first)) refl true
       (sym (eq-eqb (sumOf (take (held .names + 1 + held .names * held .yards - (held .names + 1)) (drop (held .names + 1) (lists .lengths)))) (held .strings - held .front) second)))

@@ -16,7 +16,8 @@ module _ (strict : Bool) (file : List ℕ) (metadata place tag : ℕ) (text : Li
   Wrote r last =
       (toldField r ≡ sentOf (fieldAt strict file metadata place tag (length text))) × (last ≡ textAfter (fieldAt strict file metadata place tag (length text)) text)
 
-  from : (answer : Reply Field) → answer ≡ fieldAt strict file metadata place tag (length text) → (r : Written) (last : List ℕ) → toldField r ≡ sentOf answer → last ≡ textAfter answer text → Wrote r last
+  from : (answer : Reply Field) → answer ≡ fieldAt strict file metadata place tag (length text) → (r : Written) (last : List ℕ) → toldField r ≡ sentOf answer → last ≡ textAfter answer text →
+      Wrote r last
   from answer e r last told is = (told ∙ ap sentOf e, is ∙ ap (λ (a : Reply Field). textAfter a text) e)
 
   pub bad : (why : Refusal) → refused why ≡ textAt strict file metadata place (record { number = 15; detail = 0 }) → Wrote (W.Refused why) text
@@ -39,7 +40,8 @@ module _ (strict : Bool) (file : List ℕ) (metadata place tag : ℕ) (text : Li
         let over-full : length text < length bytes = omega (arith, bytes-length) in
         from (refused (plain 18)) (unmet (lt-leb (length bytes) (length text) over-full) _ _ ∙ onward e _) (W.Refused why) text (ap refused is) refl
 
-    pub whole : (last : List ℕ) → string .size + 3 ≤ length text → last ≡ over (field tag (map unmasked (part file string))) text → Wrote (W.Field (record { size = string .size + 3; next = string .next })) last
+    pub whole : (last : List ℕ) → string .size + 3 ≤ length text → last ≡ over (field tag (map unmasked (part file string))) text →
+        Wrote (W.Field (record { size = string .size + 3; next = string .next })) last
     unfolding fieldAt
     whole last h l =
         let fits : length bytes ≤ length text = omega (arith, bytes-length) in

@@ -31,7 +31,8 @@ starts strict file text names e = record {
 
 -- ---- what is left at the end, by what the strings are
 module _ (room : ℕ) where
-  all-out : (r : Reply Texts) (text front : List ℕ) (at place : ℕ) → given (record { bytes = front; place = place }) ≡ r → length front ≡ at → at ≤ room → text ≡ padded room front → Filled r room (W.Used at) text
+  all-out : (r : Reply Texts) (text front : List ℕ) (at place : ℕ) → given (record { bytes = front; place = place }) ≡ r → length front ≡ at → at ≤ room → text ≡ padded room front →
+      Filled r room (W.Used at) text
   all-out r text front at place e l fits t = rw (← e) (λ h. (ap W.Used (sym l), t), λ h. absurd (omega (arith, h)))
 
   no-room : (r rest : Reply Texts) (text front : List ℕ) → before front rest ≡ r → room < length front → Filled r room W.NoRoom text
@@ -113,7 +114,8 @@ module _ {strict : Bool} {file text : List ℕ} {names room index place at : ℕ
           at-room = omega (arith, w .text-length, w .at-room);
           rest = ap (drop next) text-now ∙ drop-at (take at text ++ sent) (zeros (room - next)) next out-length;
           so-far =
-              ap (λ (front : List ℕ). before front (textsFrom strict file names more (index + 1) (string .next))) (ap (take next) text-now ∙ take-at (take at text ++ sent) (zeros (room - next)) next out-length)
+              ap (λ (front : List ℕ). before front (textsFrom strict file names more (index + 1) (string .next)))
+              (ap (take next) text-now ∙ take-at (take at text ++ sent) (zeros (room - next)) next out-length)
               ∙ turned;
         }
 

@@ -70,7 +70,8 @@ split [] (range ∷ ranges) e = differ e
 split (b ∷ bytes) [] e = record { c = []; rest = b ∷ bytes; is = refl; fits = none; onward = e; shorter = omega arith }
 split (b ∷ bytes) (range ∷ ranges) e = by-range (split bytes ranges) (b ∈ range) refl e
   where
-    by-range : (goesOn bytes (due ranges) ≡ true → Split ranges bytes) → (test : Bool) → (b ∈ range) ≡ test → goesOn bytes (if test then due ranges else wrong) ≡ true → Split (range ∷ ranges) (b ∷ bytes)
+    by-range : (goesOn bytes (due ranges) ≡ true → Split ranges bytes) → (test : Bool) → (b ∈ range) ≡ test → goesOn bytes (if test then due ranges else wrong) ≡ true →
+        Split (range ∷ ranges) (b ∷ bytes)
     by-range shorter true is e =
         let s = shorter e in
         record { c = b ∷ s .c; rest = s .rest; is = ap (λ (bs : List ℕ). b ∷ bs) (s .is); fits = next is (s .fits); onward = s .onward; shorter = omega (arith, s .shorter) }

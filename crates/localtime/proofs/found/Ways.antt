@@ -36,7 +36,8 @@ module _ (west : ℕ) (short : west ≤ 1209600) where
   east-is = toZ-ofZ w32 _ east-fits ∙ east-wide
 
 -- a local time by its four numbers
-pub found-is : (time : Time) {offset : ℤ} → offset ≡ eastOf (time .clock .west) → record { offset = offset; daylight = time .daylight; place = time .clock .name .start; length = time .clock .name .end - time .clock .name .start } ≡ foundOf time
+pub found-is : (time : Time) {offset : ℤ} → offset ≡ eastOf (time .clock .west) →
+    record { offset = offset; daylight = time .daylight; place = time .clock .name .start; length = time .clock .name .end - time .clock .name .start } ≡ foundOf time
 unfolding foundOf
 found-is time e = ap (λ (z : ℤ). record { offset = z; daylight = time .daylight; place = time .clock .name .start; length = time .clock .name .end - time .clock .name .start }) e
 
@@ -61,7 +62,8 @@ module _ (file : List ℕ) (a b : ℕ) where
   stays n zero e = rw (let same : n + 0 ≡ n = omega arith in same) e
   stays n (suc d) e = rw (let same : n + suc d ≡ suc (n + d) = omega arith in same) (simp (stays n d e))
 
-  pub same-differs : (i count : ℕ) {one other : ℕ} → i < count → one ≡ octet file (a + i) → other ≡ octet file (b + i) → sameOctets file a b i ≡ true → (one ≡ other → ⊥) → false ≡ sameOctets file a b count
+  pub same-differs : (i count : ℕ) {one other : ℕ} → i < count → one ≡ octet file (a + i) → other ≡ octet file (b + i) → sameOctets file a b i ≡ true → (one ≡ other → ⊥) →
+      false ≡ sameOctets file a b count
   same-differs i count h p q s n =
       sym (subst (λ (m : ℕ). sameOctets file a b m ≡ false) (let all : suc i + (count - suc i) ≡ count = omega arith in all) (stays (suc i) (count - suc i) (same-less i p q s n)))
 

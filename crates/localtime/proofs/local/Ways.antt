@@ -102,7 +102,8 @@ module _ (file : List ℕ) (instant : ℤ) where
     unfolding toldSaid answerAt _>>=_
     not-ruled e = simp (z, e)
 
-    pub answered : {rules : Rules} (said : Said) {lifted : ℕ} → rulesIn file zone ≡ given rules → lifted ≡ lift instant → toldSaid said ≡ answerBy file (zone .block) rules lifted → toldSaid said ≡ answerAt rfc9636 file instant
+    pub answered : {rules : Rules} (said : Said) {lifted : ℕ} → rulesIn file zone ≡ given rules → lifted ≡ lift instant → toldSaid said ≡ answerBy file (zone .block) rules lifted →
+        toldSaid said ≡ answerAt rfc9636 file instant
     unfolding answerAt _>>=_
     answered {rules} said r l s = s ∙ ap (answerBy file (zone .block) rules) l ∙ sym (simp (z, r))
 

@@ -67,9 +67,12 @@ module _ (file : List ℕ) (block : Block) (tz : Tz) where
     unfolding sameAs
     not-asked e = sym (same-as ∙ ap (λ (x : Asked). sameAs file (typeIn file block (typeBehind file block (block .timecnt))) x) e)
 
-    pub compared : {time : Time} {one other : Found} {same : Bool} → asked ≡ K.Holds time → one ≡ typeIn file block (typeBehind file block (block .timecnt)) → other ≡ foundOf time → same ≡ sameFound file one other → same ≡ agrees file block tz
+    pub compared : {time : Time} {one other : Found} {same : Bool} → asked ≡ K.Holds time → one ≡ typeIn file block (typeBehind file block (block .timecnt)) → other ≡ foundOf time →
+        same ≡ sameFound file one other → same ≡ agrees file block tz
     unfolding sameAs
-    compared {time} {one} {other} e p q s = s ∙ ap (λ (x : Found). sameFound file x other) p ∙ ap (λ (x : Found). sameFound file (typeIn file block (typeBehind file block (block .timecnt))) x) q ∙ sym (same-as ∙ ap (λ (x : Asked). sameAs file (typeIn file block (typeBehind file block (block .timecnt))) x) e)
+    compared {time} {one} {other} e p q s =
+        s ∙ ap (λ (x : Found). sameFound file x other) p ∙ ap (λ (x : Found). sameFound file (typeIn file block (typeBehind file block (block .timecnt))) x) q ∙
+        sym (same-as ∙ ap (λ (x : Asked). sameAs file (typeIn file block (typeBehind file block (block .timecnt))) x) e)
 
 -- the four ways of the string
 module _ (file : List ℕ) (zone : Zone) where

@@ -13,7 +13,8 @@ module _ (file : List ℕ) (block : Block) (instant : ℕ) where
   unfolding scaleIn
   no-records e = simp (eq-eqb (block .leapcnt) 0 e)
 
-  pub has-records : (block .leapcnt ≡ 0 → ⊥) → {r correction : ℕ} → r ≡ correctionAt file block instant → correction ≡ raised r → record { kind = 2; correction = correction } ≡ scaleIn file block instant
+  pub has-records : (block .leapcnt ≡ 0 → ⊥) → {r correction : ℕ} → r ≡ correctionAt file block instant → correction ≡ raised r →
+      record { kind = 2; correction = correction } ≡ scaleIn file block instant
   unfolding scaleIn
   has-records h e c = ap (λ (n : ℕ). record { kind = 2; correction = n }) (c ∙ ap raised e) ∙ sym (simp (ne-eqb (block .leapcnt) 0 h))
 

@@ -90,8 +90,10 @@ module _ (bucket : ℕ → ℕ) (entered : ℕ → Bool) where
           (record {
             room = omega (arith, entering-size chain item k);
             heads = head;
-            links = below-next (λ (i : ℕ). entered i ≡ true → getD (entering chain item k) (4096 + i) 0 ≡ lastWith (inBucket bucket entered (bucket i)) i) item (λ i h e. other-link i (λ s. omega (arith, s, h)) ∙ c .links i h e) (λ e. own-link);
-            left-out = below-next (λ (i : ℕ). entered i ≡ false → getD (entering chain item k) (4096 + i) 0 ≡ 0) item (λ i h e. other-link i (λ s. omega (arith, s, h)) ∙ c .left-out i h e) (λ e. never (sym in′ ∙ e));
+            links = below-next (λ (i : ℕ). entered i ≡ true → getD (entering chain item k) (4096 + i) 0 ≡ lastWith (inBucket bucket entered (bucket i)) i) item
+                (λ i h e. other-link i (λ s. omega (arith, s, h)) ∙ c .links i h e) (λ e. own-link);
+            left-out = below-next (λ (i : ℕ). entered i ≡ false → getD (entering chain item k) (4096 + i) 0 ≡ 0) item (λ i h e. other-link i (λ s. omega (arith, s, h)) ∙ c .left-out i h e)
+                (λ e. never (sym in′ ∙ e));
             rest = λ i h. other-link i (λ s. omega (arith, s, h)) ∙ c .rest i (omega arith);
           })
 
@@ -142,7 +144,9 @@ module _ (bucket bucket′ : ℕ → ℕ) (entered entered′ : ℕ → Bool) (c
   chained-same chain c = record {
     room = c .room;
     heads = λ k h. c .heads k h ∙ last-agree (inBucket bucket entered k) (inBucket bucket′ entered′ k) count (in-same k);
-    links = λ i h e. c .links i h (same i h ∙ e) ∙ (last-agree (inBucket bucket entered (bucket i)) (inBucket bucket′ entered′ (bucket i)) i (λ j s. in-same (bucket i) j (omega arith)) ∙ ap (λ (k : ℕ). lastWith (inBucket bucket′ entered′ k) i) (buckets i h));
+    links = λ i h e. c .links i h (same i h ∙ e) ∙
+        (last-agree (inBucket bucket entered (bucket i)) (inBucket bucket′ entered′ (bucket i)) i (λ j s. in-same (bucket i) j (omega arith)) ∙
+        ap (λ (k : ℕ). lastWith (inBucket bucket′ entered′ k) i) (buckets i h));
     left-out = λ i h e. c .left-out i h (same i h ∙ e);
     rest = c .rest;
   }

@@ -64,8 +64,10 @@ module _ (starts texts : List ℕ) (width : ℕ) (entered : ℕ → Bool) (item 
       unfolding alike
       stand-goes e next link =
           let bad : good other ≡ false = ap (λ (t : Bool). t && alike starts texts width item other) entered-here ∙ (sym is ∙ e) in
-          let k : bucketOf starts texts width other ≡ bucketOf starts texts width item = from-bucket (bucketOf starts texts width) entered (bucketOf starts texts width item) other (s .here other refl) .1 in
-          let there : next ≡ lastWith mine other = link ∙ (c .links other (omega (arith, s .most, few)) entered-here ∙ ap (λ (n : ℕ). lastWith (inBucket (bucketOf starts texts width) entered n) other) k) in
+          let k : bucketOf starts texts width other ≡ bucketOf starts texts width item =
+          from-bucket (bucketOf starts texts width) entered (bucketOf starts texts width item) other (s .here other refl) .1 in
+          let there : next ≡ lastWith mine other =
+          link ∙ (c .links other (omega (arith, s .most, few)) entered-here ∙ ap (λ (n : ℕ). lastWith (inBucket (bucketOf starts texts width) entered n) other) k) in
           let on = stand-on other next there in
           (record { most = omega (arith, on .most, s .most); left = on .left ∙ (sym (last-out good other bad) ∙ s .left); here = on .here }, on .most)
 
@@ -80,7 +82,11 @@ module _ (starts texts : List ℕ) (width : ℕ) (chain : List ℕ) (item from :
   walk-starts h = record { within = h; stands = λ entered count before inside c few most e. stand-on starts texts width entered item before from e }
 
   pub walk-refused : item < from → Walked starts texts width chain item from 0
-  walk-refused h = record { within = omega arith; last = λ entered count before inside c few most e. absurd (omega (arith, h, few, most, stand-on starts texts width entered item before from e .most)) }
+  walk-refused h = record {
+    within = omega arith;
+    last = λ entered count before inside c few most e. absurd
+        (omega (arith, h, few, most, stand-on starts texts width entered item before from e .most));
+  }
 
   module _ (at : ℕ) (w : Walking at) where
     pub walk-ends : at ≤ 0 → Walked starts texts width chain item from 0
@@ -93,7 +99,8 @@ module _ (starts texts : List ℕ) (width : ℕ) (chain : List ℕ) (item from :
     }
 
     module _ (some : 0 < at) (same : Bool)
-        (is : Inside starts texts (item * width + width) → Inside starts texts ((at - 1) * width + width) → same ≡ sameTexts (itemAt starts texts (item * width) width) (itemAt starts texts ((at - 1) * width) width)) where
+        (is : Inside starts texts (item * width + width) → Inside starts texts ((at - 1) * width + width) →
+        same ≡ sameTexts (itemAt starts texts (item * width) width) (itemAt starts texts ((at - 1) * width) width)) where
       at-is : at ≡ suc (at - 1)
       at-is = omega arith
 
@@ -107,14 +114,16 @@ module _ (starts texts : List ℕ) (width : ℕ) (chain : List ℕ) (item from :
       walk-found yes′ = record {
         within = w .within;
         last = λ entered count before inside c few most e.
-            at-is ∙ stand-found starts texts width entered item count before chain c few (at - 1) (stands-here entered before (w .stands entered count before inside c few most e)) same (same-is inside) yes′;
+            at-is ∙ stand-found starts texts width entered item count before chain c few (at - 1) (stands-here entered before (w .stands entered count before inside c few most e)) same
+            (same-is inside) yes′;
       }
 
       module _ (no′ : same ≡ false) (next : ℕ) (link : next ≡ getD chain (4096 + (at - 1)) 0) where
         goes : (entered : ℕ → Bool) (count before : ℕ) → ItemsInside starts texts width item → Chained (bucketOf starts texts width) entered count chain → before ≤ count → count ≤ item
             → from ≡ lastWith (inBucket (bucketOf starts texts width) entered (bucketOf starts texts width item)) before → Stands starts texts width entered item before next × (next ≤ at - 1)
         goes entered count before inside c few most e =
-            stand-goes starts texts width entered item count before chain c few (at - 1) (stands-here entered before (w .stands entered count before inside c few most e)) same (same-is inside) no′ next link
+            stand-goes starts texts width entered item count before chain c few (at - 1) (stands-here entered before (w .stands entered count before inside c few most e)) same
+            (same-is inside) no′ next link
 
         pub walk-forged : at - 1 < next → Walked starts texts width chain item from 0
         walk-forged h = record { within = omega arith; last = λ entered count before inside c few most e. absurd (omega (arith, h, goes entered count before inside c few most e .1)) }
@@ -123,8 +132,10 @@ module _ (starts texts : List ℕ) (width : ℕ) (chain : List ℕ) (item from :
         walk-goes h = record { within = omega (arith, h, w .within); stands = λ entered count before inside c few most e. goes entered count before inside c few most e .0 }
 
 -- ---- where a walk begins
-module _ (starts texts : List ℕ) (width : ℕ) (chain : List ℕ) (item r : ℕ) (entered : ℕ → Bool) (count : ℕ) (inside : ItemsInside starts texts width item) (c : Chained (bucketOf starts texts width) entered count chain) (most : count ≤ item) where
-  pub from-head : (bucket from : ℕ) → bucket < 4096 → bucket ≡ bucketOf starts texts width item → from ≡ getD chain bucket 0 → Walked starts texts width chain item from r → r ≡ lastWith (meets starts texts width entered item) count
+module _ (starts texts : List ℕ) (width : ℕ) (chain : List ℕ) (item r : ℕ) (entered : ℕ → Bool) (count : ℕ) (inside : ItemsInside starts texts width item)
+    (c : Chained (bucketOf starts texts width) entered count chain) (most : count ≤ item) where
+  pub from-head : (bucket from : ℕ) → bucket < 4096 → bucket ≡ bucketOf starts texts width item → from ≡ getD chain bucket 0 → Walked starts texts width chain item from r →
+      r ≡ lastWith (meets starts texts width entered item) count
   from-head bucket from small is e w =
       w .last entered count count inside c (omega arith) most
       (e ∙ (c .heads bucket small ∙ ap (λ (k : ℕ). lastWith (inBucket (bucketOf starts texts width) entered k) count) is))
@@ -138,4 +149,5 @@ module _ (starts texts : List ℕ) (width : ℕ) (chain : List ℕ) (item r : �
       let good : meets starts texts width entered item (found - 1) ≡ true = last-good (meets starts texts width entered item) count (found - 1) (sym is ∙ some′) in
       let two = from-bucket (bucketOf starts texts width) entered (bucketOf starts texts width item) (found - 1) (meets-bucket starts texts width entered item (found - 1) good) in
       w .last entered count (found - 1) inside c (omega (arith, low)) most
-      (e ∙ (ap (λ (n : ℕ). getD chain n 0) place ∙ (c .links (found - 1) (omega (arith, low, some)) (two .0) ∙ ap (λ (k : ℕ). lastWith (inBucket (bucketOf starts texts width) entered k) (found - 1)) (two .1))))
+      (e ∙ (ap (λ (n : ℕ). getD chain n 0) place ∙
+      (c .links (found - 1) (omega (arith, low, some)) (two .0) ∙ ap (λ (k : ℕ). lastWith (inBucket (bucketOf starts texts width) entered k) (found - 1)) (two .1))))

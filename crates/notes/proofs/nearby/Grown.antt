@@ -166,7 +166,8 @@ module _ (boxes : List ℤ) (begins borders : List ℕ) where
 
       table-with : length (tableOf (entriesAt boxes begins borders count ++ (entryWith boxes borders count begin ∷ []))) + sizeBehind boxes begins borders (placesOf begins borders low) high
           ≡ length (tableOf (entriesAt boxes begins borders count))
-          + (length (entryBytes (placesOf begins borders low .«record») (placesOf begins borders low .border) (entryWith boxes borders count begin)) + sizeBehind boxes begins borders (record { «record» = begin; border = getD borders count 0 }) high)
+          + (length (entryBytes (placesOf begins borders low .«record») (placesOf begins borders low .border) (entryWith boxes borders count begin)) + sizeBehind boxes begins borders
+          (record { «record» = begin; border = getD borders count 0 }) high)
       unfolding tableOf lows highs
       table-with = omega (arith, table-grown southOf new entries, gap-from, gap-is here, ap length entry-from)
 
@@ -198,7 +199,8 @@ module _ (boxes : List ℤ) (begins borders : List ℕ) (count begin : ℕ) wher
   module _ (new behind before : ℕ) (g : Grows boxes begins borders count begin new behind before) (table : ℕ) where
     abbrev Answered : ℕ → Type 0
     Answered r =
-        (table ≡ length (tableOf (entriesAt boxes begins borders count)) → r ≡ length (tableOf (entriesAt boxes begins borders count ++ (entryWith boxes borders count begin ∷ [])))) × (r ≤ table + 100)
+        (table ≡ length (tableOf (entriesAt boxes begins borders count)) → r ≡ length (tableOf (entriesAt boxes begins borders count ++ (entryWith boxes borders count begin ∷ [])))) ×
+        (r ≤ table + 100)
 
     pub answer-none : table + new + behind < before → Answered 0
     answer-none h = ((λ e. omega (arith, g .sum, e, h)), omega arith)

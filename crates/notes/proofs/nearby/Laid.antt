@@ -28,7 +28,8 @@ entry-next s w n e boxes r b begins borders yard =
 -- the yards of all, one after another, in lists that begin with what they have
 module _ (all : List Yard) (boxes : List ℤ) (begins borders : List ℕ) where
   entries-from : (yards : List Yard) (places : List ℕ) → length places ≡ length yards
-      → map (entryFor (cornersOf yards ++ boxes) (map (λ (y : Yard). startOf (recordsOf all) (y .values)) yards ++ begins) (places ++ borders)) (numbersFrom 0 (length yards)) ≡ zipWith (entryOf all) yards places
+      → map (entryFor (cornersOf yards ++ boxes) (map (λ (y : Yard). startOf (recordsOf all) (y .values)) yards ++ begins) (places ++ borders)) (numbersFrom 0 (length yards)) ≡ zipWith
+      (entryOf all) yards places
   unfolding cornersOf numbersFrom zipWith
   entries-from [] places e = refl
   entries-from (y ∷ ys) [] e = absurd (omega (arith, e))
@@ -47,7 +48,8 @@ module _ (all : List Yard) (boxes : List ℤ) (begins borders : List ℕ) where
 split : {A : Type 0} (n : ℕ) (list front : List A) → take n list ≡ front → list ≡ front ++ drop n list
 split {A} n list front e = sym (take-append-drop n list) ∙ ap (λ (l : List A). l ++ drop n list) e
 
-module _ (yards : List Yard) (boxes : List ℤ) (begins borders rest : List ℕ) (begun : begins ≡ map (λ (y : Yard). startOf (recordsOf yards) (y .values)) yards ++ rest) (places : List ℕ) (many : length places ≡ length yards) where
+module _ (yards : List Yard) (boxes : List ℤ) (begins borders rest : List ℕ) (begun : begins ≡ map (λ (y : Yard). startOf (recordsOf yards) (y .values)) yards ++ rest) (places : List ℕ)
+    (many : length places ≡ length yards) where
   -- the yards' boxes, begins and places stand at the front of these lists
   entries-front : (bs : List ℤ) → boxes ≡ cornersOf yards ++ bs → (ps : List ℕ) → borders ≡ places ++ ps → entriesAt boxes begins borders (length yards) ≡ zipWith (entryOf yards) yards places
   unfolding entriesAt
@@ -58,7 +60,8 @@ module _ (yards : List Yard) (boxes : List ℤ) (begins borders rest : List ℕ)
       ∙ (ap (λ (l : List ℕ). map (entryFor (cornersOf yards ++ bs) starts l) (numbersFrom 0 (length yards))) bordered ∙ entries-from yards bs rest ps yards places many))
 
   pub entries-are : take (4 * length yards) boxes ≡ cornersOf yards → take (length yards) borders ≡ places → entriesAt boxes begins borders (length yards) ≡ zipWith (entryOf yards) yards places
-  entries-are boxed bordered = entries-front (drop (4 * length yards) boxes) (split (4 * length yards) boxes (cornersOf yards) boxed) (drop (length yards) borders) (split (length yards) borders places bordered)
+  entries-are boxed bordered =
+      entries-front (drop (4 * length yards) boxes) (split (4 * length yards) boxes (cornersOf yards) boxed) (drop (length yards) borders) (split (length yards) borders places bordered)
 
   -- ---- one yard more, its box and its border's place behind the others
   module _ (y : Yard) (bs : List ℤ) (boxed : boxes ≡ (cornersOf yards ++ cornersOf (y ∷ [])) ++ bs) (place : ℕ) (ps : List ℕ) (bordered : borders ≡ (places ++ (place ∷ [])) ++ ps) where
@@ -84,10 +87,13 @@ module _ (yards : List Yard) (boxes : List ℤ) (begins borders rest : List ℕ)
 
     -- the table of all of them is that of the entries, with the new one behind
     pub tables-are : (by begin : ℕ) → OneMore yards y by begin
-        → length (tableOf (zipWith (entryOf (yards ++ (y ∷ []))) (yards ++ (y ∷ [])) (places ++ (place ∷ [])))) ≡ length (tableOf (entriesAt boxes begins borders (length yards) ++ (entryWith boxes borders (length yards) begin ∷ [])))
+        → length (tableOf (zipWith (entryOf (yards ++ (y ∷ []))) (yards ++ (y ∷ [])) (places ++ (place ∷ [])))) ≡ length
+        (tableOf (entriesAt boxes begins borders (length yards) ++ (entryWith boxes borders (length yards) begin ∷ [])))
     tables-are by begin m =
         let front : entriesAt boxes begins borders (length yards) ≡ zipWith (entryOf yards) yards places = entries-front (cornersOf (y ∷ []) ++ bs) boxes-on (place ∷ ps) borders-on in
-        let last : entryWith boxes borders (length yards) begin ≡ entryNew yards y by begin m place = ap (λ (b : Bounds). entryAt b (record { «record» = begin; border = getD borders (length yards) 0 })) box-is ∙ ap (λ (n : ℕ). entryAt (boxOf (y .lats) (y .lons)) (record { «record» = begin; border = n })) place-is in
+        let last : entryWith boxes borders (length yards) begin ≡ entryNew yards y by begin m place =
+        ap (λ (b : Bounds). entryAt b (record { «record» = begin; border = getD borders (length yards) 0 })) box-is ∙
+        ap (λ (n : ℕ). entryAt (boxOf (y .lats) (y .lons)) (record { «record» = begin; border = n })) place-is in
         ap (λ (es : List Entry). length (tableOf es))
         (entries-more yards y by begin m place places many
         ∙ sym (ap (λ (es : List Entry). es ++ (entryWith boxes borders (length yards) begin ∷ [])) front ∙ ap (λ (e : Entry). zipWith (entryOf yards) yards places ++ (e ∷ [])) last))

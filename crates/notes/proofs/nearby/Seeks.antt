@@ -104,7 +104,8 @@ module _ (boxes : List ℤ) (south count : ℕ) where
     highs = highTo boxes south yard
 
     high-still : here ≤ south → Found (southAt boxes) (2 ^ 32) (highTo boxes south (yard + 1)) (yard + 1) high highest
-    high-still t = found-still (southAt boxes) (2 ^ 32) highs yard high highest (s .upper) (highTo boxes south (yard + 1)) (high-on yard ∙ high-passes (southAt boxes) south highs yard (omega (arith, t, e .0)))
+    high-still t = found-still (southAt boxes) (2 ^ 32) highs yard high highest (s .upper) (highTo boxes south (yard + 1))
+        (high-on yard ∙ high-passes (southAt boxes) south highs yard (omega (arith, t, e .0)))
 
     low-still : south < here → Found (southAt boxes) 0 (lowTo boxes south (yard + 1)) (yard + 1) low lowest
     low-still t = found-still (southAt boxes) 0 lows yard low lowest (s .lower) (lowTo boxes south (yard + 1)) (low-on yard ∙ low-passes (southAt boxes) south lows yard (omega (arith, t, e .0)))
@@ -142,7 +143,8 @@ module _ (boxes : List ℤ) (south count : ℕ) where
     }
 
 -- all yards are passed
-pub seek-ends : (boxes : List ℤ) (south count low lowest high highest yard : ℕ) → Seeking boxes south count low lowest high highest yard → count ≤ yard → south ≡ southAt boxes count → Nears boxes count low high
+pub seek-ends : (boxes : List ℤ) (south count low lowest high highest yard : ℕ) → Seeking boxes south count low lowest high highest yard → count ≤ yard → south ≡ southAt boxes count →
+    Nears boxes count low high
 seek-ends boxes south count low lowest high highest yard s h e =
     let all : yard ≡ count = omega (arith, h, s .index) in
     record {

@@ -66,7 +66,8 @@ module _ (sizes : List ℕ) (begin : ℕ) (before : List ℕ) (at : ℕ) (marks 
     unfolding startsFrom
     mark-goes =
         let next : ℕ = end + getD sizes i 0 in
-        let rest : drop 1 (startsFrom end (drop i sizes)) ≡ next ∷ drop 1 (startsFrom next (drop (suc i) sizes)) = ap (λ (l : List ℕ). drop 1 (startsFrom end l)) (drop-cons sizes i 0 h) ∙ starts-cons next (drop (suc i) sizes) in
+        let rest : drop 1 (startsFrom end (drop i sizes)) ≡ next ∷ drop 1 (startsFrom next (drop (suc i) sizes)) =
+        ap (λ (l : List ℕ). drop 1 (startsFrom end l)) (drop-cons sizes i 0 h) ∙ starts-cons next (drop (suc i) sizes) in
         let place : at + 1 + (i + 1) ≡ suc (at + 1 + i) = omega arith in
         record {
           index = omega arith;

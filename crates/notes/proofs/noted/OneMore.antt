@@ -3,7 +3,8 @@ use Prim.Native.Nat.{ℕ, suc, _+_, _≤_}
 use lib.ListN.{length}
 use mathlib.Core.{Bool.{Bool, true, false, _||_}, List.{List, [], _∷_, _++_, map, flatMap, zipWith}, Path.{_≡_, refl, ap, sym, subst, _∙_}}
 use native.Mathlib.Omega.{arith}
-use Rattle.builder.specs.{Entries.{Entry, boxOf}, File.{entryOf}, Metadata.{fieldsOf, inlined, layoutOf, metadataOf, recordsOf, remotes, startOf, written}, Sharing.{sameText, sameTexts, isIn, firstsAfter}, Yards.{Text, Yard}}
+use Rattle.builder.specs.{Entries.{Entry, boxOf}, File.{entryOf}, Metadata.{fieldsOf, inlined, layoutOf, metadataOf, recordsOf, remotes, startOf, written}}
+use Rattle.builder.specs.{Sharing.{sameText, sameTexts, isIn, firstsAfter}, Yards.{Text, Yard}}
 use Rattle.builder.proofs.grouping.{Keyed.{texts-equal}, Meant.{texts-itself}}
 use Rattle.draft.proofs.held.{Begins.{sure-metadata, sure-begin, sure-new, layout-on, fields-on}, Sure.{Sure}}
 use Rattle.layout.proofs.Everyone.{Every}
@@ -89,13 +90,15 @@ module _ (yards : List Yard) (y : Yard) where
         }
 
 -- ---- what follows for the lists
-values-in : (all rest : List Yard) → ((x : Yard) → isIn sameTexts (x .values) (map (λ y. y .values) rest) ≡ true → isIn sameTexts (x .values) (map (λ y. y .values) all) ≡ true) → (x : Yard) (xs : List Yard) → rest ≡ x ∷ xs
+values-in : (all rest : List Yard) → ((x : Yard) → isIn sameTexts (x .values) (map (λ y. y .values) rest) ≡ true → isIn sameTexts (x .values) (map (λ y. y .values) all) ≡ true) →
+    (x : Yard) (xs : List Yard) → rest ≡ x ∷ xs
     → isIn sameTexts (x .values) (map (λ y. y .values) all) ≡ true
 unfolding isIn
 values-in all rest h x xs e =
     h x (ap (λ (l : List Yard). isIn sameTexts (x .values) (map (λ y. y .values) l)) e ∙ ap (λ (b : Bool). b || isIn sameTexts (x .values) (map (λ y. y .values) xs)) (texts-itself (x .values)))
 
-later-in : (all : List Yard) (x : Yard) (xs : List Yard) → ((z : Yard) → isIn sameTexts (z .values) (map (λ y. y .values) (x ∷ xs)) ≡ true → isIn sameTexts (z .values) (map (λ y. y .values) all) ≡ true)
+later-in : (all : List Yard) (x : Yard) (xs : List Yard) →
+    ((z : Yard) → isIn sameTexts (z .values) (map (λ y. y .values) (x ∷ xs)) ≡ true → isIn sameTexts (z .values) (map (λ y. y .values) all) ≡ true)
     → (z : Yard) → isIn sameTexts (z .values) (map (λ y. y .values) xs) ≡ true → isIn sameTexts (z .values) (map (λ y. y .values) all) ≡ true
 unfolding isIn
 later-in all x xs h z e = h z (ap (λ (b : Bool). sameTexts (z .values) (x .values) || b) e ∙ right (sameTexts (z .values) (x .values)))
@@ -123,16 +126,19 @@ module _ (yards : List Yard) (y : Yard) (by begin : ℕ) (m : OneMore yards y by
   abbrev pub entryNew : ℕ → Entry
   entryNew place = record { bounds = boxOf (y .lats) (y .lons); record′ = begin; border = place }
 
-  entries-from : (place : ℕ) (xs : List Yard) (ps : List ℕ) → length ps ≡ length xs → ((z : Yard) → isIn sameTexts (z .values) (map (λ y. y .values) xs) ≡ true → isIn sameTexts (z .values) (map (λ y. y .values) yards) ≡ true)
+  entries-from : (place : ℕ) (xs : List Yard) (ps : List ℕ) → length ps ≡ length xs →
+      ((z : Yard) → isIn sameTexts (z .values) (map (λ y. y .values) xs) ≡ true → isIn sameTexts (z .values) (map (λ y. y .values) yards) ≡ true)
       → zipWith (entryOf (yards ++ (y ∷ []))) (xs ++ (y ∷ [])) (ps ++ (place ∷ [])) ≡ zipWith (entryOf yards) xs ps ++ (entryNew place ∷ [])
   unfolding zipWith
   entries-from place [] [] e h = ap (λ (n : ℕ). record { bounds = boxOf (y .lats) (y .lons); record′ = n; border = place } ∷ []) (m .begin-is)
   entries-from place [] (p ∷ ps) e h = absurd (omega (arith, e))
   entries-from place (x ∷ xs) [] e h = absurd (omega (arith, e))
   entries-from place (x ∷ xs) (p ∷ ps) e h =
-      ap (λ (n : ℕ). record { bounds = boxOf (x .lats) (x .lons); record′ = n; border = p } ∷ zipWith (entryOf grown) (xs ++ (y ∷ [])) (ps ++ (place ∷ []))) (m .begins-on x (values-in yards (x ∷ xs) h x xs refl))
+      ap (λ (n : ℕ). record { bounds = boxOf (x .lats) (x .lons); record′ = n; border = p } ∷ zipWith (entryOf grown) (xs ++ (y ∷ [])) (ps ++ (place ∷ [])))
+      (m .begins-on x (values-in yards (x ∷ xs) h x xs refl))
       ∙ ap (λ (l : List Entry). entryOf yards x p ∷ l) (entries-from place xs ps (omega (arith, e)) (later-in yards x xs h))
 
   -- the entries, as the yards came
-  pub entries-more : (place : ℕ) (ps : List ℕ) → length ps ≡ length yards → zipWith (entryOf (yards ++ (y ∷ []))) (yards ++ (y ∷ [])) (ps ++ (place ∷ [])) ≡ zipWith (entryOf yards) yards ps ++ (entryNew place ∷ [])
+  pub entries-more : (place : ℕ) (ps : List ℕ) → length ps ≡ length yards →
+      zipWith (entryOf (yards ++ (y ∷ []))) (yards ++ (y ∷ [])) (ps ++ (place ∷ [])) ≡ zipWith (entryOf yards) yards ps ++ (entryNew place ∷ [])
   entries-more place ps e = entries-from place yards ps e (λ z i. i)

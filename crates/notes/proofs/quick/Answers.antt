@@ -21,10 +21,13 @@ steps-unsure yards y drawn′ = tt
 -- ---- in lists that lie so
 module _ (names count : ℕ) (numbers : Numbers) (boxes : List ℤ) (borders starts texts chains groups begins : List ℕ) where
   pub steps-sure : (r : Placing)
-      → ((yards : List Yard) (y : Yard) (lengths : List ℕ) → Beside yards y names count (numbers .records) (numbers .metadata - numbers .records) lengths starts texts chains groups begins → Places yards y r)
+      → ((yards : List Yard) (y : Yard) (lengths : List ℕ) → Beside yards y names count (numbers .records) (numbers .metadata - numbers .records) lengths starts texts chains groups begins →
+      Places yards y r)
       → (by begin : ℕ) → r ≡ P.At by begin → (stepped : Stepped)
-      → ((yards : List Yard) (y : Yard) (drawn drawn′ : Drawn) (names : ℕ) (lengths starts texts chains groups : List ℕ) → Stepping yards y drawn drawn′ names count numbers boxes borders lengths starts texts chains groups begins → OneMore yards y by begin → Grown yards y drawn′ stepped)
-      → (yards : List Yard) (y : Yard) (drawn drawn′ : Drawn) (lengths : List ℕ) → Stepping yards y drawn drawn′ names count numbers boxes borders lengths starts texts chains groups begins → Steps yards y drawn′ (S.Sure stepped)
+      → ((yards : List Yard) (y : Yard) (drawn drawn′ : Drawn) (names : ℕ) (lengths starts texts chains groups : List ℕ) →
+      Stepping yards y drawn drawn′ names count numbers boxes borders lengths starts texts chains groups begins → OneMore yards y by begin → Grown yards y drawn′ stepped)
+      → (yards : List Yard) (y : Yard) (drawn drawn′ : Drawn) (lengths : List ℕ) → Stepping yards y drawn drawn′ names count numbers boxes borders lengths starts texts chains groups begins →
+      Steps yards y drawn′ (S.Sure stepped)
   unfolding Places Steps
   steps-sure r places by begin is stepped grown yards y drawn drawn′ lengths s =
       grown yards y drawn drawn′ names lengths starts texts chains groups s

@@ -52,7 +52,8 @@ module _ (yards : List Yard) (y : Yard) (drawn drawn′ : Drawn) (names count : 
       ∙ (ap (λ (es : List Entry). length (tableOf es)) (sym (entries-are yards boxes begins borders (drop count begins) begun (drawn .places) (s .drawn-many) corners front))
       ∙ ap (λ (n : ℕ). length (tableOf (entriesAt boxes begins borders n))) (sym (s .many)))
 
-  table-is : (by begin : ℕ) → OneMore yards y by begin → length (tableOf (entriesAt boxes begins borders count ++ (entryWith boxes borders count begin ∷ []))) ≡ totalsFor (yards ++ (y ∷ [])) drawn′ .table
+  table-is : (by begin : ℕ) → OneMore yards y by begin →
+      length (tableOf (entriesAt boxes begins borders count ++ (entryWith boxes borders count begin ∷ []))) ≡ totalsFor (yards ++ (y ∷ [])) drawn′ .table
   unfolding totalsFor
   table-is by begin m =
       ap (λ (n : ℕ). length (tableOf (entriesAt boxes begins borders n ++ (entryWith boxes borders n begin ∷ [])))) (s .many)

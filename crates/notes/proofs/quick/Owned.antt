@@ -19,7 +19,8 @@ module _ (yards : List Yard) (y : Yard) (names count records remote : ℕ) (leng
   fields-are : fieldsTo names lengths texts count ≡ fieldsIn yards
   fields-are = ap (λ (vs : List (List Text)). fieldsOf (firsts sameTexts vs)) (sym (b .values-are))
 
-  owned : isIn sameTexts (y .values) (map (λ (x : Yard). x .values) yards) ≡ false → (word by longest : ℕ) → word ≡ length (varintOf (256 + records)) → longest ≡ length (varintOf (255 + records + by + remote)) → longest ≡ word
+  owned : isIn sameTexts (y .values) (map (λ (x : Yard). x .values) yards) ≡ false → (word by longest : ℕ) → word ≡ length (varintOf (256 + records)) →
+      longest ≡ length (varintOf (255 + records + by + remote)) → longest ≡ word
       → WeighsAs (fieldsIn yards) word (y .values) (Takes by) → OneMore yards y by records
   unfolding WeighsAs
   owned new word by longest ew el same w =
@@ -41,21 +42,24 @@ module _ (names count records remote : ℕ) (starts texts chains : List ℕ) whe
   abbrev pub PlacesOwn : Placing → Type 0
   PlacesOwn r =
       AddsAtMost (2 ^ 41) r
-      × ((yards : List Yard) (y : Yard) (lengths : List ℕ) → Behind yards y names count records remote lengths starts texts chains → isIn sameTexts (y .values) (map (λ x. x .values) yards) ≡ false → Places yards y r)
+      × ((yards : List Yard) (y : Yard) (lengths : List ℕ) → Behind yards y names count records remote lengths starts texts chains →
+      isIn sameTexts (y .values) (map (λ x. x .values) yards) ≡ false → Places yards y r)
 
   pub own-unsure : PlacesOwn P.Unsure
   unfolding AddsAtMost Places
   own-unsure = (tt, λ yards y lengths b new. tt)
 
   module _ (word : ℕ) (r : Weight)
-      (w : AtMost (2 ^ 41) r × ((lengths : List ℕ) → Noted names count lengths starts texts chains → WeighsAs (fieldsTo names lengths texts count) word (itemAt starts texts (count * names) names) r)) (by : ℕ) (is : r ≡ Takes by) where
+      (w : AtMost (2 ^ 41) r × ((lengths : List ℕ) → Noted names count lengths starts texts chains →
+      WeighsAs (fieldsTo names lengths texts count) word (itemAt starts texts (count * names) names) r)) (by : ℕ) (is : r ≡ Takes by) where
     pub own-at : (longest : ℕ) → word ≡ length (varintOf (256 + records)) → longest ≡ length (varintOf (255 + records + by + remote)) → longest ≡ word → PlacesOwn (P.At by records)
     unfolding AddsAtMost Places
     own-at longest ew el same = (
       by-few r (w .0) by is,
       λ yards y lengths b new.
           let fields : List Text = fieldsTo names lengths texts count in
-          let so : WeighsAs fields word (itemAt starts texts (count * names) names) (Takes by) = subst (WeighsAs fields word (itemAt starts texts (count * names) names)) is (w .1 lengths (b .noted)) in
+          let so : WeighsAs fields word (itemAt starts texts (count * names) names) (Takes by) =
+          subst (WeighsAs fields word (itemAt starts texts (count * names) names)) is (w .1 lengths (b .noted)) in
           let here : WeighsAs fields word (y .values) (Takes by) = subst (λ (own : List Text). WeighsAs fields word own (Takes by)) (sym (b .own)) so in
           owned yards y names count records remote lengths starts texts chains b new word by longest ew el same
           (subst (λ (fs : List Text). WeighsAs fs word (y .values) (Takes by)) (fields-are yards y names count records remote lengths starts texts chains b) here),

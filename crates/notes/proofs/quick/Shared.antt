@@ -16,7 +16,8 @@ use Rattle.notes.specs.inner.Quick.Placed.{AddsAtMost, Beside, Places}
 use Rattle.notes.specs.declared.quick.place.Placing.{Placing}
 use Rattle.notes.specs.declared.quick.place.Placing.the-variants as P
 
-module _ (yards : List Yard) (y : Yard) (names count records remote : ℕ) (lengths texts chains groups begins : List ℕ) (b : Beside yards y names count records remote lengths (startsFrom 0 lengths) texts chains groups begins)
+module _ (yards : List Yard) (y : Yard) (names count records remote : ℕ) (lengths texts chains groups begins : List ℕ)
+    (b : Beside yards y names count records remote lengths (startsFrom 0 lengths) texts chains groups begins)
     (found : ℕ) (finds : Finds (startsFrom 0 lengths) texts names groups count found) where
   abbrev item : ℕ → List Text
   item yard = itemAt (startsFrom 0 lengths) texts (yard * names) names
@@ -24,7 +25,9 @@ module _ (yards : List Yard) (y : Yard) (names count records remote : ℕ) (leng
   last-is : found ≡ lastWith (meets (startsFrom 0 lengths) texts names (isFirst names lengths texts) count) count
   last-is =
       let noted = b .behind .noted in
-      finds (isFirst names lengths texts) count (fewer-inside (startsFrom 0 lengths) texts (length lengths) ((count + 1) * names) (omega (arith, noted .all)) (starts-inside lengths texts (noted .whole))) (b .grouped) (omega arith)
+      finds (isFirst names lengths texts) count
+      (fewer-inside (startsFrom 0 lengths) texts (length lengths) ((count + 1) * names) (omega (arith, noted .all)) (starts-inside lengths texts (noted .whole))) (b .grouped)
+      (omega arith)
 
   -- among the values of the yards or among the items
   in-same : isIn sameTexts (y .values) (map (λ (x : Yard). x .values) yards) ≡ isIn sameTexts (itemAt (startsFrom 0 lengths) texts (count * names) names) (valuesTo names lengths texts count)
@@ -63,9 +66,15 @@ module _ (names count records remote : ℕ) (starts texts chains groups begins :
   pub shared-at : 0 < found → PlacesIt (P.At 0 (getD begins (found - 1) 0))
   unfolding AddsAtMost Places
   shared-at h =
-      let next : found ≡ suc (found - 1) = omega arith in
-      (omega arith, λ yards y lengths b. is-found yards y names count records remote lengths texts chains groups begins (plain yards y lengths b) found (finds-plain yards y lengths b) (found - 1) next)
+      let next : found ≡ suc (found - 1) = omega arith in (
+        omega arith,
+        λ yards y lengths b. is-found yards y names count records remote lengths texts chains groups begins (plain yards y lengths b) found (finds-plain yards y lengths b)
+            (found - 1) next,
+      )
 
   pub own-too : found ≤ 0 → (r : Placing) → PlacesOwn names count records remote starts texts chains r → PlacesIt r
-  own-too h r own =
-      (own .0, λ yards y lengths b. own .1 yards y lengths (b .behind) (not-found yards y names count records remote lengths texts chains groups begins (plain yards y lengths b) found (finds-plain yards y lengths b) h))
+  own-too h r own = (
+    own .0,
+    λ yards y lengths b. own .1 yards y lengths (b .behind)
+        (not-found yards y names count records remote lengths texts chains groups begins (plain yards y lengths b) found (finds-plain yards y lengths b) h),
+  )

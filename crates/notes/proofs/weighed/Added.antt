@@ -53,7 +53,8 @@ module _ (names count word : ℕ) (starts texts chains : List ℕ) where
         let w = c .so lengths n in
         (weighed-sure fields fields (λ t k. k) (own names) (subst (λ (m : ℕ). Weighed fields fields [] (own m)) e (w .0)), w .1 ∙ ap (λ (m : ℕ). weightsOf fields word (own m)) e)
 
-    pub add-ends : names ≤ 255 → names ≤ i → AtMost (2 ^ 41) (Takes bytes) × ((lengths : List ℕ) → Noted names count lengths starts texts chains → WeighsAs (fieldsTo names lengths texts count) word (own names) (Takes bytes))
+    pub add-ends : names ≤ 255 → names ≤ i →
+        AtMost (2 ^ 41) (Takes bytes) × ((lengths : List ℕ) → Noted names count lengths starts texts chains → WeighsAs (fieldsTo names lengths texts count) word (own names) (Takes bytes))
     unfolding AtMost
     add-ends few h = (omega (arith, few, c .index, c .small), sure-ends h)
 
@@ -75,5 +76,7 @@ module _ (names count word : ℕ) (starts texts chains : List ℕ) where
               let one = subst (WeighsOne fields word (itemAt starts texts (count * names) (count * names + i - count * names)) t) is (w .so names count lengths n refl (omega (arith, h))) in
               let here : count * names + i - count * names ≡ i = omega arith in
               let next : own (i + 1) ≡ own i ++ (t ∷ []) = ap own (add-one i) ∙ item-more starts texts (count * names) i in
-              let known : Known fields fields (own i) t = subst (λ (m : ℕ). Known fields fields (own m) t) here (one .0) in
-              (subst (Weighed fields fields []) (sym next) (weighed-more fields fields [] (own i) t (before .0) known), omega (arith, before .1, one .1, weights-more fields word (own i) t, ap (weightsOf fields word) next))
+              let known : Known fields fields (own i) t = subst (λ (m : ℕ). Known fields fields (own m) t) here (one .0) in (
+                subst (Weighed fields fields []) (sym next) (weighed-more fields fields [] (own i) t (before .0) known),
+                omega (arith, before .1, one .1, weights-more fields word (own i) t, ap (weightsOf fields word) next),
+              )

@@ -33,7 +33,8 @@ module _ (good : ℕ → Bool) where
   count-last zero j e = absurd (omega (arith, e))
   count-last (suc n) j e = go (good n) e (count-last n j)
     where
-      go : (b : Bool) → (if b then suc n else lastWith good n) ≡ suc j → (lastWith good n ≡ suc j → countWith good n ≡ 1 + countWith good j) → (if b then 1 else 0) + countWith good n ≡ 1 + countWith good j
+      go : (b : Bool) → (if b then suc n else lastWith good n) ≡ suc j → (lastWith good n ≡ suc j → countWith good n ≡ 1 + countWith good j) →
+          (if b then 1 else 0) + countWith good n ≡ 1 + countWith good j
       go true e k = let same : n ≡ j = omega (arith, e) in ap (λ (m : ℕ). 1 + countWith good m) same
       go false e k = omega (arith, k e)
 
@@ -59,7 +60,8 @@ unfolding alike
 alike-one starts texts a b =
     let one : a * 1 ≡ a = omega arith in
     let two : b * 1 ≡ b = omega arith in
-    ap (λ (n : ℕ). sameTexts (itemAt starts texts n 1) (itemAt starts texts (b * 1) 1)) one ∙ (ap (λ (n : ℕ). sameTexts (itemAt starts texts a 1) (itemAt starts texts n 1)) two ∙ one-text starts texts a b)
+    ap (λ (n : ℕ). sameTexts (itemAt starts texts n 1) (itemAt starts texts (b * 1) 1)) one ∙
+    (ap (λ (n : ℕ). sameTexts (itemAt starts texts a 1) (itemAt starts texts n 1)) two ∙ one-text starts texts a b)
 
 module _ (names : ℕ) (lengths texts : List ℕ) where
   abbrev starts : List ℕ

@@ -32,7 +32,8 @@ module _ (names : ℕ) (lengths starts texts : List ℕ) (begin : starts ≡ sta
   pub met-none : (found : ℕ) → found ≡ lastWith met (count * names) → found ≡ 0 → timesIn sameText text (fieldsTo names lengths texts count) ≡ 0
   met-none found e z = sym times-met ∙ count-none met (count * names) (sym e ∙ z)
 
-  pub met-twice : (found before : ℕ) → found ≡ lastWith met (count * names) → (found ≡ 0 → ⊥) → before ≡ lastWith met (found - 1) → (before ≡ 0 → ⊥) → 2 ≤ timesIn sameText text (fieldsTo names lengths texts count)
+  pub met-twice : (found before : ℕ) → found ≡ lastWith met (count * names) → (found ≡ 0 → ⊥) → before ≡ lastWith met (found - 1) → (before ≡ 0 → ⊥) →
+      2 ≤ timesIn sameText text (fieldsTo names lengths texts count)
   met-twice found before e some f more =
       let last : lastWith met (count * names) ≡ suc (found - 1) = sym e ∙ omega (arith, some) in
       let other : lastWith met (found - 1) ≡ suc (before - 1) = sym f ∙ omega (arith, more) in

@@ -32,4 +32,10 @@ module _ (fields : List Text) (records word : ℕ) where
   -- The shortest word and the longest one have the same length, and so has each between them.
   pub one-word : (by : ℕ) → length (varintOf (256 + records)) ≡ word → length (varintOf (255 + records + by + length (flatMap inlined (remotes fields)))) ≡ word → OneWord
   one-word by least most t e =
-      omega (arith, least, most, size-rises (256 + records) (256 + records + offsetOf fields t) (omega arith), size-rises (256 + records + offsetOf fields t) (255 + records + by + length (flatMap inlined (remotes fields))) (omega (arith, word-inside fields t e)))
+      omega (
+        arith,
+        least,
+        most,
+        size-rises (256 + records) (256 + records + offsetOf fields t) (omega arith),
+        size-rises (256 + records + offsetOf fields t) (255 + records + by + length (flatMap inlined (remotes fields))) (omega (arith, word-inside fields t e)),
+      )

@@ -74,8 +74,10 @@ module _ (word : ℕ) (starts texts chains : List ℕ) (first value : ℕ) where
   }
 
   module _ (from : first ≤ value) (found : ℕ)
-      (last : (entered : ℕ → Bool) (count : ℕ) → ItemsInside starts texts 1 value → Chained (bucketOf starts texts 1) entered count chains → count ≤ value → found ≡ lastWith (meets starts texts 1 entered value) count) where
-    last-met : (names count : ℕ) (lengths : List ℕ) → Noted names count lengths starts texts chains → first ≡ count * names → value < first + names → found ≡ lastWith (meets starts texts 1 (isField names lengths texts) value) (count * names)
+      (last : (entered : ℕ → Bool) (count : ℕ) → ItemsInside starts texts 1 value → Chained (bucketOf starts texts 1) entered count chains → count ≤ value →
+      found ≡ lastWith (meets starts texts 1 entered value) count) where
+    last-met : (names count : ℕ) (lengths : List ℕ) → Noted names count lengths starts texts chains → first ≡ count * names → value < first + names →
+        found ≡ lastWith (meets starts texts 1 (isField names lengths texts) value) (count * names)
     last-met names count lengths n at h =
         last (isField names lengths texts) (count * names) (noted-item names count lengths starts texts chains n first value at h) (n .fields) (omega (arith, at, from))
 
@@ -90,13 +92,15 @@ module _ (word : ℕ) (starts texts chains : List ℕ) (first value : ℕ) where
     }
 
     pub is-far : word ≤ 10 → (sizeAt starts value ≡ 0 → ⊥) → (found ≡ 0 → ⊥) → (before : ℕ)
-        → ((entered : ℕ → Bool) (count : ℕ) → ItemsInside starts texts 1 value → Chained (bucketOf starts texts 1) entered count chains → count ≤ value → found ≡ lastWith (meets starts texts 1 entered value) count → before ≡ lastWith (meets starts texts 1 entered value) (found - 1))
+        → ((entered : ℕ → Bool) (count : ℕ) → ItemsInside starts texts 1 value → Chained (bucketOf starts texts 1) entered count chains → count ≤ value →
+        found ≡ lastWith (meets starts texts 1 entered value) count → before ≡ lastWith (meets starts texts 1 entered value) (found - 1))
         → (before ≡ 0 → ⊥) → Weighs word starts texts chains first value (Takes word)
     unfolding AtMost
     is-far short some one before earlier two = record {
       few = omega (arith, short);
       so = λ names count lengths n at h.
           value-far names count lengths starts texts chains n first value at h word (itemAt starts texts first (value - first)) found (last-met names count lengths n at h) some one before
-          (earlier (isField names lengths texts) (count * names) (noted-item names count lengths starts texts chains n first value at h) (n .fields) (omega (arith, at, from)) (last-met names count lengths n at h))
+          (earlier (isField names lengths texts) (count * names) (noted-item names count lengths starts texts chains n first value at h) (n .fields) (omega (arith, at, from))
+          (last-met names count lengths n at h))
           two;
     }

@@ -7,7 +7,8 @@ use native.Mathlib.Omega.{arith}
 use Rattle.calendar.specs.{Rules.{IsWhen}, declared.rule.When.{When}}
 use Rattle.tzrule.specs.{Answer.{Answer, read, fault, onward, told, Within, Around, toldDate, GoodDate}, Grammar.{laterOf, signedOf, dateOf}}
 use Rattle.tzrule.specs.Names.{nameOf, toldName, Inside}
-use Rattle.tzrule.specs.{String.{dayHours, weekHours, hoursOf, timeOf, changeOf, clockOf, summerOf, changingOf, stringOf}, inner.String.{toldClock, toldChange, toldString, IsClock, GoodClock, GoodChange}}
+use Rattle.tzrule.specs.String.{dayHours, weekHours, hoursOf, timeOf, changeOf, clockOf, summerOf, changingOf, stringOf}
+use Rattle.tzrule.specs.inner.String.{toldClock, toldChange, toldString, IsClock, GoodClock, GoodChange}
 use Rattle.tzrule.specs.{Summer.{IsChange}, Text.{byteAt}}
 use Rattle.tzrule.specs.declared.{date.Found.{Found}, name.{Named.{Named}, Span.{Span}}, number.Number.{Number, the-variants.{Read, Fault}}}
 use Rattle.tzrule.specs.declared.rule.{Change.{Change}, Clock.{Clock}, Tz.the-variants.{Fixed, Changing}}
@@ -153,7 +154,8 @@ module _ (text : List ℕ) (at : ℕ) {byte : ℕ} (b : byte ≡ byteAt text at)
       unfolding toldChange changeOf onward
       no-time d t = simp (there, d, t)
 
-      pub change-read : {when : When} {next time last : ℕ} → dateOf text (at + 1) ≡ read when next → timeOf wide text next ≡ read time last → toldChange (changed.Change (record { change = record { when = when; time = time }; next = last })) ≡ changeOf wide text at
+      pub change-read : {when : When} {next time last : ℕ} → dateOf text (at + 1) ≡ read when next → timeOf wide text next ≡ read time last →
+          toldChange (changed.Change (record { change = record { when = when; time = time }; next = last })) ≡ changeOf wide text at
       unfolding toldChange changeOf onward
       change-read d t = simp (there, d, t)
 
@@ -167,7 +169,8 @@ module _ (offset : ℕ → Answer ℕ) (text : List ℕ) (at : ℕ) where
   unfolding toldClock clockOf onward
   no-offset n o = simp (n, o)
 
-  pub clock-read : {span : Span} {next west last : ℕ} → nameOf text at ≡ read span next → offset next ≡ read west last → toldClock (clocked.Clock (record { clock = record { name = span; west = west }; next = last })) ≡ clockOf offset text at
+  pub clock-read : {span : Span} {next west last : ℕ} → nameOf text at ≡ read span next → offset next ≡ read west last →
+      toldClock (clocked.Clock (record { clock = record { name = span; west = west }; next = last })) ≡ clockOf offset text at
   unfolding toldClock clockOf onward
   clock-read n o = simp (n, o)
 
@@ -192,7 +195,9 @@ module _ (wide : Bool) (standard : Clock) (text : List ℕ) (at : ℕ) where
         unfolding toldString changingOf onward
         not-closed h = simp (d, s, e, ne-eqb (byteAt text last) 10 (λ x. h (b ∙ x)))
 
-        pub changing-read : byte ≡ 10 → toldString (parsed.String (record { tz = Changing (record { standard = standard; daylight = daylight; start = start; end = end }); next = last + 1 })) ≡ changingOf wide standard text at
+        pub changing-read : byte ≡ 10 →
+            toldString (parsed.String (record { tz = Changing (record { standard = standard; daylight = daylight; start = start; end = end }); next = last + 1 })) ≡ changingOf wide standard
+            text at
         unfolding toldString changingOf onward
         changing-read h = simp (d, s, e, eq-eqb (byteAt text last) 10 (sym b ∙ h))
 

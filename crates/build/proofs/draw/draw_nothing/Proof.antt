@@ -14,14 +14,6 @@ pub draw-nothing-spec : {M : Type 1} → statement M
 draw-nothing-spec =
     tie.close
     (tie.spec
-    (λ c. search needs)
-    (λ c. omega (arith, c .shared-slice-known3 .given 0))
-    (λ c. search needs)
-    (λ c. omega (arith, c .shared-slice-known4 .given 1))
-    (λ c. search needs)
-    (λ c. omega (arith, c .shared-slice-known5 .given 2))
-    (λ c. omega (arith, c .shared-slice-known5 .given 2))
-    (λ c. search needs)
-    draw-yard-requires
-    (λ c. search needs)
-    returns)
+    (λ c. search needs) (λ c. omega (arith, c .shared-slice-known3 .given 0)) (λ c. search needs)
+    (λ c. omega (arith, c .shared-slice-known4 .given 1)) (λ c. search needs) (λ c. omega (arith, c .shared-slice-known5 .given 2))
+    (λ c. omega (arith, c .shared-slice-known5 .given 2)) (λ c. search needs) draw-yard-requires (λ c. search needs) returns)

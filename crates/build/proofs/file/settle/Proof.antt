@@ -9,4 +9,6 @@ returns-2 c = settle-refused _ _ (c .before .before .before .before .before .bui
 pub settle-spec : {M : Type 1} → statement M
 settle-spec =
     tie.close
-    (tie.spec (λ c. search needs) (λ c. search needs) (λ c κs. search needs) (λ c. settle-length _ _ (c .before .built .given .1) _) (λ c. search needs) returns-2)
+    (tie.spec
+    (λ c. search needs) (λ c. search needs) (λ c κs. search needs) (λ c. settle-length _ _ (c .before .built .given .1) _) (λ c. search needs)
+    returns-2)

@@ -8,17 +8,14 @@ use borrow.Author.Needs.{needs}
 use Rattle.build.proofs.room.need_of.Tie as tie
 
 sum-of-requires : tie.Need-sum-of-requires
-sum-of-requires c κs = omega (arith, sum-front (c .before .before .args .names + 1) (c .before .before .args .names + 1 + c .before .before .args .names * (c .before .before .args .words / 4)) (c .before .before .args .lengths .now) (omega arith), c .before .before .pre .3)
+sum-of-requires c κs =
+    let args = c .before .before .args in
+    omega (arith, sum-front (args .names + 1) (args .names + 1 + args .names * (args .words / 4)) (args .lengths .now) (omega arith), c .before .before .pre .3)
 
 pub need-of-spec : {M : Type 1} → statement M
 need-of-spec =
     tie.close
     (tie.spec
-    (λ c. search needs)
-    (λ c. search needs)
-    (λ c. search needs)
-    (λ c. sym (length-take-le _ _ (omega (arith, c .before .before .pre .2))))
-    sum-of-requires
-    (λ c. sym (length-take-le _ _ (c .before .before .before .before .pre .2)))
-    (λ c κs. search needs)
+    (λ c. search needs) (λ c. search needs) (λ c. search needs) (λ c. sym (length-take-le _ _ (omega (arith, c .before .before .pre .2))))
+    sum-of-requires (λ c. sym (length-take-le _ _ (c .before .before .before .before .pre .2))) (λ c κs. search needs)
     (λ c. need-is _ _ _ _ _ (c .before .before .sum-of .ensures) (c .sum-of2 .ensures)))

@@ -19,14 +19,7 @@ pub sum-of-spec : {M : Type 1} → statement M
 sum-of-spec =
     tie.close
     (tie.spec
-    Inv-loop
-    μ-loop
-    (λ c. sum-starts _)
-    (λ c. search needs)
-    (λ c. search needs)
-    (λ c. omega (arith, c .shared-slice-known .given (c .before .before .loop .i)))
-    add-sum
-    (λ c. search needs)
-    (λ c. search needs)
+    Inv-loop μ-loop (λ c. sum-starts _) (λ c. search needs) (λ c. search needs)
+    (λ c. omega (arith, c .shared-slice-known .given (c .before .before .loop .i))) add-sum (λ c. search needs) (λ c. search needs)
     (λ c. sum-goes _ _ _ (c .before .before .loop .inv) (c .before .loop-test .taken))
     (λ c. sum-ends _ _ _ (c .before .loop .inv) (c .loop-test .left)))

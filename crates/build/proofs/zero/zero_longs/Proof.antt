@@ -13,4 +13,8 @@ abbrev μ-loop : tie.MeasureT-loop
 μ-loop list₀ i₀ list i = length list - i
 
 pub zero-longs-spec : {M : Type 1} → statement M
-zero-longs-spec = tie.close (tie.spec Inv-loop μ-loop (λ c. fill-starts 0 _) (λ c. search needs) (λ c. search needs) (λ c. search needs) (λ c. omega (arith, length-set (c .before .loop .list) (c .before .loop .i) 0)) (λ c. fill-goes 0 _ _ _ (c .before .loop .inv) (c .loop-test .taken)) (λ c. c .before .loop .inv .size) (λ c. fill-ends 0 _ _ _ (c .before .loop .inv) (c .loop-test .left)))
+zero-longs-spec = tie.close (tie.spec
+    Inv-loop μ-loop (λ c. fill-starts 0 _) (λ c. search needs) (λ c. search needs) (λ c. search needs)
+    (λ c. omega (arith, length-set (c .before .loop .list) (c .before .loop .i) 0))
+    (λ c. fill-goes 0 _ _ _ (c .before .loop .inv) (c .loop-test .taken)) (λ c. c .before .loop .inv .size)
+    (λ c. fill-ends 0 _ _ _ (c .before .loop .inv) (c .loop-test .left)))

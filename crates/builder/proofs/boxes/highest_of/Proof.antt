@@ -20,24 +20,13 @@ loop-holds c = read-back _ _ _ _ _ (record { sfits = c .greatest .given }) (high
 
 loop-again : tie.Need-loop-again Inv-loop μ-loop
 loop-again c =
-    let loop = c .before .before .before .loop in
-    let loop-test = c .before .before .loop-test in
-    let greater-of-arg = c .before .greater-of-arg in
-    read-back _ _ _ _ _ (sfits-of (c .greater-of .ok)) (choose-goes _ _ _ _ _ (loop .inv) (loop-test .taken) _ (c .greater-of .ensures ∙ ap (greater (toZ w32 (loop .greatest))) (toZ-ofZ (record { sfits = greater-of-arg .given }))))
+    let loop = c .before .before .before .loop in let loop-test = c .before .before .loop-test in let greater-of-arg = c .before .greater-of-arg in
+    read-back _ _ _ _ _ (sfits-of (c .greater-of .ok))
+    (choose-goes _ _ _ _ _ (loop .inv) (loop-test .taken) _ (c .greater-of .ensures ∙ ap (greater (toZ w32 (loop .greatest))) (toZ-ofZ (record { sfits = greater-of-arg .given }))))
 
 pub highest-of-spec : {M : Type 1} → statement M
 highest-of-spec =
     tie.close
     (tie.spec
-    Inv-loop
-    μ-loop
-    (λ c. highest-none _ (c .if1 .taken))
-    (λ c. omega arith)
-    loop-holds
-    (λ c. search needs)
-    (λ c. search needs)
-    (λ c κs. search needs)
-    (λ c. search needs)
-    (λ c. search needs)
-    loop-again
-    (λ c. choose-ends _ _ _ _ _ (c .before .loop .inv) (c .loop-test .left)))
+    Inv-loop μ-loop (λ c. highest-none _ (c .if1 .taken)) (λ c. omega arith) loop-holds (λ c. search needs) (λ c. search needs) (λ c κs. search needs)
+    (λ c. search needs) (λ c. search needs) loop-again (λ c. choose-ends _ _ _ _ _ (c .before .loop .inv) (c .loop-test .left)))

@@ -13,37 +13,24 @@ abbrev μ-loop : tie.MeasureT-loop
 
 returns : tie.Need-returns Inv-loop μ-loop
 returns c =
-    let args = c .before .before .before .before .args in
-    let loop = c .before .before .before .loop in
+    let args = c .before .before .before .before .args in let loop = c .before .before .before .loop in
     let loop-test = c .before .before .loop-test in
     number-bad (args .names) (args .yards .now) (loop .i) (loop .inv) (loop-test .taken) (c .if1 .taken)
 
 loop-again : tie.Need-loop-again Inv-loop μ-loop
 loop-again c =
-    let args = c .before .before .before .before .args in
-    let loop = c .before .before .before .loop in
+    let args = c .before .before .before .before .args in let loop = c .before .before .before .loop in
     let loop-test = c .before .before .loop-test in
     number-good (args .names) (args .yards .now) (loop .i) (loop .inv) (loop-test .taken) (c .if1 .left)
 
 returns-2 : tie.Need-returns-2 Inv-loop μ-loop
 returns-2 c =
-    let args = c .before .before .args in
-    let loop = c .before .loop in
+    let args = c .before .before .args in let loop = c .before .loop in
     numbers-end (args .names) (args .yards .now) (loop .i) (loop .inv) (c .loop-test .left)
 
 pub are-numbered-spec : {M : Type 1} → statement M
 are-numbered-spec =
     tie.close
     (tie.spec
-    Inv-loop
-    μ-loop
-    (λ c. numbers-start _ _)
-    (λ c. c .loop .inv .index)
-    (λ c. search needs)
-    (λ c. search needs)
-    (λ c. search needs)
-    returns
-    (λ c. search needs)
-    (λ c. search needs)
-    loop-again
-    returns-2)
+    Inv-loop μ-loop (λ c. numbers-start _ _) (λ c. c .loop .inv .index) (λ c. search needs) (λ c. search needs) (λ c. search needs) returns
+    (λ c. search needs) (λ c. search needs) loop-again returns-2)

@@ -8,8 +8,7 @@ use Rattle.builder.proofs.entry.put_entry.Tie as tie
 
 put-varint-requires : tie.Need-put-varint-requires
 put-varint-requires c κs =
-    let put-box = c .before .before .before .before .put-box in
-    let args = c .before .before .before .before .before .before .before .args in
+    let put-box = c .before .before .before .before .put-box in let args = c .before .before .before .before .before .before .before .args in
     omega (arith, put-box .ensures .place-after, box-few (args .bounds))
 
 put-varint-requires-2 : tie.Need-put-varint-requires-2
@@ -32,13 +31,5 @@ pub put-entry-spec : {M : Type 1} → statement M
 put-entry-spec =
     tie.close
     (tie.spec
-    (λ c κs. search needs)
-    (λ c κs. search needs)
-    put-varint-requires
-    (λ c. search needs)
-    (λ c. search needs)
-    (λ c. search needs)
-    (λ c. search needs)
-    put-varint-requires-2
-    (λ c. search needs)
-    returns)
+    (λ c κs. search needs) (λ c κs. search needs) put-varint-requires (λ c. search needs) (λ c. search needs) (λ c. search needs) (λ c. search needs)
+    put-varint-requires-2 (λ c. search needs) returns)

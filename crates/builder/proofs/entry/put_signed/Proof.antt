@@ -8,8 +8,7 @@ use Rattle.builder.proofs.entry.put_signed.Tie as tie
 
 returns : tie.Need-returns
 returns c =
-    let form-of = c .before .before .before .form-of in
-    let fits = c .before .before .before .before .before .before .fits in
+    let form-of = c .before .before .before .form-of in let fits = c .before .before .before .before .before .before .fits in
     let put-varint = c .before .before .put-varint in
     stored-as (form-of .ensures ∙ from-zero _ ∙ ap signedForm (toZ-ofZ (fits .z))) (put-varint .ensures)
 

@@ -7,11 +7,5 @@ pub step-form-spec : {M : Type 1} → statement M
 step-form-spec =
     tie.close
     (tie.spec
-    (λ c. search needs)
-    (λ c. search needs)
-    (λ c. search needs)
-    (λ c. search needs)
-    (λ c. step-down _ _ (c .if1 .taken))
-    (λ c. search needs)
-    (λ c. search needs)
-    (λ c. step-up _ _ (c .if1 .left)))
+    (λ c. search needs) (λ c. search needs) (λ c. search needs) (λ c. search needs) (λ c. step-down _ _ (c .if1 .taken)) (λ c. search needs)
+    (λ c. search needs) (λ c. step-up _ _ (c .if1 .left)))

@@ -8,11 +8,11 @@ use Rattle.builder.proofs.head.put_head.Tie as tie
 returns : tie.Need-returns
 unfolding headFrom
 returns c =
-    let put-bytes = c .before .before .before .before .before .before .put-bytes in
-    let put-texts = c .before .before .put-texts in
+    let put-bytes = c .before .before .before .before .before .before .put-bytes in let put-texts = c .before .before .put-texts in
     stored-then _ _ (put-bytes .ensures) (put-texts .ensures)
 
 pub put-head-spec : {M : Type 1} → statement M
 put-head-spec =
     tie.close
-    (tie.spec (λ c. search needs) (λ c κs. search needs) (λ c κs. search needs) (λ c. search needs) returns)
+    (tie.spec
+    (λ c. search needs) (λ c κs. search needs) (λ c κs. search needs) (λ c. search needs) returns)

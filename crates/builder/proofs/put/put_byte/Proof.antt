@@ -5,4 +5,5 @@ use Rattle.builder.proofs.put.put_byte.Tie as tie
 
 pub put-byte-spec : {M : Type 1} → statement M
 put-byte-spec =
-    tie.close (tie.spec (λ c. search needs) (λ c. search needs) (λ c. search needs) (λ c. search needs) (λ c. search needs) (λ c. stored-out _ _ _ (c .if1 .left)))
+    tie.close (tie.spec
+    (λ c. search needs) (λ c. search needs) (λ c. search needs) (λ c. search needs) (λ c. search needs) (λ c. stored-out _ _ _ (c .if1 .left)))

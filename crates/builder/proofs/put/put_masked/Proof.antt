@@ -15,28 +15,17 @@ abbrev μ-loop : tie.MeasureT-loop
 
 put-byte-requires : tie.Need-put-byte-requires Inv-loop μ-loop
 put-byte-requires c κs =
-    let loop = c .before .before .before .loop in
-    let pre = c .before .before .before .before .before .before .pre in
+    let loop = c .before .before .before .loop in let pre = c .before .before .before .before .before .before .pre in
     omega (arith, loop .inv .next-is, loop .inv .index, pre)
 
 loop-again : tie.Need-loop-again Inv-loop μ-loop
 loop-again c =
-    let loop = c .before .before .before .before .before .before .loop in
-    let loop-test = c .before .before .before .before .before .loop-test in
-    let put-byte = c .before .before .put-byte in
-    put-goes _ _ _ _ _ _ _ _ _ (loop .inv) (loop-test .taken) (put-byte .ensures)
+    let loop = c .before .before .before .before .before .before .loop in let loop-test = c .before .before .before .before .before .loop-test in
+    let put-byte = c .before .before .put-byte in put-goes _ _ _ _ _ _ _ _ _ (loop .inv) (loop-test .taken) (put-byte .ensures)
 
 pub put-masked-spec : {M : Type 1} → statement M
 put-masked-spec =
     tie.close
     (tie.spec
-    Inv-loop
-    μ-loop
-    (λ c. put-starts _ _ _ _)
-    (λ c. search needs)
-    put-byte-requires
-    (λ c. search needs)
-    (λ c. search needs)
-    loop-again
-    (λ c. c .before .loop .inv .left .size)
-    (λ c. put-ends _ _ _ _ _ _ _ (c .before .loop .inv) (c .loop-test .left)))
+    Inv-loop μ-loop (λ c. put-starts _ _ _ _) (λ c. search needs) put-byte-requires (λ c. search needs) (λ c. search needs) loop-again
+    (λ c. c .before .loop .inv .left .size) (λ c. put-ends _ _ _ _ _ _ _ (c .before .loop .inv) (c .loop-test .left)))

@@ -12,16 +12,14 @@ use Rattle.builder.proofs.put.put_text.Tie as tie
 
 put-masked-requires : tie.Need-put-masked-requires
 put-masked-requires c κs =
-    let put-varint = c .before .before .before .put-varint in
-    let args = c .before .before .before .before .before .before .before .args in
+    let put-varint = c .before .before .before .put-varint in let args = c .before .before .before .before .before .before .before .args in
     omega (arith, put-varint .ensures .place-after, varint-few (length (args .text .now)))
 
 returns : tie.Need-returns
 unfolding inlined
 returns c =
     let args = c .before .before .before .before .before .before .before .before .before .before .args in
-    let put-varint = c .before .before .before .before .before .before .put-varint in
-    let put-masked = c .before .before .put-masked in
+    let put-varint = c .before .before .before .before .before .before .put-varint in let put-masked = c .before .before .put-masked in
     stored-then (varintOf (length (args .text .now))) (map unmasked (args .text .now)) (put-varint .ensures) (put-masked .ensures)
 
 pub put-text-spec : {M : Type 1} → statement M

@@ -8,8 +8,7 @@ use Rattle.builder.proofs.put.put_varint.Tie as tie
 
 add-result : tie.Need-add-result
 add-result c =
-    let write-varint = c .before .before .write-varint in
-    let args = c .before .before .before .before .before .args in
+    let write-varint = c .before .before .write-varint in let args = c .before .before .before .before .before .args in
     omega (arith, write-varint .ensures .counted, varint-few (args .value))
 
 pub put-varint-spec : {M : Type 1} → statement M

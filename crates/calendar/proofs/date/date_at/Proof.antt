@@ -6,8 +6,7 @@ use Rattle.calendar.proofs.date.date_at.Tie as tie
 
 month-at-requires : tie.Need-month-at-requires
 month-at-requires c κs =
-    let year-at = c .before .before .year-at in
-    let days-of-years = c .before .days-of-years in
+    let year-at = c .before .before .year-at in let days-of-years = c .before .days-of-years in
     place-short (year-at .ensures) (days-of-years .ensures) (c .is-leap .ensures)
 
 returns : tie.Need-returns
@@ -19,10 +18,4 @@ pub date-at-spec : {M : Type 1} → statement M
 date-at-spec =
     tie.close
     (tie.spec
-    (λ c κs. search needs)
-    (λ c. search needs)
-    (λ c κs. search needs)
-    (λ c. search needs)
-    (λ c κs. search needs)
-    month-at-requires
-    returns)
+    (λ c κs. search needs) (λ c. search needs) (λ c κs. search needs) (λ c. search needs) (λ c κs. search needs) month-at-requires returns)

@@ -6,11 +6,9 @@ use Rattle.numbers.specs.Reply.{given}
 use Rattle.header.specs.Text.{textAt}
 use Rattle.header.proofs.field.write_field.Tie as tie
 
-returns : tie.Need-returns
-returns c = bad _ _ _ _ _ _ _ (rw (c .before .why .given .1) at (c .before .before .before .read-text .ensures))
-
 -- ---- where a string was read
-read : (c : tie.After-string) → let args = c .before .before .before .before .before .args in given (c .string .given .0 .0) ≡ textAt (args .strict) (args .file .now) (args .metadata) (args .place) (record { number = 15; detail = 0 })
+read : (c : tie.After-string) → let args = c .before .before .before .before .before .args in
+    given (c .string .given .0 .0) ≡ textAt (args .strict) (args .file .now) (args .metadata) (args .place) (record { number = 15; detail = 0 })
 read c = rw (c .string .given .1) at (c .before .before .read-text .ensures)
 
 lying : (c : tie.After-string) → Lies (c .before .before .before .before .before .args .file .now) (c .string .given .0 .0)
@@ -23,29 +21,19 @@ returns-2 c = no-room _ _ _ _ _ _ _ (read (c .before .before .before)) _ (c .pla
 
 put-field-requires : tie.Need-put-field-requires
 put-field-requires c κs =
-    let l = lying (c .before .before .before .before) in
-    let p = part-length _ _ l in
+    let l = lying (c .before .before .before .before) in let p = part-length _ _ l in
     (omega (arith, p, c .before .before .if1 .left), omega (arith, p, l .short))
 
 returns-3 : tie.Need-returns-3
-returns-3 c = whole _ _ _ _ _ (c .before .before .before .before .before .before .before .before .before .before .before .before .args .text .now) _ (read (c .before .before .before .before .before .before .before)) _ (c .before .before .before .before .before .if1 .left) (c .before .before .put-field .ensures)
+returns-3 c = whole _ _ _ _ _ (c .before .before .before .before .before .before .before .before .before .before .before .before .args .text .now) _
+    (read (c .before .before .before .before .before .before .before)) _ (c .before .before .before .before .before .if1 .left) (c .before .before .put-field .ensures)
 
 pub write-field-spec : {M : Type 1} → statement M
 write-field-spec =
     tie.close
     (tie.spec
-    (λ c κs. tt)
-    (λ c. omega arith)
-    (λ c. omega arith)
-    returns
-    (λ c. omega (arith, lying (c .before) .short))
-    (λ c κs. tt)
-    returns-2
-    (λ c. omega (arith, lying (c .before .before .before) .inside))
-    (λ c. omega arith)
-    (λ c. omega arith)
-    (λ c. omega (arith, lying (c .before .before .before) .inside))
-    put-field-requires
-    (λ c. omega arith)
-    (λ c. omega arith)
-    returns-3)
+    (λ c κs. tt) (λ c. omega arith) (λ c. omega arith)
+    (λ c. bad _ _ _ _ _ _ _ (rw (c .before .why .given .1) at (c .before .before .before .read-text .ensures)))
+    (λ c. omega (arith, lying (c .before) .short)) (λ c κs. tt) returns-2 (λ c. omega (arith, lying (c .before .before .before) .inside))
+    (λ c. omega arith) (λ c. omega arith) (λ c. omega (arith, lying (c .before .before .before) .inside)) put-field-requires (λ c. omega arith)
+    (λ c. omega arith) returns-3)

@@ -6,8 +6,7 @@ use Rattle.header.proofs.header.read_header_text.Tie as tie
 
 returns : tie.Need-returns
 returns c =
-    let args = c .before .before .before .args in
-    let blame-for = c .before .blame-for in
+    let args = c .before .before .before .args in let blame-for = c .before .blame-for in
     c .read-text .ensures ∙ ap (textAt (args .strict) (args .file .now) 0 (args .place)) (blame-for .ensures)
 
 pub read-header-text-spec : {M : Type 1} → statement M

@@ -22,9 +22,7 @@ returns-2 c =
 returns-3 : tie.Need-returns-3
 unfolding preambleOf
 returns-3 c =
-    let magic-of = c .before .before .magic-of in
-    let if3 = c .before .if3 in
-    let args = c .before .before .before .before .before .before .args in
+    let magic-of = c .before .before .magic-of in let if3 = c .before .if3 in let args = c .before .before .before .before .before .before .args in
     ap refused (c .refuse2 .ensures ∙ ap (refusal 3 0) (magic-of .ensures))
     ∙ unmet (ne-eqb _ _ (λ e. if3 .taken (magic-of .ensures ∙ e))) _ _
     ∙ met (le-leb 7 (length (args .file .now)) (omega arith)) _ _
@@ -36,11 +34,8 @@ cast-refuse c = omega (arith, c .before .before .before .before .before .before 
 returns-4 : tie.Need-returns-4
 unfolding preambleOf
 returns-4 c =
-    let is-kind = c .before .before .is-kind in
-    let if4 = c .before .if4 in
-    let magic-of = c .before .before .before .before .before .magic-of in
-    let if3 = c .before .before .before .before .if3 in
-    let args = c .before .before .before .before .before .before .before .before .before .args in
+    let is-kind = c .before .before .is-kind in let if4 = c .before .if4 in let magic-of = c .before .before .before .before .before .magic-of in
+    let if3 = c .before .before .before .before .if3 in let args = c .before .before .before .before .before .before .before .before .before .args in
     ap refused (c .refuse3 .ensures)
     ∙ unmet (sym (is-kind .ensures) ∙ not-true _ (if4 .taken)) _ _
     ∙ met (eq-eqb _ _ (sym (magic-of .ensures) ∙ if3 .left)) _ _
@@ -55,9 +50,7 @@ cast-refuse-2 c =
 returns-5 : tie.Need-returns-5
 unfolding preambleOf
 returns-5 c =
-    let if5 = c .before .if5 in
-    let is-kind = c .before .before .before .before .is-kind in
-    let if4 = c .before .before .before .if4 in
+    let if5 = c .before .if5 in let is-kind = c .before .before .before .before .is-kind in let if4 = c .before .before .before .if4 in
     let magic-of = c .before .before .before .before .before .before .before .magic-of in
     let if3 = c .before .before .before .before .before .before .if3 in
     let args = c .before .before .before .before .before .before .before .before .before .before .before .args in
@@ -71,10 +64,8 @@ returns-5 c =
 returns-6 : tie.Need-returns-6
 unfolding preambleOf
 returns-6 c =
-    let if5 = c .before .before .if5 in
-    let is-kind = c .before .before .before .before .before .is-kind in
-    let if4 = c .before .before .before .before .if4 in
-    let magic-of = c .before .before .before .before .before .before .before .before .magic-of in
+    let if5 = c .before .before .if5 in let is-kind = c .before .before .before .before .before .is-kind in
+    let if4 = c .before .before .before .before .if4 in let magic-of = c .before .before .before .before .before .before .before .before .magic-of in
     let if3 = c .before .before .before .before .before .before .before .if3 in
     let args = c .before .before .before .before .before .before .before .before .before .before .before .before .args in
     met (lt-ltb _ _ (if5 .left)) _ _
@@ -87,22 +78,5 @@ pub read-preamble-spec : {M : Type 1} → statement M
 read-preamble-spec =
     tie.close
     (tie.spec
-    (λ c κs. tt)
-    returns
-    (λ c κs. tt)
-    returns-2
-    (λ c κs. omega arith)
-    (λ c κs. tt)
-    returns-3
-    (λ c. omega arith)
-    (λ c κs. tt)
-    cast-refuse
-    (λ c κs. tt)
-    returns-4
-    (λ c. omega arith)
-    cast-refuse-2
-    (λ c κs. tt)
-    returns-5
-    (λ c. omega arith)
-    (λ c. omega arith)
-    returns-6)
+    (λ c κs. tt) returns (λ c κs. tt) returns-2 (λ c κs. omega arith) (λ c κs. tt) returns-3 (λ c. omega arith) (λ c κs. tt) cast-refuse (λ c κs. tt)
+    returns-4 (λ c. omega arith) cast-refuse-2 (λ c κs. tt) returns-5 (λ c. omega arith) (λ c. omega arith) returns-6)

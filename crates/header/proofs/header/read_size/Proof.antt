@@ -7,17 +7,16 @@ use Rattle.header.proofs.header.read_size.Tie as tie
 
 returns : tie.Need-returns
 returns c =
-    let unread = c .before .unread in
-    let args = c .before .before .before .before .before .args in
-    let read-number = c .before .before .before .read-number in
-    let matched = c .before .before .match in
+    let unread = c .before .unread in let args = c .before .before .before .before .before .args in
+    let read-number = c .before .before .before .read-number in let matched = c .before .before .match in
     ap refused (c .plain .ensures) ∙ unread .ensures
-    ∙ ap (λ (a : Answer Numeral). a orElse plain (args .number)) (stops {answer = readingOf (args .strict) (args .file .now) (args .place)} (read-number .result) (read-number .ensures) (matched .keys2) _ found ∙ sym (found-again (readingOf (args .strict) (args .file .now) (args .place))))
+    ∙ ap (λ (a : Answer Numeral). a orElse plain (args .number))
+    (stops {answer = readingOf (args .strict) (args .file .now) (args .place)} (read-number .result) (read-number .ensures) (matched .keys2) _ found ∙
+    sym (found-again (readingOf (args .strict) (args .file .now) (args .place))))
 
 returns-2 : tie.Need-returns-2
 returns-2 c =
-    let answer = c .before .answer in
-    let args = c .before .before .before .before .before .args in
+    let answer = c .before .answer in let args = c .before .before .before .before .before .args in
     let read-number = c .before .before .before .read-number in
     rw (answer .given .1) at (ap (λ (a : Answer Numeral). a orElse plain (args .number)) (read-number .ensures))
 
@@ -25,9 +24,4 @@ pub read-size-spec : {M : Type 1} → statement M
 read-size-spec =
     tie.close
     (tie.spec
-    (λ c κs. tt)
-    (λ c. omega arith)
-    (λ c κs. tt)
-    (λ c κs. tt)
-    returns
-    returns-2)
+    (λ c κs. tt) (λ c. omega arith) (λ c κs. tt) (λ c κs. tt) returns returns-2)

@@ -19,8 +19,7 @@ high c = let args = c .before .before .args in lt-ltb (args .rest + (args .end +
 returns : tie.Need-returns
 unfolding sectionsFrom
 returns c =
-    let args = c .before .before .args in
-    ap refused (c .plain .ensures) ∙ unmet (le-ltb (args .end + args .«data») (2 ^ 32) (omega arith)) _ _
+    let args = c .before .before .args in ap refused (c .plain .ensures) ∙ unmet (le-ltb (args .end + args .«data») (2 ^ 32) (omega arith)) _ _
 
 returns-2 : tie.Need-returns-2
 unfolding sectionsFrom
@@ -40,20 +39,5 @@ pub sections-from-spec : {M : Type 1} → statement M
 sections-from-spec =
     tie.close
     (tie.spec
-    (λ c. omega arith)
-    (λ c κs. tt)
-    returns
-    (λ c. omega arith)
-    (λ c. omega arith)
-    (λ c κs. tt)
-    returns-2
-    (λ c. omega arith)
-    (λ c. omega arith)
-    (λ c κs. tt)
-    returns-3
-    (λ c. omega arith)
-    (λ c. omega arith)
-    (λ c. omega arith)
-    (λ c. omega arith)
-    (λ c. omega arith)
-    returns-4)
+    (λ c. omega arith) (λ c κs. tt) returns (λ c. omega arith) (λ c. omega arith) (λ c κs. tt) returns-2 (λ c. omega arith) (λ c. omega arith)
+    (λ c κs. tt) returns-3 (λ c. omega arith) (λ c. omega arith) (λ c. omega arith) (λ c. omega arith) (λ c. omega arith) returns-4)

@@ -11,21 +11,18 @@ use Rattle.header.proofs.text.read_string.Tie as tie
 returns : tie.Need-returns
 unfolding stringAt
 returns c =
-    let read-number = c .before .before .read-number in
-    let matched = c .before .match in
+    let read-number = c .before .before .read-number in let matched = c .before .match in
     c .stopped .ensures ∙ stops (read-number .result) (read-number .ensures) (matched .keys2) _ _
 
 add-end : tie.Need-add-end
 add-end c =
-    let read-number = c .before .before .before .before .before .read-number in
-    let answer = c .before .before .before .answer in
+    let read-number = c .before .before .before .before .before .read-number in let answer = c .before .before .before .answer in
     omega (arith, read-within _ _ _ (sym (ap told (answer .given .1)) ∙ read-number .ensures))
 
 returns-2 : tie.Need-returns-2
 unfolding stringAt
 returns-2 c =
-    let if1 = c .before .if1 in
-    let read-number = c .before .before .before .before .before .before .read-number in
+    let if1 = c .before .if1 in let read-number = c .before .before .before .before .before .before .read-number in
     let answer = c .before .before .before .before .answer in
     c .inside .ensures ∙ chosen (lt-ltb _ _ (if1 .taken)) _ _ ∙ goes-on (read-number .result) (read-number .ensures) (answer .given .1) _
 
@@ -33,8 +30,7 @@ returns-3 : tie.Need-returns-3
 unfolding stringAt
 returns-3 c =
     let args = c .before .before .before .before .before .before .before .before .before .args in
-    let answer = c .before .before .before .before .before .answer in
-    let if1 = c .before .before .if1 in
+    let answer = c .before .before .before .before .before .answer in let if1 = c .before .before .if1 in
     let read-number = c .before .before .before .before .before .before .before .read-number in
     c .read-remote .ensures
     ∙ ap (λ (place : ℕ). remoteAt (args .strict) (args .file .now) place (answer .given .0 .0 .place)) (away (args .metadata) (answer .given .0 .0 .value) (if1 .left))
@@ -45,13 +41,4 @@ pub read-string-spec : {M : Type 1} → statement M
 read-string-spec =
     tie.close
     (tie.spec
-    (λ c κs. tt)
-    (λ c. omega arith)
-    (λ c κs. tt)
-    returns
-    add-end
-    (λ c κs. tt)
-    returns-2
-    (λ c. omega arith)
-    (λ c κs. tt)
-    returns-3)
+    (λ c κs. tt) (λ c. omega arith) (λ c κs. tt) returns add-end (λ c κs. tt) returns-2 (λ c. omega arith) (λ c κs. tt) returns-3)

@@ -6,4 +6,5 @@ use Rattle.header.proofs.text.stopped.Tie as tie
 pub stopped-spec : {M : Type 1} → statement M
 stopped-spec =
     tie.close
-    (tie.spec (λ c. search needs) (λ c. search needs) (λ c. search needs) (λ c. search needs) (λ c. search needs) (λ c. rw (c .before .answer .given .1)))
+    (tie.spec
+    (λ c. search needs) (λ c. search needs) (λ c. search needs) (λ c. search needs) (λ c. search needs) (λ c. rw (c .before .answer .given .1)))

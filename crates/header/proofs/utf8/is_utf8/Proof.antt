@@ -13,33 +13,21 @@ abbrev μ-loop : tie.MeasureT-loop
 
 returns : tie.Need-returns Inv-loop μ-loop
 returns c =
-    let loop = c .before .before .before .before .before .loop in
-    let loop-test = c .before .before .before .before .loop-test in
-    let follow = c .before .before .follow in
-    let matched = c .before .match in
+    let loop = c .before .before .before .before .before .loop in let loop-test = c .before .before .before .before .loop-test in
+    let follow = c .before .before .follow in let matched = c .before .match in
     fails (loop .inv) (loop-test .taken) (follow .result) (follow .ensures) (matched .keys2)
 
 loop-again : tie.Need-loop-again Inv-loop μ-loop
 loop-again c =
-    let loop = c .before .before .before .before .before .before .loop in
-    let loop-test = c .before .before .before .before .before .loop-test in
-    let follow = c .before .before .before .follow in
-    let step = c .before .step in
+    let loop = c .before .before .before .before .before .before .loop in let loop-test = c .before .before .before .before .before .loop-test in
+    let follow = c .before .before .before .follow in let step = c .before .step in
     goes (loop .inv) (loop-test .taken) (follow .result) (follow .ensures) (step .given .1)
 
 pub is-utf8-spec : {M : Type 1} → statement M
 is-utf8-spec =
     tie.close
     (tie.spec
-    Inv-loop
-    μ-loop
-    (λ c. starts _)
-    (λ c. c .before .loop-test .taken)
-    (λ c κs. tt)
-    (λ c. omega arith)
-    (λ c. omega arith)
-    returns
+    Inv-loop μ-loop (λ c. starts _) (λ c. c .before .loop-test .taken) (λ c κs. tt) (λ c. omega arith) (λ c. omega arith) returns
     (λ c. omega (arith, c .before .before .before .before .before .loop-test .taken))
-    (λ c. omega (arith, c .before .before .before .before .before .loop-test .taken))
-    loop-again
+    (λ c. omega (arith, c .before .before .before .before .before .loop-test .taken)) loop-again
     (λ c. ends (c .before .before .loop .inv) (c .before .loop-test .left)))

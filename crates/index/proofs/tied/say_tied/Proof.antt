@@ -7,15 +7,9 @@ use Rattle.index.proofs.tied.say_tied.Statement.{statement}
 use Rattle.numbers.specs.Spoken.{noValues}
 use Rattle.index.proofs.tied.say_tied.Tie as tie
 
-returns-2 : tie.Need-returns-2
-returns-2 c = said-refused noValues (c .say-refused .ensures) (ap toldTied (c .before .before .tied .given .1))
-
 pub say-tied-spec : {M : Type 1} → statement M
 say-tied-spec =
     tie.close
     (tie.spec
-    (λ c. search needs)
-    (λ c. search needs)
-    (λ c κs. search needs)
-    (λ c. said-given noValues (ap toldTied (c .enum-told .given .1)))
-    returns-2)
+    (λ c. search needs) (λ c. search needs) (λ c κs. search needs) (λ c. said-given noValues (ap toldTied (c .enum-told .given .1)))
+    (λ c. said-refused noValues (c .say-refused .ensures) (ap toldTied (c .before .before .tied .given .1))))

@@ -13,42 +13,24 @@ abbrev μ-loop : tie.MeasureT-loop
 
 returns : tie.Need-returns Inv-loop μ-loop
 returns c =
-    let loop = c .before .before .before .loop in
-    let next-length = c .before .next-length in
-    let loop-test = c .before .before .loop-test in
-    let loop = loop in
-    let next-length = next-length in
-    let loop-test = loop-test in
+    let loop = c .before .before .before .loop in let next-length = c .before .next-length in let loop-test = c .before .before .loop-test in
+    let loop = loop in let next-length = next-length in let loop-test = loop-test in
     fits _ _ _ (loop .inv) _ (next-length .ensures) (c .if1 .taken) (loop-test .taken)
 
 loop-less : tie.Need-loop-less Inv-loop μ-loop
 loop-less c =
-    let loop = c .before .before .before .loop in
-    let next-length = c .before .next-length in
-    let loop-test = c .before .before .loop-test in
-    let loop = loop in
-    let next-length = next-length in
-    let loop-test = loop-test in
-    let more = grows _ _ _ (loop .inv) _ (next-length .ensures) (c .if1 .left) in
-    omega (arith, more, loop-test .taken)
+    let loop = c .before .before .before .loop in let next-length = c .before .next-length in let loop-test = c .before .before .loop-test in
+    let loop = loop in let next-length = next-length in let loop-test = loop-test in
+    let more = grows _ _ _ (loop .inv) _ (next-length .ensures) (c .if1 .left) in omega (arith, more, loop-test .taken)
 
 loop-again : tie.Need-loop-again Inv-loop μ-loop
 loop-again c =
-    let loop = c .before .before .before .loop in
-    let next-length = c .before .next-length in
-    let loop = loop in
-    let next-length = next-length in
+    let loop = c .before .before .before .loop in let next-length = c .before .next-length in let loop = loop in let next-length = next-length in
     goes-on _ _ _ (loop .inv) _ (next-length .ensures)
 
 pub least-layout-spec : {M : Type 1} → statement M
 least-layout-spec =
     tie.close
     (tie.spec
-    Inv-loop
-    μ-loop
-    (λ c. starts _ _)
-    (λ c κs. omega arith)
-    returns
-    loop-less
-    loop-again
+    Inv-loop μ-loop (λ c. starts _ _) (λ c κs. omega arith) returns loop-less loop-again
     (λ c. too-long _ _ _ (c .before .loop .inv) (c .loop-test .left)))

@@ -15,24 +15,12 @@ abbrev μ-loop : tie.MeasureT-loop
 
 loop-again : tie.Need-loop-again Inv-loop μ-loop
 loop-again c =
-    let loop = c .before .before .before .loop in
-    let loop-test = c .before .before .loop-test in
-    let loop = loop in
-    let loop-test = loop-test in
+    let loop = c .before .before .before .loop in let loop-test = c .before .before .loop-test in let loop = loop in let loop-test = loop-test in
     goes-on _ _ _ _ _ (loop .inv) (loop-test .taken) (c .word-size .ensures)
 
 pub words-size-spec : {M : Type 1} → statement M
 words-size-spec =
     tie.close
     (tie.spec
-    Inv-loop
-    μ-loop
-    (λ c. starts _ _)
-    (λ c. search needs)
-    (λ c. search needs)
-    (λ c κs. search needs)
-    (λ c. omega arith)
-    (λ c. search needs)
-    (λ c. search needs)
-    loop-again
-    (λ c. ends _ _ _ _ (c .before .loop .inv) (c .loop-test .left)))
+    Inv-loop μ-loop (λ c. starts _ _) (λ c. search needs) (λ c. search needs) (λ c κs. search needs) (λ c. omega arith) (λ c. search needs)
+    (λ c. search needs) loop-again (λ c. ends _ _ _ _ (c .before .loop .inv) (c .loop-test .left)))

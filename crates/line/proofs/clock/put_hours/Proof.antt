@@ -12,4 +12,5 @@ returns-2 c = put-as (many-hours _ (c .before .before .before .before .if1 .left
 pub put-hours-spec : {M : Type 1} → statement M
 put-hours-spec =
     tie.close
-    (tie.spec (λ c κs. search needs) (λ c. search needs) returns (λ c κs. search needs) (λ c. search needs) returns-2)
+    (tie.spec
+    (λ c κs. search needs) (λ c. search needs) returns (λ c κs. search needs) (λ c. search needs) returns-2)

@@ -34,38 +34,15 @@ unfolding weekdayText
 returns-7 c = put-as (ap weekdayText (sym (c .before .before .before .before .before .match .keys7))) (c .before .before .put-all7 .ensures)
 
 returns-8 : tie.Need-returns-8
-returns-8 c = let rest = c .match .rest in put-as (sym (no-day _ (none-of-three _ (none-of-four _ (rest .0 .0 .0 .0 .0 .0 .1) (rest .0 .0 .0 .0 .0 .1) (rest .0 .0 .0 .0 .1) (rest .0 .0 .0 .1)) (rest .0 .0 .1) (rest .0 .1) (rest .1)))) (put-none _ _)
+returns-8 c = let rest = c .match .rest in
+    put-as (sym (no-day _ (none-of-three _ (none-of-four _ (rest .0 .0 .0 .0 .0 .0 .1) (rest .0 .0 .0 .0 .0 .1) (rest .0 .0 .0 .0 .1) (rest .0 .0 .0 .1)) (rest .0 .0 .1) (rest .0 .1)
+    (rest .1)))) (put-none _ _)
 
 pub put-weekday-spec : {M : Type 1} → statement M
 put-weekday-spec =
     tie.close
     (tie.spec
-    (λ c. search needs)
-    (λ c κs. search needs)
-    (λ c. search needs)
-    (λ c κs. search needs)
-    (λ c. search needs)
-    (λ c κs. search needs)
-    (λ c. search needs)
-    (λ c κs. search needs)
-    (λ c. search needs)
-    (λ c κs. search needs)
-    (λ c. search needs)
-    (λ c κs. search needs)
-    (λ c. search needs)
-    (λ c κs. search needs)
-    (λ c. search needs)
-    returns
-    (λ c. search needs)
-    returns-2
-    (λ c. search needs)
-    returns-3
-    (λ c. search needs)
-    returns-4
-    (λ c. search needs)
-    returns-5
-    (λ c. search needs)
-    returns-6
-    (λ c. search needs)
-    returns-7
-    returns-8)
+    (λ c. search needs) (λ c κs. search needs) (λ c. search needs) (λ c κs. search needs) (λ c. search needs) (λ c κs. search needs)
+    (λ c. search needs) (λ c κs. search needs) (λ c. search needs) (λ c κs. search needs) (λ c. search needs) (λ c κs. search needs)
+    (λ c. search needs) (λ c κs. search needs) (λ c. search needs) returns (λ c. search needs) returns-2 (λ c. search needs) returns-3
+    (λ c. search needs) returns-4 (λ c. search needs) returns-5 (λ c. search needs) returns-6 (λ c. search needs) returns-7 returns-8)

@@ -6,6 +6,4 @@ pub shown-spec : {M : Type 1} → statement M
 shown-spec =
     tie.close
     (tie.spec
-    (λ c. letter _ (c .before .if1 .taken) (c .if2 .taken))
-    (λ c. too-high _ (c .before .if1 .taken) (c .if2 .left))
-    (λ c. too-low _ (c .if1 .left)))
+    (λ c. letter _ (c .before .if1 .taken) (c .if2 .taken)) (λ c. too-high _ (c .before .if1 .taken) (c .if2 .left)) (λ c. too-low _ (c .if1 .left)))

@@ -15,27 +15,17 @@ abbrev μ-loop : tie.MeasureT-loop
 loop-again : tie.Need-loop-again Inv-loop μ-loop
 loop-again c =
     let args = c .before .before .before .before .before .before .before .before .before .args in
-    let loop = c .before .before .before .before .before .before .loop in
-    let put = c .before .before .put in
+    let loop = c .before .before .before .before .before .before .loop in let put = c .before .before .put in
     (omega arith, put-next (args .bytes .now) (loop .i) (omega arith) (loop .inv .1) (put .ensures))
 
 returns : tie.Need-returns Inv-loop μ-loop
 returns c =
-    let loop = c .before .loop in
-    let args = c .before .before .before .before .args in
+    let loop = c .before .loop in let args = c .before .before .before .before .args in
     put-as (take-all (loop .i) (args .bytes .now) (omega arith)) (loop .inv .1)
 
 pub put-all-spec : {M : Type 1} → statement M
 put-all-spec =
     tie.close
     (tie.spec
-    Inv-loop
-    μ-loop
-    (λ c. (omega arith, put-none _ _))
-    (λ c. omega arith)
-    (λ c κs. tt)
-    (λ c. omega arith)
-    (λ c. omega arith)
-    loop-again
-    (λ c. put-length (c .before .loop .inv .1))
-    returns)
+    Inv-loop μ-loop (λ c. (omega arith, put-none _ _)) (λ c. omega arith) (λ c κs. tt) (λ c. omega arith) (λ c. omega arith) loop-again
+    (λ c. put-length (c .before .loop .inv .1)) returns)

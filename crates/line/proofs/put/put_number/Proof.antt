@@ -5,8 +5,7 @@ use Rattle.line.proofs.put.put_number.Tie as tie
 
 returns : tie.Need-returns
 returns c =
-    let put = c .before .before .before .before .before .before .put in
-    let put-decimal = c .before .before .put-decimal in
+    let put = c .before .before .before .before .before .before .put in let put-decimal = c .before .before .put-decimal in
     put-then _ _ (put .ensures) (put-decimal .ensures)
 
 pub put-number-spec : {M : Type 1} → statement M

@@ -7,7 +7,4 @@ pub east-of-spec : {M : Type 1} → statement M
 east-of-spec =
     tie.close
     (tie.spec
-    (λ c. search needs)
-    (λ c. difference-fits _ (c .pre))
-    (λ c. east-fits _ (c .pre))
-    (λ c. east-is _ (c .pre)))
+    (λ c. search needs) (λ c. difference-fits _ (c .pre)) (λ c. east-fits _ (c .pre)) (λ c. east-is _ (c .pre)))

@@ -13,27 +13,21 @@ abbrev μ-loop : tie.MeasureT-loop
 μ-loop file a b count i₀ i = count - i
 
 returns : tie.Need-returns Inv-loop μ-loop
-returns c = same-differs _ _ _ (c .before .before .before .before .loop .i) _ (omega arith) (c .before .before .octet .ensures .same) (c .before .octet2 .ensures .same) (c .before .before .before .before .loop .inv .1) (c .if1 .taken)
+returns c = same-differs _ _ _ (c .before .before .before .before .loop .i) _ (omega arith) (c .before .before .octet .ensures .same) (c .before .octet2 .ensures .same)
+    (c .before .before .before .before .loop .inv .1) (c .if1 .taken)
 
 loop-again : tie.Need-loop-again Inv-loop μ-loop
-loop-again c = (omega arith, same-more _ _ _ (c .before .before .before .before .loop .i) (c .before .before .octet .ensures .same) (c .before .octet2 .ensures .same) (c .before .before .before .before .loop .inv .1) (c .if1 .left))
-
-returns-2 : tie.Need-returns-2 Inv-loop μ-loop
-returns-2 c = same-all _ _ _ (c .before .loop .i) _ (omega arith) (omega arith) (c .before .loop .inv .1)
+loop-again c = (
+  omega arith,
+  same-more _ _ _ (c .before .before .before .before .loop .i) (c .before .before .octet .ensures .same) (c .before .octet2 .ensures .same)
+      (c .before .before .before .before .loop .inv .1) (c .if1 .left),
+)
 
 pub same-octets-spec : {M : Type 1} → statement M
 same-octets-spec =
     tie.close
     (tie.spec
-    Inv-loop
-    μ-loop
-    (λ c. (omega arith, same-none _ _ _))
-    (λ c. omega (arith, c .before .before .before .pre))
-    (λ c κs. omega (arith, c .before .before .before .pre))
-    (λ c. omega (arith, c .before .before .before .before .pre))
-    (λ c κs. omega (arith, c .before .before .before .before .pre))
-    (λ c. omega arith)
-    returns
-    (λ c. omega arith)
-    loop-again
-    returns-2)
+    Inv-loop μ-loop (λ c. (omega arith, same-none _ _ _)) (λ c. omega (arith, c .before .before .before .pre))
+    (λ c κs. omega (arith, c .before .before .before .pre)) (λ c. omega (arith, c .before .before .before .before .pre))
+    (λ c κs. omega (arith, c .before .before .before .before .pre)) (λ c. omega arith) returns (λ c. omega arith) loop-again
+    (λ c. same-all _ _ _ (c .before .loop .i) _ (omega arith) (omega arith) (c .before .loop .inv .1)))

@@ -8,7 +8,9 @@ use Rattle.localtime.proofs.local.by_transitions.Tie as tie
 
 returns : tie.Need-returns
 unfolding HeldSaid
-returns c = (table-found (c .before .before .before .by-table .ensures) (c .before .answer .given .1), found-held (c .before .before .before .before .before .pre) _ (sym (c .before .before .before .by-table .ensures) ∙ c .before .answer .given .1))
+returns c =
+    let by-table = c .before .before .before .by-table in
+    (table-found (by-table .ensures) (c .before .answer .given .1), found-held (c .before .before .before .before .before .pre) _ (sym (by-table .ensures) ∙ c .before .answer .given .1))
 
 returns-2 : tie.Need-returns-2
 unfolding HeldSaid
@@ -18,8 +20,4 @@ pub by-transitions-spec : {M : Type 1} → statement M
 by-transitions-spec =
     tie.close
     (tie.spec
-    (λ c κs. search needs)
-    (λ c. search needs)
-    (λ c. search needs)
-    returns
-    returns-2)
+    (λ c κs. search needs) (λ c. search needs) (λ c. search needs) returns returns-2)

@@ -8,6 +8,4 @@ pub is-ruled-spec : {M : Type 1} → statement M
 is-ruled-spec =
     tie.close
     (tie.spec
-    (λ c. no-transitions _ _ _ (c .if1 .taken))
-    (λ c κs. search needs)
-    (λ c. c .is-after-last .ensures ∙ after-last _ _ _ (c .before .if1 .left)))
+    (λ c. no-transitions _ _ _ (c .if1 .taken)) (λ c κs. search needs) (λ c. c .is-after-last .ensures ∙ after-last _ _ _ (c .before .if1 .left)))

@@ -19,15 +19,5 @@ pub reply-said-spec : {M : Type 1} → statement M
 reply-said-spec =
     tie.close
     (tie.spec
-    (λ c. search needs)
-    reply-found-requires
-    (λ c. search needs)
-    (λ c κs. search needs)
-    (λ c. search needs)
-    (λ c κs. search needs)
-    (λ c. search needs)
-    returns
-    (λ c. search needs)
-    returns-2
-    (λ c. search needs)
-    returns-3)
+    (λ c. search needs) reply-found-requires (λ c. search needs) (λ c κs. search needs) (λ c. search needs) (λ c κs. search needs) (λ c. search needs)
+    returns (λ c. search needs) returns-2 (λ c. search needs) returns-3)

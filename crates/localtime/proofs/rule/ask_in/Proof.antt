@@ -11,6 +11,4 @@ pub ask-in-spec : {M : Type 1} → statement M
 ask-in-spec =
     tie.close
     (tie.spec
-    (λ c κs. search needs)
-    (λ c κs. (is-ruled _ _ (c .before .before .pre .1), c .correction-at .ensures .fits))
-    returns)
+    (λ c κs. search needs) (λ c κs. (is-ruled _ _ (c .before .before .pre .1), c .correction-at .ensures .fits)) returns)

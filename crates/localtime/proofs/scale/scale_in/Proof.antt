@@ -3,9 +3,6 @@ use borrow.Author.Needs.{needs}
 use Rattle.localtime.proofs.scale.{Ways.{no-records, has-records}, scale_in.Statement.{statement}}
 use Rattle.localtime.proofs.scale.scale_in.Tie as tie
 
-returns : tie.Need-returns
-returns c = no-records _ _ _ (c .if1 .taken)
-
 returns-2 : tie.Need-returns-2
 returns-2 c = has-records _ _ _ (c .before .before .if1 .left) (c .before .correction-at .ensures .same) (c .raised .ensures .same)
 
@@ -13,7 +10,4 @@ pub scale-in-spec : {M : Type 1} → statement M
 scale-in-spec =
     tie.close
     (tie.spec
-    returns
-    (λ c κs. search needs)
-    (λ c κs. c .correction-at .ensures .fits)
-    returns-2)
+    (λ c. no-records _ _ _ (c .if1 .taken)) (λ c κs. search needs) (λ c κs. c .correction-at .ensures .fits) returns-2)

@@ -5,9 +5,6 @@ use Rattle.office.proofs.Drafts.{held-made}
 use Rattle.office.specs.Draft.{heldOf}
 use Rattle.office.proofs.calls.state_of.Statement.{statement}
 use Rattle.office.proofs.calls.state_of.Tie as tie
-use Rattle.office.proofs.calls.state_of.Reads as reads
-use Rattle.office.proofs.calls.state_of.Lts as lts
-use Rattle.numbers.proofs.point.signed.Reads as signed-reads
 
 returns : tie.Need-returns
 unfolding heldOf
@@ -17,23 +14,6 @@ pub state-of-spec : {M : Type 1} → statement M
 state-of-spec =
     tie.close
     (tie.spec
-    (λ c. search needs)
-    (λ c. search needs)
-    (λ c. search needs)
-    (λ c. search needs)
-    (λ c. search needs)
-    (λ c. search needs)
-    (λ c. search needs)
-    (λ c. search needs)
-    (λ c. search needs)
-    (λ c. search needs)
-    (λ c. search needs)
-    (λ c. search needs)
-    (λ c. search needs)
-    (λ c. search needs)
-    (λ c. search needs)
-    (λ c. search needs)
-    (λ c. search needs)
-    (λ c. search needs)
-    (λ c κs. search needs)
-    returns)
+    (λ c. search needs) (λ c. search needs) (λ c. search needs) (λ c. search needs) (λ c. search needs) (λ c. search needs) (λ c. search needs)
+    (λ c. search needs) (λ c. search needs) (λ c. search needs) (λ c. search needs) (λ c. search needs) (λ c. search needs) (λ c. search needs)
+    (λ c. search needs) (λ c. search needs) (λ c. search needs) (λ c. search needs) (λ c κs. search needs) returns)

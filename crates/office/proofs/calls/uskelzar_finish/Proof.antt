@@ -8,8 +8,10 @@ use Rattle.office.proofs.calls.uskelzar_finish.Tie as tie
 returns : tie.Need-returns
 returns c =
     let finish = c .before .before .before .before .before .before .before .before .before .before .before .before .before .before .before .before .before .before .before .finish in
-    let state-of = c .before .before .before .before .before .before .before .before .before .before .before .before .before .before .before .before .before .before .before .before .before .before .before .before .before .before .before .before .state-of in (
-      ends (finish .result) (state-of .ensures) (record { answers = finish .ensures .0; broken = finish .ensures .1; emptied = finish .ensures .2 }) (ap (λ (s : Spoken). s .said) (c .speak .ensures) ∙ c .before .before .say-built .ensures),
+    let state-of = c .before .before .before .before .before .before .before .before .before .before .before .before .before .before .before .before .before .before .before .before .before
+    .before .before .before .before .before .before .before .state-of in (
+      ends (finish .result) (state-of .ensures) (record { answers = finish .ensures .0; broken = finish .ensures .1; emptied = finish .ensures .2 })
+          (ap (λ (s : Spoken). s .said) (c .speak .ensures) ∙ c .before .before .say-built .ensures),
       finish .ensures .3,
     )
 
@@ -17,16 +19,5 @@ pub uskelzar-finish-spec : {M : Type 1} → statement M
 uskelzar-finish-spec =
     tie.close
     (tie.spec
-    (λ c κs. search needs)
-    (λ c κs. search needs)
-    (λ c κs. search needs)
-    (λ c κs. search needs)
-    (λ c. search needs)
-    (λ c. search needs)
-    (λ c. search needs)
-    (λ c. search needs)
-    (λ c. search needs)
-    (λ c. search needs)
-    (λ c. search needs)
-    (λ c. search needs)
-    returns)
+    (λ c κs. search needs) (λ c κs. search needs) (λ c κs. search needs) (λ c κs. search needs) (λ c. search needs) (λ c. search needs)
+    (λ c. search needs) (λ c. search needs) (λ c. search needs) (λ c. search needs) (λ c. search needs) (λ c. search needs) returns)

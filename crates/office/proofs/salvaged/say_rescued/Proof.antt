@@ -11,4 +11,6 @@ returns-2 : tie.Need-returns-2
 returns-2 c = said-refused countsValues (c .say-refused .ensures) (ap toldRescued (c .before .before .rescued2 .given .1))
 
 pub say-rescued-spec : {M : Type 1} → statement M
-say-rescued-spec = tie.close (tie.spec (λ c. search needs) (λ c. search needs) (λ c κs. search needs) (λ c. said-given countsValues (ap toldRescued (c .before .rescued .given .1))) returns-2)
+say-rescued-spec = tie.close (tie.spec
+    (λ c. search needs) (λ c. search needs) (λ c κs. search needs) (λ c. said-given countsValues (ap toldRescued (c .before .rescued .given .1)))
+    returns-2)

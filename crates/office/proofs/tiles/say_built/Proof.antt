@@ -14,8 +14,4 @@ pub say-built-spec : {M : Type 1} → statement M
 say-built-spec =
     tie.close
     (tie.spec
-    (λ c. search needs)
-    (λ c. search needs)
-    (λ c κs. tt)
-    (λ c. said-given lengthValue (ap toldBuilt (c .before .built .given .1)))
-    returns-2)
+    (λ c. search needs) (λ c. search needs) (λ c κs. tt) (λ c. said-given lengthValue (ap toldBuilt (c .before .built .given .1))) returns-2)

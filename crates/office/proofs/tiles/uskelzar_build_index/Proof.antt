@@ -13,8 +13,4 @@ pub uskelzar-build-index-spec : {M : Type 1} → statement M
 uskelzar-build-index-spec =
     tie.close
     (tie.spec
-    (λ c κs. tt)
-    (λ c κs. tt)
-    (λ c κs. tt)
-    (λ c. search needs)
-    returns)
+    (λ c κs. tt) (λ c κs. tt) (λ c κs. tt) (λ c. search needs) returns)

@@ -7,11 +7,10 @@ use Rattle.office.proofs.yards.say_built.Statement.{statement}
 use Rattle.office.specs.Written.{lengthValue}
 use Rattle.office.proofs.yards.say_built.Tie as tie
 
-returns : tie.Need-returns
-returns c = said-given lengthValue (ap (λ (b : Built). toldBuilt b) (c .before .built .given .1))
-
 returns-2 : tie.Need-returns-2
 returns-2 c = said-refused lengthValue (c .say-refused .ensures) (ap (λ (b : Built). toldBuilt b) (c .before .before .built2 .given .1))
 
 pub say-built-spec : {M : Type 1} → statement M
-say-built-spec = tie.close (tie.spec (λ c. search needs) (λ c. search needs) (λ c κs. search needs) returns returns-2)
+say-built-spec = tie.close (tie.spec
+    (λ c. search needs) (λ c. search needs) (λ c κs. search needs)
+    (λ c. said-given lengthValue (ap (λ (b : Built). toldBuilt b) (c .before .built .given .1))) returns-2)

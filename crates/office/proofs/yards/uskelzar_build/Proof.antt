@@ -10,24 +10,14 @@ use Rattle.office.proofs.yards.uskelzar_build.Tie as tie
 returns : tie.Need-returns
 unfolding Builds roomOf
 returns c =
-    let built = c .before .before .before .before .before .before .before .before .before .before .before .before .before .before .before .before .before .before .before .before .before .before .build in
+    let built = c .before .before .before .before .before .before .before .before .before .before .before .before .before .before .before .before .before .before .before .before .before
+    .before .build in
     (beside _ (c .speak .ensures) (c .before .before .say-built .ensures) ∙ ap builtSpoken (built .ensures .0), built .ensures .1)
 
 pub uskelzar-build-spec : {M : Type 1} → statement M
 uskelzar-build-spec =
     tie.close
     (tie.spec
-    (λ c κs. search needs)
-    (λ c κs. search needs)
-    (λ c κs. search needs)
-    (λ c. search needs)
-    (λ c. search needs)
-    (λ c. search needs)
-    (λ c. search needs)
-    (λ c. search needs)
-    (λ c. search needs)
-    (λ c. search needs)
-    (λ c. search needs)
-    (λ c. search needs)
-    (λ c. search needs)
+    (λ c κs. search needs) (λ c κs. search needs) (λ c κs. search needs) (λ c. search needs) (λ c. search needs) (λ c. search needs)
+    (λ c. search needs) (λ c. search needs) (λ c. search needs) (λ c. search needs) (λ c. search needs) (λ c. search needs) (λ c. search needs)
     returns)

@@ -15,14 +15,12 @@ time-in-requires c κs = rw (c .transitions-of .ensures) (transitions-inside (c 
 
 time-in-requires-2 : tie.Need-time-in-requires-2
 time-in-requires-2 c κs =
-    let transitions-of = c .before .transitions-of in
-    let pre = c .before .before .before .before .pre in
+    let transitions-of = c .before .transitions-of in let pre = c .before .before .before .before .pre in
     rw (transitions-of .ensures) (transitions-inside (pre .0), pre .1)
 
 mul-demand : tie.Need-mul-demand
 mul-demand c =
-    let args = c .before .before .before .before .before .before .args in
-    let pre = c .before .before .before .before .before .before .pre in
+    let args = c .before .before .before .before .before .before .args in let pre = c .before .before .before .before .before .before .pre in
     omega (arith, row (args .i) (args .block .timecnt) (args .block .width) (pre .1), pre .0 .end)
 
 add-demand : tie.Need-add-demand
@@ -35,8 +33,7 @@ returns-2 : tie.Need-returns-2
 unfolding checkTime
 returns-2 c =
     let if1 = c .before .before .before .before .before .before .if1 in
-    let transitions-of = c .before .before .before .before .before .transitions-of in
-    let time-in = c .before .before .before .before .time-in in
+    let transitions-of = c .before .before .before .before .before .transitions-of in let time-in = c .before .before .before .before .time-in in
     let time-in2 = c .before .before .before .time-in2 in
     rw (ne-eqb _ _ (if1 .left), ← transitions-of .ensures, ← time-in .ensures, ← time-in2 .ensures) (c .demand .ensures)
 
@@ -44,12 +41,4 @@ pub check-time-spec : {M : Type 1} → statement M
 check-time-spec =
     tie.close
     (tie.spec
-    returns
-    (λ c κs. search needs)
-    (λ c. search needs)
-    time-in-requires
-    time-in-requires-2
-    mul-demand
-    add-demand
-    (λ c κs. search needs)
-    returns-2)
+    returns (λ c κs. search needs) (λ c. search needs) time-in-requires time-in-requires-2 mul-demand add-demand (λ c κs. search needs) returns-2)

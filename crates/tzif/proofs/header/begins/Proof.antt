@@ -12,10 +12,7 @@ returns c = rw (← c .before .holds .ensures, not-true (c .before .holds .resul
 returns-2 : tie.Need-returns-2
 unfolding begins
 returns-2 c =
-    let holds = c .before .before .holds in
-    let if1 = c .before .if1 in
-    let holds = holds in
-    let if1 = if1 in
+    let holds = c .before .before .holds in let if1 = c .before .if1 in let holds = holds in let if1 = if1 in
     rw (← holds .ensures, not-false (holds .result) (if1 .left)) (cc)
 
 pub begins-spec : {M : Type 1} → statement M

@@ -14,19 +14,17 @@ time-in-requires : tie.Need-time-in-requires
 time-in-requires c κs = rw (c .occurrences-of .ensures) (occurrences-inside (c .before .before .pre .0), omega (arith, c .before .before .pre .1))
 
 time-in-requires-2 : tie.Need-time-in-requires-2
-time-in-requires-2 c κs = rw (c .before .occurrences-of .ensures) (occurrences-inside (c .before .before .before .pre .0), c .before .before .before .pre .1 .1)
+time-in-requires-2 c κs = let pre = c .before .before .before .pre in rw (c .before .occurrences-of .ensures) (occurrences-inside (pre .0), pre .1 .1)
 
 leap-place-requires : tie.Need-leap-place-requires
-leap-place-requires c κs = (omega (arith, row (c .before .before .before .before .args .i) (c .before .before .before .before .args .block .leapcnt) (c .before .before .before .before .args .block .width + 4) (c .before .before .before .before .pre .1 .1), c .before .before .before .before .pre .0 .end), omega (arith, row (c .before .before .before .before .args .i) (c .before .before .before .before .args .block .leapcnt) (c .before .before .before .before .args .block .width + 4) (c .before .before .before .before .pre .1 .1), c .before .before .before .before .pre .0 .end))
+leap-place-requires c κs =
+    let args = c .before .before .before .before .args in (
+      omega (arith, row (args .i) (args .block .leapcnt) (args .block .width + 4) (c .before .before .before .before .pre .1 .1), c .before .before .before .before .pre .0 .end),
+      omega (arith, row (args .i) (args .block .leapcnt) (args .block .width + 4) (c .before .before .before .before .pre .1 .1), c .before .before .before .before .pre .0 .end),
+    )
 
 pub check-expiry-spec : {M : Type 1} → statement M
 check-expiry-spec =
     tie.close
     (tie.spec
-    occurrences-of-requires
-    (λ c. search needs)
-    time-in-requires
-    time-in-requires-2
-    leap-place-requires
-    (λ c κs. search needs)
-    (λ c. cc))
+    occurrences-of-requires (λ c. search needs) time-in-requires time-in-requires-2 leap-place-requires (λ c κs. search needs) (λ c. cc))

@@ -27,14 +27,5 @@ pub check-leaps-spec : {M : Type 1} → statement M
 check-leaps-spec =
     tie.close
     (tie.spec
-    Inv-loop
-    μ-loop
-    (λ c. starts _ _)
-    (λ c κs. search needs)
-    (λ c. search needs)
-    (λ c. search needs)
-    returns
-    (λ c. omega (arith, c .before .before .before .if1 .taken))
-    (λ c. omega (arith, c .before .before .before .if1 .taken))
-    loop-again
-    returns-2)
+    Inv-loop μ-loop (λ c. starts _ _) (λ c κs. search needs) (λ c. search needs) (λ c. search needs) returns
+    (λ c. omega (arith, c .before .before .before .if1 .taken)) (λ c. omega (arith, c .before .before .before .if1 .taken)) loop-again returns-2)

@@ -7,8 +7,7 @@ use Rattle.tzif.proofs.local.clear.Tie as tie
 
 returns : tie.Need-returns
 returns c =
-    let lend = c .before .before .lend in
-    let args = c .before .before .before .before .before .before .args in
+    let lend = c .before .before .lend in let args = c .before .before .before .before .before .before .args in
     lend .ensures ∙ all-zeros (length (args .text .now))
 
 pub clear-spec : {M : Type 1} → statement M

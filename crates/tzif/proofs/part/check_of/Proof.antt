@@ -6,28 +6,25 @@ use Rattle.tzif.proofs.part.check_of.Tie as tie
 
 check-time-requires : tie.Need-check-time-requires
 unfolding countOf
-check-time-requires c κs = (c .before .before .before .pre .0, rw (c .enum-told .given .1) at (c .before .before .before .pre .1))
+check-time-requires c κs = let pre = c .before .before .before .pre in (pre .0, rw (c .enum-told .given .1) at (pre .1))
 
 check-index-requires : tie.Need-check-index-requires
 unfolding countOf
-check-index-requires c κs = (c .before .before .before .pre .0, rw (c .enum-told2 .given .1) at (c .before .before .before .pre .1))
+check-index-requires c κs = let pre = c .before .before .before .pre in (pre .0, rw (c .enum-told2 .given .1) at (pre .1))
 
 check-type-requires : tie.Need-check-type-requires
 unfolding countOf
 check-type-requires c κs =
-    let pre = c .before .before .before .before .pre in
-    let part = c .before .part in
-    let pre = pre in
-    let part = part in
+    let pre = c .before .before .before .before .pre in let part = c .before .part in let pre = pre in let part = part in
     (pre .0, rw (part .given .1) at (pre .1))
 
 check-standard-requires : tie.Need-check-standard-requires
 unfolding countOf
-check-standard-requires c κs = (c .before .before .before .pre .0, rw (c .enum-told3 .given .1) at (c .before .before .before .pre .1))
+check-standard-requires c κs = let pre = c .before .before .before .pre in (pre .0, rw (c .enum-told3 .given .1) at (pre .1))
 
 check-ut-requires : tie.Need-check-ut-requires
 unfolding countOf
-check-ut-requires c κs = (c .before .before .before .pre .0, rw (c .enum-told4 .given .1) at (c .before .before .before .pre .1))
+check-ut-requires c κs = let pre = c .before .before .before .pre in (pre .0, rw (c .enum-told4 .given .1) at (pre .1))
 
 returns : tie.Need-returns
 unfolding checkOf
@@ -53,18 +50,5 @@ pub check-of-spec : {M : Type 1} → statement M
 check-of-spec =
     tie.close
     (tie.spec
-    (λ c. search needs)
-    check-time-requires
-    (λ c. search needs)
-    check-index-requires
-    (λ c. search needs)
-    check-type-requires
-    (λ c. search needs)
-    check-standard-requires
-    (λ c. search needs)
-    check-ut-requires
-    returns
-    returns-2
-    returns-3
-    returns-4
-    returns-5)
+    (λ c. search needs) check-time-requires (λ c. search needs) check-index-requires (λ c. search needs) check-type-requires (λ c. search needs)
+    check-standard-requires (λ c. search needs) check-ut-requires returns returns-2 returns-3 returns-4 returns-5)

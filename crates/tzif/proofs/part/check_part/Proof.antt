@@ -15,31 +15,20 @@ abbrev μ-loop : tie.MeasureT-loop
 
 check-of-requires : tie.Need-check-of-requires Inv-loop μ-loop
 check-of-requires c κs =
-    let pre = c .before .before .before .before .pre in
-    let loop = c .before .loop in
-    let pre = pre in
-    let loop = loop in
+    let pre = c .before .before .before .before .pre in let loop = c .before .loop in let pre = pre in let loop = loop in
     (pre, rw (loop .inv .0) at (c .loop-test .taken))
 
 returns : tie.Need-returns Inv-loop μ-loop
 unfolding checkPart
 returns c =
-    let loop = c .before .before .before .before .loop in
-    let loop-test = c .before .before .before .loop-test in
-    let check-of = c .before .before .check-of in
-    let loop = loop in
-    let loop-test = loop-test in
-    let check-of = check-of in
+    let loop = c .before .before .before .before .loop in let loop-test = c .before .before .before .loop-test in
+    let check-of = c .before .before .check-of in let loop = loop in let loop-test = loop-test in let check-of = check-of in
     rw (← loop .inv .0) (fault-found (loop .inv .1) (loop-test .taken) (check-of .ensures) (c .enum-told2 .given .1))
 
 loop-again : tie.Need-loop-again Inv-loop μ-loop
 loop-again c =
-    let loop = c .before .before .before .before .loop in
-    let loop-test = c .before .before .before .loop-test in
-    let check-of = c .before .before .check-of in
-    let loop = loop in
-    let loop-test = loop-test in
-    let check-of = check-of in
+    let loop = c .before .before .before .before .loop in let loop-test = c .before .before .before .loop-test in
+    let check-of = c .before .before .check-of in let loop = loop in let loop-test = loop-test in let check-of = check-of in
     (loop .inv .0, next-index (loop .inv .1) (loop-test .taken) (check-of .ensures) (c .enum-told .given .1))
 
 returns-2 : tie.Need-returns-2 Inv-loop μ-loop
@@ -50,15 +39,6 @@ pub check-part-spec : {M : Type 1} → statement M
 check-part-spec =
     tie.close
     (tie.spec
-    Inv-loop
-    μ-loop
-    (λ c κs. search needs)
-    (λ c. (c .count-of .ensures, starts _ _))
-    check-of-requires
-    (λ c. search needs)
-    (λ c. search needs)
-    returns
-    (λ c. omega (arith, c .before .before .before .loop-test .taken))
-    (λ c. omega (arith, c .before .before .before .loop-test .taken))
-    loop-again
+    Inv-loop μ-loop (λ c κs. search needs) (λ c. (c .count-of .ensures, starts _ _)) check-of-requires (λ c. search needs) (λ c. search needs) returns
+    (λ c. omega (arith, c .before .before .before .loop-test .taken)) (λ c. omega (arith, c .before .before .before .loop-test .taken)) loop-again
     returns-2)

@@ -13,34 +13,20 @@ abbrev μ-loop : tie.MeasureT-loop
 μ-loop name text₀ i₀ text i = length text₀ - i
 
 add-i : tie.Need-add-i Inv-loop μ-loop
-add-i c =
-    let loop = c .before .before .loop in
-    let loop-test = c .before .loop-test in
-    omega (arith, lending-length (loop .inv), loop-test .taken)
+add-i c = let loop = c .before .before .loop in let loop-test = c .before .loop-test in omega (arith, lending-length (loop .inv), loop-test .taken)
 
 loop-less : tie.Need-loop-less Inv-loop μ-loop
 loop-less c =
-    let loop = c .before .before .loop in
-    let loop-test = c .before .loop-test in
-    omega (arith, lending-length (loop .inv), loop-test .taken)
+    let loop = c .before .before .loop in let loop-test = c .before .loop-test in omega (arith, lending-length (loop .inv), loop-test .taken)
 
 loop-again : tie.Need-loop-again Inv-loop μ-loop
 loop-again c =
-    let loop = c .before .before .loop in
-    let loop-test = c .before .loop-test in
+    let loop = c .before .before .loop in let loop-test = c .before .loop-test in
     rw (c .octet-or-zero .ensures) (next-octet (loop .inv) (loop-test .taken))
 
 pub lend-spec : {M : Type 1} → statement M
 lend-spec =
     tie.close
     (tie.spec
-    Inv-loop
-    μ-loop
-    (λ c. nothing-lent _ _ (c .before .before .pre))
-    (λ c κs. search needs)
-    (λ c. omega arith)
-    add-i
-    loop-less
-    loop-again
-    (λ c. lending-length (c .before .loop .inv))
-    (λ c. all-lent (c .before .loop .inv) (c .loop-test .left)))
+    Inv-loop μ-loop (λ c. nothing-lent _ _ (c .before .before .pre)) (λ c κs. search needs) (λ c. omega arith) add-i loop-less loop-again
+    (λ c. lending-length (c .before .loop .inv)) (λ c. all-lent (c .before .loop .inv) (c .loop-test .left)))

@@ -13,20 +13,13 @@ abbrev μ-loop : tie.MeasureT-loop
 
 loop-again : tie.Need-loop-again Inv-loop μ-loop
 loop-again c =
-    let loop = c .before .before .before .loop in
-    let time-in = c .before .time-in in
-    let loop = loop in
-    let time-in = time-in in
+    let loop = c .before .before .before .loop in let time-in = c .before .time-in in let loop = loop in let time-in = time-in in
     up (loop .inv) _ (omega arith) (rw (time-in .ensures) at (c .if1 .taken))
 
 loop-again-2 : tie.Need-loop-again-2 Inv-loop μ-loop
 loop-again-2 c =
-    let loop = c .before .before .before .loop in
-    let pre = c .before .before .before .before .before .pre in
-    let time-in = c .before .time-in in
-    let loop = loop in
-    let pre = pre in
-    let time-in = time-in in
+    let loop = c .before .before .before .loop in let pre = c .before .before .before .before .before .pre in let time-in = c .before .time-in in
+    let loop = loop in let pre = pre in let time-in = time-in in
     down (loop .inv) (rises (pre .1)) _ (omega arith) (omega arith) (rw (time-in .ensures) at (c .if1 .left))
 
 returns : tie.Need-returns Inv-loop μ-loop
@@ -37,15 +30,5 @@ pub last-not-after-spec : {M : Type 1} → statement M
 last-not-after-spec =
     tie.close
     (tie.spec
-    Inv-loop
-    μ-loop
-    (λ c. widest _ _ _)
-    (λ c. omega arith)
-    (λ c. omega arith)
-    (λ c κs. (c .before .before .before .pre .0, omega arith))
-    (λ c. omega arith)
-    (λ c. omega arith)
-    loop-again
-    (λ c. omega arith)
-    loop-again-2
-    returns)
+    Inv-loop μ-loop (λ c. widest _ _ _) (λ c. omega arith) (λ c. omega arith) (λ c κs. (c .before .before .before .pre .0, omega arith))
+    (λ c. omega arith) (λ c. omega arith) loop-again (λ c. omega arith) loop-again-2 returns)

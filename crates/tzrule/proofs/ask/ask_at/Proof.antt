@@ -12,9 +12,5 @@ pub ask-at-spec : {M : Type 1} → statement M
 ask-at-spec =
     tie.close
     (tie.spec
-    (λ c. far-before _ _ _ (c .before .pre .1) (c .if1 .taken))
-    (λ c. far-after _ _ _ (c .before .before .pre .1) (c .if2 .taken))
-    (λ c. search needs)
-    (λ c. search needs)
-    (λ c κs. search needs)
-    returns-3)
+    (λ c. far-before _ _ _ (c .before .pre .1) (c .if1 .taken)) (λ c. far-after _ _ _ (c .before .before .pre .1) (c .if2 .taken)) (λ c. search needs)
+    (λ c. search needs) (λ c κs. search needs) returns-3)

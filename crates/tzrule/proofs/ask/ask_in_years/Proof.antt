@@ -11,7 +11,5 @@ pub ask-in-years-spec : {M : Type 1} → statement M
 ask-in-years-spec =
     tie.close
     (tie.spec
-    (λ c κs. search needs)
-    (λ c κs. (sym (c .before .in-years .ensures) ∙ c .if1 .taken, c .before .before .pre))
-    returns
+    (λ c κs. search needs) (λ c κs. (sym (c .before .in-years .ensures) ∙ c .if1 .taken, c .before .before .pre)) returns
     (λ c. ask-outside _ _ (sym (c .before .in-years .ensures) ∙ c .if1 .left)))

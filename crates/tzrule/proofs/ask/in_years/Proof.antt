@@ -6,5 +6,4 @@ pub in-years-spec : {M : Type 1} → statement M
 in-years-spec =
     tie.close
     (tie.spec
-    (λ c. too-early _ (c .if1 .taken))
-    (λ c. not-early _ (c .if1 .left)))
+    (λ c. too-early _ (c .if1 .taken)) (λ c. not-early _ (c .if1 .left)))

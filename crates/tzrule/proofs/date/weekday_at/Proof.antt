@@ -8,18 +8,21 @@ use Rattle.tzrule.proofs.date.weekday_at.Tie as tie
 returns : tie.Need-returns
 unfolding GoodDate IsWhen
 returns c =
-    let part = c .before .part in
-    let dotted-at = c .before .before .before .dotted-at in
-    let pre = c .before .before .before .before .before .pre in
-    (weekday-read _ _ _ _ (read-is (part .given .1) (dotted-at .ensures .0)), (record { month-from = pre .2; month-to = pre .3; week-from = pre .4; week-to = pre .5; weekday-to = (read-within (part .given .1) (dotted-at .ensures .1)) .0 }, (read-within (part .given .1) (dotted-at .ensures .1)) .1))
+    let part = c .before .part in let dotted-at = c .before .before .before .dotted-at in let pre = c .before .before .before .before .before .pre in (
+      weekday-read _ _ _ _ (read-is (part .given .1) (dotted-at .ensures .0)),
+      (
+        record { month-from = pre .2; month-to = pre .3; week-from = pre .4; week-to = pre .5; weekday-to = (read-within (part .given .1) (dotted-at .ensures .1)) .0 },
+        (read-within (part .given .1) (dotted-at .ensures .1)) .1,
+      ),
+    )
 
 returns-2 : tie.Need-returns-2
 unfolding GoodDate
 returns-2 c =
-    let part2 = c .before .part2 in
-    let dotted-at = c .before .before .before .dotted-at in
+    let part2 = c .before .part2 in let dotted-at = c .before .before .before .dotted-at in
     (weekday-fault _ _ _ _ (fault-is (part2 .given .1) (dotted-at .ensures .0)), fault-within (part2 .given .1) _ (dotted-at .ensures .1))
 
 pub weekday-at-spec : {M : Type 1} → statement M
 weekday-at-spec =
-    tie.close (tie.spec (λ c κs. search needs) (λ c. search needs) (λ c. search needs) returns returns-2)
+    tie.close (tie.spec
+    (λ c κs. search needs) (λ c. search needs) (λ c. search needs) returns returns-2)

@@ -15,7 +15,4 @@ pub hours-at-spec : {M : Type 1} → statement M
 hours-at-spec =
     tie.close
     (tie.spec
-    (λ c κs. search needs)
-    returns
-    (λ c κs. search needs)
-    returns-2)
+    (λ c κs. search needs) returns (λ c κs. search needs) returns-2)

@@ -17,8 +17,4 @@ pub summer-offset-at-spec : {M : Type 1} → statement M
 summer-offset-at-spec =
     tie.close
     (tie.spec
-    (λ c κs. search needs)
-    (λ c. search needs)
-    returns
-    (λ c κs. search needs)
-    returns-2)
+    (λ c κs. search needs) (λ c. search needs) returns (λ c κs. search needs) returns-2)

@@ -6,9 +6,6 @@ use Rattle.tzrule.proofs.{Times.{byte-inside}, string.{Ways.{time-writt
 use Rattle.tzrule.specs.Answer.{Within}
 use Rattle.tzrule.proofs.string.time_at.Tie as tie
 
-hours-at-requires : tie.Need-hours-at-requires
-hours-at-requires c κs = (c .before .before .before .pre .0, byte-inside _ _ (c .before .byte-at .ensures) (c .if1 .taken))
-
 returns : tie.Need-returns
 returns c = (c .hours-at .ensures .0 ∙ time-written _ _ (c .before .before .byte-at .ensures) _ (c .before .if1 .taken), c .hours-at .ensures .1)
 
@@ -20,8 +17,5 @@ pub time-at-spec : {M : Type 1} → statement M
 time-at-spec =
     tie.close
     (tie.spec
-    (λ c κs. search needs)
-    (λ c. search needs)
-    hours-at-requires
-    returns
-    returns-2)
+    (λ c κs. search needs) (λ c. search needs)
+    (λ c κs. (c .before .before .before .pre .0, byte-inside _ _ (c .before .byte-at .ensures) (c .if1 .taken))) returns returns-2)

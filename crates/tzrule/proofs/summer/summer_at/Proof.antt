@@ -16,42 +16,25 @@ loop-holds c = (begun (c .args .rule) (c .pre .0) _ (c .args .instant) (omega (a
 
 loop-less : tie.Need-loop-less Inv-loop μ-loop
 loop-less c =
-    let args = c .before .before .before .args in
-    let pre = c .before .before .before .pre in
-    let loop = c .before .before .loop in
+    let args = c .before .before .before .args in let pre = c .before .before .before .pre in let loop = c .before .before .loop in
     let start-of = c .before .start-of in
     let far = not-far (args .rule) (pre .0) (loop .year) (args .instant) (omega (arith, start-of .ensures)) in omega arith
 
 loop-again : tie.Need-loop-again Inv-loop μ-loop
 loop-again c =
-    let args = c .before .before .before .args in
-    let pre = c .before .before .before .pre in
-    let loop = c .before .before .loop in
+    let args = c .before .before .before .args in let pre = c .before .before .before .pre in let loop = c .before .before .loop in
     let start-of = c .before .start-of in
     let far = not-far (args .rule) (pre .0) (loop .year) (args .instant) (omega (arith, start-of .ensures)) in (omega (arith, start-of .ensures), omega arith)
 
-close-of-requires : tie.Need-close-of-requires Inv-loop μ-loop
-close-of-requires c κs = (omega (arith, c .before .before .before .pre .1 .to), c .before .before .before .pre .0)
-
 returns : tie.Need-returns Inv-loop μ-loop
 returns c =
-    let pre = c .before .before .before .before .pre in
-    let loop = c .before .before .before .loop in
-    let start-of = c .before .before .start-of in
+    let pre = c .before .before .before .before .pre in let loop = c .before .before .before .loop in let start-of = c .before .before .start-of in
     says-is _ _ (pre .0) _ (answered _ (pre .0) _ _ (loop .inv .0) (omega (arith, start-of .ensures)) (c .close-of .ensures))
 
 pub summer-at-spec : {M : Type 1} → statement M
 summer-at-spec =
     tie.close
     (tie.spec
-    Inv-loop
-    μ-loop
-    (λ c. omega (arith, c .pre .1 .from))
-    loop-holds
-    (λ c. omega (arith, c .before .pre .1 .to))
-    (λ c κs. (omega (arith, c .before .pre .1 .to), c .before .pre .0))
-    (λ c. omega (arith, c .before .before .before .pre .1 .to))
-    loop-less
-    loop-again
-    close-of-requires
-    returns)
+    Inv-loop μ-loop (λ c. omega (arith, c .pre .1 .from)) loop-holds (λ c. omega (arith, c .before .pre .1 .to))
+    (λ c κs. (omega (arith, c .before .pre .1 .to), c .before .pre .0)) (λ c. omega (arith, c .before .before .before .pre .1 .to)) loop-less
+    loop-again (λ c κs. (omega (arith, c .before .before .before .pre .1 .to), c .before .before .before .pre .0)) returns)

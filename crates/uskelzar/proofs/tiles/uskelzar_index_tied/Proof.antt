@@ -13,7 +13,4 @@ pub uskelzar-index-tied-spec : {M : Type 1} → statement M
 uskelzar-index-tied-spec =
     tie.close
     (tie.spec
-    (λ c κs. tt)
-    (λ c κs. tt)
-    (λ c κs. tt)
-    returns)
+    (λ c κs. tt) (λ c κs. tt) (λ c κs. tt) returns)

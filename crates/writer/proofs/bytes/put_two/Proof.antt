@@ -6,15 +6,13 @@ use Rattle.writer.proofs.bytes.put_two.Tie as tie
 
 put-varint-requires-2 : tie.Need-put-varint-requires-2
 put-varint-requires-2 c κs =
-    let args = c .before .before .before .before .before .before .args in
-    let put-varint = c .before .before .before .put-varint in
+    let args = c .before .before .before .before .before .before .args in let put-varint = c .before .before .before .put-varint in
     omega (arith, put-varint .ensures .place-after, varint-few (args .first))
 
 returns : tie.Need-returns
 returns c =
     let args = c .before .before .before .before .before .before .before .before .before .args in
-    let put-varint = c .before .before .before .before .before .before .put-varint in
-    let put-varint2 = c .before .before .put-varint2 in
+    let put-varint = c .before .before .before .before .before .before .put-varint in let put-varint2 = c .before .before .put-varint2 in
     stored-then (varintOf (args .first)) (varintOf (args .second)) (put-varint .ensures) (put-varint2 .ensures)
 
 pub put-two-spec : {M : Type 1} → statement M

@@ -17,8 +17,10 @@ loop-holds : tie.Need-loop-holds Inv-loop μ-loop
 loop-holds c = let out = c .args .out .now in (omega arith, subst (Left out 0 (zeros (length out)) out 0) (zeros-all (length out)) left-all)
 
 loop-again : tie.Need-loop-again Inv-loop μ-loop
-loop-again c = let l = c .before .loop in let out = c .before .before .args .out .now in
-    (omega (arith, l .inv .1 .size), left-step (0 ∷ []) (subst (Left out 0 _ (l .out) (l .i)) (zeros-next (length out) (l .i) (omega (arith, l .inv .1 .size))) (l .inv .1)) (stored-one (l .out) (l .i) 0))
+loop-again c = let l = c .before .loop in let out = c .before .before .args .out .now in (
+  omega (arith, l .inv .1 .size),
+  left-step (0 ∷ []) (subst (Left out 0 _ (l .out) (l .i)) (zeros-next (length out) (l .i) (omega (arith, l .inv .1 .size))) (l .inv .1)) (stored-one (l .out) (l .i) 0),
+)
 
 returns : tie.Need-returns Inv-loop μ-loop
 returns c = let l = c .before .loop in let out = c .before .before .args .out .now in
@@ -28,12 +30,5 @@ pub zero-bytes-spec : {M : Type 1} → statement M
 zero-bytes-spec =
     tie.close
     (tie.spec
-    Inv-loop
-    μ-loop
-    loop-holds
-    (λ c. omega arith)
-    (λ c. omega arith)
-    (λ c. omega (arith, c .before .loop .inv .1 .size))
-    loop-again
-    (λ c. c .before .loop .inv .1 .size)
-    returns)
+    Inv-loop μ-loop loop-holds (λ c. omega arith) (λ c. omega arith) (λ c. omega (arith, c .before .loop .inv .1 .size)) loop-again
+    (λ c. c .before .loop .inv .1 .size) returns)

@@ -17,25 +17,17 @@ abbrev μ-loop : tie.MeasureT-loop
 
 returns : tie.Need-returns Inv-loop μ-loop
 returns c =
-    let args = c .before .before .before .before .before .args in
-    let l = c .before .before .before .before .loop in
-    let loop-test = c .before .before .before .loop-test in
-    let is-near-arg = c .before .before .is-near-arg in
-    let is-near = c .before .is-near in
-    let zs = args .list .now in
-    let fit : SFits w32 (getD zs (l .i) (pos 0)) = record { sfits = is-near-arg .given } in
+    let args = c .before .before .before .before .before .args in let l = c .before .before .before .before .loop in
+    let loop-test = c .before .before .before .loop-test in let is-near-arg = c .before .before .is-near-arg in let is-near = c .before .is-near in
+    let zs = args .list .now in let fit : SFits w32 (getD zs (l .i) (pos 0)) = record { sfits = is-near-arg .given } in
     let bad : near (getD zs (l .i) (pos 0)) ≡ false = ap near (sym (toZ-ofZ fit)) ∙ sym (is-near .ensures) ∙ not-true _ (c .if1 .taken) in
     sym (every-bad near zs (l .i) (pos 0) (loop-test .taken) bad) ∙ l .inv .1
 
 loop-again : tie.Need-loop-again Inv-loop μ-loop
 loop-again c =
-    let args = c .before .before .before .before .before .args in
-    let l = c .before .before .before .before .loop in
-    let loop-test = c .before .before .before .loop-test in
-    let is-near-arg = c .before .before .is-near-arg in
-    let is-near = c .before .is-near in
-    let zs = args .list .now in
-    let fit : SFits w32 (getD zs (l .i) (pos 0)) = record { sfits = is-near-arg .given } in
+    let args = c .before .before .before .before .before .args in let l = c .before .before .before .before .loop in
+    let loop-test = c .before .before .before .loop-test in let is-near-arg = c .before .before .is-near-arg in let is-near = c .before .is-near in
+    let zs = args .list .now in let fit : SFits w32 (getD zs (l .i) (pos 0)) = record { sfits = is-near-arg .given } in
     let good : near (getD zs (l .i) (pos 0)) ≡ true = ap near (sym (toZ-ofZ fit)) ∙ sym (is-near .ensures) ∙ not-false _ (c .if1 .left) in
     (omega arith, every-good near zs (l .i) (pos 0) (loop-test .taken) good ∙ l .inv .1)
 
@@ -47,14 +39,5 @@ pub all-near-spec : {M : Type 1} → statement M
 all-near-spec =
     tie.close
     (tie.spec
-    Inv-loop
-    μ-loop
-    (λ c. (omega arith, refl))
-    (λ c. omega arith)
-    (λ c. omega arith)
-    (λ c κs. tt)
-    returns
-    (λ c. omega arith)
-    (λ c. omega arith)
-    loop-again
-    returns-2)
+    Inv-loop μ-loop (λ c. (omega arith, refl)) (λ c. omega arith) (λ c. omega arith) (λ c κs. tt) returns (λ c. omega arith) (λ c. omega arith)
+    loop-again returns-2)

@@ -11,4 +11,5 @@ returns c = c .interleave .ensures ∙ rw (c .before .before .gap-form .ensures,
 
 pub move-number-spec : {M : Type 1} → statement M
 move-number-spec =
-    tie.close (tie.spec (λ c κs. omega arith) (λ c κs. omega arith) (λ c κs. tt) returns)
+    tie.close (tie.spec
+    (λ c κs. omega arith) (λ c κs. omega arith) (λ c κs. tt) returns)

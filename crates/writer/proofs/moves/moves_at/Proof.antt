@@ -4,9 +4,7 @@ use Rattle.writer.proofs.{Elements.{moves-lat, moves-lon}, moves.moves_
 use Rattle.writer.proofs.moves.moves_at.Tie as tie
 
 returns : tie.Need-returns
-returns c =
-    let a = c .before .before .args in
-    moves-lat (a .lats .now) (a .lons .now) (a .i) (c .before .gap-form .ensures) (c .if1 .taken)
+returns c = let a = c .before .before .args in moves-lat (a .lats .now) (a .lons .now) (a .i) (c .before .gap-form .ensures) (c .if1 .taken)
 
 returns-2 : tie.Need-returns-2
 returns-2 c =

@@ -25,11 +25,8 @@ loop-again : tie.Need-loop-again Inv-loop μ-loop
 unfolding packedMoveBytes
 loop-again c =
     let start = c .before .before .before .before .before .before .before .before in
-    let l = c .before .before .before .before .before .before .loop in
-    let loop-test = c .before .before .before .before .before .loop-test in
-    let move-number = c .before .before .before .move-number in
-    let put = c .before .before .put-varint in
-    let a = start .args in
+    let l = c .before .before .before .before .before .before .loop in let loop-test = c .before .before .before .before .before .loop-test in
+    let move-number = c .before .before .before .move-number in let put = c .before .before .put-varint in let a = start .args in
     let s = subst (λ (n : ℕ). Stored (l .out) (l .next) (varintOf n) (put .last .0) (put .result)) (move-number .ensures) (put .ensures) in
     left-step (packedMoveBytes (moveAt (a .lats .now) (a .lons .now) (l .i)))
     (subst (Left (a .out .now) (a .place) _ (l .out) (l .next))
@@ -39,21 +36,12 @@ loop-again c =
 
 returns : tie.Need-returns Inv-loop μ-loop
 returns c =
-    let l = c .before .loop in
-    let a = c .before .before .before .args in
+    let l = c .before .loop in let a = c .before .before .before .args in
     left-none (subst (Left (a .out .now) (a .place) _ (l .out) (l .next)) (each-done packedMoveBytes (l .i) (a .to) (movesOf (a .lats .now) (a .lons .now)) (c .loop-test .left)) (l .inv))
 
 pub put-packed-spec : {M : Type 1} → statement M
 put-packed-spec =
     tie.close
     (tie.spec
-    Inv-loop
-    μ-loop
-    (λ c. left-all)
-    move-number-requires
-    put-varint-requires
-    (λ c. omega arith)
-    (λ c. omega arith)
-    loop-again
-    (λ c. c .before .loop .inv .size)
-    returns)
+    Inv-loop μ-loop (λ c. left-all) move-number-requires put-varint-requires (λ c. omega arith) (λ c. omega arith) loop-again
+    (λ c. c .before .loop .inv .size) returns)

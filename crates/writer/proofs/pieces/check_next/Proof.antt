@@ -18,26 +18,18 @@ returns-2 c = λ ps h.
 returns-3 : tie.Need-returns-3
 returns-3 c = λ ps h.
     let a = c .before .before .before .before .before .before .before .before .args in
-    first-bad _ _ ps (a .piece) (a .check) h (c .before .before .before .before .before .before .if1 .left) (c .before .before .if2 .left) (sym (c .before .is-accepted .ensures) ∙ not-true _ (c .if3 .taken))
+    first-bad _ _ ps (a .piece) (a .check) h (c .before .before .before .before .before .before .if1 .left) (c .before .before .if2 .left)
+    (sym (c .before .is-accepted .ensures) ∙ not-true _ (c .if3 .taken))
 
 returns-4 : tie.Need-returns-4
 returns-4 c = λ ps h.
     let a = c .before .before .before .before .before .before .before .before .args in
-    still-good _ _ ps (a .piece) (a .check) h (c .before .before .before .before .before .before .if1 .left) (c .before .before .if2 .left) (sym (c .before .is-accepted .ensures) ∙ not-false _ (c .if3 .left))
+    still-good _ _ ps (a .piece) (a .check) h (c .before .before .before .before .before .before .if1 .left) (c .before .before .if2 .left)
+    (sym (c .before .is-accepted .ensures) ∙ not-false _ (c .if3 .left))
 
 pub check-next-spec : {M : Type 1} → statement M
 check-next-spec =
     tie.close
     (tie.spec
-    returns
-    (λ c. omega arith)
-    (λ c. omega arith)
-    (λ c. omega arith)
-    (λ c. omega arith)
-    (λ c. omega arith)
-    (λ c. omega arith)
-    returns-2
-    (λ c κs. tt)
-    returns-3
-    (λ c. omega arith)
-    returns-4)
+    returns (λ c. omega arith) (λ c. omega arith) (λ c. omega arith) (λ c. omega arith) (λ c. omega arith) (λ c. omega arith) returns-2 (λ c κs. tt)
+    returns-3 (λ c. omega arith) returns-4)

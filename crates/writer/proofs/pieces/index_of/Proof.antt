@@ -8,12 +8,5 @@ pub index-of-spec : {M : Type 1} → statement M
 index-of-spec =
     tie.close
     (tie.spec
-    (λ c. omega arith)
-    (λ c. omega arith)
-    (λ c. rw (eq-eqb _ _ (c .before .if1 .taken)))
-    (λ c. omega arith)
-    (λ c. omega arith)
-    (λ c. omega arith)
-    (λ c. omega arith)
-    (λ c. omega arith)
-    (λ c. rw (ne-eqb _ _ (c .before .before .if1 .left))))
+    (λ c. omega arith) (λ c. omega arith) (λ c. rw (eq-eqb _ _ (c .before .if1 .taken))) (λ c. omega arith) (λ c. omega arith) (λ c. omega arith)
+    (λ c. omega arith) (λ c. omega arith) (λ c. rw (ne-eqb _ _ (c .before .before .if1 .left))))

@@ -8,8 +8,7 @@ use Rattle.writer.proofs.write.finish.Tie as tie
 
 returns : tie.Need-returns
 returns c =
-    let if1 = c .before .before .before .before .before .if1 in
-    let zero-bytes = c .before .before .before .zero-bytes in
+    let if1 = c .before .before .before .before .before .if1 in let zero-bytes = c .before .before .before .zero-bytes in
     ap (λ (w : Written). replied w (zero-bytes .last .0)) (c .refused .ensures)
     ∙ rw (lt-leb _ _ (if1 .taken)) (ap (replied (Refused 24 0)) (zero-bytes .ensures))
 

@@ -7,9 +7,7 @@ use Rattle.add.proofs.surely.sure.note_step.Statement.{statement}
 use Rattle.add.proofs.surely.sure.note_step.Tie as tie
 
 slice-aggregate-note-yard : tie.Need-slice-aggregate-note-yard
-slice-aggregate-note-yard c =
-    let pre = c .before .before .before .before .before .before .before .pre in
-    sym (ends-in _ _ _ (pre .noted .marked))
+slice-aggregate-note-yard c = let pre = c .before .before .before .before .before .before .before .pre in sym (ends-in _ _ _ (pre .noted .marked))
 
 note-yard-requires : tie.Need-note-yard-requires
 note-yard-requires c κs =
@@ -22,15 +20,5 @@ pub note-step-spec : {M : Type 1} → statement M
 note-step-spec =
     tie.close
     (tie.spec
-    (λ c. search needs)
-    (λ c. search needs)
-    (λ c. search needs)
-    (λ c. search needs)
-    slice-aggregate-note-yard
-    note-yard-requires
-    (λ c. search needs)
-    (λ c. search needs)
-    (λ c. search needs)
-    (λ c. search needs)
-    (λ c. search needs)
-    (λ c. search needs))
+    (λ c. search needs) (λ c. search needs) (λ c. search needs) (λ c. search needs) slice-aggregate-note-yard note-yard-requires (λ c. search needs)
+    (λ c. search needs) (λ c. search needs) (λ c. search needs) (λ c. search needs) (λ c. search needs))

@@ -8,4 +8,6 @@ cast-result : tie.Need-cast-result
 cast-result c = (south-sign (c .args .latitude) (c .fits .latitude), omega (arith, south-range (c .args .latitude) (c .fits .latitude)))
 
 pub from-south-spec : {M : Type 1} → statement M
-from-south-spec = tie.close (tie.spec (λ c. widens (c .fits .latitude)) (λ c. south-fits (c .args .latitude) (c .fits .latitude)) cast-result (λ c. south-is (c .args .latitude) (c .fits .latitude)))
+from-south-spec = tie.close (tie.spec
+    (λ c. widens (c .fits .latitude)) (λ c. south-fits (c .args .latitude) (c .fits .latitude)) cast-result
+    (λ c. south-is (c .args .latitude) (c .fits .latitude)))

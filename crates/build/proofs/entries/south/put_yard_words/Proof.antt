@@ -35,34 +35,29 @@ add-keys : tie.Need-add-keys Inv-loop μ-loop
 add-keys c =
     let z = getD (c .before .before .before .before .before .args .boxes .now) (4 * c .before .before .before .loop .yard) (pos 0) in
     let h : SFits w32 z = record { sfits = c .before .from-south-arg .given } in
-    omega (arith, c .before .before .loop-test .taken, c .before .before .before .loop .inv .left .size, c .before .before .before .before .before .pre .1, word-fits z h (c .from-south .result) (c .from-south .ensures ∙ ap fromSouth (toZ-ofZ h)))
-
-loop-less : tie.Need-loop-less Inv-loop μ-loop
-loop-less c = omega (arith, c .before .before .loop-test .taken, c .before .before .before .loop .inv .left .size)
+    omega (
+      arith,
+      c .before .before .loop-test .taken,
+      c .before .before .before .loop .inv .left .size,
+      c .before .before .before .before .before .pre .1,
+      word-fits z h (c .from-south .result) (c .from-south .ensures ∙ ap fromSouth (toZ-ofZ h)),
+    )
 
 loop-again : tie.Need-loop-again Inv-loop μ-loop
 loop-again c =
-    let z = getD (c .before .before .before .before .before .args .boxes .now) (4 * c .before .before .before .loop .yard) (pos 0) in
+    let args = c .before .before .before .before .before .args in
+    let z = getD (args .boxes .now) (4 * c .before .before .before .loop .yard) (pos 0) in
     let h : SFits w32 z = record { sfits = c .before .from-south-arg .given } in
-    list-goes _ _ _ _ (c .before .before .before .loop .inv) (c .before .before .loop-test .taken) _ (yard-word (c .before .before .before .before .before .args .boxes .now) _ _ (omega (arith, c .before .before .loop-test .taken, c .before .before .before .loop .inv .left .size, c .before .before .before .before .before .pre .1)) (c .from-south .ensures ∙ ap fromSouth (toZ-ofZ h)))
+    list-goes _ _ _ _ (c .before .before .before .loop .inv) (c .before .before .loop-test .taken) _
+    (yard-word (args .boxes .now) _ _
+    (omega (arith, c .before .before .loop-test .taken, c .before .before .before .loop .inv .left .size, c .before .before .before .before .before .pre .1))
+    (c .from-south .ensures ∙ ap fromSouth (toZ-ofZ h)))
 
 pub put-yard-words-spec : {M : Type 1} → statement M
 put-yard-words-spec =
     tie.close
     (tie.spec
-    Inv-loop
-    μ-loop
-    (λ c. list-starts _ _)
-    mul-from-south
-    mul-from-south-2
-    shared-slice-copy-out-from-south
-    (λ c κs. search needs)
-    mul-keys
-    add-keys
-    (λ c. search needs)
-    (λ c. search needs)
-    (λ c. search needs)
-    loop-less
-    loop-again
-    (λ c. c .before .loop .inv .left .size)
-    (λ c. list-ends _ _ _ _ (c .before .loop .inv) (c .loop-test .left)))
+    Inv-loop μ-loop (λ c. list-starts _ _) mul-from-south mul-from-south-2 shared-slice-copy-out-from-south (λ c κs. search needs) mul-keys add-keys
+    (λ c. search needs) (λ c. search needs) (λ c. search needs)
+    (λ c. omega (arith, c .before .before .loop-test .taken, c .before .before .before .loop .inv .left .size)) loop-again
+    (λ c. c .before .loop .inv .left .size) (λ c. list-ends _ _ _ _ (c .before .loop .inv) (c .loop-test .left)))

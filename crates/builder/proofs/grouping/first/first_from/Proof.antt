@@ -18,13 +18,17 @@ loop-holds : tie.Need-loop-holds Inv-loop μ-loop
 loop-holds c = scan-starts _ _ _ _ (omega (arith, c .before .before .before .pre .2, length-map (c .before .before .before .args .keys .now) itemOf))
 
 is-alike-requires : tie.Need-is-alike-requires Inv-loop μ-loop
-is-alike-requires c κs = (c .before .before .before .before .before .before .before .pre .0 .inside, c .before .before .before .before .before .before .before .pre .1, among-item _ _ _ _ (c .before .before .before .before .before .before .before .pre .0) _ (c .before .before .loop-test .taken) _ (c .item-of .ensures))
+is-alike-requires c κs =
+    let pre = c .before .before .before .before .before .before .before .pre in
+    (pre .0 .inside, pre .1, among-item _ _ _ _ (pre .0) _ (c .before .before .loop-test .taken) _ (c .item-of .ensures))
 
 returns : tie.Need-returns Inv-loop μ-loop
-returns c = found-in _ _ (c .before .before .before .before .before .before .before .before .before .args .keys .now) _ _ (c .before .before .before .before .before .loop .inv) (c .before .before .before .before .loop-test .taken) _ (c .before .before .item-of .ensures) _ (c .before .is-alike .ensures) (c .if1 .taken)
+returns c = found-in _ _ (c .before .before .before .before .before .before .before .before .before .args .keys .now) _ _ (c .before .before .before .before .before .loop .inv)
+    (c .before .before .before .before .loop-test .taken) _ (c .before .before .item-of .ensures) _ (c .before .is-alike .ensures) (c .if1 .taken)
 
 loop-again : tie.Need-loop-again Inv-loop μ-loop
-loop-again c = goes-in _ _ (c .before .before .before .before .before .before .before .before .before .args .keys .now) _ _ (c .before .before .before .before .before .loop .inv) (c .before .before .before .before .loop-test .taken) _ (c .before .before .item-of .ensures) _ (c .before .is-alike .ensures) (c .if1 .left)
+loop-again c = goes-in _ _ (c .before .before .before .before .before .before .before .before .before .args .keys .now) _ _ (c .before .before .before .before .before .loop .inv)
+    (c .before .before .before .before .loop-test .taken) _ (c .before .before .item-of .ensures) _ (c .before .is-alike .ensures) (c .if1 .left)
 
 returns-2 : tie.Need-returns-2 Inv-loop μ-loop
 returns-2 c = ends-in _ _ (c .before .before .before .before .before .args .keys .now) _ _ (c .before .loop .inv) (c .loop-test .left)
@@ -33,15 +37,5 @@ pub first-from-spec : {M : Type 1} → statement M
 first-from-spec =
     tie.close
     (tie.spec
-    Inv-loop
-    μ-loop
-    loop-holds
-    (λ c. search needs)
-    (λ c. search needs)
-    (λ c κs. search needs)
-    is-alike-requires
-    returns
-    (λ c. search needs)
-    (λ c. search needs)
-    loop-again
-    returns-2)
+    Inv-loop μ-loop loop-holds (λ c. search needs) (λ c. search needs) (λ c κs. search needs) is-alike-requires returns (λ c. search needs)
+    (λ c. search needs) loop-again returns-2)

@@ -11,9 +11,6 @@ Inv-loop starts texts at width hash₀ i₀ hash i = ItemHash starts texts at wi
 abbrev μ-loop : tie.MeasureT-loop
 μ-loop starts texts at width hash₀ i₀ hash i = width - i
 
-hash-at-requires : tie.Need-hash-at-requires Inv-loop μ-loop
-hash-at-requires c κs = fewer-inside _ _ _ _ (omega (arith, c .loop-test .taken)) (c .before .before .before .before .pre)
-
 loop-again : tie.Need-loop-again Inv-loop μ-loop
 loop-again c = item-goes _ _ _ _ _ _ (c .before .before .loop .inv) (c .before .loop-test .taken) _ (c .hash-at .ensures)
 
@@ -21,12 +18,6 @@ pub hash-item-spec : {M : Type 1} → statement M
 hash-item-spec =
     tie.close
     (tie.spec
-    Inv-loop
-    μ-loop
-    (λ c. item-starts _ _ _ _)
-    (λ c. omega (arith, c .before .before .before .before .pre .many, c .loop-test .taken))
-    hash-at-requires
-    (λ c. search needs)
-    (λ c. search needs)
-    loop-again
-    (λ c. item-ends _ _ _ _ _ _ (c .before .loop .inv) (c .loop-test .left)))
+    Inv-loop μ-loop (λ c. item-starts _ _ _ _) (λ c. omega (arith, c .before .before .before .before .pre .many, c .loop-test .taken))
+    (λ c κs. fewer-inside _ _ _ _ (omega (arith, c .loop-test .taken)) (c .before .before .before .before .pre)) (λ c. search needs)
+    (λ c. search needs) loop-again (λ c. item-ends _ _ _ _ _ _ (c .before .loop .inv) (c .loop-test .left)))

@@ -11,14 +11,11 @@ Inv-loop starts texts a b width i₀ i = ItemSame starts texts a b width i
 abbrev μ-loop : tie.MeasureT-loop
 μ-loop starts texts a b width i₀ i = width - i
 
-add-same-at : tie.Need-add-same-at Inv-loop μ-loop
-add-same-at c = omega (arith, c .before .before .before .before .pre .0 .many, c .loop-test .taken)
-
-add-same-at-2 : tie.Need-add-same-at-2 Inv-loop μ-loop
-add-same-at-2 c = omega (arith, c .before .before .before .before .pre .1 .many, c .loop-test .taken)
-
 same-at-requires : tie.Need-same-at-requires Inv-loop μ-loop
-same-at-requires c κs = (fewer-inside _ _ _ _ (omega (arith, c .loop-test .taken)) (c .before .before .before .before .pre .0), fewer-inside _ _ _ _ (omega (arith, c .loop-test .taken)) (c .before .before .before .before .pre .1))
+same-at-requires c κs = (
+  fewer-inside _ _ _ _ (omega (arith, c .loop-test .taken)) (c .before .before .before .before .pre .0),
+  fewer-inside _ _ _ _ (omega (arith, c .loop-test .taken)) (c .before .before .before .before .pre .1),
+)
 
 returns : tie.Need-returns Inv-loop μ-loop
 returns c = same-differs _ _ _ _ _ _ (c .before .before .before .loop .inv) (c .before .before .loop-test .taken) _ (c .before .same-at .ensures) (c .if1 .taken)
@@ -30,14 +27,6 @@ pub same-item-spec : {M : Type 1} → statement M
 same-item-spec =
     tie.close
     (tie.spec
-    Inv-loop
-    μ-loop
-    (λ c. same-starts _ _ _ _ _)
-    add-same-at
-    add-same-at-2
-    same-at-requires
-    returns
-    (λ c. search needs)
-    (λ c. search needs)
-    loop-again
-    (λ c. same-ends _ _ _ _ _ _ (c .before .loop .inv) (c .loop-test .left)))
+    Inv-loop μ-loop (λ c. same-starts _ _ _ _ _) (λ c. omega (arith, c .before .before .before .before .pre .0 .many, c .loop-test .taken))
+    (λ c. omega (arith, c .before .before .before .before .pre .1 .many, c .loop-test .taken)) same-at-requires returns (λ c. search needs)
+    (λ c. search needs) loop-again (λ c. same-ends _ _ _ _ _ _ (c .before .loop .inv) (c .loop-test .left)))

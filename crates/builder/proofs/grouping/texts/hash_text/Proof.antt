@@ -19,12 +19,5 @@ pub hash-text-spec : {M : Type 1} → statement M
 hash-text-spec =
     tie.close
     (tie.spec
-    Inv-loop
-    μ-loop
-    (λ c. hash-starts _ _)
-    (λ c. search needs)
-    (λ c κs. search needs)
-    (λ c. search needs)
-    (λ c. search needs)
-    loop-again
+    Inv-loop μ-loop (λ c. hash-starts _ _) (λ c. search needs) (λ c κs. search needs) (λ c. search needs) (λ c. search needs) loop-again
     (λ c. hash-ends _ _ _ _ (c .before .loop .inv) (c .loop-test .left)))

@@ -22,14 +22,5 @@ pub same-text-spec : {M : Type 1} → statement M
 same-text-spec =
     tie.close
     (tie.spec
-    Inv-loop
-    μ-loop
-    (λ c. other-size _ _ (c .if1 .taken))
-    (λ c. compare-starts _ _ (c .if1 .left))
-    (λ c. search needs)
-    (λ c. search needs)
-    returns-2
-    (λ c. search needs)
-    (λ c. search needs)
-    loop-again
-    (λ c. compare-ends _ _ _ (c .before .loop .inv) (c .loop-test .left)))
+    Inv-loop μ-loop (λ c. other-size _ _ (c .if1 .taken)) (λ c. compare-starts _ _ (c .if1 .left)) (λ c. search needs) (λ c. search needs) returns-2
+    (λ c. search needs) (λ c. search needs) loop-again (λ c. compare-ends _ _ _ (c .before .loop .inv) (c .loop-test .left)))

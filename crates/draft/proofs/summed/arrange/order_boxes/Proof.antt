@@ -8,9 +8,9 @@ returns : tie.Need-returns
 returns c =
     let pre = c .before .before .before .before .before .before .before .before .before .before .before .before .before .pre in
     let put-yard-words = c .before .before .before .before .before .before .before .before .before .put-yard-words in
-    let sort = c .before .before .before .before .sort in
-    words-sorted _ _ _ _ _ _ _ (pre .2) (put-yard-words .ensures) (sort .ensures)
+    let sort = c .before .before .before .before .sort in words-sorted _ _ _ _ _ _ _ (pre .2) (put-yard-words .ensures) (sort .ensures)
 
 pub order-boxes-spec : {M : Type 1} → statement M
 order-boxes-spec =
-    tie.close (tie.spec (λ c κs. search needs) (λ c κs. search needs) (λ c. search needs) (λ c. search needs) returns)
+    tie.close (tie.spec
+    (λ c κs. search needs) (λ c κs. search needs) (λ c. search needs) (λ c. search needs) returns)

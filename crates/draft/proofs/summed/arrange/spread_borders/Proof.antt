@@ -14,32 +14,16 @@ abbrev μ-loop : tie.MeasureT-loop
 
 slice-write-places : tie.Need-slice-write-places Inv-loop μ-loop
 slice-write-places c =
-    let loop = c .before .before .loop in
-    let loop-test = c .before .loop-test in
-    let pre = c .before .before .before .pre in
+    let loop = c .before .before .loop in let loop-test = c .before .loop-test in let pre = c .before .before .before .pre in
     spread-inside _ _ _ _ (loop .inv) (loop-test .taken) (pre)
 
 loop-again : tie.Need-loop-again Inv-loop μ-loop
-loop-again c =
-    let loop = c .before .before .loop in
-    let loop-test = c .before .loop-test in
-    spread-goes _ _ _ _ (loop .inv) (loop-test .taken)
+loop-again c = let loop = c .before .before .loop in let loop-test = c .before .loop-test in spread-goes _ _ _ _ (loop .inv) (loop-test .taken)
 
 pub spread-borders-spec : {M : Type 1} → statement M
 spread-borders-spec =
     tie.close
     (tie.spec
-    Inv-loop
-    μ-loop
-    (λ c. spread-starts _ _)
-    (λ c. search needs)
-    (λ c. search needs)
-    (λ c. search needs)
-    (λ c. search needs)
-    (λ c. search needs)
-    slice-write-places
-    (λ c. search needs)
-    (λ c. search needs)
-    loop-again
-    (λ c. c .before .loop .inv .size)
+    Inv-loop μ-loop (λ c. spread-starts _ _) (λ c. search needs) (λ c. search needs) (λ c. search needs) (λ c. search needs) (λ c. search needs)
+    slice-write-places (λ c. search needs) (λ c. search needs) loop-again (λ c. c .before .loop .inv .size)
     (λ c. spread-ends _ _ _ _ (c .before .loop .inv) (c .loop-test .left)))

@@ -14,34 +14,19 @@ slice-aggregate-is-sum c =
 
 returns-2 : tie.Need-returns-2
 returns-2 c =
-    let if1 = c .before .before .before .before .before .before .if1 in
-    let is-sum = c .before .is-sum in
+    let if1 = c .before .before .before .before .before .before .if1 in let is-sum = c .before .is-sum in
     other-front _ _ (if1 .left) _ (is-sum .ensures) (c .if2 .taken)
 
 returns-3 : tie.Need-returns-3
 returns-3 c =
     let if1 = c .before .before .before .before .before .before .before .before .before .if1 in
-    let is-sum = c .before .before .before .before .is-sum in
-    let if2 = c .before .before .before .if2 in
+    let is-sum = c .before .before .before .before .is-sum in let if2 = c .before .before .before .if2 in
     front-then _ _ (if1 .left) _ (is-sum .ensures) (if2 .left) _ (c .is-sum2 .ensures)
 
 pub are-whole-spec : {M : Type 1} → statement M
 are-whole-spec =
     tie.close
     (tie.spec
-    (λ c. long-strings _ _ (c .if1 .taken))
-    (λ c. search needs)
-    (λ c. search needs)
-    (λ c. search needs)
-    (λ c. search needs)
-    (λ c. search needs)
-    slice-aggregate-is-sum
-    (λ c κs. search needs)
-    returns-2
-    (λ c. search needs)
-    (λ c. search needs)
-    (λ c. search needs)
-    (λ c. search needs)
-    (λ c. search needs)
-    (λ c κs. search needs)
-    returns-3)
+    (λ c. long-strings _ _ (c .if1 .taken)) (λ c. search needs) (λ c. search needs) (λ c. search needs) (λ c. search needs) (λ c. search needs)
+    slice-aggregate-is-sum (λ c κs. search needs) returns-2 (λ c. search needs) (λ c. search needs) (λ c. search needs) (λ c. search needs)
+    (λ c. search needs) (λ c κs. search needs) returns-3)

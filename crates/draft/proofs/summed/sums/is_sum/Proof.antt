@@ -15,28 +15,18 @@ abbrev μ-loop : tie.MeasureT-loop
 
 returns : tie.Need-returns Inv-loop μ-loop
 returns c =
-    let loop = c .before .before .before .loop in
-    let loop-test = c .before .before .loop-test in
+    let loop = c .before .before .before .loop in let loop-test = c .before .before .loop-test in
     take-stops _ _ _ _ (loop .inv) (loop-test .taken) (c .if1 .taken)
 
 loop-again : tie.Need-loop-again Inv-loop μ-loop
 loop-again c =
-    let loop = c .before .before .before .loop in
-    let loop-test = c .before .before .loop-test in
+    let loop = c .before .before .before .loop in let loop-test = c .before .before .loop-test in
     take-goes _ _ _ _ (loop .inv) (loop-test .taken) (c .if1 .left)
 
 pub is-sum-spec : {M : Type 1} → statement M
 is-sum-spec =
     tie.close
     (tie.spec
-    Inv-loop
-    μ-loop
-    (λ c. take-starts _ _)
-    (λ c. search needs)
-    (λ c. search needs)
-    (λ c. omega (arith, c .shared-slice-known .given (c .before .before .loop .i)))
-    returns
-    (λ c. search needs)
-    (λ c. search needs)
-    loop-again
+    Inv-loop μ-loop (λ c. take-starts _ _) (λ c. search needs) (λ c. search needs)
+    (λ c. omega (arith, c .shared-slice-known .given (c .before .before .loop .i))) returns (λ c. search needs) (λ c. search needs) loop-again
     (λ c. take-ends _ _ _ _ (c .before .loop .inv) (c .loop-test .left)))

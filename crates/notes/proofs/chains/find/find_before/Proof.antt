@@ -8,9 +8,7 @@ use Rattle.notes.proofs.chains.find.find_before.Statement.{statement}
 use Rattle.notes.proofs.chains.find.find_before.Tie as tie
 
 cast-find-from : tie.Need-cast-find-from
-cast-find-from c =
-    let args = c .before .before .before .before .args in
-    omega (arith, c .shared-slice-known4 .given (4095 + args .found))
+cast-find-from c = let args = c .before .before .before .before .args in omega (arith, c .shared-slice-known4 .given (4095 + args .found))
 
 returns : tie.Need-returns
 returns c =

@@ -6,12 +6,6 @@ use Rattle.notes.proofs.chains.texts.hash_one.Statement.{statement}
 use Rattle.notes.proofs.chains.texts.hash_one.Tie as tie
 use Rattle.builder.specs.Grouping.Items.{textAt}
 
-cast-begin : tie.Need-cast-begin
-cast-begin c = omega (arith, c .shared-slice-known3 .given (c .before .before .before .args .text))
-
-cast-end : tie.Need-cast-end
-cast-end c = omega (arith, c .shared-slice-known4 .given (c .before .before .before .before .args .text + 1))
-
 returns : tie.Need-returns
 returns c inside = absurd (omega (arith, c .if1 .taken, inside .rise (c .before .before .before .before .before .args .text) (omega arith)))
 
@@ -26,16 +20,7 @@ pub hash-one-spec : {M : Type 1} → statement M
 hash-one-spec =
     tie.close
     (tie.spec
-    (λ c. search needs)
-    (λ c. search needs)
-    cast-begin
-    (λ c. search needs)
-    (λ c. search needs)
-    (λ c. search needs)
-    cast-end
-    returns
-    returns-2
-    (λ c. search needs)
-    (λ c. search needs)
-    (λ c κs. search needs)
-    returns-3)
+    (λ c. search needs) (λ c. search needs) (λ c. omega (arith, c .shared-slice-known3 .given (c .before .before .before .args .text)))
+    (λ c. search needs) (λ c. search needs) (λ c. search needs)
+    (λ c. omega (arith, c .shared-slice-known4 .given (c .before .before .before .before .args .text + 1))) returns returns-2 (λ c. search needs)
+    (λ c. search needs) (λ c κs. search needs) returns-3)

@@ -20,21 +20,17 @@ returns c one other =
 
 loop-again : tie.Need-loop-again Inv-loop μ-loop
 loop-again c =
-    let h = c .before .before .loop-test .taken in
-    (omega (arith, h), λ one other. same-goes _ _ _ _ _ _ (c .before .before .before .loop .inv .1 one other) h _ (c .before .same-one .ensures (fewer-inside _ _ _ _ (omega (arith, h)) one) (fewer-inside _ _ _ _ (omega (arith, h)) other)) (c .if1 .left))
+    let h = c .before .before .loop-test .taken in (
+      omega (arith, h),
+      λ one other. same-goes _ _ _ _ _ _ (c .before .before .before .loop .inv .1 one other) h _ (c .before .same-one .ensures (fewer-inside _ _ _ _ (omega (
+        arith,
+        h,
+      )) one) (fewer-inside _ _ _ _ (omega (arith, h)) other)) (c .if1 .left),
+    )
 
 pub same-items-spec : {M : Type 1} → statement M
 same-items-spec =
     tie.close
     (tie.spec
-    Inv-loop
-    μ-loop
-    (λ c. (omega arith, λ one other. same-starts _ _ _ _ _))
-    (λ c. search needs)
-    (λ c. search needs)
-    (λ c κs. search needs)
-    returns
-    (λ c. search needs)
-    (λ c. search needs)
-    loop-again
-    (λ c one other. same-ends _ _ _ _ _ _ (c .before .loop .inv .1 one other) (c .loop-test .left)))
+    Inv-loop μ-loop (λ c. (omega arith, λ one other. same-starts _ _ _ _ _)) (λ c. search needs) (λ c. search needs) (λ c κs. search needs) returns
+    (λ c. search needs) (λ c. search needs) loop-again (λ c one other. same-ends _ _ _ _ _ _ (c .before .loop .inv .1 one other) (c .loop-test .left)))

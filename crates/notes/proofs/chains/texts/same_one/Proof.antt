@@ -6,15 +6,6 @@ use Rattle.notes.proofs.chains.texts.same_one.Statement.{statement}
 use Rattle.notes.proofs.chains.texts.same_one.Tie as tie
 use Rattle.builder.specs.Grouping.Items.{textAt}
 
-cast-begin : tie.Need-cast-begin
-cast-begin c = omega (arith, c .shared-slice-known3 .given (c .before .before .before .args .a))
-
-cast-end : tie.Need-cast-end
-cast-end c = omega (arith, c .shared-slice-known4 .given (c .before .before .before .before .args .a + 1))
-
-cast-from : tie.Need-cast-from
-cast-from c = omega (arith, c .shared-slice-known5 .given (c .before .before .before .before .before .args .b))
-
 cast-to : tie.Need-cast-to
 cast-to c = omega (arith, c .shared-slice-known6 .given (c .before .before .before .before .before .before .args .b + 1))
 
@@ -38,27 +29,9 @@ pub same-one-spec : {M : Type 1} → statement M
 same-one-spec =
     tie.close
     (tie.spec
-    (λ c. search needs)
-    (λ c. search needs)
-    cast-begin
-    (λ c. search needs)
-    (λ c. search needs)
-    (λ c. search needs)
-    cast-end
-    (λ c. search needs)
-    (λ c. search needs)
-    cast-from
-    (λ c. search needs)
-    (λ c. search needs)
-    (λ c. search needs)
-    cast-to
-    returns
-    returns-2
-    returns-3
-    returns-4
-    (λ c. search needs)
-    (λ c. search needs)
-    (λ c. search needs)
-    (λ c. search needs)
-    (λ c κs. search needs)
-    returns-5)
+    (λ c. search needs) (λ c. search needs) (λ c. omega (arith, c .shared-slice-known3 .given (c .before .before .before .args .a)))
+    (λ c. search needs) (λ c. search needs) (λ c. search needs)
+    (λ c. omega (arith, c .shared-slice-known4 .given (c .before .before .before .before .args .a + 1))) (λ c. search needs) (λ c. search needs)
+    (λ c. omega (arith, c .shared-slice-known5 .given (c .before .before .before .before .before .args .b))) (λ c. search needs) (λ c. search needs)
+    (λ c. search needs) cast-to returns returns-2 returns-3 returns-4 (λ c. search needs) (λ c. search needs) (λ c. search needs) (λ c. search needs)
+    (λ c κs. search needs) returns-5)

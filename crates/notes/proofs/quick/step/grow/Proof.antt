@@ -7,10 +7,8 @@ use Rattle.notes.proofs.quick.step.grow.Tie as tie
 
 returns : tie.Need-returns
 returns c =
-    let numbers = c .before .before .before .before .before .before .before .args .numbers in
-    let told = c .before .struct-told .given in
-    let table-more = c .before .before .table-more in
-    let fits : SFits w32 (numbers .greatest) = search needs in
+    let numbers = c .before .before .before .before .before .before .before .args .numbers in let told = c .before .struct-told .given in
+    let table-more = c .before .before .table-more in let fits : SFits w32 (numbers .greatest) = search needs in
     λ yards y drawn drawn′ names lengths starts texts chains groups s m.
     grows _ _ _ _ _ _ _ _ _ _ _ _ _ _ _ s _ _ m _ _ (table-more .ensures .0) (λ e. toZ-ofZ (sfits-of (c .greatest-with .ok)) ∙ c .greatest-with .ensures (toZ-ofZ fits ∙ e))
 

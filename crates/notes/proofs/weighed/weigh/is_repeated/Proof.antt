@@ -11,30 +11,20 @@ Inv-loop starts texts first value i₀ i = Repeating starts texts first value i
 abbrev μ-loop : tie.MeasureT-loop
 μ-loop starts texts first value i₀ i = value - i
 
-loop-holds : tie.Need-loop-holds Inv-loop μ-loop
-loop-holds c = repeat-starts _ _ _ _ (c .before .before .pre .1)
-
 same-items-requires : tie.Need-same-items-requires Inv-loop μ-loop
-same-items-requires c κs =
-    let pre = c .before .before .before .before .pre in
-    (pre .0, omega (arith, pre .0, c .loop-test .taken))
+same-items-requires c κs = let pre = c .before .before .before .before .pre in (pre .0, omega (arith, pre .0, c .loop-test .taken))
 
 returns : tie.Need-returns Inv-loop μ-loop
 returns c =
-    let loop = c .before .before .before .loop in
-    let loop-test = c .before .before .loop-test in
-    let same-items = c .before .same-items in
+    let loop = c .before .before .before .loop in let loop-test = c .before .before .loop-test in let same-items = c .before .same-items in
     repeat-found _ _ _ _ _ (loop .inv) (loop-test .taken) _ (same-items .ensures) (c .if1 .taken)
 
 loop-again : tie.Need-loop-again Inv-loop μ-loop
 loop-again c =
-    let loop = c .before .before .before .loop in
-    let loop-test = c .before .before .loop-test in
-    let same-items = c .before .same-items in
+    let loop = c .before .before .before .loop in let loop-test = c .before .before .loop-test in let same-items = c .before .same-items in
     repeat-goes _ _ _ _ _ (loop .inv) (loop-test .taken) _ (same-items .ensures) (c .if1 .left)
 
-returns-2 : tie.Need-returns-2 Inv-loop μ-loop
-returns-2 c = repeat-ends _ _ _ _ _ (c .before .loop .inv) (c .loop-test .left)
-
 pub is-repeated-spec : {M : Type 1} → statement M
-is-repeated-spec = tie.close (tie.spec Inv-loop μ-loop loop-holds same-items-requires returns (λ c. search needs) (λ c. search needs) loop-again returns-2)
+is-repeated-spec = tie.close (tie.spec
+    Inv-loop μ-loop (λ c. repeat-starts _ _ _ _ (c .before .before .pre .1)) same-items-requires returns (λ c. search needs) (λ c. search needs)
+    loop-again (λ c. repeat-ends _ _ _ _ _ (c .before .loop .inv) (c .loop-test .left)))

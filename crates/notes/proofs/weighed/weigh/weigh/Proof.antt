@@ -14,40 +14,32 @@ abbrev μ-loop : tie.MeasureT-loop
 
 mul-first : tie.Need-mul-first Inv-loop μ-loop
 mul-first c =
-    let args = c .before .before .before .args in
-    let pre = c .before .before .before .pre in
+    let args = c .before .before .before .args in let pre = c .before .before .before .pre in
     omega (arith, item-among (args .count) (args .count + 1) (args .names) (omega arith), pre .2)
 
 add-weigh-value : tie.Need-add-weigh-value Inv-loop μ-loop
 add-weigh-value c =
-    let args = c .before .before .before .before .before .args in
-    let loop = c .before .loop in
+    let args = c .before .before .before .before .before .args in let loop = c .before .loop in
     let pre = c .before .before .before .before .before .pre in
     omega (arith, value-room (args .names) (args .count) (loop .i) (c .loop-test .taken), pre .2)
 
 weigh-value-requires : tie.Need-weigh-value-requires Inv-loop μ-loop
 weigh-value-requires c κs =
-    let args = c .before .before .before .before .before .args in
-    let loop = c .before .loop in
-    let pre = c .before .before .before .before .before .pre in
-    let room = value-room (args .names) (args .count) (loop .i) (c .loop-test .taken) in
+    let args = c .before .before .before .before .before .args in let loop = c .before .loop in
+    let pre = c .before .before .before .before .before .pre in let room = value-room (args .names) (args .count) (loop .i) (c .loop-test .taken) in
     (pre .1, omega (arith, room, pre .2), omega (arith, room, pre .3), omega arith)
 
 add-bytes : tie.Need-add-bytes Inv-loop μ-loop
 add-bytes c =
-    let loop = c .before .before .before .before .before .loop in
-    let loop-test = c .before .before .before .before .loop-test in
+    let loop = c .before .before .before .before .before .loop in let loop-test = c .before .before .before .before .loop-test in
     let pre = c .before .before .before .before .before .before .before .before .before .pre in
-    let weigh-value = c .before .before .before .weigh-value in
-    let n = c .before .n in
+    let weigh-value = c .before .before .before .weigh-value in let n = c .before .n in
     omega (arith, loop .inv .small, loop-test .taken, pre .0, taken-few _ _ _ _ _ _ _ _ (loop .inv) (loop-test .taken) _ (weigh-value .ensures) _ (n .given .1))
 
 loop-again : tie.Need-loop-again Inv-loop μ-loop
 loop-again c =
-    let loop = c .before .before .before .before .before .loop in
-    let loop-test = c .before .before .before .before .loop-test in
-    let weigh-value = c .before .before .before .weigh-value in
-    let n = c .before .n in
+    let loop = c .before .before .before .before .before .loop in let loop-test = c .before .before .before .before .loop-test in
+    let weigh-value = c .before .before .before .weigh-value in let n = c .before .n in
     add-goes _ _ _ _ _ _ _ _ (loop .inv) (loop-test .taken) _ (weigh-value .ensures) _ (n .given .1)
 
 returns-2 : tie.Need-returns-2 Inv-loop μ-loop
@@ -57,17 +49,5 @@ pub weigh-spec : {M : Type 1} → statement M
 weigh-spec =
     tie.close
     (tie.spec
-    Inv-loop
-    μ-loop
-    mul-first
-    (λ c. add-starts _ _ _ _ _ _)
-    add-weigh-value
-    weigh-value-requires
-    (λ c. search needs)
-    (λ c. search needs)
-    (λ c. adds-nothing _ _ _ _ _ _)
-    add-bytes
-    (λ c. search needs)
-    (λ c. search needs)
-    loop-again
-    returns-2)
+    Inv-loop μ-loop mul-first (λ c. add-starts _ _ _ _ _ _) add-weigh-value weigh-value-requires (λ c. search needs) (λ c. search needs)
+    (λ c. adds-nothing _ _ _ _ _ _) add-bytes (λ c. search needs) (λ c. search needs) loop-again returns-2)
