@@ -76,6 +76,16 @@ pub record Decoded (X b : ℕ) : Type 0 where
   pub low : b < 16777216 → b ≡ X
   pub high : 16777216 ≤ b → ((b % 8388608 + 8388608) * 2 ^ (b / 8388608 - 1) ≡ X) × (b / 8388608 - 1 < 254)
 
+-- the exponent's fields 0 and 1 have the same place, so the leading digit may be told apart from 2 ^ 23 on
+pub led : {X b : ℕ} → Decoded X b → 8388608 ≤ b → ((b % 8388608 + 8388608) * 2 ^ (b / 8388608 - 1) ≡ X) × (b / 8388608 - 1 < 254)
+led {X} {b} d h = elim (le-or-lt 16777216 b) [ inl g ↦ d .high g | inr g ↦ (ap (λ (k : ℕ). (b % 8388608 + 8388608) * 2 ^ k) (none b g h) ∙ one b g h ∙ d .low g, omega (arith, none b g h)) ]
+  where
+    none : (b : ℕ) → b < 16777216 → 8388608 ≤ b → b / 8388608 - 1 ≡ 0
+    none b g h = omega arith
+
+    one : (b : ℕ) → b < 16777216 → 8388608 ≤ b → (b % 8388608 + 8388608) * 1 ≡ b
+    one b g h = omega arith
+
 few-digits : (X b : ℕ) → 0 < X → size X ≤ 24 → b ≡ (size X - 24) * 8388608 + X / 2 ^ (size X - 24) → Decoded X b
 few-digits X b P h e =
     let f : b ≡ X = e ∙ ap (λ (k : ℕ). k * 8388608 + X / 2 ^ k) (none (size X) h) ∙ plain (X / 1) (div-one X) in

@@ -116,6 +116,19 @@ nearest-is n r P h = go (ltb (r * r + r) n) (ltb→lt (r * r + r) n) (nltb→le 
         record { low = omega arith; high = omega arith }
     go false on off = record { low = not-zero (h .0) (off tt); high = off tt }
 
+le-nearest : {n r s : ℕ} → IsNearest n r → IsNearest n s → r ≤ s
+le-nearest {n} {r} {s} h k = elim (le-or-lt r s) [ inl g ↦ g | inr g ↦ absurd (over g) ]
+  where
+    over : s < r → ⊥
+    over l =
+        let g : s + 1 ≤ r = omega arith in
+        let p : (s + 1) * s ≤ r * s = mul-le-mul-right s g in
+        let q : r * (s + 1) ≤ r * r = mul-le-mul-left r g in
+        omega (arith, add-mul s 1 s, mul-add r s 1, h .low, k .high)
+
+pub one-nearest : {n r s : ℕ} → IsNearest n r → IsNearest n s → r ≡ s
+one-nearest h k = le-antisymm (le-nearest h k) (le-nearest k h)
+
 pub nearestRoot-is : (n : ℕ) → 0 < n → n < 2 ^ 48 → IsNearest n (nearestRoot n)
 unfolding nearestRoot
 nearestRoot-is n P h = nearest-is n (wholeRoot 24 n) P (wholeRoot-is 24 n h)
