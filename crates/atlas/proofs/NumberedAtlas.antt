@@ -1,13 +1,10 @@
 -- Which numbers a lookup through an atlas can be refused with, whatever the words are: those of a lookup through an index. Assumes nothing.
-use Prim.Native.Nat.{ℕ, _/_}
-use lib.{Dec.{eqb}, ListN.{length}}
-use mathlib.Core.{Bool.{Bool, false}, List.{List, []}, Path.{_≡_, refl}}
+use Rattle.numbers.proofs.Prelude.{ℕ, _/_, eqb, length, Bool, false, List, [], _≡_, refl}
+use Rattle.numbers.{proofs.{Refusals.{Listed, either}, Replies.{answers, then-reply, and-then, demands, number-of}}, specs.{Reply.{refused, plain}, declared.refusal.Refusal.{Refusal}}}
 use Rattle.border.specs.declared.place.Point.{Point}
 use Rattle.header.specs.declared.header.Head.{Head}
 use Rattle.index.proofs.NumberedThrough.{throughNumbers, Known, Numbered, place-numbered, seeks, cut, opened}
 use Rattle.marks.proofs.NumberedMarks.{marked-numbered}
-use Rattle.numbers.proofs.{Refusals.{Listed, either}, Replies.{answers, then-reply, and-then, demands, number-of}}
-use Rattle.numbers.specs.{Reply.{refused, plain}, declared.refusal.Refusal.{Refusal}}
 use Rattle.table.specs.{Find.{fixOf, isPrecision}, Hits.{width}, MarkedRows.{markFor, judgeMarked, judgeNumbered, rowNumbered, searchedMarked, matchedMarked}, Search.{farthest}}
 use Rattle.table.specs.declared.location.Location.{Location}
 use Rattle.verdict.proofs.Numbered.{NumberedJudgement, judged-numbered}
@@ -28,8 +25,7 @@ module _ (file : List ℕ) (head : Head) (plainly : head .strict ≡ false) wher
 
   matched : (location : Location) (asked : Bool) (records numbers marks : List ℕ) (room : ℕ) → Numbered (matchedMarked file head location asked records numbers marks room)
   unfolding matchedMarked searchedMarked
-  matched location asked records numbers marks room =
-      let fix = fixOf location (head .preamble .precision) in
+  matched location asked records numbers marks room = let fix = fixOf location (head .preamble .precision) in
       and-then (demands (isPrecision (head .preamble .precision)) (plain 16) refl)
       (then-reply (seeks (judgeNumbered file head fix asked records marks) fix (judges fix asked records marks) rowNumbered room records numbers farthest []) (λ found. answers))
 

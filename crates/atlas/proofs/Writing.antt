@@ -1,9 +1,7 @@
 -- The loop that writes the marks of a border. Assumes nothing.
-use Prim.Native.Nat.{ℕ, _+_, _*_, _-_, _^_, _<_}
-use native.Mathlib.Omega.{arith}
-use mathlib.Core.{Path.{_≡_, sym, subst}, List.{List, [], _∷_, _++_}}
-use Rattle.border.specs.declared.reader.{Reader.{Reader}, Encoding.{Encoding}}
-use Rattle.writer.{specs.inner.Stored.{Stored}, proofs.Stores.{Left, left-step, left-none, stored-then}}
+use Rattle.numbers.proofs.Prelude.{ℕ, _+_, _-_, _*_, _^_, _<_, List, [], _∷_, _++_, _≡_, subst, arith}
+use Rattle.border.specs.declared.reader.{Encoding.{Encoding}, Reader.{Reader}}
+use Rattle.writer.{proofs.Stores.{Left, left-step, left-none, stored-then}, specs.inner.Stored.{Stored}}
 use Rattle.marks.specs.Marks.{Span, spanFrom, markOf, marksFrom, counted}
 use Rattle.atlas.proofs.Standing.{next-marks, no-marks, counted-some}
 

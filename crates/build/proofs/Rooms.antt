@@ -1,12 +1,8 @@
 -- The room of the working lists, list by list; sums of lengths. Assumes nothing.
-use Prim.Native.Nat.{ℕ, zero, suc, _+_, _-_, _*_, _/_, _^_, _≤_, _<_}
-use borrow.Author.Tests.{le-leb, lt-leb, le-ltb, lt-ltb, ltb-true, leb-true}
-use lib.{Dec.{ltb, leb}, ListN.{length, take, drop, getD}, Seq.{drop-cons, drop-length}}
-use mathlib.Core.{Bool.{Bool, true, false, _&&_}, List.{List, [], _∷_}, Path.{_≡_, refl, sym, ap, subst, _∙_}}
-use native.Mathlib.{Numerals.{add-one}, Omega.{arith}}
-use Rattle.builder.specs.Yards.{sumOf}
-use Rattle.build.specs.{Room.{enough, needOf}, declared.room.{Work.{Work}, Need.{Need}}}
-use Rattle.builder.proofs.Sums.{sum-next}
+use Rattle.numbers.proofs.Prelude.{ℕ, zero, suc, _+_, _*_, _/_, _≤_, _<_, lt-ltb, le-leb, le-ltb, lt-leb, leb, length, take, drop, getD, drop-length, Bool, false, List, [], _∷_, _≡_, refl, ap, _∙_}
+use Rattle.numbers.proofs.Prelude.{add-one, arith}
+use Rattle.builder.{proofs.Sums.{sum-next}, specs.Yards.{sumOf}}
+use Rattle.build.specs.{Room.{enough, needOf}, declared.room.{Need.{Need}, Work.{Work}}}
 
 module _ (w : Work) (count fields bytes : ℕ) where
   pub no-starts : w .starts ≤ fields → false ≡ enough w count fields bytes
@@ -122,10 +118,8 @@ module _ (lengths : List ℕ) (sum i : ℕ) (s : Summing lengths sum i) where
 
   pub sum-ends : length lengths ≤ i → sum ≡ sumOf lengths
   unfolding sumOf
-  sum-ends h =
-      let e : i ≡ length lengths = omega (arith, s .index) in
-      let none : sumOf (drop i lengths) ≡ 0 = ap sumOf (ap (λ (k : ℕ). drop k lengths) e ∙ drop-length lengths) in
-      omega (arith, s .left, none)
+  sum-ends h = let e : i ≡ length lengths = omega (arith, s .index) in
+      let none : sumOf (drop i lengths) ≡ 0 = ap sumOf (ap (λ (k : ℕ). drop k lengths) e ∙ drop-length lengths) in omega (arith, s .left, none)
 
 -- ---- what a plan needs
 pub sum-front : (a b : ℕ) (list : List ℕ) → a ≤ b → sumOf (take a list) ≤ sumOf (take b list)

@@ -1,13 +1,7 @@
 -- The first of equal ones, found among those that have one key: nothing is asked of a key but that equal ones share it. Assumes nothing.
-use Prim.Native.Nat.{ℕ, suc, _≤_, _<_}
-use borrow.Author.Tests.{eqb-false, ne-eqb}
-use lib.{Dec.{eqb}, ListN.{length}}
-use mathlib.Core.{Bool.{Bool, true, false}, List.{List, [], _∷_, _++_}, Path.{_≡_, refl, sym, ap, subst, _∙_}}
-use native.Mathlib.Omega.{arith}
-use Rattle.layout.{proofs.Orders.{sorted-rises, sorted-kept}, specs.Order.{sortedBy, Under, Rising, keptBy}}
-use Rattle.numbers.specs.Answer.{if_then_else_}
+use Rattle.numbers.{proofs.{Prelude.{ℕ, eqb-false, eqb, Bool, true, false, List, [], _∷_, _≡_, refl, sym, ap, _∙_}, Tests.{fails}}, specs.Answer.{if_then_else_}}
+use Rattle.layout.{proofs.Orders.{sorted-kept}, specs.Order.{sortedBy, keptBy}}
 use Rattle.builder.specs.Sharing.{firstWith}
-use Rattle.numbers.proofs.Tests.{fails}
 
 module _ {A : Type 0} (key : A → ℕ) where
   -- ---- the first good one has this key

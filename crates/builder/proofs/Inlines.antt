@@ -1,11 +1,8 @@
 -- Texts that go into the output one after another. Assumes nothing.
-use Prim.Native.Nat.{ℕ, suc, _+_, _-_, _*_, _^_, _≤_, _<_}
-use lib.{ListN.{length, take, drop, getD, length-append, length-drop, length-map}, Seq.{drop-cons, drop-length, drop-drop, length-take-le}, Dec.{eqb}}
-use borrow.Author.Tests.{eq-eqb, ne-eqb}
-use mathlib.Core.{Bool.{Bool, true, false}, List.{List, [], _∷_, _++_, map, flatMap}, Path.{_≡_, refl, ap, subst, _∙_}}
-use native.Mathlib.{Numerals.{add-one}, Omega.{arith}}
+use Rattle.numbers.proofs.Prelude.{ℕ, suc, _+_, _-_, _*_, _^_, _≤_, _<_, eq-eqb, ne-eqb, eqb, length, take, drop, getD, length-append, length-drop, length-map, length-take-le, drop-cons, drop-length}
+use Rattle.numbers.proofs.Prelude.{drop-drop, Bool, true, false, List, [], _∷_, _++_, map, flatMap, _≡_, refl, ap, subst, _∙_, add-one, arith}
+use Rattle.numbers.{proofs.Spelling.{varint-few}, specs.{Answer.{if_then_else_}, Spelling.{varintOf}}}
 use Rattle.writer.{proofs.Stores.{Left, left-all, left-step, left-none}, specs.inner.Stored.{Stored}}
-use Rattle.numbers.{proofs.Spelling.{varint-few}, specs.{Spelling.{varintOf}, Answer.{if_then_else_}}}
 use Rattle.header.specs.Utf8.{unmasked}
 use Rattle.builder.specs.{Metadata.{inlined, joinedFrom, wordBytes}, Yards.{Text, cutBy, sumOf}}
 use Rattle.builder.proofs.Sums.{sum-next}
@@ -18,11 +15,10 @@ inlined-few text = omega (arith, length-append (varintOf (length text)) (map unm
 -- by its word
 pub word-few : (records word : ℕ) (text : List ℕ) → length (wordBytes records word text) ≤ 10 + length text
 unfolding wordBytes
-word-few records word text = go (eqb word 0)
-  where
-    go : (none : Bool) → length (if none then inlined text else varintOf (255 + records + word)) ≤ 10 + length text
-    go true = inlined-few text
-    go false = omega (arith, varint-few (255 + records + word))
+word-few records word text = go (eqb word 0) where
+  go : (none : Bool) → length (if none then inlined text else varintOf (255 + records + word)) ≤ 10 + length text
+  go true = inlined-few text
+  go false = omega (arith, varint-few (255 + records + word))
 
 -- all inline
 pub joined-inlined : (i : ℕ) (ts : List Text) → joinedFrom (λ k. inlined) i ts ≡ flatMap inlined ts
@@ -63,15 +59,12 @@ module _ (bytes : ℕ → Text → List ℕ) where
     cuts : joinedFrom bytes i (cutBy (drop i lengths) (drop at texts)) ≡ bytes i (take (at + getD lengths i 0 - at) (drop at texts)) ++ joinedFrom bytes (suc i)
         (cutBy (drop (suc i) lengths) (drop (at + getD lengths i 0) texts))
     unfolding cutBy joinedFrom
-    cuts =
-        let size : at + getD lengths i 0 - at ≡ getD lengths i 0 = omega arith in
-        ap (λ (ls : List ℕ). joinedFrom bytes i (cutBy ls (drop at texts))) rest
-        ∙ rw (size, drop-drop (getD lengths i 0) at texts)
+    cuts = let size : at + getD lengths i 0 - at ≡ getD lengths i 0 = omega arith in
+        ap (λ (ls : List ℕ). joinedFrom bytes i (cutBy ls (drop at texts))) rest ∙ rw (size, drop-drop (getD lengths i 0) at texts)
 
     pub inlines-go : ((k : ℕ) (t : Text) → length (bytes k t) ≤ 10 + length t) → (after : List ℕ) (later : ℕ) →
         Stored now next (bytes i (take (at + getD lengths i 0 - at) (drop at texts))) after later → Inlining before place lengths texts after later (at + getD lengths i 0) (i + 1)
-    inlines-go few after later s =
-        let t = take (at + getD lengths i 0 - at) (drop at texts) in
+    inlines-go few after later s = let t = take (at + getD lengths i 0 - at) (drop at texts) in
         rw (add-one i) (record {
           index = omega arith;
           left = left-step (bytes i t) (subst (λ (r : List ℕ). Left before place (joinedFrom bytes 0 (cutBy lengths texts)) now next r) cuts (l .left)) s;
@@ -82,8 +75,7 @@ module _ (bytes : ℕ → Text → List ℕ) where
   pub inlines-end : (before : List ℕ) (place : ℕ) (lengths texts now : List ℕ) (next at i : ℕ) → Inlining before place lengths texts now next at i → length lengths ≤ i →
       Stored before place (joinedFrom bytes 0 (cutBy lengths texts)) now next
   unfolding cutBy joinedFrom
-  inlines-end before place lengths texts now next at i l h =
-      let e : i ≡ length lengths = omega (arith, l .index) in
+  inlines-end before place lengths texts now next at i l h = let e : i ≡ length lengths = omega (arith, l .index) in
       left-none (subst (λ (r : List ℕ). Left before place (joinedFrom bytes 0 (cutBy lengths texts)) now next r)
       (ap (λ (ls : List ℕ). joinedFrom bytes i (cutBy ls (drop at texts))) (ap (λ (n : ℕ). drop n lengths) e ∙ drop-length lengths)) (l .left))
 

@@ -1,8 +1,5 @@
 -- Bytes that go into the output one after another. Assumes nothing.
-use Prim.Native.Nat.{ℕ, _+_, _≤_, _<_}
-use lib.{ListN.{length, getD, drop}, Seq.{set-out, drop-cons, drop-length}}
-use mathlib.Core.{List.{List, [], _∷_, map}, Path.{_≡_, refl, sym, ap, subst, _∙_}}
-use native.Mathlib.{Numerals.{add-one}, Omega.{arith}}
+use Rattle.numbers.proofs.Prelude.{ℕ, _+_, _≤_, _<_, length, drop, getD, drop-cons, drop-length, set-out, List, [], _∷_, map, _≡_, refl, sym, ap, subst, _∙_, add-one, arith}
 use Rattle.writer.{proofs.Stores.{Left, left-all, left-step, left-none}, specs.inner.Stored.{Stored}}
 
 -- a byte past the end is only counted
@@ -28,8 +25,7 @@ module _ (f : ℕ → ℕ) where
   }
 
   pub put-ends : (before : List ℕ) (place : ℕ) (items now : List ℕ) (next i : ℕ) → Putting before place items now next i → length items ≤ i → Stored before place (map f items) now next
-  put-ends before place items now next i p h =
-      let e : i ≡ length items = omega (arith, p .index) in
+  put-ends before place items now next i p h = let e : i ≡ length items = omega (arith, p .index) in
       left-none (subst (λ (rest : List ℕ). Left before place (map f items) now next rest) (ap (λ (n : ℕ). map f (drop n items)) e ∙ ap (map f) (drop-length items)) (p .left))
 
 abbrev pub itself : ℕ → ℕ

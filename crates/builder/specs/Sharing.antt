@@ -1,8 +1,5 @@
 -- What is found twice: equal texts, equal records, and the first of each. "Equal means the same texts, byte for byte, field by field."
-use Prim.Native.Nat.{ℕ, _+_}
-use mathlib.Core.{Bool.{Bool, true, false, _&&_, _||_}, List.{List, [], _∷_}}
-use lib.Dec.{eqb}
-use Rattle.numbers.specs.Answer.{if_then_else_}
+use Rattle.numbers.specs.{Answer.{if_then_else_}, Prelude.{ℕ, _+_, eqb, Bool, true, false, _&&_, _||_, List, [], _∷_}}
 use Rattle.builder.specs.Yards.{Text}
 
 -- two lists have the same items, in turn

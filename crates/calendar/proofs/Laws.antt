@@ -1,11 +1,6 @@
 -- The count of the days in closed form. Assumes nothing.
-use Prim.Native.Nat.{ℕ, zero, suc, _+_, _-_, _*_, _/_, _%_, _≤_}
-use borrow.Author.Tests.{eqb-true, eqb-false}
-use lib.Dec.{eqb}
-use mathlib.Core.{Bool.{Bool, true, false}, Path.{_≡_, refl, sym}}
-use native.Mathlib.Omega.{arith}
+use Rattle.numbers.{proofs.Prelude.{ℕ, zero, suc, _+_, _-_, _*_, _/_, _%_, _≤_, eqb-true, eqb-false, eqb, Bool, true, false, _≡_, refl, sym, arith}, specs.Answer.{if_then_else_}}
 use Rattle.calendar.specs.Calendar.{isLeap, yearLength, daysOfYears, nextWeekday, weekdayOf}
-use Rattle.numbers.specs.Answer.{if_then_else_}
 
 -- the days of the years from 1 to this one, in closed form
 abbrev pub closed : ℕ → ℕ

@@ -1,14 +1,8 @@
 -- The sums that the code works out. Assumes nothing.
-use Prim.Native.Nat.{ℕ, suc, _+_, _-_, _*_, _≤_, _<_}
-use borrow.Author.Tests.{lt-ltb, le-ltb}
-use lib.Dec.{ltb}
-use mathlib.Core.{Bool.{Bool, true, false}, Path.{_≡_, ap, sym, _∙_}}
-use native.Mathlib.Omega.{arith}
-use Rattle.calendar.proofs.{Months.{month-short, months-up, year-length}, Rising.{rises}, Laws.{mean-high}, Within.{weeks-long}}
-use Rattle.calendar.specs.{Calendar.{isLeap, monthLength, daysOfYears, daysOfMonths}, Rules.{leapDay, lastOn, firstOf, weeksOf, dayOf, IsMonth, IsWhen}}
-use Rattle.calendar.specs.declared.rule.When.{When, the-variants.{Julian, Zero, Month}}
-use Rattle.numbers.specs.Answer.{if_then_else_}
-use native.Mathlib.Numerals.{add-one}
+use Rattle.numbers.{proofs.Prelude.{ℕ, suc, _+_, _-_, _*_, _≤_, _<_, lt-ltb, le-ltb, ltb, Bool, true, false, _≡_, sym, ap, _∙_, add-one, arith}, specs.Answer.{if_then_else_}}
+use Rattle.calendar.proofs.{Laws.{mean-high}, Months.{month-short, months-up, year-length}, Rising.{rises}, Within.{weeks-long}}
+use Rattle.calendar.specs.{Calendar.{isLeap, monthLength, daysOfYears, daysOfMonths}, Rules.{leapDay, lastOn, firstOf, weeksOf, dayOf, IsMonth, IsWhen}, declared.rule.When.{When}}
+use Rattle.calendar.specs.declared.rule.When.the-variants.{Julian, Zero, Month}
 
 -- the year that follows so many is a leap year, as the code finds
 module _ (year : ℕ) {leap : Bool} (kind : leap ≡ isLeap (year + 1)) where
@@ -59,12 +53,11 @@ weeks-few year month week weekday m = omega (arith, weeks-long year month week w
 
 pub leap-few : (year n : ℕ) → leapDay year n ≤ 1
 unfolding leapDay
-leap-few year n = few (isLeap (suc year)) (ltb n 60)
-  where
-    few : (leap early : Bool) → (if leap then (if early then 0 else 1) else 0) ≤ 1
-    few true true = omega arith
-    few true false = omega arith
-    few false early = omega arith
+leap-few year n = few (isLeap (suc year)) (ltb n 60) where
+  few : (leap early : Bool) → (if leap then (if early then 0 else 1) else 0) ≤ 1
+  few true true = omega arith
+  few true false = omega arith
+  few false early = omega arith
 
 pub month-sum : (year month week weekday : ℕ) {first weeks day : ℕ} → first ≡ firstOf year month → weeks ≡ weeksOf year month week → day ≡ lastOn weekday (first + weeks - 1) →
     day ≡ dayOf (Month month week weekday) year

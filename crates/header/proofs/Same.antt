@@ -1,10 +1,8 @@
 -- Two replies that a promise permits are equal. Assumes nothing.
-use mathlib.Core.{Bool.{Bool}, Path.{_≡_, refl, sym, ap, _∙_}, List.{List}}
-use Prim.Native.Nat.{ℕ}
-use Rattle.numbers.specs.{Answer.{Answer, found, failed}, Reply.{Reply, given, refused}}
+use Rattle.numbers.{proofs.Prelude.{ℕ, Bool, List, _≡_, refl, sym, ap, _∙_}, specs.{Answer.{Answer, found, failed}, Reply.{Reply, given, refused}}}
+use Rattle.header.specs.{Opening.{Replied, replied, toldOpened, openedOf, openedStrictly}, Text.{toldText, stringAt}, declared.opening.{Opened.{Opened}, Opening.{Opening}}}
+use Rattle.header.specs.declared.text.{String.{String}, Text.{Text}}
 use Rattle.numbers.specs.Answer as A
-use Rattle.header.specs.{Text.{toldText, stringAt}, Opening.{Replied, replied, toldOpened, openedOf, openedStrictly}}
-use Rattle.header.specs.declared.{text.{Text.{Text}, String.{String}}, opening.{Opening.{Opening}, Opened.{Opened}}}
 use Rattle.header.specs.declared.text.String.the-variants as S
 use Rattle.header.specs.declared.opening.Opened.the-variants as O
 

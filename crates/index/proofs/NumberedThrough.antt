@@ -1,19 +1,12 @@
 -- Which numbers a lookup through an index can be refused with, whatever the words are. Assumes nothing.
-use Prim.Native.Nat.{ℕ, zero, suc, _+_, _-_, _/_}
-use lib.{Dec.{ltb, leb, eqb}, ListN.{length}}
-use mathlib.Core.{Bool.{Bool, true, false}, List.{List, [], _∷_, _++_}, Path.{_≡_, refl, sym, _∙_}}
-use Rattle.numbers.proofs.Tests.{differ}
+use Rattle.numbers.proofs.{Prelude.{ℕ, _/_, ltb, length, Bool, true, false, List, [], _∷_, _++_, _≡_, refl, sym, _∙_}, Refusals.{Listed, still-listed, either}, Replies.{NumberedReply, answers}}
+use Rattle.numbers.{proofs.{Replies.{refuses, then-reply, then-with, and-then, demands, number-of}, Tests.{differ}}, specs.{Reply.{Reply, refused, plain, _>>=_}, declared.refusal.Refusal.{Refusal}}}
 use Rattle.border.specs.declared.place.Point.{Point}
-use Rattle.verdict.{proofs.Numbered.{NumberedJudgement, judged, unjudged, not-judged, judged-numbered}, specs.Verdict.{Judgement}}
-use Rattle.numbers.proofs.{Refusals.{Listed, still-listed, either}, Replies.{NumberedReply, answers, refuses, then-reply, then-with, and-then, demands, number-of}}
-use Rattle.numbers.specs.{Reply.{Reply, given, refused, plain, _>>=_}, declared.refusal.Refusal.{Refusal}}
-use Rattle.header.proofs.{Numbered.{headerNumbers, text-numbered, head-numbered}, StrictHead.{head-strict}}
-use Rattle.header.specs.{Field.{field, fieldAt}, Header.{headOf}, Text.{bytesOf}, declared.header.Head.{Head}}
-use Rattle.table.specs.{Find.{fixOf, isPrecision}, GivenRows.{rowAt, rowsBy, searchedListed, matchedListed}, Hits.{width}, Rows.{Rows, row}}
-use Rattle.table.specs.{Search.{kindOf, judgedTurn, rowTurn, Found, afterTurn, judgeIn, farthest}, Table.{holds}, Unstopped.{seekAll}}
-use Rattle.table.specs.declared.{hits.Hit.{Hit}, location.Location.{Location}, rows.Row.{Row}, search.Turn.{the-variants.{On, Met, Stopped, Refused}, Turn}}
-use Rattle.zones.proofs.NumberedLookup.{lookupNumbers, row-turn, after-turn, replied-numbered, fields}
-use Rattle.zones.specs.{Fields.{fieldsPlace, fieldsFrom, fieldsOf}, Lent.{Outcome, repliedOf}, Lookup.{zonesListed}}
+use Rattle.verdict.{proofs.Numbered.{NumberedJudgement, judged-numbered}, specs.Verdict.{Judgement}}
+use Rattle.header.{proofs.{Numbered.{headerNumbers, head-numbered}, StrictHead.{head-strict}}, specs.{Header.{headOf}, declared.header.Head.{Head}}}
+use Rattle.table.specs.{Find.{fixOf, isPrecision}, GivenRows.{rowAt, rowsBy, searchedListed, matchedListed}, Hits.{width}, Rows.{Rows, row}, Search.{judgeIn, farthest}, Unstopped.{seekAll}}
+use Rattle.table.specs.declared.{hits.Hit.{Hit}, location.Location.{Location}, rows.Row.{Row}}
+use Rattle.zones.{proofs.NumberedLookup.{lookupNumbers, row-turn, after-turn, replied-numbered, fields}, specs.Lookup.{zonesListed}}
 use Rattle.index.specs.{Through.{isInside, placeOf, zonesThrough, lookedThrough, lookedIndexed}, Tied.{isHeaded, isTied, tiedWith}, Tiles.{tileOf}}
 use Rattle.table.specs.Rows as T
 
@@ -37,10 +30,8 @@ module _ (file : List ℕ) (head : Head) (words : List ℕ) where
 
   pub place-numbered : (location : Location) → Numbered (placeOf (length file) head words location)
   unfolding placeOf
-  place-numbered location =
-      let precision = head .preamble .precision in
-      and-then (demands (isPrecision precision) (plain 16) refl)
-      (and-then (demands (isHeaded words (head .sections .metadata) (length file)) (plain 36) refl)
+  place-numbered location = let precision = head .preamble .precision in
+      and-then (demands (isPrecision precision) (plain 16) refl) (and-then (demands (isHeaded words (head .sections .metadata) (length file)) (plain 36) refl)
       (and-then (demands (isInside words (tileOf precision (fixOf location precision))) (plain 36) refl) answers))
 
 -- ---- the search of given rows
@@ -54,9 +45,8 @@ module _ (judge : ℕ → ℕ → Judgement) (fix : Point) (judges : (place leas
   unfolding rowsBy seekAll
   seeks rowOf room records [] = λ least hits. answers
   seeks rowOf room records (k ∷ numbers) =
-      either (Sought room) (ltb k (length records / 7)) {a = row (rowOf records k) (rowsBy rowOf records numbers)} {b = T.refused 36}
-      (λ least hits. after-turn refl hits room (row-turn judge fix judges (rowOf records k) least) (seeks rowOf room records numbers))
-      (λ least hits. refuses refl)
+      either (Sought room) (ltb k (length records / 7)) {a = row (rowOf records k) (rowsBy rowOf records numbers)} {b = T.refused 36} (λ least hits. after-turn
+      refl hits room (row-turn judge fix judges (rowOf records k) least) (seeks rowOf room records numbers)) (λ least hits. refuses refl)
 
 -- ---- a file that was read plainly: no number of it is 31
 module _ (file : List ℕ) (head : Head) (plainly : head .strict ≡ false) where
@@ -65,8 +55,7 @@ module _ (file : List ℕ) (head : Head) (plainly : head .strict ≡ false) wher
 
   matches : (location : Location) (asked : Bool) (records numbers : List ℕ) (room : ℕ) → Numbered (matchedListed file head location asked records numbers room)
   unfolding matchedListed searchedListed
-  matches location asked records numbers room =
-      let fix = fixOf location (head .preamble .precision) in
+  matches location asked records numbers room = let fix = fixOf location (head .preamble .precision) in
       and-then (demands (isPrecision (head .preamble .precision)) (plain 16) refl)
       (then-reply (seeks (judgeIn file head fix asked) fix (λ place least. judged-numbered refl refl file _ cut _ _ _ asked least) rowAt room records numbers farthest []) (λ found. answers))
 
@@ -88,13 +77,10 @@ module _ (file words : List ℕ) (location : Location) (asked : Bool) (n room : 
   -- A lookup through an index that is not answered is refused with one of these, whatever the words are,
   pub through-refusals : lookedThrough file words location asked n room .reply ≡ refused why → Listed throughNumbers (why .number)
   unfolding lookedThrough
-  through-refusals =
-      number-of (replied-numbered n room (opened file _ (λ head plainly. zones-numbered file head plainly words location asked n room)))
+  through-refusals = number-of (replied-numbered n room (opened file _ (λ head plainly. zones-numbered file head plainly words location asked n room)))
 
   -- and so is one that compares header and table first.
   pub indexed-refusals : lookedIndexed file words location asked n room .reply ≡ refused why → Listed throughNumbers (why .number)
   unfolding lookedIndexed
   indexed-refusals =
-      number-of
-      (replied-numbered n room
-      (opened file _ (λ head plainly. and-then (tie-numbered file head words) (zones-numbered file head plainly words location asked n room))))
+      number-of (replied-numbered n room (opened file _ (λ head plainly. and-then (tie-numbered file head words) (zones-numbered file head plainly words location asked n room))))

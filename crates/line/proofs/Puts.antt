@@ -1,19 +1,15 @@
 -- Bytes that go into a lent buffer one after another. Assumes nothing.
-use Prim.Native.Nat.{ℕ, suc, _+_, _≤_, _<_, min, max}
-use native.Mathlib.{Nat.{add-zero}, Numerals.{add-one}, Omega.{arith}}
-use mathlib.Core.{Path.{_≡_, refl, sym, ap, _∙_, subst}, Bool.{Bool, true, false}, List.{List, [], _∷_, _++_}}
-use lib.{Dec.{leb}, ListN.{length, set, getD, take, drop, length-append}, Seq.{sets, length-sets, set-out, sets-eq, take-suc, take-at}}
-use borrow.Author.Tests.{leb-true, leb-false}
+use Rattle.numbers.proofs.{Lists.{sets-append, sets-past}, Prelude.{ℕ, _+_, _≤_, _<_, min, leb-true, leb-false, leb, length, take, drop, getD, length-append, sets, take-at, take-suc, length-sets}}
+use Rattle.numbers.proofs.Prelude.{sets-eq, set-out, Bool, true, false, List, [], _∷_, _++_, _≡_, refl, sym, ap, subst, _∙_, add-one, arith}
+use Prim.Native.Nat.{max}
 use Rattle.line.specs.Put.{far, Put}
-use Rattle.numbers.proofs.Lists.{sets-append, sets-past}
 
 -- from the place that was answered as from the place behind all bytes
 from-there : (ys now : List ℕ) (next far : ℕ) → next ≤ far → (next < length now → next ≡ far) → sets now next ys ≡ sets now far ys
-from-there ys now next far le e = go (leb (length now) next) refl
-  where
-    go : (t : Bool) → leb (length now) next ≡ t → sets now next ys ≡ sets now far ys
-    go true l = let h = leb-true (length now) next l in sets-past ys now next h ∙ sym (sets-past ys now far (omega (arith, h, le)))
-    go false l = ap (λ (n : ℕ). sets now n ys) (e (leb-false (length now) next l))
+from-there ys now next far le e = go (leb (length now) next) refl where
+  go : (t : Bool) → leb (length now) next ≡ t → sets now next ys ≡ sets now far ys
+  go true l = let h = leb-true (length now) next l in sets-past ys now next h ∙ sym (sets-past ys now far (omega (arith, h, le)))
+  go false l = ap (λ (n : ℕ). sets now n ys) (e (leb-false (length now) next l))
 
 module _ {before bytes after : List ℕ} {at next : ℕ} (p : Put before at bytes after next) where
   pub put-length : length after ≡ length before
@@ -66,14 +62,12 @@ put-size p h = omega (arith, p .place-after)
 
 pub put-whole : {before bytes after : List ℕ} {next : ℕ} → Put before 0 bytes after next → length before < far → next ≤ length before →
     (next ≡ length bytes) × (after ≡ bytes ++ drop (length bytes) before)
-put-whole {before} {bytes} {after} {next} p short fits =
-    let n : next ≡ length bytes = omega (arith, p .place-after) in
+put-whole {before} {bytes} {after} {next} p short fits = let n : next ≡ length bytes = omega (arith, p .place-after) in
     (n, p .stored ∙ sets-eq bytes before 0 (omega arith) ∙ ap (λ (k : ℕ). bytes ++ drop k before) (let e : 0 + length bytes ≡ length bytes = omega arith in e))
 
 -- what stands at the front, whole
 pub put-front : {before bytes after : List ℕ} {next : ℕ} → Put before 0 bytes after next → length bytes ≤ length before → (next ≡ length bytes) × (take next after ≡ bytes)
-put-front {before} {bytes} {after} {next} p h =
-    let n : next ≡ length bytes = omega (arith, p .place-after) in
+put-front {before} {bytes} {after} {next} p h = let n : next ≡ length bytes = omega (arith, p .place-after) in
     (n, ap (λ (xs : List ℕ). take next xs) (p .stored ∙ sets-eq bytes before 0 (omega arith)) ∙ take-at bytes (drop (0 + length bytes) before) next (sym n))
 
 -- two outcomes that the promise of a function that puts bytes permits are equal: the place after them and all of the buffer

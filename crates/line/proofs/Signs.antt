@@ -1,10 +1,6 @@
 -- An i32 by its bits, below zero or not. Assumes nothing.
-use Prim.Native.Nat.{ℕ, suc, _-_, _^_, _≤_}
-use borrow.Author.Tests.{ltb-true}
-use lib.{IntN.{ℤ, pos, negsuc}, Signed.{ltZ}}
-use mathlib.Core.{Bool.{true, false}, Path.{_≡_, refl, ap, sym}}
-use mir.{Syntax.{w32}, Val.{SFits, toZ, ofZ}, ValLaws.{toZ-ofZ, ofZ-fits}}
-use native.Mathlib.Omega.{arith}
+use Rattle.numbers.proofs.Prelude.{ℕ, suc, _-_, _^_, _≤_, ltb-true, ℤ, pos, negsuc, ltZ, true, false, _≡_, refl, w32, SFits, ofZ, toZ, toZ-ofZ, arith}
+use mir.ValLaws.{ofZ-fits}
 
 -- a negative one: its size is what its bits lack of 2 ^ 32
 pub record Negative (z : ℤ) (bits : ℕ) : Type 0 where

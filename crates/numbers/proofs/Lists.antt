@@ -1,8 +1,5 @@
 -- Lists: empty ones, zeros, and words that are stored one after another. Assumes nothing.
-use mathlib.Core.{List.{List, [], _∷_, _++_}, Path.{_≡_, refl, sym, ap, _∙_}}
-use Prim.Native.Nat.{ℕ, zero, suc, _+_, _-_, _≤_}
-use native.Mathlib.{Nat.{add-zero, sub-zero}, Omega.{arith}}
-use lib.{ListN.{length, getD, set, drop}, Seq.{sets, set-out}}
+use Rattle.numbers.proofs.Prelude.{ℕ, zero, suc, _+_, _-_, _≤_, length, drop, getD, set, sets, set-out, List, [], _∷_, _++_, _≡_, refl, sym, ap, _∙_, add-zero, sub-zero, arith}
 use Rattle.numbers.specs.Lists.{zeros}
 
 pub none-left : (l : List ℕ) → length l ≡ 0 → l ≡ []

@@ -1,8 +1,5 @@
 -- What a reply that was taken apart says of the reply that follows it, and which numbers it can be refused with. Assumes nothing.
-use mathlib.Core.{Path.{_≡_, refl, ap, subst}, Bool.{Bool, true, false}}
-use Prim.Native.Nat.{ℕ}
-use native.Mathlib.Omega.{arith}
-use Rattle.numbers.proofs.Refusals.{Numbered, as-found, as-failed, as-refused}
+use Rattle.numbers.proofs.{Prelude.{ℕ, Bool, true, false, _≡_, refl, ap, subst, arith}, Refusals.{Numbered, as-found, as-failed, as-refused}}
 use Rattle.numbers.specs.{Answer.{Answer}, Reply.{Reply, given, refused, demand, _orElse_, _>>=_, _>>_}, declared.refusal.Refusal.{Refusal}}
 
 module _ {A B : Type 0} {answer : Reply A} where
@@ -88,7 +85,6 @@ module _ {P : ℕ → Type 0} where
   or-else why (as-refused n) h = refuses n
 
   pub number-of : {A : Type 0} {why : Refusal} {reply : Reply A} → NumberedReply P reply → reply ≡ refused why → P (why .number)
-  number-of {A} {why} h e = last (subst (λ (r : Reply A). NumberedReply P r) e h)
-    where
-      last : NumberedReply P {A = A} (refused why) → P (why .number)
-      last (refuses h) = h
+  number-of {A} {why} h e = last (subst (λ (r : Reply A). NumberedReply P r) e h) where
+    last : NumberedReply P {A = A} (refused why) → P (why .number)
+    last (refuses h) = h

@@ -1,8 +1,5 @@
 -- How an answer and a refusal go over to C. Assumes nothing.
-use Prim.Native.Nat.{ℕ}
-use mathlib.Core.{Bool.{true, false}, List.{List, []}, Logic.{_↔_}, Path.{_≡_, refl, ap, sym, subst, _∙_}}
-use native.Mathlib.Omega.{arith}
-use Rattle.numbers.proofs.Refusals.{Listed}
+use Rattle.numbers.proofs.{Prelude.{ℕ, true, false, List, [], _↔_, _≡_, refl, sym, ap, subst, _∙_, arith}, Refusals.{Listed}}
 use Rattle.numbers.specs.{Lists.{padded}, Reply.{Reply, given, refused}, Spoken.{saidOf, refusedSaid, Spoken, spoken}, declared.{refusal.Refusal.{Refusal}, said.Said.{Said}}}
 
 module _ {A : Type 0} (values : A → List ℕ) {reply : Reply A} where
@@ -38,6 +35,5 @@ module _ {A : Type 0} (values : A → List ℕ) where
 -- ---- what a promise fixes: two calls that it permits return the same number and leave the same words and lent output
 pub same-call : {number number′ : ℕ} {words words′ : List ℕ} {lent lent′ : List (List ℕ)} {promised : Spoken} → spoken number words lent ≡ promised → spoken number′ words′ lent′ ≡ promised
     → (number ≡ number′) × (words ≡ words′) × (lent ≡ lent′)
-same-call e e′ =
-    let same = e ∙ sym e′ in
+same-call e e′ = let same = e ∙ sym e′ in
     (ap (λ (s : Spoken). s .said .number) same, ap (λ (s : Spoken). s .said .words) same, ap (λ (s : Spoken). s .lent) same)

@@ -1,10 +1,7 @@
 -- Signed numbers of any width, as the machine reads them back from their bits. Assumes nothing.
-use mathlib.Core.{Bool.{Bool, true, false, cond}, Path.{_≡_, refl, ap, _∙_}}
-use Prim.Native.Nat.{ℕ, zero, suc, _^_, _≤_, _<_}
-use native.Mathlib.Nat.{zero-add, lt-of-lt-of-le}
-use borrow.Author.Needs.{sfits-of}
-use lib.{IntN.{ℤ, pos, negsuc, _-ℤ_}, Pow.{pow-mono}, Signed.{mag}}
-use mir.{Syntax.{Width}, Val.{SFits, hbits, toZ}, ValLaws.{toZ-pos}}
+use Rattle.numbers.proofs.Prelude.{ℕ, zero, suc, _^_, _≤_, _<_, sfits-of, ℤ, pos, negsuc, _-ℤ_, pow-mono, mag, Bool, true, false, cond, _≡_, refl, ap, _∙_, SFits, toZ, lt-of-lt-of-le}
+use native.Mathlib.Nat.{zero-add}
+use mir.{Syntax.{Width}, Val.{hbits}, ValLaws.{toZ-pos}}
 
 -- -1 less a number without a sign is its complement, and fits
 minus-one-less : (k : ℕ) → negsuc 0 -ℤ pos k ≡ negsuc k

@@ -1,6 +1,5 @@
 -- What tests say that are joined or cannot be. Assumes nothing.
-use lib.Dec.{T}
-use mathlib.Core.{Bool.{Bool, true, false, not, _&&_, _||_}, Path.{_≡_, refl, sym, subst}}
+use Rattle.numbers.proofs.Prelude.{T, Bool, true, false, _&&_, _||_, not, _≡_, refl, sym, subst}
 
 -- a test that fails does not hold
 pub differ : {A : Type 0} → false ≡ true → A

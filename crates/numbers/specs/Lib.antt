@@ -7,3 +7,4 @@ pub mod Point
 pub mod Spelling
 pub mod Float
 pub mod Spoken
+pub mod Prelude

@@ -1,7 +1,5 @@
 -- How a reply goes over to C: a number, five words, and all lent output.
-use mathlib.Core.List.{List, [], _∷_}
-use Prim.Native.Nat.{ℕ}
-use Rattle.numbers.specs.{Lists.{padded}, Reply.{Reply, given, refused}, declared.{refusal.Refusal.{Refusal}, said.Said.{Said}}}
+use Rattle.numbers.specs.{Lists.{padded}, Prelude.{ℕ, List, [], _∷_}, Reply.{Reply, given, refused}, declared.{refusal.Refusal.{Refusal}, said.Said.{Said}}}
 
 -- a refusal's number, with its cause and detail
 abbrev pub refusedSaid : Refusal → Said

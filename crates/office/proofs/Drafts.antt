@@ -1,18 +1,10 @@
 -- A builder's numbers in fourteen words, and back; and how a change of it goes over to C. Assumes nothing.
-use Prim.Native.Nat.{ℕ, _*_, _/_, _%_, _^_, _<_}
-use borrow.Author.Tests.{eq-eqb}
-use lib.{IntN.{ℤ, pos, negsuc}, ListN.{getD}}
-use mathlib.Core.{List.{List, [], _∷_}, Path.{_≡_, sym, ap, subst, _∙_}}
-use mir.{Syntax.{w32}, Val.{SFits, ofZ}}
-use native.Mathlib.Omega.{arith}
+use Rattle.numbers.proofs.Prelude.{ℕ, _*_, _%_, _^_, _<_, ℤ, pos, negsuc, getD, List, [], _∷_, _≡_, sym, ap, subst, _∙_, w32, SFits, ofZ, arith}
+use Rattle.numbers.{proofs.Coordinates.{read-back, twice-read}, specs.{Point.{readI32, signedOf}, Spoken.{saidOf}, declared.refusal.Refusal.{Refusal}}}
 use Rattle.build.specs.{Whole.{toldBuilt}, declared.file.Built.{Built}}
 use Rattle.add.specs.declared.growing.grow.Added.{Added}
-use Rattle.draft.specs.declared.held.state.{Held.{Held}, Changed.{Changed}}
-use Rattle.numbers.specs.{Point.{readI32, signedOf}, declared.refusal.Refusal.{Refusal}}
-use Rattle.office.specs.Draft.{heldOf, notedIn, wordsOf, Kept, Spoke, Speaks, SpeaksNoted, Ends}
-use Rattle.numbers.specs.Spoken.{saidOf}
-use Rattle.office.specs.Written.{lengthValue}
-use Rattle.numbers.proofs.Coordinates.{read-back, twice-read}
+use Rattle.draft.specs.declared.held.state.{Changed.{Changed}, Held.{Held}}
+use Rattle.office.specs.{Draft.{heldOf, notedIn, wordsOf, Kept, Spoke, Speaks, SpeaksNoted, Ends}, Written.{lengthValue}}
 use Rattle.draft.specs.declared.held.state.Changed.the-variants as C
 
 pub greatest-read : (word : ℕ) (greatest : ℤ) → greatest ≡ signedOf (2 * (word % 2 ^ 32)) → greatest ≡ readI32 (word % 2 ^ 32)
@@ -52,9 +44,7 @@ module _ (held : Held) (noted : ℕ) (kind-low : held .kind < 2 ^ 8) (version-lo
     (fits : SFits w32 (held .greatest)) where
   pub words-back : heldOf (wordsOf held noted) ≡ held
   unfolding heldOf wordsOf
-  words-back =
-      let bits : ℕ = ofZ w32 (held .greatest) in
-      let kind : held .kind % 2 ^ 8 ≡ held .kind = omega (arith, kind-low) in
+  words-back = let bits : ℕ = ofZ w32 (held .greatest) in let kind : held .kind % 2 ^ 8 ≡ held .kind = omega (arith, kind-low) in
       let version : held .version % 2 ^ 8 ≡ held .version = omega (arith, version-low) in
       let precision : held .precision % 2 ^ 8 ≡ held .precision = omega (arith, precision-low) in
       let names : held .names % 2 ^ 32 ≡ held .names = omega (arith, names-low) in

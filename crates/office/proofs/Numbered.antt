@@ -1,21 +1,14 @@
 -- What a returned 0 means to firmware: the call was answered, whatever it was given. Each exported function's contract fixes what it returns,
 -- the number said in `indexSpoken`, `writtenSpoken`, `builtSpoken` or `salvageSpoken`; here, that this number is 0 exactly where the definition gives an answer. Assumes nothing.
-use Prim.Native.Nat.{ℕ}
-use mathlib.Core.{List.{List, [], _∷_, _++_}, Logic.{_↔_}, Path.{_≡_}}
-use native.Mathlib.Omega.{arith}
-use lib.{IntN.{ℤ}}
+use Rattle.numbers.proofs.Prelude.{ℕ, ℤ, List, _↔_, _≡_, arith}
+use Rattle.numbers.{proofs.Saying.{Answered, never-zero, zero-said}, specs.{Reply.{Reply, given, refused}, Spoken.{saidOf, noValues}, declared.refusal.Refusal.{Refusal}}}
 use Rattle.build.{proofs.Numbered.{buildNumbers, build-refusals}, specs.{Room.{roomOf}, declared.room.Work.{Work}}}
 use Rattle.builder.specs.{File.{builtOf}, Yards.{Lent, planOf}}
-use Rattle.builder.specs.File as F
-use Rattle.numbers.{specs.{Reply.{Reply, given, refused}, declared.refusal.Refusal.{Refusal}}}
 use Rattle.writer.{proofs.NumberedWriter.{writerNumbers, writer-refusals}, specs.{Writer.{borderOf, fitted}, declared.write.Piece.{Piece}}}
-use Rattle.index.proofs.{Owned.{owningNumbers, is-index-refusals}, Refusing.{buildingNumbers, index-refusals}}
-use Rattle.index.specs.{Index.{indexedOf}, Own.{isIndexOf}}
-use Rattle.salvage.proofs.rescue.NumberedSalvage.{salvageNumbers, salvage-refusals}
-use Rattle.salvage.specs.Salvage.{salvaged}
-use Rattle.office.specs.{Built.{builtFor, builtSpoken}, Salvaged.{countsValues, salvageSpoken}}
-use Rattle.numbers.{proofs.Saying.{Answered, never-zero, zero-said}, specs.Spoken.{saidOf, noValues}}
-use Rattle.office.specs.Written.{lengthValue, writtenSpoken, indexSpoken}
+use Rattle.index.{proofs.{Owned.{owningNumbers, is-index-refusals}, Refusing.{buildingNumbers, index-refusals}}, specs.{Index.{indexedOf}, Own.{isIndexOf}}}
+use Rattle.salvage.{proofs.rescue.NumberedSalvage.{salvageNumbers, salvage-refusals}, specs.Salvage.{salvaged}}
+use Rattle.office.specs.{Built.{builtFor, builtSpoken}, Salvaged.{countsValues, salvageSpoken}, Written.{lengthValue, writtenSpoken, indexSpoken}}
+use Rattle.builder.specs.File as F
 
 -- ---- for each exported function
 -- `uskelzar_build_index`
@@ -44,9 +37,7 @@ unfolding F.fitted
 fitted-refused file (given bytes) why e = let z : _≡_ {A = ℕ} 0 1 = cc in absurd (omega arith)
 fitted-refused file (refused because) why e = cc
 
-pub build-zero : (lent : Lent) (work : Work) (file bytes : ℕ)
-    → (builtSpoken (builtFor lent work file bytes) .said .number ≡ 0) ↔ Answered (builtFor lent work file bytes .reply)
+pub build-zero : (lent : Lent) (work : Work) (file bytes : ℕ) → (builtSpoken (builtFor lent work file bytes) .said .number ≡ 0) ↔ Answered (builtFor lent work file bytes .reply)
 build-zero lent work file bytes =
-    zero-said lengthValue (builtFor lent work file bytes .reply)
-    (λ why is. never-zero buildNumbers (λ z. z) (why .number)
-    (build-refusals (planOf lent) (roomOf lent work file bytes) why (fitted-refused file (builtOf (planOf lent) (roomOf lent work file bytes)) why is)))
+    zero-said lengthValue (builtFor lent work file bytes .reply) (λ why is. never-zero buildNumbers (λ z. z) (why .number) (build-refusals (planOf lent)
+    (roomOf lent work file bytes) why (fitted-refused file (builtOf (planOf lent) (roomOf lent work file bytes)) why is)))

@@ -1,40 +1,30 @@
 -- What the promises of a builder's calls fix: two replies that one permits are equal, with every list. Assumes nothing.
-use Prim.Native.Nat.{ℕ}
-use lib.{IntN.{pos}, ListN.{length}}
-use mathlib.Core.{Bool.{false}, List.{List}, Logic.{_⊎_, inl, inr}, Path.{_≡_, sym, ap, subst, _∙_}}
-use Rattle.add.specs.{Adding.Adds.{Adds}, declared.adding.room.NoteRooms.{NoteRooms}}
-use Rattle.add.specs.Adding.Adds as Adding
+use Rattle.numbers.{proofs.Prelude.{ℕ, pos, length, false, List, _⊎_, inl, inr, _≡_, sym, ap, subst, _∙_}, specs.{Reply.{Reply, given, refused, plain}, declared.refusal.Refusal.{Refusal}}}
+use Rattle.add.specs.{Adding.Adds.{Adds}, Growing.{Joins.{Renoted}, Notes.{Notes, Noted, NotedBy, notesAs}}, declared.{adding.room.NoteRooms.{NoteRooms}, growing.grow.Added.{Added}}}
 use Rattle.build.specs.{Whole.{toldBuilt}, declared.file.Built.{Built}}
-use Rattle.build.specs.declared.file.Built.the-variants as W
-use Rattle.builder.specs.{File.{Replied}, Yards.{Text, Plan, Yard}}
-use Rattle.edit.proofs.changing.Cuts.{lists-same}
-use Rattle.edit.specs.Changing.{Begun.{Begins, blank}, Dropped.{Drops, leftSpace}, Emptied.{Clears}}
+use Rattle.builder.{proofs.drawing.Lending.{never-given}, specs.{File.{Replied}, Yards.{Text, Plan, Yard}}}
+use Rattle.edit.{proofs.changing.Cuts.{lists-same}, specs.{Changing.{Begun.{Begins, blank}, Dropped.{Drops, leftSpace}, Emptied.{Clears}}, Replacing.Replaced.{Replaces}}}
 use Rattle.notes.proofs.chains.Entering.{chained-one}
-use Rattle.builder.proofs.drawing.Lending.{never-given}
-use Rattle.add.specs.{Growing.{Joins.{Renoted}, Notes.{Notes, Noted, NotedBy, notesAs}}, declared.growing.grow.Added.{Added}}
-use Rattle.draft.{proofs.held.Fronts.{front-one}, specs.Held.{Builder.{Builder, Offered, add, begin, clear, dropLast, finish, joined, replace}, Space.{Space, standing}, State.{Answers, Holds, Idle}}}
-use Rattle.draft.specs.{Held.State.{Lists, SameRooms}, declared.held.{room.Rooms.{Rooms}, state.{Changed.{Changed}, Held.{Held}}}}
-use Rattle.draft.specs.declared.held.state.Changed.the-variants as C
-use Rattle.numbers.specs.{Reply.{Reply, given, refused, plain}, declared.refusal.Refusal.{Refusal}}
-use Rattle.edit.specs.Replacing.Replaced.{Replaces}
-use Rattle.edit.specs.Replacing.Replaced as Replacing
-use Rattle.draft.specs.Summed.Ends.{Finishes, spaceOf}
+use Rattle.draft.{proofs.held.Fronts.{front-one}, specs.Held.{Builder.{Builder, Offered, add, begin, clear, dropLast, finish, joined, replace}, Space.{Space, standing}}}
+use Rattle.draft.specs.{Held.State.{Answers, Holds, Idle, Lists, SameRooms}, Summed.Ends.{Finishes, spaceOf}, declared.held.{room.Rooms.{Rooms}, state.{Changed.{Changed}, Held.{Held}}}}
 use Rattle.office.specs.Draft.{Files}
+use Rattle.add.specs.Adding.Adds as Adding
+use Rattle.build.specs.declared.file.Built.the-variants as W
+use Rattle.draft.specs.declared.held.state.Changed.the-variants as C
+use Rattle.edit.specs.Replacing.Replaced as Replacing
 
 -- One builder lies in one way in lists of given lengths.
 module _ {b : Builder} {held held′ : Held} {lists lists′ : Lists} where
   pub held-one : Holds b held lists → Holds b held′ lists′ → SameRooms lists lists′ → (held ≡ held′) × (lists ≡ lists′)
-  held-one h h′ rooms =
-      let l = h .lies in
-      let l′ = h′ .lies in (
-        h .is ∙ sym (h′ .is),
-        lists-same (lists .boxes) (lists′ .boxes) (lists .borders) (lists′ .borders) (lists .lengths) (lists′ .lengths) (lists .texts) (lists′ .texts) (lists .bytes) (lists′ .bytes)
-            (front-one (pos 0) (l′ .boxes-are) (l .boxes-are) (sym (rooms .boxes)))
-            (front-one 0 (l′ .borders-are) (l .borders-are) (sym (rooms .borders)))
-            (front-one 0 (l′ .lengths-are) (l .lengths-are) (sym (rooms .lengths)))
-            (front-one 0 (l′ .texts-are) (l .texts-are) (sym (rooms .texts)))
-            (front-one 0 (l′ .bytes-are) (l .bytes-are) (sym (rooms .bytes))),
-      )
+  held-one h h′ rooms = let l = h .lies in let l′ = h′ .lies in (
+    h .is ∙ sym (h′ .is),
+    lists-same (lists .boxes) (lists′ .boxes) (lists .borders) (lists′ .borders) (lists .lengths) (lists′ .lengths) (lists .texts) (lists′ .texts) (lists .bytes) (lists′ .bytes)
+        (front-one (pos 0) (l′ .boxes-are) (l .boxes-are) (sym (rooms .boxes)))
+        (front-one 0 (l′ .borders-are) (l .borders-are) (sym (rooms .borders)))
+        (front-one 0 (l′ .lengths-are) (l .lengths-are) (sym (rooms .lengths)))
+        (front-one 0 (l′ .texts-are) (l .texts-are) (sym (rooms .texts)))
+        (front-one 0 (l′ .bytes-are) (l .bytes-are) (sym (rooms .bytes))),
+  )
 
 -- two sets of lists that have the lengths of a third
 both-same : {before after after′ : Lists} → SameRooms before after → SameRooms before after′ → SameRooms after after′
@@ -58,10 +48,8 @@ Stays reply left after why = (reply ≡ refused why) × (after ≡ left)
 
 module _ (reply : Reply Builder) (before left after after′ : Lists) where
   into-one : (held held′ : Held) → Becomes reply before after held → Becomes reply before after′ held′ → (C.Into held ≡ C.Into held′) × (after ≡ after′)
-  into-one held held′ (b, (is, (holds, rooms))) (b′, (is′, (holds′, rooms′))) =
-      let same : b′ ≡ b = cc in
-      let one = held-one holds (subst (λ (x : Builder). Holds x held′ after′) same holds′) (both-same rooms rooms′) in
-      (ap C.Into (one .0), one .1)
+  into-one held held′ (b, (is, (holds, rooms))) (b′, (is′, (holds′, rooms′))) = let same : b′ ≡ b = cc in
+      let one = held-one holds (subst (λ (x : Builder). Holds x held′ after′) same holds′) (both-same rooms rooms′) in (ap C.Into (one .0), one .1)
 
   stays-one : (why why′ : Refusal) → Stays reply left after why → Stays reply left after′ why′ → (C.Refused why ≡ C.Refused why′) × (after ≡ after′)
   stays-one why why′ (is, same) (is′, same′) = (cc, same ∙ sym same′)
@@ -110,9 +98,7 @@ added-one r r′ changed noted = ap (λ (c : Changed). record { changed = c; not
 module _ (held : Held) (noted : ℕ) (rooms : Rooms) (lent : NoteRooms) (before : Lists) (notes : Notes) {o : Offered} {out : ℕ} {after after′ : Lists} {notes₁ notes₂ : Notes} {r r′ : Added} where
   pub same-added : ToldNoted held noted rooms before notes → Adds held noted o rooms lent out before after notes notes₁ r → Adds held noted o rooms lent out before after′ notes notes₂ r′ →
       (r ≡ r′) × (after ≡ after′)
-  same-added (inl (b, (holds, right))) a a′ =
-      let one = a .answers b holds right in
-      let other = a′ .answers b holds right in
+  same-added (inl (b, (holds, right))) a a′ = let one = a .answers b holds right in let other = a′ .answers b holds right in
       let same = same-answer (add b o (Adding.spaceFor held rooms lent o out)) before after after′ (r .changed) (r′ .changed) (one .0) (other .0) in
       let yards : List Yard = joined (b .plan) o .yards in
       let renoted = subst (λ (c : Changed). Renoted (held .names) yards noted notes (r .noted) notes₁ c) (same .0) (one .1) in
@@ -128,9 +114,7 @@ pub record SameNotes (one other : Notes) : Type 0 where
 
 -- the notes of given yards are one
 pub notes-one : (names : ℕ) (yards : List Yard) (n n′ : ℕ) (one other : Notes) → Noted names yards n one → Noted names yards n′ other → SameNotes one other → one ≡ other
-notes-one names yards n n′ one other a a′ same =
-    let l = a .lists in
-    let l′ = a′ .lists in
+notes-one names yards n n′ one other a a′ same = let l = a .lists in let l′ = a′ .lists in
     ap (λ (x : List ℕ). notesAs x (one .chains) (one .groups) (one .begins)) (front-one 0 (l′ .marks-are) (l .marks-are) (same .marks))
     ∙ (ap (λ (x : List ℕ). notesAs (other .marks) x (one .groups) (one .begins)) (chained-one _ _ _ (one .chains) (other .chains) (same .chains) (l .indexed .fields) (l′ .indexed .fields))
     ∙ (ap (λ (x : List ℕ). notesAs (other .marks) (other .chains) x (one .begins)) (chained-one _ _ _ (one .groups) (other .groups) (same .groups) (l .indexed .records) (l′ .indexed .records))
@@ -145,15 +129,13 @@ renoted-one names yards noted notes n n′ one other (C.Refused why) a a′ same
 module _ (held : Held) (noted : ℕ) (rooms : Rooms) (lent : NoteRooms) (before : Lists) (notes : Notes) {o : Offered} {out : ℕ} {after after′ : Lists} {notes₁ notes₂ : Notes} {r r′ : Added} where
   pub same-notes : ToldNoted held noted rooms before notes → Adds held noted o rooms lent out before after notes notes₁ r → Adds held noted o rooms lent out before after′ notes notes₂ r′ →
       SameNotes notes₁ notes₂ → notes₁ ≡ notes₂
-  same-notes told a a′ same = go told
-    where
-      go : ToldNoted held noted rooms before notes → notes₁ ≡ notes₂
-      go (inl (b, (holds, right))) =
-          let changed = ap (λ (x : Added). x .changed) (same-added held noted rooms lent before notes told a a′ .0) in
-          let yards : List Yard = joined (b .plan) o .yards in
-          let renoted = subst (λ (c : Changed). Renoted (held .names) yards noted notes (r .noted) notes₁ c) changed (a .answers b holds right .1) in
-          renoted-one (held .names) yards noted notes (r .noted) (r′ .noted) notes₁ notes₂ (r′ .changed) renoted (a′ .answers b holds right .1) same
-      go (inr broken) = a .stands-not broken .1 .1 ∙ sym (a′ .stands-not broken .1 .1)
+  same-notes told a a′ same = go told where
+    go : ToldNoted held noted rooms before notes → notes₁ ≡ notes₂
+    go (inl (b, (holds, right))) = let changed = ap (λ (x : Added). x .changed) (same-added held noted rooms lent before notes told a a′ .0) in
+        let yards : List Yard = joined (b .plan) o .yards in
+        let renoted = subst (λ (c : Changed). Renoted (held .names) yards noted notes (r .noted) notes₁ c) changed (a .answers b holds right .1) in
+        renoted-one (held .names) yards noted notes (r .noted) (r′ .noted) notes₁ notes₂ (r′ .changed) renoted (a′ .answers b holds right .1) same
+    go (inr broken) = a .stands-not broken .1 .1 ∙ sym (a′ .stands-not broken .1 .1)
 
 -- ---- for each other call
 module _ (held : Held) (rooms : Rooms) (before : Lists) (told : Told held rooms before) {after after′ : Lists} {r r′ : Changed} where

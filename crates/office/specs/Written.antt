@@ -1,9 +1,7 @@
 -- How a border and an index go over to C.
-use mathlib.Core.List.{List, [], _∷_}
-use Prim.Native.Nat.{ℕ}
-use Rattle.writer.specs.Writer as W
+use Rattle.numbers.specs.{Prelude.{ℕ, List, [], _∷_}, Spoken.{Spoken, saidOf}}
 use Rattle.index.specs.Index.{Indexed}
-use Rattle.numbers.specs.Spoken.{Spoken, saidOf}
+use Rattle.writer.specs.Writer as W
 
 -- how long what was written is
 abbrev pub lengthValue : ℕ → List ℕ

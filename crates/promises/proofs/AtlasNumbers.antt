@@ -1,13 +1,7 @@
 -- The numbers that a lookup through any words can be refused with, by ranges. Assumes nothing.
-use Prim.Native.Nat.{ℕ}
-use borrow.Author.Tests.{eqb-true}
-use lib.Dec.{eqb}
-use mathlib.Core.{Bool.{Bool, true, false, _&&_, _||_}, List.{List, [], _∷_}, Path.{_≡_, refl, ap, _∙_}}
-use Rattle.atlas.proofs.NumberedAtlas.{atlas-refusals}
-use Rattle.atlas.specs.Looked.{lookedAtlas}
+use Rattle.numbers.{proofs.{Prelude.{ℕ, eqb, Bool, true, _||_, List, _≡_, refl}, Refusals.{listed-so}}, specs.{Reply.{refused}, declared.refusal.Refusal.{Refusal}}}
+use Rattle.atlas.{proofs.NumberedAtlas.{atlas-refusals}, specs.Looked.{lookedAtlas}}
 use Rattle.index.proofs.NumberedThrough.{throughNumbers}
-use Rattle.numbers.proofs.Refusals.{listed-so}
-use Rattle.numbers.specs.{Reply.{refused}, declared.refusal.Refusal.{Refusal}}
 use Rattle.slip.specs.Says.{from}
 use Rattle.table.specs.declared.location.Location.{Location}
 

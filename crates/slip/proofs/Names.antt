@@ -1,17 +1,11 @@
 -- Names of zones: by the map's type, and byte by byte. Assumes nothing.
-use Prim.Native.Nat.{ℕ, suc, _+_, _-_, _≤_, _<_}
-use borrow.Author.Tests.{eq-eqb, ne-eqb}
-use lib.{Bits.{bitXor}, Dec.{eqb}, ListN.{length, getD, take, drop, length-append, length-map, length-drop, drop-of-length-le, List·getD-append, List·getD-eq-default}}
-use lib.Seq.{drop-cons, getD-take, getD-drop, getD-append-add, length-take-le}
-use mathlib.Core.{Bool.{Bool, true, false, _&&_}, List.{List, [], _∷_, _++_, map}, Option.{some, none}, Path.{_≡_, refl, sym, ap, _∙_, subst}}
-use native.Mathlib.{Numerals.{add-one}, Omega.{arith}}
-use Rattle.header.proofs.Buffers.{map-at}
-use Rattle.header.specs.{Text.{bytesOf}, Utf8.{unmasked}, declared.{header.Head.{Head}, text.Text.{Text}}}
-use Rattle.numbers.specs.{Reply.{Reply, given, refused, plain, _>>=_}, declared.refusal.Refusal.{Refusal}}
+use Rattle.numbers.proofs.Prelude.{ℕ, _+_, _-_, _≤_, _<_, eq-eqb, ne-eqb, length, take, drop, getD, length-append, length-drop, List·getD-append, List·getD-eq-default, length-take-le, getD-take}
+use Rattle.numbers.{proofs.Prelude.{getD-drop, getD-append-add, List, _≡_, refl, sym, ap, subst, _∙_, arith}, specs.{Reply.{Reply, refused, plain, _>>=_}, declared.refusal.Refusal.{Refusal}}}
+use lib.Bits.{bitXor}
+use Rattle.header.{proofs.Buffers.{map-at}, specs.{Text.{bytesOf}, Utf8.{unmasked}, declared.{header.Head.{Head}, text.Text.{Text}}}}
 use Rattle.slip.specs.{Hour.{named, nameOf}, Told.{nameIn, toldZone, LiesZone}, declared.name.Zone.{Zone}}
+use Rattle.zones.{proofs.simple.Joining.{bytes-length}, specs.{Simple.{descriptionAt, toldNamed, LiesParts, LiesNamed}, declared.simple.{Named.{Named}, Parts.{Parts}}}}
 use Rattle.slip.specs.declared.name.Zone.the-variants as Z
-use Rattle.zones.specs.{Simple.{same, descriptionAt, toldNamed, LiesParts, LiesNamed}, declared.simple.{Parts.{Parts}, Named.{Named}}}
-use Rattle.zones.proofs.simple.Joining.{bytes-length}
 use Rattle.zones.specs.declared.simple.Named.the-variants as N
 
 -- ---- the zone of a match, by how far the code came
@@ -44,8 +38,7 @@ module _ (file : List ℕ) (head : Head) (metadata : ℕ) where
 module _ (file : List ℕ) (text : Text) (inside : text .start + text .size ≤ length file) where
   pub byte-at : (at : ℕ) → at < text .size → bitXor (getD file (text .start + at) 0) 0x80 ≡ getD (bytesOf file text) at 0
   unfolding bytesOf
-  byte-at at h =
-      let part = take (text .size) (drop (text .start) file) in
+  byte-at at h = let part = take (text .size) (drop (text .start) file) in
       let size : length part ≡ text .size = length-take-le (text .size) (drop (text .start) file) (rw length-drop (omega arith)) in
       sym (map-at unmasked part at (omega (arith, size, h)) ∙ ap unmasked (getD-take (text .size) (drop (text .start) file) at 0 h ∙ getD-drop (text .start) file at 0))
 
@@ -55,7 +48,8 @@ module _ (file : List ℕ) (name : Parts) (lies : LiesParts (length file) name) 
 
   module _ (at : ℕ) where
     pub byte-one : at < name .one .size → bitXor (getD file (name .one .start + at) 0) 0x80 ≡ getD (nameIn file name) at 0
-    byte-one h = byte-at file (name .one) (lies .one) at h ∙ sym (List·getD-append (bytesOf file (name .one)) (bytesOf file (name .two)) 0 at (omega (arith, h, bytes-length file (name .one) (lies .one))))
+    byte-one h =
+        byte-at file (name .one) (lies .one) at h ∙ sym (List·getD-append (bytesOf file (name .one)) (bytesOf file (name .two)) 0 at (omega (arith, h, bytes-length file (name .one) (lies .one))))
 
     module _ (past : name .one .size ≤ at) where
       further : at ≡ length (bytesOf file (name .one)) + (at - name .one .size)

@@ -1,18 +1,13 @@
 -- Parts of a map and of a bundle as they are lent: a name, a file, an abbreviation; and an offset by its bits. Assumes nothing.
-use Prim.Native.Nat.{ℕ, zero, suc, _+_, _-_, _^_, _≤_}
-use borrow.Author.Tests.{ltb-true}
-use lib.{Bits.{bitXor}, IntN.{ℤ, pos, negsuc}, ListN.{length, take, drop}, Seq.{length-take-le}, Signed.{ltZ}}
-use mathlib.Core.{Bool.{true, false}, List.{List, [], _∷_, _++_, map, map-append, map-map}, Path.{_≡_, refl, sym, ap, _∙_}}
-use mir.{Syntax.{w32}, Val.{SFits, toZ, ofZ}, ValLaws.{toZ-ofZ, ofZ-fits}}
-use native.Mathlib.Omega.{arith}
+use Rattle.numbers.proofs.Prelude.{ℕ, zero, suc, _+_, _-_, _^_, ℤ, pos, take, drop, ltZ, true, false, List, [], _∷_, _++_, map, _≡_, refl, sym, ap, _∙_, w32, SFits, ofZ, toZ, arith}
+use lib.Bits.{bitXor}
+use mathlib.Core.List.{map-append, map-map}
 use Rattle.bundle.specs.Bundle.{xored}
-use Rattle.header.proofs.Strings.{part, part-is}
-use Rattle.header.specs.{Text.{bytesOf}, Utf8.{unmasked}, declared.text.Text.{Text}}
-use Rattle.line.specs.Clock.{spanText, offsetText, shown}
+use Rattle.header.{proofs.Strings.{part, part-is}, specs.{Text.{bytesOf}, Utf8.{unmasked}, declared.text.Text.{Text}}}
+use Rattle.line.{proofs.Signs.{is-negative, not-negative}, specs.Clock.{spanText, offsetText, shown}}
 use Rattle.slip.specs.{Line.{between, shownText}, Told.{nameIn}}
 use Rattle.tzif.specs.Text.{slice}
 use Rattle.zones.specs.declared.simple.Parts.{Parts}
-use Rattle.line.proofs.Signs.{is-negative, not-negative}
 
 -- from a start to an end is so many from the start on
 pub part-slice : (xs : List ℕ) (start size : ℕ) → take (start + size - start) (drop start xs) ≡ slice xs start size

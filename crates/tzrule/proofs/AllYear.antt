@@ -1,11 +1,6 @@
 -- Summer time all the year: where each summer lasts until the next begins. Assumes nothing.
-use Prim.Native.Nat.{ℕ, suc, _+_, _-_, _*_, _/_, _≤_, _<_}
-use borrow.Author.Tests.{le-ltb}
-use lib.Dec.{ltb}
-use mathlib.Core.{Bool.{Bool, true, false}, Path.{_≡_, refl, ap}}
-use native.Mathlib.Omega.{arith}
+use Rattle.numbers.{proofs.Prelude.{ℕ, suc, _+_, _-_, _*_, _/_, _≤_, _<_, le-ltb, ltb, Bool, true, false, _≡_, refl, ap, arith}, specs.Answer.{if_then_else_}}
 use Rattle.calendar.{proofs.Rising.{Between, passes}, specs.{Calendar.{isLeap, yearLength, daysOfYears}, Rules.{leapDay, dayOf}, declared.rule.When.the-variants.{Julian, Zero}}}
-use Rattle.numbers.specs.Answer.{if_then_else_}
 use Rattle.tzrule.proofs.{Guess.{start-low}, Latest.{summer-then, summer-if}}
 use Rattle.tzrule.specs.{Summer.{changeOf, startOf, endOf, closeOf, IsSummer, IsRule}, declared.rule.Rule.{Rule}}
 
@@ -16,9 +11,7 @@ module _ (rule : Rule) (good : IsRule rule) where
 
   -- each summer lasts until the next begins: then it is always summer
   pub all-year : ((year : ℕ) → startOf rule (suc year) ≤ closeOf rule year) → (instant : ℕ) → startOf rule 0 ≤ instant → IsSummer rule instant
-  all-year lasts instant h =
-      let b = last-begun instant h in
-      summer-if rule good (b .step) instant (b .from) (b .to) (omega (arith, b .to, lasts (b .step)))
+  all-year lasts instant h = let b = last-begun instant h in summer-if rule good (b .step) instant (b .from) (b .to) (omega (arith, b .to, lasts (b .step)))
 
   -- and only then
   pub all-year-only : ((instant : ℕ) → startOf rule 0 ≤ instant → IsSummer rule instant) → (year : ℕ) → startOf rule 0 ≤ startOf rule year → startOf rule year < startOf rule (suc year) →
@@ -64,7 +57,6 @@ module _ (rule : Rule) (good : IsRule rule) (s : rule .start .when ≡ Zero 0) (
           end-plain year,
           last-day year,
         )) summer,
-      )
-    where
-      closes : closeOf rule year ≡ endOf rule year
-      closes = simp (le-ltb (endOf rule year) (startOf rule year) (omega (arith, start-plain year, end-plain year)))
+      ) where
+        closes : closeOf rule year ≡ endOf rule year
+        closes = simp (le-ltb (endOf rule year) (startOf rule year) (omega (arith, start-plain year, end-plain year)))

@@ -1,10 +1,6 @@
 -- Reading digits, one after the other. Assumes nothing.
-use Prim.Native.Nat.{ℕ, zero, suc, _+_, _-_, _*_, _≤_, _<_}
-use borrow.Author.Tests.{lt-ltb, le-ltb, ltb-true, ltb-false}
-use lib.{Dec.{T, ltb}, ListN.{length, List·getD-eq-default}}
-use mathlib.Core.{Bool.{Bool, true, false, not}, List.{List}, Path.{_≡_, refl, ap, sym, subst, _∙_}}
-use native.Mathlib.Omega.{arith}
-use Rattle.numbers.specs.Answer.{if_then_else_}
+use Rattle.numbers.proofs.Prelude.{ℕ, zero, suc, _+_, _-_, _*_, _≤_, _<_, lt-ltb, le-ltb, ltb-true, ltb-false, ltb, T, length, List·getD-eq-default, Bool, true, false, List, _≡_, refl, sym, ap}
+use Rattle.numbers.{proofs.Prelude.{subst, _∙_, arith}, specs.Answer.{if_then_else_}}
 use Rattle.tzrule.specs.Text.{byteAt, isDigit, digitsOf, tens}
 
 -- past the end there is no byte
@@ -87,9 +83,7 @@ module _ {text : List ℕ} {at most value next : ℕ} (t : Taken text at most va
     taken-stop d = sym (digits-stop (at + most - (next + 1)) text next value (ap isDigit (sym b) ∙ d)) ∙ ap (λ (k : ℕ). digitsOf k text next value) (sym left) ∙ t .goes
 
     not-past : isDigit byte ≡ true → next < length text
-    not-past d =
-        let past : length text ≤ next → ⊥ = λ h. omega (arith, past-end text next h, digit-range byte d) in
-        omega arith
+    not-past d = let past : length text ≤ next → ⊥ = λ h. omega (arith, past-end text next h, digit-range byte d) in omega arith
 
     pub taken-more : isDigit byte ≡ true → Taken text at most (10 * value + (byte - 48)) (next + 1)
     taken-more d =

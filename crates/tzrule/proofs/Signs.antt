@@ -1,10 +1,5 @@
 -- Reading signs and dates, piece by piece. Assumes nothing.
-use Prim.Native.Nat.{ℕ, _+_, _-_, _≤_}
-use borrow.Author.Tests.{eq-eqb, ne-eqb, ltb-false}
-use lib.Dec.{ltb, eqb}
-use mathlib.Core.{Bool.{Bool, true, false}, List.{List}, Path.{_≡_, refl, ap, sym, subst, _∙_}}
-use native.Mathlib.Omega.{arith}
-use Rattle.numbers.specs.Answer.{if_then_else_}
+use Rattle.numbers.{proofs.Prelude.{ℕ, _+_, _-_, _≤_, eq-eqb, ne-eqb, ltb-false, eqb, ltb, Bool, true, false, List, _≡_, refl, sym, ap, subst, _∙_, arith}, specs.Answer.{if_then_else_}}
 use Rattle.tzrule.specs.Answer.{Answer, read, fault, onward, told, toldDate}
 use Rattle.tzrule.specs.Grammar.{ranged, numberOf, clockOf, laterOf, earlierOf, signedOf, dottedOf, days, months, weeks, weekdays, julianOf, zeroOf, weekdayFrom, weekFrom, monthFrom, dateOf}
 use Rattle.tzrule.specs.{Text.{byteAt, digitsOf}, declared.{date.Found.{Found}, number.{Number.the-variants.{Read, Fault}, Shape.{Shape}}}}
@@ -67,11 +62,10 @@ range-cases : (a b c : Bool) (low high value next at place v n : ℕ) → ltb va
 range-cases true b c low high value next at place v n p q e = no-read place v n e
 range-cases false true c low high value next at place v n p q e = no-read at v n e
 range-cases false false true low high value next at place v n p q e = no-read at v n e
-range-cases false false false low high value next at place v n p q e = omega (arith, ltb-false value low p, ltb-false high value q, ap valueOf e)
-  where
-    valueOf : Answer ℕ → ℕ
-    valueOf (read x y) = x
-    valueOf (fault x) = 0
+range-cases false false false low high value next at place v n p q e = omega (arith, ltb-false value low p, ltb-false high value q, ap valueOf e) where
+  valueOf : Answer ℕ → ℕ
+  valueOf (read x y) = x
+  valueOf (fault x) = 0
 
 pub number-range : (shape : Shape) (text : List ℕ) (at v n : ℕ) → numberOf shape text at ≡ read v n → (shape .low ≤ v) × (v ≤ shape .high)
 unfolding numberOf ranged
@@ -112,7 +106,8 @@ module _ (text : List ℕ) (at : ℕ) where
   unfolding toldDate weekdayFrom onward
   weekday-fault month week e = simp e
 
-  pub week-read : (month : ℕ) {value next : ℕ} (found : Found) → dottedOf weeks text at ≡ read value next → toldDate found ≡ weekdayFrom month value text next → toldDate found ≡ weekFrom month text at
+  pub week-read : (month : ℕ) {value next : ℕ} (found : Found) → dottedOf weeks text at ≡ read value next → toldDate found ≡ weekdayFrom month value text next
+      → toldDate found ≡ weekFrom month text at
   unfolding weekFrom onward
   week-read month found e t = t ∙ simp e
 

@@ -1,13 +1,8 @@
 -- It is summer exactly if the instant lies in the summer of some year. Assumes nothing.
-use Prim.Native.Nat.{ℕ, zero, suc, _<_}
-use borrow.Author.Tests.{lt-ltb, ltb-true, le-leb, leb-true}
-use lib.Dec.{ltb, leb, T}
-use mathlib.Core.{Bool.{Bool, true, false}, Path.{_≡_, refl, ap, sym, subst, _∙_}}
-use native.Mathlib.Omega.{arith}
-use Rattle.numbers.specs.Answer.{if_then_else_}
+use Rattle.numbers.proofs.Prelude.{ℕ, zero, suc, _<_, lt-ltb, le-leb, leb-true, ltb-true, ltb, leb, Bool, true, false, _≡_, refl, sym, ap, _∙_, arith}
+use Rattle.numbers.{proofs.Tests.{differ}, specs.Answer.{if_then_else_}}
 use Rattle.tzrule.proofs.Guess.{start-low}
 use Rattle.tzrule.specs.{Summer.{startOf, closeOf, inSummer, summerAmong, isSummer, InSummer, IsSummer, IsRule, Says}, declared.rule.Rule.{Rule}}
-use Rattle.numbers.proofs.Tests.{differ}
 
 module _ (rule : Rule) (instant : ℕ) where
   in-if : (year : ℕ) (test : Bool) → leb (startOf rule year) instant ≡ test → (if test then ltb instant (closeOf rule year) else false) ≡ true → InSummer rule year instant
@@ -36,9 +31,7 @@ module _ (rule : Rule) (instant : ℕ) where
   has-if : (n year : ℕ) (test : Bool) → inSummer rule n instant ≡ test → year < suc n → inSummer rule year instant ≡ true → (year < n → summerAmong n rule instant ≡ true) →
       (if test then true else summerAmong n rule instant) ≡ true
   has-if n year true e h s rest = refl
-  has-if n year false e h s rest =
-      let other : year ≡ n → ⊥ = λ x. differ (sym e ∙ ap (λ (y : ℕ). inSummer rule y instant) (sym x) ∙ s) in
-      rest (omega arith)
+  has-if n year false e h s rest = let other : year ≡ n → ⊥ = λ x. differ (sym e ∙ ap (λ (y : ℕ). inSummer rule y instant) (sym x) ∙ s) in rest (omega arith)
 
   among-has : (n year : ℕ) → year < n → inSummer rule year instant ≡ true → summerAmong n rule instant ≡ true
   unfolding summerAmong

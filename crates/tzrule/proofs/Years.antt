@@ -1,8 +1,5 @@
 -- What the numbers of a rule's instants are in the calendar. Assumes nothing.
-use Prim.Native.Nat.{ℕ, _+_, _-_, _*_, _/_, _%_, _^_, _≤_, _<_}
-use borrow.Author.Tests.{le-leb}
-use mathlib.Core.{Bool.{true}, Path.{_≡_}}
-use native.Mathlib.Omega.{arith}
+use Rattle.numbers.proofs.Prelude.{ℕ, _+_, _-_, _/_, _%_, _^_, le-leb, true, _≡_, arith}
 use Rattle.calendar.{proofs.Laws.{days-closed, days-in-all, epoch}, specs.{Calendar.{daysOfYears}, Moments.{secondsTo, InDays}}}
 use Rattle.tzrule.proofs.ask.Ways.{years-range}
 use Rattle.tzrule.specs.Ask.{inYears, since}
@@ -26,13 +23,11 @@ epoch-seconds = rw epoch (omega arith)
 module _ (u : ℕ) where
   from-years : inYears u ≡ true → OfYears u
   unfolding secondsTo
-  from-years e =
-      let range = years-range u e in
-      record {
-        day = (u - 9223371974719179008) / 86400;
-        second = (u - 9223371974719179008) % 86400;
-        is = record { inside = record { day-to = omega (arith, range, days-in-all); second-to = omega arith }; there = omega (arith, range, epoch-seconds) };
-      }
+  from-years e = let range = years-range u e in record {
+    day = (u - 9223371974719179008) / 86400;
+    second = (u - 9223371974719179008) % 86400;
+    is = record { inside = record { day-to = omega (arith, range, days-in-all); second-to = omega arith }; there = omega (arith, range, epoch-seconds) };
+  }
 
   to-years : OfYears u → inYears u ≡ true
   unfolding inYears secondsTo

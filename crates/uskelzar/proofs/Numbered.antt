@@ -1,26 +1,20 @@
 -- What a returned 0 means to firmware: the call was answered, whatever it was given. Each exported function's contract fixes what it returns,
 -- the number said in `openingSpoken`, `foundSpoken`, `manySpoken` or `localSpoken`; here, that this number is 0 exactly where the definition gives an answer. Assumes nothing.
-use Prim.Native.Nat.{ℕ}
-use mathlib.Core.{Bool.{Bool, true, false}, List.{List, [], _∷_, _++_}, Logic.{_↔_}, Path.{_≡_, refl, sym, subst}}
-use native.Mathlib.Omega.{arith}
-use lib.{IntN.{ℤ}, Ieee.{Float}}
+use Rattle.numbers.proofs.Prelude.{ℕ, Float, ℤ, Bool, List, [], _∷_, _++_, _↔_, _≡_, refl, sym, subst, arith}
+use Rattle.numbers.{proofs.Saying.{Answered, never-zero, zero-said}, specs.{Reply.{given, refused}, Spoken.{noValues}, declared.refusal.Refusal.{Refusal}}}
 use Rattle.atlas.{proofs.BesideIsPlain.{simple-beside-is-plain}, specs.Beside.{NoneOrAtlas, simplyBeside}}
-use Rattle.batch.proofs.{ManyIsPlain.{many-beside-is-plain}, NumberedMany.{manyNumbers, many-refusals}}
-use Rattle.batch.specs.{Many.{Batch, Left, manyBeside, lookedUpMany}, declared.many.Totals.{Totals}}
-use Rattle.batch.specs.Many as B
-use Rattle.index.proofs.{NumberedThrough.{throughNumbers, through-refusals, indexed-refusals}, Refusing.{tyingNumbers, tied-refusals}}
-use Rattle.index.specs.{Through.{lookedThrough, lookedIndexed}, Tied.{tiedOf}}
-use Rattle.numbers.{proofs.Saying.{Answered, never-zero, zero-said}, specs.{Reply.{Reply, given, refused}, Spoken.{noValues}, declared.refusal.Refusal.{Refusal}}}
+use Rattle.batch.{proofs.{ManyIsPlain.{many-beside-is-plain}, NumberedMany.{manyNumbers, many-refusals}}, specs.{Many.{Batch, Left, manyBeside, lookedUpMany}, declared.many.Totals.{Totals}}}
+use Rattle.index.{proofs.{NumberedThrough.{throughNumbers, through-refusals, indexed-refusals}, Refusing.{tyingNumbers, tied-refusals}}, specs.{Through.{lookedThrough, lookedIndexed}, Tied.{tiedOf}}}
 use Rattle.localtime.{proofs.Numbered.{footerNumbers, local-time-refusals}, specs.Local.{localTime, scaleAt}}
 use Rattle.tzif.specs.declared.local.LocalTime.{LocalTime}
+use Rattle.header.{proofs.Numbered.{openingNumbers, opening-refusals, strict-opening-refusals}, specs.Opening.{openedOf, openedStrictly}}
+use Rattle.zones.{proofs.NumberedLookup.{lookupNumbers, lookup-refusals, strict-lookup-refusals, simple-lookup-refusals}, specs.{Lent.{Replied}, Lookup.{lookedUp, lookedStrictly}}}
+use Rattle.zones.specs.{Simple.{simplyLooked}, declared.simple.Described.{Described}}
+use Rattle.table.specs.declared.location.Location.{Location}
+use Rattle.uskelzar.specs.{Many.{manySaid, manySpoken}, Spoken.{openingValues, zonesValues, describedValues, localValues, localReply, openingSpoken, foundSpoken, localSpoken}}
+use Rattle.batch.specs.Many as B
 use Rattle.tzif.specs.declared.local.LocalTime.the-variants as L
 use Rattle.tzif.specs.declared.refusal.Refusal as T
-use Rattle.header.{proofs.Numbered.{openingNumbers, opening-refusals, strict-opening-refusals}, specs.Opening.{openedOf, openedStrictly}}
-use Rattle.zones.proofs.NumberedLookup.{lookupNumbers, lookup-refusals, strict-lookup-refusals, simple-lookup-refusals}
-use Rattle.zones.specs.{Lent.{Replied}, Lookup.{lookedUp, lookedStrictly}, Simple.{simplyLooked}, declared.simple.Described.{Described}}
-use Rattle.table.specs.declared.location.Location.{Location}
-use Rattle.uskelzar.specs.{Many.{manySaid, manySpoken}}
-use Rattle.uskelzar.specs.Spoken.{openingValues, zonesValues, describedValues, localValues, localReply, openingSpoken, foundSpoken, localSpoken}
 
 -- ---- for each exported function
 -- `uskelzar_open`
@@ -32,14 +26,12 @@ open-zero file room =
 pub lookup-zero : (file : List ℕ) (location : Location) (asked : Bool) (n room : ℕ)
     → (foundSpoken zonesValues (lookedUp file location asked n room) .said .number ≡ 0) ↔ Answered (lookedUp file location asked n room .reply)
 lookup-zero file location asked n room =
-    zero-said zonesValues (lookedUp file location asked n room .reply)
-    (λ why is. never-zero lookupNumbers (λ z. z) (why .number) (lookup-refusals file location asked n room why is))
+    zero-said zonesValues (lookedUp file location asked n room .reply) (λ why is. never-zero lookupNumbers (λ z. z) (why .number) (lookup-refusals file location asked n room why is))
 
 -- `uskelzar_open_strict`
 pub open-strict-zero : (file : List ℕ) (room : ℕ) → (openingSpoken (openedStrictly file room) .said .number ≡ 0) ↔ Answered (openedStrictly file room .reply)
 open-strict-zero file room =
-    zero-said openingValues (openedStrictly file room .reply)
-    (λ why is. never-zero (openingNumbers ++ 31 ∷ []) (λ z. z) (why .number) (strict-opening-refusals file room why is))
+    zero-said openingValues (openedStrictly file room .reply) (λ why is. never-zero (openingNumbers ++ 31 ∷ []) (λ z. z) (why .number) (strict-opening-refusals file room why is))
 
 -- `uskelzar_lookup_strict`
 pub lookup-strict-zero : (file : List ℕ) (location : Location) (asked : Bool) (n room : ℕ)
@@ -60,15 +52,13 @@ many-said (B.refused index why) never = ((λ zero. absurd (never index why refl 
 pub many-zero : (file : List ℕ) (lats lons : List Float) (asked : Bool) (n room third : ℕ)
     → (manySpoken (lookedUpMany file lats lons asked n room third) .said .number ≡ 0) ↔ AnsweredMany (lookedUpMany file lats lons asked n room third .reply)
 many-zero file lats lons asked n room third =
-    many-said (lookedUpMany file lats lons asked n room third .reply)
-    (λ index why is. never-zero manyNumbers (λ z. z) (why .number) (many-refusals file lats lons asked n room third index why is))
+    many-said (lookedUpMany file lats lons asked n room third .reply) (λ index why is. never-zero manyNumbers (λ z. z) (why .number) (many-refusals file lats lons asked n room third index why is))
 
 -- `uskelzar_simple_lookup`
 pub simple-lookup-zero : (file : List ℕ) (location : Location) (n room : ℕ)
     → (foundSpoken describedValues (simplyLooked file location n room) .said .number ≡ 0) ↔ Answered (simplyLooked file location n room .reply)
 simple-lookup-zero file location n room =
-    zero-said describedValues (simplyLooked file location n room .reply)
-    (λ why is. never-zero lookupNumbers (λ z. z) (why .number) (simple-lookup-refusals file location n room why is))
+    zero-said describedValues (simplyLooked file location n room .reply) (λ why is. never-zero lookupNumbers (λ z. z) (why .number) (simple-lookup-refusals file location n room why is))
 
 -- `uskelzar_simple_atlas` and `uskelzar_many_atlas`, with no words or words of which `is_atlas` says 0
 pub simple-atlas-zero : (file words : List ℕ) → NoneOrAtlas file words → (location : Location) (n room : ℕ)

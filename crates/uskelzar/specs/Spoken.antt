@@ -1,15 +1,12 @@
 -- The values that each answer goes over to C with.
-use mathlib.Core.{List.{List, [], _∷_}, Option.{Option, none, some}}
-use mir.{Syntax.{w32}, Val.{ofZ}}
-use Prim.Native.Nat.{ℕ}
+use Rattle.numbers.specs.{Prelude.{ℕ, List, [], _∷_, Option, some, none, w32, ofZ}, Reply.{Reply, given, refused, refusal}, Spoken.{Spoken, saidOf}}
 use Rattle.localtime.specs.declared.scale.Scale.{Scale}
-use Rattle.tzif.specs.Local as T
 use Rattle.tzif.specs.declared.local.{Local.{Local}, LocalTime.{LocalTime}}
-use Rattle.tzif.specs.declared.local.LocalTime.the-variants as L
 use Rattle.zones.specs.{Lent.{Replied}, declared.{lookup.Zones.{Zones}, simple.{Described.{Described}, Description.{Description}}}}
-use Rattle.numbers.specs.{Reply.{Reply, given, refused, refusal}, Spoken.{Spoken, saidOf}}
-use Rattle.header.specs.Opening as O
 use Rattle.header.specs.declared.opening.Opening.{Opening}
+use Rattle.tzif.specs.Local as T
+use Rattle.tzif.specs.declared.local.LocalTime.the-variants as L
+use Rattle.header.specs.Opening as O
 use Rattle.zones.specs.declared.simple.Description.the-variants as D
 
 -- ---- the values of each answer

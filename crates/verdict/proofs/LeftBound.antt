@@ -1,17 +1,10 @@
 -- The left bound of the crossing test never leaves an i32, so its 13 is never given: at the least longitude no point lies west of the
 -- location, and no edge leads across two quadrants. Assumes nothing.
-use Prim.Native.Nat.{ℕ, suc, _+_, _-_, _%_, _^_, _<_}
-use native.Mathlib.Omega.{arith}
-use mathlib.Core.{Path.{_≡_, refl, sym, ap, _∙_}, Bool.{Bool, true, false, cond}, Logic.{_⊎_, inl, inr}}
-use lib.{Dec.{ltb, eqb}, IntN.{ℤ, pos, negsuc, _-ℤ_}, Signed.{leZ, mag}}
-use mir.{Syntax.{w32}, Val.{SFits}}
-use borrow.Author.Tests.{le-leb, ltb-true, ltb-false}
-use Rattle.numbers.specs.Answer.{if_then_else_}
-use Rattle.verdict.specs.{Step.{found, checked}, Edge.{quadrantOf}}
+use Rattle.numbers.proofs.Prelude.{ℕ, suc, _+_, _-_, _%_, _^_, _<_, le-leb, ltb-true, ltb-false, eqb, ltb, ℤ, pos, negsuc, _-ℤ_, mag, leZ, Bool, true, false, _⊎_, inl, inr, _≡_, refl, sym, ap, _∙_}
+use Rattle.numbers.{proofs.{Prelude.{w32, SFits, arith}, Signed.{mag-cond}, Tests.{differ}}, specs.Answer.{if_then_else_}}
+use Rattle.verdict.specs.{Edge.{quadrantOf}, Step.{found, checked}}
 use Rattle.border.specs.declared.place.Point.{Point}
-use Rattle.numbers.proofs.Tests.{differ}
 use Rattle.verdict.proofs.Checks.{checked-fits}
-use Rattle.numbers.proofs.Signed.{mag-cond}
 
 abbrev least : ℤ
 least = negsuc 2147483647

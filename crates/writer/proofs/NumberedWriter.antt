@@ -1,11 +1,7 @@
 -- Which numbers a border can be refused with where it is written. Assumes nothing.
-use mathlib.Core.{Path.{_≡_, refl}, Bool.{_&&_}, List.{List, [], _∷_}}
-use Prim.Native.Nat.{ℕ, _^_}
-use lib.{Dec.{ltb, leb, eqb}, IntN.{ℤ}, ListN.{length, take, drop}}
-use Rattle.numbers.proofs.{Refusals.{Listed, still-listed, either}, Replies.{NumberedReply, answers, refuses, and-then, demands, number-of}}
-use Rattle.numbers.specs.{Reply.{Reply, refused, refusal, plain}, declared.{refusal.Refusal.{Refusal}, point.RawPoint.{RawPoint}}}
-use Rattle.writer.specs.{Moves.{movesOf, isMove}, Pieces.{goodPieces}, Writer.{every, sized, near, checks, plainBorder, packedBorder, borderOf, Replied, fitted}}
-use Rattle.writer.specs.declared.write.Piece.{Piece}
+use Rattle.numbers.proofs.{Prelude.{ℕ, _^_, eqb, ltb, leb, ℤ, length, take, drop, _&&_, List, [], _∷_, _≡_, refl}, Refusals.{Listed, still-listed, either}, Replies.{NumberedReply, answers, refuses}}
+use Rattle.numbers.{proofs.Replies.{and-then, demands, number-of}, specs.{Reply.{Reply, refused, refusal, plain}, declared.{point.RawPoint.{RawPoint}, refusal.Refusal.{Refusal}}}}
+use Rattle.writer.specs.{Moves.{movesOf, isMove}, Pieces.{goodPieces}, Writer.{every, sized, near, checks, plainBorder, packedBorder, borderOf, Replied, fitted}, declared.write.Piece.{Piece}}
 
 -- the numbers that document 01 gives to the writer
 abbrev pub writerNumbers : List ℕ
@@ -21,12 +17,9 @@ Own reply = NumberedReply (Listed borderNumbers) reply
 checks-numbered : (version : ℕ) (lats lons : List ℤ) (earlier : List ℕ) → Own (checks version lats lons earlier)
 unfolding checks
 checks-numbered version lats lons earlier =
-    and-then (demands (leb (length earlier) (2 ^ 30)) (plain 1) refl)
-    (and-then (demands (ltb version 2) (refusal 5 0 version) refl)
-    (and-then (demands (sized lats lons) (plain 19) refl)
-    (and-then (demands (every near lats && every near lons) (plain 20) refl)
-    (and-then (demands (every isMove (drop 1 (movesOf lats lons))) (plain 21) refl)
-    (demands (every isMove (take 1 (movesOf lats lons))) (plain 22) refl)))))
+    and-then (demands (leb (length earlier) (2 ^ 30)) (plain 1) refl) (and-then (demands (ltb version 2) (refusal 5 0 version) refl)
+    (and-then (demands (sized lats lons) (plain 19) refl) (and-then (demands (every near lats && every near lons) (plain 20) refl)
+    (and-then (demands (every isMove (drop 1 (movesOf lats lons))) (plain 21) refl) (demands (every isMove (take 1 (movesOf lats lons))) (plain 22) refl)))))
 
 plain-numbered : (moves : List RawPoint) (pieces : List Piece) → Own (plainBorder moves pieces)
 unfolding plainBorder

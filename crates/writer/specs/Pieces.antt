@@ -1,9 +1,8 @@
 -- Pieces: runs of the earlier data that stand for moves of a version 1 border.
-use Prim.Native.Nat.{ℕ, zero, suc, _+_, _-_, _*_, _/_}
-use mathlib.Core.{Bool.{Bool, false, not, _&&_, _||_}, List.{List, [], _∷_, _++_, map, reverse, flatMap}}
-use lib.{Dec.{ltb, leb, eqb}, ListN.{length, take, drop, getD}, Seq.{slice}}
-use Rattle.numbers.specs.{Answer.{Answer, found, failed, refused, if_then_else_}, Varint.{Numeral, isLast, forwardAt}, Point.{pointOf}}
-use Rattle.numbers.specs.{declared.point.RawPoint.{RawPoint}, Spelling.{varintOf}}
+use Rattle.numbers.specs.Prelude.{ℕ, zero, suc, _+_, _-_, _*_, _/_, eqb, ltb, leb, length, take, drop, getD, Bool, false, _&&_, _||_, not, List, [], _∷_, _++_, map, flatMap}
+use Rattle.numbers.specs.{Answer.{Answer, found, failed, refused, if_then_else_}, Point.{pointOf}, Spelling.{varintOf}, Varint.{Numeral, isLast, forwardAt}, declared.point.RawPoint.{RawPoint}}
+use mathlib.Core.List.{reverse}
+use lib.Seq.{slice}
 use Rattle.writer.specs.{Moves.{packedMoveBytes, turnedBack, sameMove}, declared.write.Piece.{Piece}}
 
 -- direction 0 is forward, others backward

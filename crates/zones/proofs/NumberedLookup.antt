@@ -1,19 +1,15 @@
 -- Which numbers a lookup can be refused with. Assumes nothing.
-use Prim.Native.Nat.{ℕ, zero, suc, _+_, _-_, _/_}
-use lib.{Dec.{ltb, leb, eqb}, ListN.{length}}
-use mathlib.Core.{Bool.{Bool, true, false}, List.{List, [], _∷_, _++_}, Path.{_≡_, refl, subst}}
-use native.Mathlib.Omega.{arith}
-use Rattle.numbers.proofs.Tests.{differ}
+use Rattle.numbers.proofs.Prelude.{ℕ, zero, suc, _+_, _-_, _/_, eqb, ltb, leb, length, Bool, true, false, List, [], _∷_, _++_, _≡_, refl, subst, arith}
+use Rattle.numbers.proofs.{Readings.{reading-numbered}, Refusals.{Listed, still-listed, Numbered, as-found, as-failed, as-refused, either, then-numbered}}
+use Rattle.numbers.{proofs.{Replies.{NumberedReply, answers, refuses, then-reply, then-with, and-then, demands, number-of}, Tests.{differ}}, specs.Answer.{Answer, if_then_else_}}
+use Rattle.numbers.specs.{Reply.{Reply, refused, plain, _>>=_}, Varint.{readingOf}, declared.refusal.Refusal.{Refusal}}
 use Rattle.border.specs.declared.place.Point.{Point}
 use Rattle.verdict.{proofs.Numbered.{NumberedJudgement, judged, unjudged, not-judged, judged-numbered}, specs.Verdict.{Judgement}}
-use Rattle.numbers.proofs.{Refusals.{Listed, still-listed, Numbered, as-found, as-failed, as-refused, either, then-numbered}, Readings.{reading-numbered}}
-use Rattle.numbers.proofs.Replies.{NumberedReply, answers, refuses, then-reply, then-with, and-then, demands, number-of}
-use Rattle.numbers.specs.{Answer.{Answer, if_then_else_}, Varint.{readingOf}, Reply.{Reply, given, refused, plain, _>>=_}, declared.refusal.Refusal.{Refusal}}
-use Rattle.header.proofs.{Numbered.{headerNumbers, text-numbered, blame-numbered, head-numbered}, StrictHead.{head-strict}}
-use Rattle.header.specs.{Field.{field, fieldAt}, Header.{blameOf, headBy}, Text.{bytesOf, textAt}, declared.{header.Head.{Head}, text.Blame.{Blame}}}
+use Rattle.header.{proofs.{Numbered.{headerNumbers, text-numbered, blame-numbered, head-numbered}, StrictHead.{head-strict}}, specs.{Field.{field, fieldAt}, Header.{blameOf, headBy}}}
+use Rattle.header.specs.{Text.{bytesOf, textAt}, declared.{header.Head.{Head}, text.Blame.{Blame}}}
 use Rattle.table.{proofs.TableRows.{rows-so}, specs.{Find.{fixOf, isPrecision, matchedWith}, Hits.{width}, Rows.{Rows, row, tableEnd, unreadable, rowBy, rowsFrom, rowsIn}}}
-use Rattle.table.specs.{Search.{kindOf, judgedTurn, rowTurn, Found, afterTurn, seek, judgeIn, farthest, searched}, Table.{stepsBy, entryBy, isAbove, holds}}
-use Rattle.table.specs.declared.{hits.Hit.{Hit}, location.Location.{Location}, rows.{Cursor.{Cursor}, Row.{Row}}, search.Turn.{the-variants.{On, Met, Stopped, Refused}, Turn}}
+use Rattle.table.specs.{Search.{kindOf, judgedTurn, rowTurn, Found, afterTurn, seek, judgeIn, farthest, searched}, Table.{stepsBy, entryBy, isAbove, holds}, declared.hits.Hit.{Hit}}
+use Rattle.table.specs.declared.{location.Location.{Location}, rows.{Cursor.{Cursor}, Row.{Row}}, search.Turn.{Turn, the-variants.{On, Met, Stopped, Refused}}}
 use Rattle.zones.specs.{Fields.{fieldsPlace, fieldsFrom, fieldsOf}, Lent.{Outcome, repliedOf}, Lookup.{zonesWith, zonesBy, zonesIn, lookedUp, lookedStrictly}}
 use Rattle.zones.specs.{Simple.{pickedFrom, pickedOf, checked, descriptionAt, descriptionOf, bytesIn, wordedOf, describedWith, describedIn, simplyLooked}, declared.simple.Picked.{Picked}}
 use Rattle.numbers.specs.Answer as A
@@ -44,11 +40,9 @@ forward strict = reading-numbered {P = Known strict} strict refl (cut strict)
 entry-read : (strict : Bool) (file : List ℕ) (place : ℕ) → Numbered (Known strict) (entryBy (readingOf strict file) place)
 unfolding entryBy stepsBy
 entry-read strict file place =
-    then-numbered (forward strict file place)
-    (λ a. then-numbered (forward strict file (a .place))
-    (λ b. then-numbered (forward strict file (b .place))
-    (λ c. then-numbered (forward strict file (c .place))
-    (λ d. then-numbered (forward strict file (d .place)) (λ metadata. then-numbered (forward strict file (metadata .place)) (λ polygon. as-found))))))
+    then-numbered (forward strict file place) (λ a. then-numbered (forward strict file (a .place)) (λ b. then-numbered (forward strict file (b .place))
+    (λ c. then-numbered (forward strict file (c .place)) (λ d. then-numbered (forward strict file (d .place)) (λ metadata. then-numbered (forward strict file
+    (metadata .place)) (λ polygon. as-found))))))
 
 row-read : (strict : Bool) (file : List ℕ) (at : Cursor) → Numbered (Known strict) (rowBy (readingOf strict file) at)
 unfolding rowBy
@@ -62,12 +56,11 @@ NumberedRows strict unreadable = Unit
 NumberedRows strict (T.refused n) = Known strict n
 
 rows-read : (strict : Bool) (file : List ℕ) (end : ℕ) (at : Cursor) → NumberedRows strict (rowsFrom (readingOf strict file) end at)
-rows-read strict file = rows-so (readingOf strict file) (NumberedRows strict) tt tt (λ at r rest e h. h) (λ at n e. known-number (row-read strict file at) e)
-  where
-    known-number : {answer : Answer Row} {n : ℕ} → Numbered (Known strict) answer → A.refused n ≡ answer → Known strict n
-    known-number as-found e = let z : _≡_ {A = ℕ} 0 1 = cc in absurd (omega arith)
-    known-number as-failed e = let z : _≡_ {A = ℕ} 0 1 = cc in absurd (omega arith)
-    known-number {n = n} (as-refused {n = m} h) e = let same : n ≡ m = cc in rw same h
+rows-read strict file = rows-so (readingOf strict file) (NumberedRows strict) tt tt (λ at r rest e h. h) (λ at n e. known-number (row-read strict file at) e) where
+  known-number : {answer : Answer Row} {n : ℕ} → Numbered (Known strict) answer → A.refused n ≡ answer → Known strict n
+  known-number as-found e = let z : _≡_ {A = ℕ} 0 1 = cc in absurd (omega arith)
+  known-number as-failed e = let z : _≡_ {A = ℕ} 0 1 = cc in absurd (omega arith)
+  known-number {n = n} (as-refused {n = m} h) e = let same : n ≡ m = cc in rw same h
 
 -- ---- a search
 pub data NumberedTurn (P : ℕ → Type 0) : Turn → Type 0 where
@@ -132,32 +125,33 @@ module _ (strict : Bool) (judge : ℕ → ℕ → Judgement) (fix : Point) (judg
 searches : (file : List ℕ) (head : Head) (fix : Point) (asked : Bool) (room : ℕ) → NumberedReply (Known (head .strict)) (searched file head fix asked room)
 unfolding searched rowsIn
 searches file head fix asked room =
-    seeks (head .strict) (judgeIn file head fix asked) fix (λ place least. judged-numbered refl refl file _ (cut (head .strict)) _ _ _ asked least) _ room _ (rows-read (head .strict) file (head .sections .metadata) _) farthest []
+    seeks (head .strict) (judgeIn file head fix asked) fix (λ place least. judged-numbered refl refl file _ (cut (head .strict)) _ _ _ asked least) _ room _
+    (rows-read (head .strict) file (head .sections .metadata) _) farthest []
 
 -- ---- what both lookups begin with
 matched-numbered : (file : List ℕ) (head : Head) (location : Location) (asked : Bool) (room : ℕ) → NumberedReply (Known (head .strict)) (matchedWith file head location asked room)
 unfolding matchedWith
 matched-numbered file head location asked room =
-    and-then (demands (isPrecision (head .preamble .precision)) (plain 16) refl)
-    (then-reply (searches file head (fixOf location (head .preamble .precision)) asked room) (λ found. answers))
+    and-then (demands (isPrecision (head .preamble .precision)) (plain 16) refl) (then-reply (searches file head (fixOf location (head .preamble .precision)) asked room) (λ found. answers))
 
 text-read : (strict : Bool) (file : List ℕ) (metadata place : ℕ) (blame : Blame) → Known strict (blame .number) → NumberedReply (Known strict) (textAt strict file metadata place blame)
 text-read strict file = text-numbered refl refl strict (cut strict) file
 
 -- ---- a file that is opened first
 -- what was opened so is read so
-opened-by : {B : Type 0} (strict : Bool) (file : List ℕ) (next : Head → Reply B) → ((head : Head) → NumberedReply (Known (head .strict)) (next head)) → NumberedReply (Known strict) (headBy strict file >>= next)
-opened-by strict file next k = then-with (head-numbered (known strict) strict (cut strict) file) (λ head e. subst (λ (s : Bool). NumberedReply (Known s) (next head)) (head-strict strict file e) (k head))
+opened-by : {B : Type 0} (strict : Bool) (file : List ℕ) (next : Head → Reply B) → ((head : Head) → NumberedReply (Known (head .strict)) (next head))
+    → NumberedReply (Known strict) (headBy strict file >>= next)
+opened-by strict file next k =
+    then-with (head-numbered (known strict) strict (cut strict) file) (λ head e. subst (λ (s : Bool). NumberedReply (Known s) (next head)) (head-strict strict file e) (k head))
 
 zones-numbered : (strict : Bool) (file : List ℕ) (location : Location) (asked : Bool) (n room : ℕ) → NumberedReply (Known strict) (zonesBy (headBy strict file) file location asked n room)
 unfolding zonesWith
 zones-numbered strict file location asked n room =
-    opened-by strict file _
-    (λ head. then-reply (matched-numbered file head location asked (n / width)) (λ found. then-reply (fields refl refl refl refl file head (cut (head .strict)) room (found .matches) []) (λ text. answers)))
+    opened-by strict file _ (λ head. then-reply (matched-numbered file head location asked (n / width)) (λ found. then-reply (fields refl refl refl refl file
+    head (cut (head .strict)) room (found .matches) []) (λ text. answers)))
 
 -- a lookup that is not answered is refused with one of these
-pub lookup-refusals : (file : List ℕ) (location : Location) (asked : Bool) (n room : ℕ) (why : Refusal)
-    → lookedUp file location asked n room .reply ≡ refused why → Listed lookupNumbers (why .number)
+pub lookup-refusals : (file : List ℕ) (location : Location) (asked : Bool) (n room : ℕ) (why : Refusal) → lookedUp file location asked n room .reply ≡ refused why → Listed lookupNumbers (why .number)
 unfolding lookedUp zonesIn
 lookup-refusals file location asked n room why = number-of (replied-numbered n room (zones-numbered false file location asked n room))
 
@@ -196,18 +190,15 @@ module _ (file : List ℕ) (head : Head) where
   words : (room : ℕ) (matches : List Hit) → NumberedReply (Known (head .strict)) (wordedOf file head room matches)
   unfolding wordedOf
   words room matches =
-      then-reply (describes matches)
-      (λ description. then-reply (and-then (demands (leb (length (bytesIn description)) room) (plain 18) refl) answers) (λ bytes. answers))
+      then-reply (describes matches) (λ description. then-reply (and-then (demands (leb (length (bytesIn description)) room) (plain 18) refl) answers) (λ bytes. answers))
 
 described-numbered : (file : List ℕ) (location : Location) (n room : ℕ) → NumberedReply (Known false) (describedIn file location n room)
 unfolding describedIn describedWith
 described-numbered file location n room =
-    opened-by false file _
-    (λ head. then-reply (matched-numbered file head location false (n / width))
-    (λ found. and-then (checks file head (found .matches)) (then-reply (words file head room (found .matches)) (λ description. answers))))
+    opened-by false file _ (λ head. then-reply (matched-numbered file head location false (n / width)) (λ found. and-then (checks file head (found .matches))
+    (then-reply (words file head room (found .matches)) (λ description. answers))))
 
 -- a simple lookup that is not answered is refused with one of these
-pub simple-lookup-refusals : (file : List ℕ) (location : Location) (n room : ℕ) (why : Refusal)
-    → simplyLooked file location n room .reply ≡ refused why → Listed lookupNumbers (why .number)
+pub simple-lookup-refusals : (file : List ℕ) (location : Location) (n room : ℕ) (why : Refusal) → simplyLooked file location n room .reply ≡ refused why → Listed lookupNumbers (why .number)
 unfolding simplyLooked
 simple-lookup-refusals file location n room why = number-of (replied-numbered n room (described-numbered file location n room))

@@ -1,17 +1,11 @@
 -- What comes of a yard that is joined by a step. Assumes nothing.
-use Prim.Native.Nat.{ℕ, _+_, _-_, _*_}
-use lib.{IntN.{ℤ}, ListN.{length, take, drop, set}, Seq.{sets}}
-use mathlib.Core.{List.{List, [], _∷_, _++_}, Path.{_≡_, refl, sym, ap, subst, _∙_}}
-use native.Mathlib.Omega.{arith}
-use Rattle.builder.specs.{Borders.{Drawn}, Yards.{Yard}}
-use Rattle.builder.specs.Grouping.Items.{startsFrom}
-use Rattle.add.specs.{inner.Growing.Joins.{Growing, measuredAs}, Growing.Notes.{Noted, NotedBy, notesAs}}
+use Rattle.numbers.{proofs.Prelude.{ℕ, _+_, _-_, _*_, ℤ, length, take, drop, set, sets, List, [], _∷_, _++_, _≡_, refl, sym, ap, subst, _∙_, arith}, specs.declared.refusal.Refusal.{Refusal}}
+use Rattle.builder.specs.{Borders.{Drawn}, Grouping.Items.{startsFrom}, Yards.{Yard}}
+use Rattle.add.specs.{Growing.Notes.{Noted, NotedBy, notesAs}, declared.surely.sure.{Growth.{Growth}, Next.{Next}}, inner.Growing.Joins.{Growing, measuredAs}}
+use Rattle.add.specs.inner.Surely.Sure.{Growths, Joinable, Joins, SureRoom, SurelyAs, Weighing, endedAt, totalsBy}
 use Rattle.draft.specs.{Held.Totals.{Totals, totalsFor}, declared.held.state.Held.{Held}}
-use Rattle.notes.specs.inner.Noted.Noting.{NotesOne}
-use Rattle.numbers.specs.declared.refusal.Refusal.{Refusal}
-use Rattle.notes.specs.{inner.Quick.Steps.{Grown, Steps}, declared.quick.step.{Stepped.{Stepped}, Sureness.{Sureness}}}
+use Rattle.notes.specs.{declared.quick.step.{Stepped.{Stepped}, Sureness.{Sureness}}, inner.{Noted.Noting.{NotesOne}, Quick.Steps.{Grown, Steps}}}
 use Rattle.add.proofs.surely.Marked.{unmarked, stepping, noted-more}
-use Rattle.add.specs.{inner.Surely.Sure.{Growths, Joinable, Joins, SureRoom, SurelyAs, Weighing, endedAt, totalsBy}, declared.surely.sure.{Growth.{Growth}, Next.{Next}}}
 use Rattle.add.specs.declared.surely.sure.Growth.the-variants as G
 use Rattle.add.specs.declared.surely.sure.Surely.the-variants as S
 
@@ -26,12 +20,10 @@ totals-same : (a b c d a′ b′ c′ d′ : ℕ) (e e′ : ℤ) → a ≡ a′ 
     → _≡_ {A = Totals} (record { table = a; metadata = b; bytes = c; yards = d; greatest = e }) (record { table = a′; metadata = b′; bytes = c′; yards = d′; greatest = e′ })
 totals-same a b c d a′ b′ c′ d′ e e′ p q r s t = rw (p, q, r, s, t)
 
-same-totals : (yards : List Yard) (y : Yard) (drawn drawn′ : Drawn) (held : Held) (size : ℕ) (boxes : List ℤ) (borders lengths texts : List ℕ) →
-    Growing yards y drawn drawn′ held size boxes borders lengths texts
-    → (s : Stepped) → Grown yards y drawn′ s → totalsBy held size s ≡ totalsFor (yards ++ (y ∷ [])) drawn′
+same-totals : (yards : List Yard) (y : Yard) (drawn drawn′ : Drawn) (held : Held) (size : ℕ) (boxes : List ℤ) (borders lengths texts : List ℕ)
+    → Growing yards y drawn drawn′ held size boxes borders lengths texts → (s : Stepped) → Grown yards y drawn′ s → totalsBy held size s ≡ totalsFor (yards ++ (y ∷ [])) drawn′
 unfolding totalsFor
-same-totals yards y drawn drawn′ held size boxes borders lengths texts g s grown =
-    let t : Totals = totalsFor (yards ++ (y ∷ [])) drawn′ in
+same-totals yards y drawn drawn′ held size boxes borders lengths texts g s grown = let t : Totals = totalsFor (yards ++ (y ∷ [])) drawn′ in
     totals-same (s .table) (s .metadata) (held .bytes + size) (held .yards + 1) (t .table) (t .metadata) (t .bytes) (t .yards) (s .greatest) (t .greatest) (grown .table) (grown .metadata)
     (sym (g .bytes)) (g .stands .many) (grown .greatest)
 
@@ -81,12 +73,10 @@ module _ (held : Held) (noted strings size : ℕ) (sizes : List ℕ) (boxes : Li
 -- ---- lists of the same lengths, with other marks
 pub sure-marked : (held : Held) (boxes borders marks chains groups begins marks′ : ℕ) → SureRoom held boxes borders marks chains groups begins → marks′ ≡ marks
     → SureRoom held (4 * held .yards + 4) (held .yards + 1) marks′ chains groups begins
-sure-marked held boxes borders marks chains groups begins marks′ r e =
-    let n = r .noted in
-    record {
-      few-names = r .few-names;
-      few-yards = r .few-yards;
-      boxed = omega arith;
-      bordered = omega arith;
-      noted = record { marked = omega (arith, n .marked, e); chained = n .chained; grouped = n .grouped; begun = n .begun };
-    }
+sure-marked held boxes borders marks chains groups begins marks′ r e = let n = r .noted in record {
+  few-names = r .few-names;
+  few-yards = r .few-yards;
+  boxed = omega arith;
+  bordered = omega arith;
+  noted = record { marked = omega (arith, n .marked, e); chained = n .chained; grouped = n .grouped; begun = n .begun };
+}

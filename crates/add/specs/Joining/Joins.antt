@@ -1,6 +1,5 @@
 -- What the functions that join a yard to a builder say.
-use Prim.Native.Nat.{ℕ}
-use mathlib.Core.{List.{List, []}, Path.{_≡_}}
+use Rattle.numbers.specs.Prelude.{ℕ, List, [], _≡_}
 use Rattle.draft.specs.Held.State.{Idle}
 
 -- the lists to work in are as they were, or zero: lent zero they are zero

@@ -1,18 +1,12 @@
 -- The data section, yard by yard. Assumes nothing.
-use Prim.Native.Nat.{ℕ, zero, suc, _+_, _-_, _*_, _/_, _^_, _≤_, _<_}
-use borrow.Author.Tests.{leb-true}
-use lib.{Dec.{ltb, leb}, IntN.{ℤ}, ListN.{length, take, drop, getD, set, length-append, length-drop, length-set}}
-use lib.Seq.{sets, sets-eq, take-at, append-snoc, length-take-le, length-sets}
-use mathlib.Core.{Bool.{Bool, true, false, not}, List.{List, [], _∷_, _++_, append-nil, append-assoc}, Path.{_≡_, refl, sym, ap, subst, _∙_}}
-use native.Mathlib.Omega.{arith}
-use Rattle.writer.specs.{Pieces.{piecesOf}, inner.Stored.{Stored}, Writer.{borderOf}}
-use Rattle.builder.proofs.Checking.{four-words, next-is, begins-inside}
-use Rattle.builder.specs.{Borders.{Drawn, appended, withBorder, drawnFrom, drawnOf, Draws}, Yards.{Text, Yard, partOf, nextPart, yardsFrom}}
-use Rattle.builder.specs.declared.borders.Border.{Border}
+use Rattle.numbers.proofs.Prelude.{ℕ, suc, _+_, _-_, _*_, _/_, _^_, _≤_, _<_, leb-true, ltb, leb, ℤ, length, take, drop, getD, set, length-append, length-drop, length-set, length-take-le, take-at}
+use Rattle.numbers.proofs.Prelude.{length-sets, sets-eq, Bool, not, List, [], _∷_, _++_, append-assoc, append-nil, _≡_, refl, sym, ap, subst, _∙_, arith}
+use Rattle.numbers.specs.{Reply.{Reply, given, refused, refusal, plain, demand, _>>=_, _>>_}, declared.refusal.Refusal.{Refusal}}
+use Rattle.writer.specs.{Pieces.{piecesOf}, Writer.{borderOf}, inner.Stored.{Stored}}
+use Rattle.builder.proofs.{Checking.{four-words, next-is, begins-inside}, drawing.Lending.{never-given, past, demanded, given-same}}
+use Rattle.builder.specs.{Borders.{Drawn, appended, withBorder, drawnFrom, drawnOf, Draws}, Yards.{Text, partOf, nextPart, yardsFrom}, declared.borders.Border.{Border}}
+use Rattle.builder.specs.inner.Drawing.Section.{yardAppended, spread, DrawsAll}
 use Rattle.builder.specs.declared.borders.Border.the-variants as B
-use Rattle.numbers.specs.{Answer.{if_then_else_}, Reply.{Reply, given, refused, refusal, plain, demand, _>>=_, _>>_}, declared.refusal.Refusal.{Refusal}}
-use Rattle.builder.proofs.drawing.Lending.{never-given, past, demanded, given-same}
-use Rattle.builder.specs.inner.Drawing.Section.{yardAppended, spread, Whole, DrawsAll}
 
 -- ---- an answer, with the places so far before its own
 abbrev carried : List ℕ → Reply Drawn → Reply Drawn
@@ -35,8 +29,7 @@ carried-more done n (refused why) = refl
 pub spread-more : (i : ℕ) (done : List ℕ) (n : ℕ) (list : List ℕ) → spread i (done ++ (n ∷ [])) list ≡ set (spread i done list) (i + 2 * length done) n
 unfolding spread
 spread-more i [] n list = let e : i ≡ i + 2 * 0 = omega arith in ap (λ (k : ℕ). set list k n) e
-spread-more i (d ∷ done) n list =
-    let e : i + 2 + 2 * length done ≡ i + 2 * suc (length done) = omega arith in
+spread-more i (d ∷ done) n list = let e : i + 2 + 2 * length done ≡ i + 2 * suc (length done) = omega arith in
     spread-more (i + 2) done n (set list i d) ∙ ap (λ (k : ℕ). set (spread (i + 2) done (set list i d)) k n) e
 
 -- ---- a border that was added fits the room
@@ -55,15 +48,13 @@ pub drawn-alone : (version room : ℕ) (sofar ns : List ℕ) (ys xs : List ℤ) 
     drawnFrom version room sofar (yardsFrom ns ys xs w t) ≡ drawnFrom version room sofar (yardsFrom ns ys xs w t′)
 unfolding yardsFrom drawnFrom withBorder
 drawn-alone version room sofar (a ∷ b ∷ p ∷ v ∷ rest) ys xs w t t′ =
-    go (yardAppended version room sofar ys a xs b w (5 * p)) (λ more. drawn-alone version room more rest (drop a ys) (drop b xs) (drop (5 * p) w) (drop v t) (drop v t′))
-  where
-    go : (r : Reply (List ℕ)) →
-        ((more : List ℕ) → drawnFrom version room more (yardsFrom rest (drop a ys) (drop b xs) (drop (5 * p) w) (drop v t)) ≡ drawnFrom version room more
-        (yardsFrom rest (drop a ys) (drop b xs) (drop (5 * p) w) (drop v t′)))
-        → (r >>= λ more. placedAt (length sofar) (drawnFrom version room more (yardsFrom rest (drop a ys) (drop b xs) (drop (5 * p) w) (drop v t)))) ≡
-        (r >>= λ more. placedAt (length sofar) (drawnFrom version room more (yardsFrom rest (drop a ys) (drop b xs) (drop (5 * p) w) (drop v t′))))
-    go (given more) same = ap (placedAt (length sofar)) (same more)
-    go (refused why) same = refl
+    go (yardAppended version room sofar ys a xs b w (5 * p)) (λ more. drawn-alone version room more rest (drop a ys) (drop b xs) (drop (5 * p) w) (drop v t) (drop v t′)) where
+      go : (r : Reply (List ℕ)) → ((more : List ℕ) → drawnFrom version room more (yardsFrom rest (drop a ys) (drop b xs) (drop (5 * p) w) (drop v t)) ≡ drawnFrom
+          version room more (yardsFrom rest (drop a ys) (drop b xs) (drop (5 * p) w) (drop v t′))) → (r >>= λ more. placedAt (length sofar)
+          (drawnFrom version room more (yardsFrom rest (drop a ys) (drop b xs) (drop (5 * p) w) (drop v t)))) ≡ (r >>= λ more. placedAt (length sofar)
+          (drawnFrom version room more (yardsFrom rest (drop a ys) (drop b xs) (drop (5 * p) w) (drop v t′))))
+      go (given more) same = ap (placedAt (length sofar)) (same more)
+      go (refused why) same = refl
 drawn-alone version room sofar (a ∷ b ∷ p ∷ []) ys xs w t t′ = refl
 drawn-alone version room sofar (a ∷ b ∷ []) ys xs w t t′ = refl
 drawn-alone version room sofar (a ∷ []) ys xs w t t′ = refl
@@ -137,10 +128,8 @@ module _ (version room : ℕ) (yards : List ℕ) (lats lons : List ℤ) (pieces 
       abbrev later : List ℕ → Reply Drawn
       later all = drawnFrom version room all (yardsFrom (drop (i + 4) yards) (drop a (drop lat lats)) (drop b (drop lon lons)) (drop w (drop piece pieces)) [])
 
-      goes : (r : Reply (List ℕ)) → (texts : List Text)
-          → (r >>= λ all. placedAt (length (take size bytes))
-          (drawnFrom version room all (yardsFrom (drop (i + 4) yards) (drop a (drop lat lats)) (drop b (drop lon lons)) (drop w (drop piece pieces)) texts)))
-          ≡ (r >>= λ all. placedAt (length (take size bytes)) (later all))
+      goes : (r : Reply (List ℕ)) → (texts : List Text) → (r >>= λ all. placedAt (length (take size bytes)) (drawnFrom version room all (yardsFrom (drop (i + 4) yards)
+          (drop a (drop lat lats)) (drop b (drop lon lons)) (drop w (drop piece pieces)) texts))) ≡ (r >>= λ all. placedAt (length (take size bytes)) (later all))
       goes (given all) texts =
           ap (placedAt (length (take size bytes))) (drawn-alone version room all (drop (i + 4) yards) (drop a (drop lat lats)) (drop b (drop lon lons)) (drop w (drop piece pieces)) texts [])
       goes (refused why) texts = refl
@@ -154,8 +143,7 @@ module _ (version room : ℕ) (yards : List ℕ) (lats lons : List ℤ) (pieces 
       -- a border that is refused refuses all
       pub section-refused : (out : List ℕ) (r : Border) → Draws here (take size bytes) out r → (why : Refusal) → r ≡ B.Refused why → DrawsAll whole before places bytes (B.Refused why)
       unfolding Draws DrawsAll
-      section-refused out r d why e =
-          let no′ : here ≡ refused why = subst (λ (x : Border). Draws here (take size bytes) out x) e d in
+      section-refused out r d why e = let no′ : here ≡ refused why = subst (λ (x : Border). Draws here (take size bytes) out x) e d in
           sym (c .same) ∙ (ap (carried (c .done)) (step ∙ ap (λ (k : Reply (List ℕ)). k >>= λ all. placedAt (length (take size bytes)) (later all)) no′))
 
       module _ (out : List ℕ) (r : Border) (d : Draws here (take size bytes) out r) (n : ℕ) (e : r ≡ B.Drawn n) where
@@ -172,8 +160,7 @@ module _ (version room : ℕ) (yards : List ℕ) (lats lons : List ℤ) (pieces 
         pub border-fits : size + n ≤ room
         border-fits =
             let l = appended-fits room (take size bytes) (ltb (length (drop piece pieces)) w) (length (piecesOf (take w (drop piece pieces))))
-            (borderOf version (partOf a (drop lat lats)) (partOf b (drop lon lons)) (piecesOf (take w (drop piece pieces))) (take size bytes)) (take size bytes ++ take n out) (drawn .0)
-            in
+            (borderOf version (partOf a (drop lat lats)) (partOf b (drop lon lons)) (piecesOf (take w (drop piece pieces))) (take size bytes)) (take size bytes ++ take n out) (drawn .0) in
             omega (arith, l, length-append (take size bytes) (take n out), before-size, length-take-le n out (drawn .1))
 
         pub border-put : room ≤ 1073741824 → size + length (take n out) < 2 ^ 62

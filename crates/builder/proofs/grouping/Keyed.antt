@@ -1,16 +1,11 @@
 -- Words in the order of their hashes: what stands for which item, and that equal items have equal keys. Assumes nothing.
-use Prim.Native.Nat.{ℕ, zero, suc, _+_, _*_, _/_, _%_, _^_, _≤_, _<_}
-use borrow.Author.Tests.{eqb-true, le-leb}
-use lib.{Dec.{eqb, ltb}, ListN.{length, getD, length-map, List·getD-map}}
-use mathlib.Core.{Bool.{Bool, true, false}, List.{List, [], _∷_, map}, Path.{_≡_, refl, sym, ap, subst, _∙_}}
-use native.Mathlib.Omega.{arith}
-use Rattle.builder.specs.{Sharing.{sameBy, sameText, sameTexts}, Yards.{Text}}
-use Rattle.layout.{proofs.Orders.{sorted-rises, sorted-map}, specs.{inner.Answers.{Sorted}, Order.{keyOf, insertBy, sortedBy, Rising}}}
-use Rattle.numbers.specs.Answer.{if_then_else_}
-use Rattle.builder.proofs.grouping.Listed.{numbers-many}
-use Rattle.builder.specs.Grouping.{Items.{itemAt, hashTexts, Inside}, Keys.{numbersFrom, itemOf, hashOf, keyWord, alike, keysOf, Members, Sorting}}
-use Rattle.numbers.proofs.Tests.{both, differ}
-use Rattle.builder.proofs.Ordered.{upper, lower}
+use Rattle.numbers.proofs.Prelude.{ℕ, zero, suc, _+_, _*_, _%_, _^_, _≤_, _<_, le-leb, eqb-true, eqb, ltb, length, getD, length-map, Bool, true, false, List, [], _∷_, map, _≡_, refl, sym, ap, subst}
+use Rattle.numbers.{proofs.{Prelude.{_∙_, arith}, Tests.{both, differ}}, specs.Answer.{if_then_else_}}
+use lib.ListN.{List·getD-map}
+use Rattle.builder.specs.{Grouping.{Items.{itemAt, hashTexts, Inside}, Keys.{numbersFrom, itemOf, hashOf, keyWord, alike, keysOf, Members, Sorting}}, Sharing.{sameBy, sameText, sameTexts}}
+use Rattle.builder.specs.Yards.{Text}
+use Rattle.layout.{proofs.Orders.{sorted-rises, sorted-map}, specs.{Order.{keyOf, insertBy, sortedBy, Rising}, inner.Answers.{Sorted}}}
+use Rattle.builder.proofs.{Ordered.{upper, lower}, grouping.Listed.{numbers-many}}
 
 -- ---- the same is equal
 same-equal : {A : Type 0} (same : A → A → Bool) → ((x y : A) → same x y ≡ true → x ≡ y) → (xs ys : List A) → sameBy same xs ys ≡ true → xs ≡ ys
@@ -18,8 +13,7 @@ unfolding sameBy
 same-equal same eq [] [] e = refl
 same-equal same eq [] (y ∷ ys) e = differ e
 same-equal same eq (x ∷ xs) [] e = differ e
-same-equal same eq (x ∷ xs) (y ∷ ys) e =
-    let two = both (same x y) (sameBy same xs ys) e in
+same-equal same eq (x ∷ xs) (y ∷ ys) e = let two = both (same x y) (sameBy same xs ys) e in
     ap (λ z. z ∷ xs) (eq x y (two .0)) ∙ ap (λ zs. y ∷ zs) (same-equal same eq xs ys (two .1))
 
 pub text-equal : (a b : Text) → sameText a b ≡ true → a ≡ b
@@ -49,11 +43,10 @@ module _ (key : ℕ → ℕ) (n : ℕ) where
   below-insert : (x : ℕ) (ys : List ℕ) → x < n → Below n ys → Below n (insertBy key x ys)
   unfolding Below insertBy
   below-insert x [] h b = (h, tt)
-  below-insert x (y ∷ ys) h b = go (ltb (key y) (key x)) (below-insert x ys h (b .1))
-    where
-      go : (t : Bool) → Below n (insertBy key x ys) → Below n (if t then (y ∷ insertBy key x ys) else (x ∷ y ∷ ys))
-      go true more = (b .0, more)
-      go false more = (h, b)
+  below-insert x (y ∷ ys) h b = go (ltb (key y) (key x)) (below-insert x ys h (b .1)) where
+    go : (t : Bool) → Below n (insertBy key x ys) → Below n (if t then (y ∷ insertBy key x ys) else (x ∷ y ∷ ys))
+    go true more = (b .0, more)
+    go false more = (h, b)
 
   below-sorted : (xs : List ℕ) → Below n xs → Below n (sortedBy key xs)
   unfolding Below sortedBy
@@ -104,9 +97,8 @@ module _ (starts texts : List ℕ) (width : ℕ) where
   pub items-are : (count : ℕ) → count ≤ 2 ^ 32 → map itemOf (keysOf starts texts width count) ≡ orderOf count
   unfolding keyWord
   items-are count h =
-      ap (map itemOf) (keys-are count)
-      ∙ map-twice itemOf word (λ x. x % 2 ^ 32) (λ x. lower (hash x) x) (orderOf count)
-      ∙ small-itself (orderOf count) (below-more count (2 ^ 32) (orderOf count) h (order-below count))
+      ap (map itemOf) (keys-are count) ∙ map-twice itemOf word (λ x. x % 2 ^ 32) (λ x. lower (hash x) x) (orderOf count) ∙ small-itself (orderOf count)
+      (below-more count (2 ^ 32) (orderOf count) h (order-below count))
 
   pub keys-hashes : (count : ℕ) → count ≤ 2 ^ 32 → map keyOf (keysOf starts texts width count) ≡ map hash (orderOf count)
   keys-hashes count h = ap (map keyOf) (keys-are count) ∙ map-twice keyOf word hash word-key (orderOf count)
@@ -131,17 +123,13 @@ module _ (starts texts : List ℕ) (width : ℕ) where
     item-many = ap length (sym items) ∙ length-map keys itemOf
 
     hash-at : (i : ℕ) → i < length keys → keyOf (getD keys i 0) ≡ hash (itemOf (getD keys i 0))
-    hash-at i h =
-        let l : length (map keyOf keys) ≡ length keys = length-map keys keyOf in
-        sym (List·getD-map keyOf keys i 0)
-        ∙ ap (λ (l : List ℕ). getD l i 0) (ap (map keyOf) order ∙ keys-hashes (length keys) few)
-        ∙ at-map hash (orderOf (length keys)) i (omega (arith, h, item-many))
-        ∙ ap hash (sym (item-at i))
-      where
-        at-map : (f : ℕ → ℕ) (xs : List ℕ) (i : ℕ) → i < length xs → getD (map f xs) i 0 ≡ f (getD xs i 0)
-        at-map f [] i h = absurd (omega arith)
-        at-map f (x ∷ xs) zero h = refl
-        at-map f (x ∷ xs) (suc i) h = at-map f xs i (omega arith)
+    hash-at i h = let l : length (map keyOf keys) ≡ length keys = length-map keys keyOf in
+        sym (List·getD-map keyOf keys i 0) ∙ ap (λ (l : List ℕ). getD l i 0) (ap (map keyOf) order ∙ keys-hashes (length keys) few) ∙ at-map hash
+        (orderOf (length keys)) i (omega (arith, h, item-many)) ∙ ap hash (sym (item-at i)) where
+          at-map : (f : ℕ → ℕ) (xs : List ℕ) (i : ℕ) → i < length xs → getD (map f xs) i 0 ≡ f (getD xs i 0)
+          at-map f [] i h = absurd (omega arith)
+          at-map f (x ∷ xs) zero h = refl
+          at-map f (x ∷ xs) (suc i) h = at-map f xs i (omega arith)
 
     pub members : Inside starts texts (length keys * width) → Members starts texts width keys
     members inside = record {

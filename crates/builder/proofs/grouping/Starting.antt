@@ -1,13 +1,8 @@
 -- Where texts begin. Assumes nothing.
-use Prim.Native.Nat.{ℕ, suc, _+_, _-_, _^_, _≤_, _<_}
-use lib.{ListN.{length, set, drop, getD}, Seq.{drop-cons, drop-length}}
-use mathlib.Core.{List.{List, [], _∷_, _++_, append-nil}, Path.{_≡_, refl, sym, ap, subst, _∙_}}
-use native.Mathlib.{Numerals.{add-one}, Omega.{arith}}
+use Rattle.numbers.proofs.Prelude.{ℕ, suc, _+_, _^_, _≤_, _<_, length, drop, getD, set, drop-cons, drop-length, List, [], _∷_, _++_, append-nil, _≡_, sym, ap, subst, _∙_, add-one, arith}
 use Rattle.writer.{proofs.Stores.{Left, left-all, left-step, left-none, stored-one, stored-front}, specs.inner.Stored.{Stored}}
-use Rattle.builder.specs.Yards.{sumOf}
-use Rattle.builder.specs.Grouping.Items.{startsFrom}
-use Rattle.builder.proofs.Sums.{sum-next}
-use Rattle.builder.proofs.grouping.Meant.{starts-many}
+use Rattle.builder.specs.{Grouping.Items.{startsFrom}, Yards.{sumOf}}
+use Rattle.builder.proofs.{Sums.{sum-next}, grouping.Meant.{starts-many}}
 
 pub record Starting (before lengths now : List ℕ) (at i : ℕ) : Type 0 where
   pub index : i ≤ length lengths
@@ -43,14 +38,11 @@ module _ (before lengths now : List ℕ) (at i : ℕ) (c : Starting before lengt
 
   pub start-ends : length lengths ≤ i → set now i at ≡ startsFrom 0 lengths
   unfolding startsFrom
-  start-ends h =
-      let e : i ≡ length lengths = omega (arith, c .index) in
+  start-ends h = let e : i ≡ length lengths = omega (arith, c .index) in
       let none : drop i lengths ≡ [] = ap (λ (n : ℕ). drop n lengths) e ∙ drop-length lengths in
       let size : length (startsFrom 0 lengths) ≡ suc (length lengths) = starts-many 0 lengths in
       let all : length (startsFrom 0 lengths) ≡ length before = omega (arith, size, c .room) in
-      let s : Stored before 0 (startsFrom 0 lengths) (set now i at) (i + 1) =
-      left-none (left-step (at ∷ []) (subst (λ (r : List ℕ). Left before 0 (startsFrom 0 lengths) now i r) (ap (startsFrom at) none) (c .left)) (stored-one now i at)) in
-      stored-front before (startsFrom 0 lengths) (set now i at) (i + 1) s (omega (arith, all))
-      ∙ ap (λ (n : ℕ). startsFrom 0 lengths ++ drop n before) all
-      ∙ ap (λ (xs : List ℕ). startsFrom 0 lengths ++ xs) (drop-length before)
-      ∙ append-nil (startsFrom 0 lengths)
+      let s : Stored before 0 (startsFrom 0 lengths) (set now i at) (i + 1) = left-none (left-step (at ∷ []) (subst (λ (r : List ℕ). Left before 0 (startsFrom 0 lengths) now i r)
+      (ap (startsFrom at) none) (c .left)) (stored-one now i at)) in
+      stored-front before (startsFrom 0 lengths) (set now i at) (i + 1) s (omega (arith, all)) ∙ ap (λ (n : ℕ). startsFrom 0 lengths ++ drop n before) all
+      ∙ ap (λ (xs : List ℕ). startsFrom 0 lengths ++ xs) (drop-length before) ∙ append-nil (startsFrom 0 lengths)

@@ -1,15 +1,9 @@
 -- How many items are the same, counted among those that have one hash. Assumes nothing.
-use Prim.Native.Nat.{ℕ, zero, suc, _+_, _-_, _*_, _^_, _≤_, _<_}
-use borrow.Author.Tests.{le-leb, lt-leb, eqb-false}
-use lib.{Dec.{leb, eqb}, ListN.{length, drop, getD, length-map, length-drop}, Seq.{drop-cons, drop-length, getD-drop}}
-use mathlib.Core.{Bool.{Bool, true, false}, List.{List, [], _∷_, map}, Path.{_≡_, refl, sym, ap, subst, _∙_}}
-use native.Mathlib.{Numerals.{add-one}, Omega.{arith}}
-use Rattle.builder.specs.Sharing.{timesIn}
+use Rattle.numbers.proofs.Prelude.{ℕ, zero, suc, _+_, _^_, _≤_, _<_, le-leb, lt-leb, eqb-false, eqb, leb, length, drop, getD, length-drop, length-map, drop-cons, getD-drop, Bool, true, false, List}
+use Rattle.numbers.{proofs.{Prelude.{[], _∷_, map, _≡_, refl, sym, ap, _∙_, add-one, arith}, Tests.{fails}}, specs.Answer.{if_then_else_}}
+use Rattle.builder.specs.{Grouping.Keys.{numbersFrom, itemOf, hashOf, alike, keysOf, Lower, Members}, Sharing.{timesIn}}
 use Rattle.layout.{proofs.Orders.{sorted-kept}, specs.Order.{keyOf, sortedBy, Rising, keptBy}}
-use Rattle.numbers.specs.Answer.{if_then_else_}
 use Rattle.builder.proofs.grouping.{Finding.{rising-at, drop-items, item-is, other-hash, not-before}, Keyed.{orderOf, items-are, alike-hash}}
-use Rattle.builder.specs.Grouping.Keys.{numbersFrom, itemOf, hashOf, alike, keysOf, Lower, Members}
-use Rattle.numbers.proofs.Tests.{fails}
 
 none-more : (b : Bool) (n : ℕ) → b ≡ false → n ≡ (if b then 1 else 0) + n
 none-more b n e = rw e (omega arith)
@@ -25,8 +19,7 @@ module _ (same : ℕ → ℕ → Bool) (a : ℕ) where
   times-skip zero xs none = refl
   times-skip (suc run) [] none = refl
   times-skip (suc run) (x ∷ xs) none =
-      times-skip run xs (λ i h k. none (suc i) (omega arith) (omega arith))
-      ∙ none-more (same a x) (timesIn same a xs) (none 0 (omega arith) (omega arith))
+      times-skip run xs (λ i h k. none (suc i) (omega arith) (omega arith)) ∙ none-more (same a x) (timesIn same a xs) (none 0 (omega arith) (omega arith))
 
   module _ (key : ℕ → ℕ) (k : ℕ) (share : (x : ℕ) → same a x ≡ true → key x ≡ k) where
     times-by : (x : ℕ) (xs : List ℕ) (t : Bool) → eqb (key x) k ≡ t → timesIn same a (keptBy key k xs) ≡ timesIn same a xs
@@ -66,8 +59,7 @@ module _ (same : ℕ → ℕ → Bool) (a : ℕ) where
       count-twice g e = sym (le-leb 2 (timesIn same a (drop run items)) (omega (arith, c .sum, two-more g, e)))
 
       pub count-once : same a (getD items i 0) ≡ true → (found + 1 ≡ 2 → ⊥) → Counting items run (found + 1) (i + 1)
-      count-once g n =
-          let e : found + 1 + timesIn same a (drop (suc i) items) ≡ timesIn same a (drop run items) = omega (arith, c .sum, two-more g) in
+      count-once g n = let e : found + 1 + timesIn same a (drop (suc i) items) ≡ timesIn same a (drop run items) = omega (arith, c .sum, two-more g) in
           rw (add-one i) (record { index = omega arith; from = omega (arith, c .from); few = omega (arith, c .few, n); sum = e })
 
       pub count-other : same a (getD items i 0) ≡ false → Counting items run found (i + 1)

@@ -1,10 +1,8 @@
 -- Instants counted from the year 1 instead of from 1970, so that none is below zero. Assumes nothing.
-use Prim.Native.Nat.{ℕ, suc, _+_, _-_, _*_, _/_, _%_, _<_}
-use borrow.Author.Tests.{ltb-true, ltb-false, lt-ltb, le-ltb}
-use lib.{Dec.{T}, IntN.{ℤ, pos, negsuc, natAbs, _+ℤ_, _-ℤ_, +ℤ-negℤ-cancel, -ℤ-+ℤ-cancel}, Signed.{ltZ, nonNeg}}
-use mathlib.Core.{Bool.{true, false}, Path.{_≡_, refl, ap, sym, subst, _∙_}}
-use mir.{Syntax.{w64}, Val.{Fits, SFits, toZ, ofZ}, ValLaws.{toZ-ofZ}}
-use native.Mathlib.Omega.{arith}
+use Rattle.numbers.proofs.Prelude.{ℕ, suc, _+_, _-_, _*_, _/_, _%_, _<_, lt-ltb, le-ltb, ltb-true, ltb-false, T, ℤ, pos, negsuc, _+ℤ_, _-ℤ_, natAbs, ltZ, true, false, _≡_, refl, sym, ap, subst, _∙_}
+use Rattle.numbers.proofs.Prelude.{w64, SFits, ofZ, toZ, toZ-ofZ, arith}
+use lib.{IntN.{+ℤ-negℤ-cancel, -ℤ-+ℤ-cancel}, Signed.{nonNeg}}
+use mir.Val.{Fits}
 use Rattle.calendar.proofs.Laws.{days-in-all, epoch}
 use Rattle.calendar.specs.{Moments.{secondsTo, instantOf, MomentOf}, declared.moment.Moment.the-variants.{At, Outside}}
 
@@ -62,9 +60,8 @@ seconds-of z day second e = ap (λ (s : ℤ). s +ℤ pos 62135596800) (sym e ∙
 -- no such instant is before the year 1
 not-before : (b : ℤ) (s : ℕ) → ltZ b (negsuc 62135596799) ≡ true → b +ℤ pos 62135596800 ≡ pos s → ⊥
 not-before (pos n) s h e = let z : _≡_ {A = ℕ} 0 1 = cc in omega arith
-not-before (negsuc n) s h e =
-    let below = simp (lt-ltb 62135596800 (suc n) (omega (arith, ltb-true 62135596799 n h))) at e in
-    let z : _≡_ {A = ℕ} 0 1 = cc in omega arith
+not-before (negsuc n) s h e = let below = simp (lt-ltb 62135596800 (suc n) (omega (arith, ltb-true 62135596799 n h))) at e in let z : _≡_ {A = ℕ} 0 1 = cc in
+    omega arith
 
 -- or after 9999
 not-after : (b : ℤ) (s : ℕ) → s < 315537897600 → ltZ (pos 253402300799) b ≡ true → b +ℤ pos 62135596800 ≡ pos s → ⊥

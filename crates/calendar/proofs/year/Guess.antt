@@ -1,7 +1,5 @@
 -- The guess of a day's year by the mean year. Assumes nothing.
-use Prim.Native.Nat.{ℕ, zero, suc, _+_, _-_, _*_, _≤_, _<_}
-use mathlib.Core.Path.{_≡_, subst}
-use native.Mathlib.Omega.{arith}
+use Rattle.numbers.proofs.Prelude.{ℕ, zero, suc, _+_, _-_, _*_, _≤_, _<_, _≡_, subst, arith}
 use Rattle.calendar.proofs.Laws.{mean-low, mean-high}
 use Rattle.calendar.specs.Calendar.{daysOfYears, InYear}
 

@@ -1,9 +1,7 @@
 -- A list that begins so, and has one item everywhere behind: what is read of it, put behind it, and cut off. Assumes nothing.
-use Prim.Native.Nat.{ℕ, zero, suc, _+_, _-_, _≤_, _<_}
-use lib.ListN.{length, take, drop, set, replicate, length-append, length-drop, length-replicate, length-take, replicate-append-replicate, take-append-drop}
-use lib.Seq.{sets, sets-eq, length-sets, drop-drop, set-append-left, take-all, take-at, drop-at, take-set-le}
-use mathlib.Core.{List.{List, [], _∷_, _++_, append-assoc, append-nil}, Logic.{_⊎_, inl, inr}, Path.{_≡_, refl, sym, ap, _∙_}}
-use native.Mathlib.Omega.{arith}
+use Rattle.numbers.proofs.Prelude.{ℕ, zero, suc, _+_, _-_, _≤_, _<_, length, take, drop, set, replicate, length-append, length-drop, length-take, length-replicate, sets, take-at, drop-drop, take-all}
+use Rattle.numbers.proofs.Prelude.{drop-at, length-sets, sets-eq, List, [], _∷_, _++_, append-assoc, append-nil, _≡_, refl, sym, ap, _∙_, arith}
+use lib.Seq.{set-append-left, take-set-le}
 use Rattle.draft.specs.Held.State.{Front}
 use Rattle.writer.specs.inner.Stored.{Stored}
 
@@ -39,8 +37,7 @@ module _ {A : Type 0} (none : A) where
 
     -- behind a place at or behind the front there is nothing
     pub front-behind : (n : ℕ) → drop (length front + n) list ≡ replicate (length list - (length front + n)) none
-    front-behind n =
-        let e : length list - length front - n ≡ length list - (length front + n) = omega arith in
+    front-behind n = let e : length list - length front - n ≡ length list - (length front + n) = omega arith in
         sym (drop-drop n (length front) list) ∙ (ap (drop n) front-rest ∙ (replicate-drop n (length list - length front) ∙ ap (λ (k : ℕ). replicate k none) e))
 
     -- its length alone makes it: two that begin so are one
@@ -50,43 +47,36 @@ module _ {A : Type 0} (none : A) where
     -- ---- what is changed in it
     pub front-put : (more after : List A) → length front + length more ≤ length list → after ≡ sets list (length front) more → Front none (front ++ more) after
     front-put more after h e =
-        front-made (front ++ more) after (length list - (length front + length more))
-        (e ∙ (sets-eq more list (length front) h
+        front-made (front ++ more) after (length list - (length front + length more)) (e ∙ (sets-eq more list (length front) h
         ∙ (ap (λ (l : List A). l ++ more ++ drop (length front + length more) list) front-take ∙ ap (λ (l : List A). front ++ more ++ l) (front-behind (length more)))))
 
     pub front-set : (i : ℕ) (x : A) → i < length front → Front none (set front i x) (set list i x)
     front-set i x h =
-        front-made (set front i x) (set list i x) (length list - length front)
-        (ap (λ (l : List A). set l i x) (f .is) ∙ set-append-left front (replicate (length list - length front) none) i x h)
+        front-made (set front i x) (set list i x) (length list - length front) (ap (λ (l : List A). set l i x) (f .is) ∙ set-append-left front (replicate (length list - length front) none) i x h)
 
     -- ---- a part of it, `&list[from..to]`
     pub front-part : (a b c : List A) → front ≡ a ++ (b ++ c) → (from to : ℕ) → from ≡ length a → to ≡ length a + length b → take (to - from) (drop from list) ≡ b
-    front-part a b c e from to at end =
-        let rest : List A = replicate (length list - length front) none in
+    front-part a b c e from to at end = let rest : List A = replicate (length list - length front) none in
         let size : length b ≡ to - from = omega (arith, at, end) in
         let all : list ≡ a ++ (b ++ (c ++ rest)) = f .is ∙ (ap (λ (l : List A). l ++ rest) e ∙ (append-assoc a (b ++ c) rest ∙ ap (λ (l : List A). a ++ l) (append-assoc b c rest))) in
-        ap (λ (l : List A). take (to - from) (drop from l)) all
-        ∙ (ap (take (to - from)) (drop-at a (b ++ (c ++ rest)) from (sym at)) ∙ take-at b (c ++ rest) (to - from) size)
+        ap (λ (l : List A). take (to - from) (drop from l)) all ∙ (ap (take (to - from)) (drop-at a (b ++ (c ++ rest)) from (sym at)) ∙ take-at b (c ++ rest) (to - from) size)
 
   pub front-slice : (a b : List A) {list : List A} → Front none (a ++ b) list → (from to : ℕ) → from ≡ length a → to ≡ length (a ++ b) → take (to - from) (drop from list) ≡ b
-  front-slice a b f from to at end =
-      front-part f a b [] (ap (λ (l : List A). a ++ l) (sym (append-nil b))) from to at (end ∙ length-append a b)
+  front-slice a b f from to at end = front-part f a b [] (ap (λ (l : List A). a ++ l) (sym (append-nil b))) from to at (end ∙ length-append a b)
 
   -- ---- what was cut off: `&mut list[at..]` with nothing written over it
   pub cleared : (list lent : List A) (at to : ℕ) → to ≡ length list → lent ≡ replicate (length (take (to - at) (drop at list))) none
       → take at list ++ (lent ++ drop (to - at) (drop at list)) ≡ take at list ++ replicate (length list - at) none
-  cleared list lent at to end e =
-      let size : length (drop at list) ≤ to - at = omega (arith, length-drop at list, end) in
+  cleared list lent at to end e = let size : length (drop at list) ≤ to - at = omega (arith, length-drop at list, end) in
       let gone : drop (to - at) (drop at list) ≡ [] = ended (drop at list) (to - at) size in
       let all : take (to - at) (drop at list) ≡ drop at list = take-all (to - at) (drop at list) size in
       let lies : lent ≡ replicate (length list - at) none = e ∙ (ap (λ (l : List A). replicate (length l) none) all ∙ ap (λ (n : ℕ). replicate n none) (length-drop at list)) in
-      ap (λ (l : List A). take at list ++ (lent ++ l)) gone ∙ (ap (λ (l : List A). take at list ++ l) (append-nil lent) ∙ ap (λ (l : List A). take at list ++ l) lies)
-    where
-      ended : (l : List A) (n : ℕ) → length l ≤ n → drop n l ≡ []
-      ended [] zero h = refl
-      ended [] (suc n) h = refl
-      ended (x ∷ l) zero h = absurd (omega arith)
-      ended (x ∷ l) (suc n) h = ended l n (omega arith)
+      ap (λ (l : List A). take at list ++ (lent ++ l)) gone ∙ (ap (λ (l : List A). take at list ++ l) (append-nil lent) ∙ ap (λ (l : List A). take at list ++ l) lies) where
+        ended : (l : List A) (n : ℕ) → length l ≤ n → drop n l ≡ []
+        ended [] zero h = refl
+        ended [] (suc n) h = refl
+        ended (x ∷ l) zero h = absurd (omega arith)
+        ended (x ∷ l) (suc n) h = ended l n (omega arith)
 
   -- from the end of the front on
   pub front-cut : (front list : List A) (at : ℕ) → at ≡ length front → take (length front) list ≡ front → (after : List A) → after ≡ take at list ++ replicate (length list - at) none →
@@ -96,8 +86,7 @@ module _ {A : Type 0} (none : A) where
 
   -- of a list with more behind the front
   pub front-of-more : (front more : List A) {list : List A} → Front none (front ++ more) list → take (length front) list ≡ front
-  front-of-more front more {list} f =
-      let rest : List A = replicate (length list - length (front ++ more)) none in
+  front-of-more front more {list} f = let rest : List A = replicate (length list - length (front ++ more)) none in
       ap (take (length front)) (f .is ∙ append-assoc front more rest) ∙ take-at front (more ++ rest) (length front) refl
 
   -- ---- what was put behind the front, fitting or not, and cleared again

@@ -1,8 +1,5 @@
 -- The room that is lent with a builder, list by list. Assumes nothing.
-use Prim.Native.Nat.{ℕ, _+_, _-_, _*_, _^_, _≤_, _<_}
-use borrow.Author.Tests.{le-leb, lt-leb}
-use lib.Dec.{leb}
-use mathlib.Core.{Bool.{Bool, true, false, _&&_}, Path.{_≡_, refl, ap, _∙_}}
+use Rattle.numbers.proofs.Prelude.{ℕ, _+_, _-_, _*_, _^_, _≤_, _<_, le-leb, lt-leb, leb, Bool, true, false, _&&_, _≡_, refl, ap, _∙_}
 use Rattle.build.specs.Room.{enough, workOf}
 use Rattle.draft.specs.{Held.Space.{ownEnough, longEnough, standing}, declared.held.{room.Rooms.{Rooms}, state.Held.{Held}}}
 
@@ -32,9 +29,8 @@ module _ (r : Rooms) (names yards strings : ℕ) where
         let work : Bool = enough (workOf (r .starts) (r .keys) (r .spare) (r .kept) (r .held) (r .words) (r .places) (r .boxes)) yards (names * yards) (strings - front) in
         ap (λ (b : Bool). b && work) e
 
-    pub own-and-work : true ≡ ownEnough r names yards strings → (b : Bool)
-        → b ≡ enough (workOf (r .starts) (r .keys) (r .spare) (r .kept) (r .held) (r .words) (r .places) (r .boxes)) yards (names * yards) (strings - front) →
-        b ≡ longEnough r names yards front strings
+    pub own-and-work : true ≡ ownEnough r names yards strings → (b : Bool) → b ≡ enough (workOf (r .starts) (r .keys) (r .spare) (r .kept) (r .held) (r .words)
+        (r .places) (r .boxes)) yards (names * yards) (strings - front) → b ≡ longEnough r names yards front strings
     unfolding longEnough
     own-and-work e b is =
         let work : Bool = enough (workOf (r .starts) (r .keys) (r .spare) (r .kept) (r .held) (r .words) (r .places) (r .boxes)) yards (names * yards) (strings - front) in

@@ -1,27 +1,19 @@
 -- A builder that calls have made fits its lists, and its sums may be taken of them. Assumes nothing.
-use Prim.Native.Nat.{ℕ, suc, _+_, _-_, _*_, _^_, _≤_}
-use borrow.Author.Tests.{eqb-true, le-leb, leb-true}
-use lib.{Dec.{eqb, leb}, IntN.{pos}, ListN.{length, take, drop, length-append, length-map}}
-use mathlib.Core.{Bool.{Bool, true, _&&_}, List.{List, [], _∷_, _++_, map, map-append}, Path.{_≡_, refl, sym, ap, subst, _∙_}}
-use native.Mathlib.{Nat.{mul-suc}, Omega.{arith}}
-use Rattle.numbers.proofs.Tests.{both}
+use Rattle.numbers.proofs.Prelude.{ℕ, _+_, _-_, _*_, _^_, _≤_, le-leb, leb-true, eqb-true, eqb, leb, pos, length, take, drop, length-append, length-map, Bool, true, _&&_, List, [], _∷_, _++_, map}
+use Rattle.numbers.proofs.{Prelude.{_≡_, sym, ap, subst, _∙_, mul-suc, arith}, Tests.{both}}
+use mathlib.Core.List.{map-append}
 use Rattle.builder.specs.{File.{isText, readable}, Metadata.{fieldsOf}, Yards.{Text, Plan, Yard, sumOf}}
-use Rattle.build.specs.Entries.Corners.{cornersOf}
-use Rattle.build.{proofs.metadata.Shared.{flat-more}, specs.Metadata.Kept.{joined}}
-use Rattle.build.proofs.recording.Fewer.{joined-sum}
+use Rattle.build.{proofs.{entries.Tabled.{corners-size}, metadata.Shared.{flat-more}, recording.Fewer.{joined-sum}}, specs.{Entries.Corners.{cornersOf}, Metadata.Kept.{joined}}}
 use Rattle.writer.specs.Writer.{every}
 use Rattle.draft.proofs.held.{Fronts.{front-slice, front-take}, Redrawn.{data-few, data-many, data-some}, Roomy.{boxes-last, own-last}}
-use Rattle.draft.specs.Held.{Builder.{Builder}, Sound.{Sound}, Space.{ownEnough, standing}, State.{Front, Holds, Lies, Lists, Stands, frontOf, textsOf, valuesOf}, Totals.{Totals, dataOf}}
-use Rattle.draft.specs.Held.Totals.{totalsFor, totalsOf}
-use Rattle.draft.specs.declared.held.{room.Rooms.{Rooms}, state.Held.{Held}}
-use Rattle.build.proofs.entries.Tabled.{corners-size}
+use Rattle.draft.specs.Held.{Builder.{Builder}, Sound.{Sound}, Space.{ownEnough, standing}, State.{Front, Holds, Lies, Lists, Stands, frontOf, textsOf, valuesOf}}
+use Rattle.draft.specs.{Held.Totals.{Totals, dataOf, totalsFor, totalsOf}, declared.held.{room.Rooms.{Rooms}, state.Held.{Held}}}
 
 -- ---- how many numbers and texts there are
 pub fields-many : (names : ℕ) (yards : List Yard) → every (λ y. eqb names (length (y .values))) yards ≡ true → length (fieldsOf (map (λ y. y .values) yards)) ≡ names * length yards
 unfolding every fieldsOf
 fields-many names [] e = omega arith
-fields-many names (y ∷ ys) e =
-    let two = both (eqb names (length (y .values))) (every (λ y. eqb names (length (y .values))) ys) e in
+fields-many names (y ∷ ys) e = let two = both (eqb names (length (y .values))) (every (λ y. eqb names (length (y .values))) ys) e in
     omega (arith, length-append (y .values) (fieldsOf (map (λ y. y .values) ys)), fields-many names ys (two .1), eqb-true names (length (y .values)) (two .0), mul-suc names (length ys))
 
 -- ---- no text is long
@@ -38,8 +30,7 @@ pub fields-short : (yards : List Yard) → every (λ y. every isText (y .values)
     sumOf (map length (fieldsOf (map (λ y. y .values) yards))) ≤ 255 * length (fieldsOf (map (λ y. y .values) yards))
 unfolding every fieldsOf sumOf
 fields-short [] e = omega arith
-fields-short (y ∷ ys) e =
-    let two = both (every isText (y .values)) (every (λ y. every isText (y .values)) ys) e in
+fields-short (y ∷ ys) e = let two = both (every isText (y .values)) (every (λ y. every isText (y .values)) ys) e in
     let rest : List Text = fieldsOf (map (λ y. y .values) ys) in
     omega (
       arith,
@@ -57,11 +48,9 @@ fields-short (y ∷ ys) e =
 pub readable-parts : (plan : Plan) → readable plan ≡ true
     → (plan .whole ≡ true) × ((every isText (plan .names) ≡ true) × ((isText (plan .notice) ≡ true) × (every (λ y. every isText (y .values)) (plan .yards) ≡ true)))
 unfolding readable
-readable-parts plan e =
-    let values : Bool = every (λ y. every isText (y .values)) (plan .yards) in
+readable-parts plan e = let values : Bool = every (λ y. every isText (y .values)) (plan .yards) in
     let one = both (plan .whole) (every isText (plan .names) && (isText (plan .notice) && values)) e in
-    let two = both (every isText (plan .names)) (isText (plan .notice) && values) (one .1) in
-    (one .0, (two .0, both (isText (plan .notice)) values (two .1)))
+    let two = both (every isText (plan .names)) (isText (plan .notice) && values) (one .1) in (one .0, (two .0, both (isText (plan .notice)) values (two .1)))
 
 -- ---- of a sound plan
 module _ (plan : Plan) (room : ℕ) (sound : Sound plan room) where
@@ -166,9 +155,8 @@ module _ (b : Builder) (held : Held) (lists : Lists) (h : Holds b held lists) wh
   strings-inside = omega (arith, held-strings, h .lies .texts-are .room)
 
   -- a builder that calls have made is not refused for its numbers
-  pub holds-standing : (rooms : Rooms) → rooms .boxes ≡ length (lists .boxes) → rooms .borders ≡ length (lists .borders) → rooms .lengths ≡ length (lists .lengths) →
-      rooms .texts ≡ length (lists .texts) → rooms .bytes ≡ length (lists .bytes)
-      → standing held rooms ≡ true
+  pub holds-standing : (rooms : Rooms) → rooms .boxes ≡ length (lists .boxes) → rooms .borders ≡ length (lists .borders) → rooms .lengths ≡ length (lists .lengths)
+      → rooms .texts ≡ length (lists .texts) → rooms .bytes ≡ length (lists .bytes) → standing held rooms ≡ true
   holds-standing r boxes borders lengths texts bytes =
       let plan : Plan = b .plan in
       let times : held .names * held .yards ≡ length (plan .names) * length (plan .yards) = ap (λ (n : ℕ). n * held .yards) held-names ∙ ap (λ (n : ℕ). length (plan .names) * n) held-yards in
@@ -180,8 +168,7 @@ module _ (b : Builder) (held : Held) (lists : Lists) (h : Holds b held lists) wh
       (sym (le-leb (4 * held .yards) (r .boxes) (omega (arith, held-yards, boxes, boxes-room plan (b .room) (h .sound) lists (h .lies))))) in
       sym (own-last held r few-names few-yards front-first some-bytes few-bytes (omega (arith, bytes, bytes-inside)) true own)
 
-  pub holds-stands : (from to : ℕ) → from ≡ held .names + 1 → to ≡ held .names + 1 + held .names * held .yards
-      → Stands (b .plan .yards) (dataOf (b .plan)) (held .names) (held .yards) (lists .boxes) (lists .borders) (take (to - from) (drop from (lists .lengths)))
-      (take (held .strings - held .front) (drop (held .front) (lists .texts)))
+  pub holds-stands : (from to : ℕ) → from ≡ held .names + 1 → to ≡ held .names + 1 + held .names * held .yards → Stands (b .plan .yards) (dataOf (b .plan))
+      (held .names) (held .yards) (lists .boxes) (lists .borders) (take (to - from) (drop from (lists .lengths))) (take (held .strings - held .front) (drop (held .front) (lists .texts)))
   holds-stands from to ef et =
       stands-more (b .plan) (b .room) (h .sound) lists (h .lies) (held .names) (held .yards) from to (held .front) (held .strings) held-names held-yards ef et held-front held-strings

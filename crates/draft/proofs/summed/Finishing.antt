@@ -1,30 +1,22 @@
 -- The end of a builder: each way out of it, and how it is settled. Assumes nothing.
-use Prim.Native.Nat.{ℕ, _≤_, _<_}
-use borrow.Author.Tests.{le-ltb, lt-ltb, not-false, not-true}
-use lib.{Dec.{leb}, IntN.{ℤ}, ListN.{length}}
-use mathlib.Core.{Bool.{Bool, true, false, not, _&&_}, List.{List, []}, Path.{_≡_, refl, sym, ap, subst, _∙_}}
-use native.Mathlib.Omega.{arith}
+use Rattle.numbers.proofs.Prelude.{ℕ, _≤_, _<_, lt-ltb, le-ltb, not-false, not-true, leb, ℤ, length, Bool, true, false, _&&_, not, List, [], _≡_, refl, sym, ap, subst, _∙_, arith}
+use Rattle.numbers.specs.{Lists.{zeros}, Reply.{Reply, given, refused, plain, demand, _>>_}, declared.refusal.Refusal.{Refusal}}
 use Rattle.writer.specs.inner.Stored.{Stored}
 use Rattle.builder.specs.{File.{fileOf, headOf, upTo}, Yards.{Plan}}
-use Rattle.build.proofs.Ending.{long-fills, settled-fits, short-fills, whole-fills}
-use Rattle.build.specs.{Room.{workOf}, inner.Whole.{Fills, Settles, endsAs}, declared.file.Built.{Built}}
-use Rattle.build.specs.declared.file.Built.the-variants as W
-use Rattle.draft.proofs.held.{Standing.{held-yards, holds-standing}, Stood.{stood, work-enough}, Sums.{size-is}}
+use Rattle.build.{proofs.Ending.{long-fills, settled-fits, short-fills, whole-fills}, specs.{Room.{workOf}, declared.file.Built.{Built}, inner.Whole.{Fills, Settles, endsAs}}}
+use Rattle.draft.proofs.{held.{Standing.{held-yards, holds-standing}, Stood.{stood, work-enough}, Sums.{size-is}}, summed.Wholes.{holds-whole}}
 use Rattle.draft.specs.Held.{Builder.{Builder, finish}, Space.{Space, longEnough, roomsOf, standing}, State.{Holds, Idle, Lists, listsAs}, Totals.{dataOf, fileSize, totalsOf}}
-use Rattle.draft.specs.declared.held.{room.Rooms.{Rooms}, state.Held.{Held}}
-use Rattle.numbers.specs.{Lists.{zeros}, Reply.{Reply, given, refused, plain, demand, _>>_}, declared.refusal.Refusal.{Refusal}}
-use Rattle.draft.proofs.summed.Wholes.{holds-whole}
-use Rattle.draft.specs.Summed.Ends.{Finishes, Putting, Texts, spaceOf, textsWhole}
+use Rattle.draft.specs.{Summed.Ends.{Finishes, Putting, Texts, spaceOf, textsWhole}, declared.held.{room.Rooms.{Rooms}, state.Held.{Held}}}
+use Rattle.build.specs.declared.file.Built.the-variants as W
 
 differ : (b : Bool) → b ≡ true → b ≡ false → ⊥
-differ b t f = let z : _≡_ {A = Bool} true false = sym t ∙ f in clash z
-  where
-    flag : Bool → ℕ
-    flag true = 1
-    flag false = 0
+differ b t f = let z : _≡_ {A = Bool} true false = sym t ∙ f in clash z where
+  flag : Bool → ℕ
+  flag true = 1
+  flag false = 0
 
-    clash : _≡_ {A = Bool} true false → ⊥
-    clash e = let z : _≡_ {A = ℕ} 1 0 = ap flag e in omega (arith, z)
+  clash : _≡_ {A = Bool} true false → ⊥
+  clash e = let z : _≡_ {A = ℕ} 1 0 = ap flag e in omega (arith, z)
 
 -- ---- the end as the last steps of a build
 module _ (b : Builder) (held : Held) (lists : Lists) (h : Holds b held lists) (out : ℕ) (space : Space) where
@@ -96,17 +88,15 @@ module _ (held : Held) (boxes : List ℤ) (borders lengths texts bytes : List �
 
         pub putting : (v : Bool) → v ≡ textsWhole held lengths → not v ≡ false →
             Putting held lengths (length texts) (length borders) (length bytes) (workOf starts keys spare kept store words places (length boxes))
-        putting v ev nv =
-            let s = stood held rooms good in
-            record {
-              fits = texts-asked;
-              whole = sym ev ∙ not-false v nv;
-              strings = s .own .texts-room;
-              bordered = s .own .borders-room;
-              data-in = s .bytes-room;
-              data-few = s .few-bytes;
-              room = work-enough rooms (held .names) (held .yards) (held .front) (held .strings) enough-space;
-            }
+        putting v ev nv = let s = stood held rooms good in record {
+          fits = texts-asked;
+          whole = sym ev ∙ not-false v nv;
+          strings = s .own .texts-room;
+          bordered = s .own .borders-room;
+          data-in = s .bytes-room;
+          data-few = s .few-bytes;
+          room = work-enough rooms (held .names) (held .yards) (held .front) (held .strings) enough-space;
+        }
 
         module _ (after : List ℕ) (end : ℕ) (s : (b : Builder) → Holds b held lists → Stored (zeros out) 0 (fileOf (b .plan) (dataOf (b .plan))) after end) where
           pub too-long : upTo out < end → (r : Built) → r ≡ W.Refused (plain 28) → Said after r

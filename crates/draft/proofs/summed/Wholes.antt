@@ -1,20 +1,12 @@
 -- The lengths of a builder's texts, tested against the texts. Assumes nothing.
-use Prim.Native.Nat.{ℕ, _+_, _-_, _*_, _^_, _≤_, _<_}
-use borrow.Author.Tests.{eq-eqb, eqb-true, le-leb, leb-true, lt-leb, not-false, not-true}
-use lib.{Dec.{eqb, leb}, ListN.{length, take, drop, length-drop, length-map}, Seq.{length-take-le}}
-use mathlib.Core.{Bool.{Bool, true, false, not, _&&_}, List.{List, _++_, map}, Path.{_≡_, refl, sym, ap, subst, _∙_}}
-use native.Mathlib.Omega.{arith}
+use Rattle.numbers.proofs.Prelude.{ℕ, _+_, _-_, _*_, _^_, _≤_, _<_, eq-eqb, le-leb, leb-true, not-false, lt-leb, not-true, eqb-true, eqb, leb, length, take, drop, length-drop, length-map}
+use Rattle.numbers.proofs.{Prelude.{length-take-le, Bool, true, false, _&&_, not, List, _++_, map, _≡_, refl, sym, ap, subst, _∙_, arith}, Tests.{both}}
 use Rattle.writer.specs.Writer.{every}
 use Rattle.builder.specs.{File.{isText}, Yards.{Text, Plan, cutBy, sumOf}}
-use Rattle.numbers.proofs.Tests.{both}
-use Rattle.build.proofs.Slices.{texts-few}
-use Rattle.draft.proofs.held.{Everyone.{every-more}, Fronts.{front-of-more}, Valued.{held-whole}}
-use Rattle.draft.proofs.held.Standing.{few-names, front-first, front-many, held-front, held-names, holds-stands, lengths-split, names-few, readable-parts, strings-inside, texts-split}
-use Rattle.draft.specs.{Held.{Builder.{Builder}, State.{Front, Holds, Lists, frontOf, valuesOf}, Totals.{dataOf}}, declared.held.state.Held.{Held}}
-use Rattle.build.{proofs.metadata.Begun.{cut-join}, specs.Metadata.Kept.{joined}}
-use Rattle.build.proofs.recording.Fewer.{joined-sum}
-use Rattle.draft.proofs.summed.Afresh.{held-small}
-use Rattle.draft.specs.Summed.Ends.{Texts, textsWhole}
+use Rattle.build.{proofs.{Slices.{texts-few}, metadata.Begun.{cut-join}, recording.Fewer.{joined-sum}}, specs.Metadata.Kept.{joined}}
+use Rattle.draft.proofs.held.{Everyone.{every-more}, Fronts.{front-of-more}, Standing.{few-names, front-first, front-many, held-front, held-names, holds-stands, lengths-split, names-few}}
+use Rattle.draft.proofs.{held.{Standing.{readable-parts, strings-inside, texts-split}, Valued.{held-whole}}, summed.Afresh.{held-small}}
+use Rattle.draft.specs.{Held.{Builder.{Builder}, State.{Front, Holds, Lists, frontOf, valuesOf}, Totals.{dataOf}}, Summed.Ends.{Texts, textsWhole}, declared.held.state.Held.{Held}}
 
 module _ (held : Held) (lengths : List ℕ) where
   abbrev front : Bool
@@ -39,10 +31,7 @@ module _ (held : Held) (lengths : List ℕ) where
   module _ (w : textsWhole held lengths ≡ true) where
     told : (leb (held .strings) (2 ^ 29) ≡ true) × (front ≡ true) × (values ≡ true)
     unfolding textsWhole
-    told =
-        let one = both (leb (held .strings) (2 ^ 29)) (front && values) w in
-        let two = both front values (one .1) in
-        (one .0, two .0, two .1)
+    told = let one = both (leb (held .strings) (2 ^ 29)) (front && values) w in let two = both front values (one .1) in (one .0, two .0, two .1)
 
     pub strings-small : held .strings ≤ 2 ^ 29
     strings-small = leb-true (held .strings) (2 ^ 29) (told .0)
@@ -82,9 +71,7 @@ module _ (b : Builder) (held : Held) (lists : Lists) (h : Holds b held lists) wh
       ap (λ (n : ℕ). take n (lists .texts)) (held-front b held lists h) ∙ front-of-more 0 (joined (frontOf plan)) (joined (valuesOf plan)) lies
 
   front-short : sumOf (map length (frontOf (b .plan))) ≤ 65280
-  front-short =
-      let fs : List Text = frontOf plan in
-      let parts = readable-parts plan (h .sound .texts) in
+  front-short = let fs : List Text = frontOf plan in let parts = readable-parts plan (h .sound .texts) in
       let texts : every isText (cutBy (map length fs) (joined fs)) ≡ true = ap (every isText) (cut-join fs) ∙ (every-more isText (plan .names) (plan .notice) (parts .1 .0) ∙ parts .1 .1 .0) in
       let few = texts-few (map length fs) (joined fs) (omega (arith, joined-sum fs)) texts in
       omega (arith, few, length-map fs length, front-many plan (b .room) (h .sound), names-few plan (b .room) (h .sound))

@@ -1,9 +1,7 @@
 -- The header by how far it was read. Assumes nothing.
-use mathlib.Core.{Bool.{Bool}, Path.{_≡_, ap, _∙_}, List.{List}}
-use Prim.Native.Nat.{ℕ}
-use Rattle.numbers.{specs.{Reply.{Reply, given, refused, _>>=_}, declared.refusal.Refusal.{Refusal}}, proofs.Replies.{From, carried, onward, given-from, refused-from}}
-use Rattle.header.specs.Header.{textsOf, placeAfter, preambleOf, sectionsAt, Contents, contentsBy, headBy}
-use Rattle.header.specs.declared.header.{Preamble.{Preamble}, Sections.{Sections}, Head.{Head}}
+use Rattle.numbers.proofs.Prelude.{ℕ, Bool, List, _≡_, ap, _∙_}
+use Rattle.numbers.{proofs.Replies.{From, carried, onward, given-from, refused-from}, specs.{Reply.{Reply, given, refused, _>>=_}, declared.refusal.Refusal.{Refusal}}}
+use Rattle.header.specs.{Header.{textsOf, placeAfter, preambleOf, sectionsAt, Contents, contentsBy, headBy}, declared.header.{Preamble.{Preamble}, Sections.{Sections}}}
 
 module _ (strict : Bool) (file : List ℕ) where
   -- the head alone

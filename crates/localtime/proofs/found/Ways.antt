@@ -1,14 +1,10 @@
 -- The ways through what a string gives, and through the comparison of two local times. Assumes nothing.
-use Prim.Native.Nat.{ℕ, zero, suc, _+_, _-_, _^_, _≤_, _<_}
-use borrow.Author.Tests.{eq-eqb, ne-eqb}
-use lib.{Dec.{eqb, ltb}, IntN.{ℤ, pos, negsuc, _-ℤ_}, ListN.{length}, Signed.{mag}}
-use mathlib.Core.{Bool.{Bool, true, false, cond}, List.{List}, Path.{_≡_, refl, ap, sym, subst, _∙_}}
-use mir.{Syntax.{w32, w64}, Val.{SFits, toZ, ofZ}, ValLaws.{toZ-ofZ, toZ-pos}}
-use native.Mathlib.{Numerals.{add-one}, Omega.{arith}}
+use Rattle.numbers.proofs.Prelude.{ℕ, zero, suc, _+_, _-_, _^_, _≤_, _<_, eq-eqb, ne-eqb, eqb, ltb, ℤ, pos, _-ℤ_, length, mag, true, false, List, _≡_, refl, sym, ap, subst, _∙_, w32, w64, SFits, ofZ}
+use Rattle.numbers.proofs.{Prelude.{toZ, toZ-ofZ, add-one, arith}, Signed.{mag-cond}}
+use mir.ValLaws.{toZ-pos}
 use Rattle.localtime.specs.Found.{eastOf, foundOf, sameOctets, sameFound}
 use Rattle.tzif.specs.{Number.{octet}, declared.local.Found.{Found}}
 use Rattle.tzrule.specs.declared.ask.Time.{Time}
-use Rattle.numbers.proofs.Signed.{mag-cond}
 
 pub east-small : (west : ℕ) → west ≤ 1209600 → mag (eastOf west) < 2 ^ 31
 unfolding eastOf

@@ -1,15 +1,9 @@
 -- The notes with one yard more. Assumes nothing.
-use Prim.Native.Nat.{ℕ, zero, suc, _+_, _*_, _≤_, _<_}
-use lib.ListN.{length}
-use mathlib.Core.{Bool.{Bool, true, false}, List.{List}, Path.{_≡_, sym, ap, subst, _∙_}}
-use native.Mathlib.{Nat.{suc-mul, mul-le-mul, mul-le-mul-right}, Numerals.{add-one}, Omega.{arith}}
-use Rattle.builder.specs.Yards.{sumOf}
-use Rattle.notes.proofs.chains.Entering.{chained-out, chained-none}
-use Rattle.notes.specs.Chains.{Chains.{lastWith, Chained, meets, ItemsInside}, Entered.{bucketOf, isFirst, isField, Indexed}}
-use Rattle.builder.{proofs.grouping.{Meant.{starts-inside}, Walks.{fewer-inside}}, specs.Grouping.Items.{startsFrom}}
-use Rattle.notes.proofs.noted.Sharing.{is-first, not-first, field-of}
-use Rattle.notes.specs.inner.Noted.Noting.{EntersAll, NotesOne, NotesAll}
+use Rattle.numbers.proofs.Prelude.{ℕ, zero, suc, _+_, _*_, _≤_, _<_, length, Bool, true, false, List, _≡_, sym, ap, subst, _∙_, suc-mul, mul-le-mul, mul-le-mul-right, add-one, arith}
 use Rattle.numbers.specs.Lists.{zeros}
+use Rattle.builder.{proofs.grouping.{Meant.{starts-inside}, Walks.{fewer-inside}}, specs.{Grouping.Items.{startsFrom}, Yards.{sumOf}}}
+use Rattle.notes.proofs.{chains.Entering.{chained-out, chained-none}, noted.Sharing.{is-first, not-first, field-of}}
+use Rattle.notes.specs.{Chains.{Chains.{lastWith, Chained, meets, ItemsInside}, Entered.{bucketOf, isFirst, isField, Indexed}}, inner.Noted.Noting.{EntersAll, NotesOne, NotesAll}}
 
 -- ---- numbers
 pub yard-next : (yard names : ℕ) → yard * names + names ≡ (yard + 1) * names
@@ -27,12 +21,11 @@ module _ (names yard : ℕ) (starts texts before : List ℕ) where
   enters-none = λ entered inside c each. let e : yard * names ≡ yard * names + 0 = omega arith in subst (λ (n : ℕ). Chained (bucketOf starts texts 1) entered n before) e c
 
   pub enters-next : (field : ℕ) (now after : List ℕ) → field < names → EntersAll names yard starts texts before now field
-      → ((entered : ℕ → Bool) → ItemsInside starts texts 1 (yard * names + field) → Chained (bucketOf starts texts 1) entered (yard * names + field) now → entered (yard * names + field) ≡ true
-      → Chained (bucketOf starts texts 1) entered (yard * names + field + 1) after)
-      → EntersAll names yard starts texts before after (field + 1)
-  enters-next field now after h so one = λ entered inside c each.
-      let e : yard * names + field + 1 ≡ yard * names + (field + 1) = omega arith in
-      let fewer : ItemsInside starts texts 1 (yard * names + field) = fewer-inside starts texts ((yard + 1) * names) ((yard * names + field + 1) * 1) (omega (arith, h, yard-next yard names)) inside in
+      → ((entered : ℕ → Bool) → ItemsInside starts texts 1 (yard * names + field) → Chained (bucketOf starts texts 1) entered (yard * names + field) now
+      → entered (yard * names + field) ≡ true → Chained (bucketOf starts texts 1) entered (yard * names + field + 1) after) → EntersAll names yard starts texts before after (field + 1)
+  enters-next field now after h so one =
+      λ entered inside c each. let e : yard * names + field + 1 ≡ yard * names + (field + 1) = omega arith in let fewer : ItemsInside starts texts 1
+      (yard * names + field) = fewer-inside starts texts ((yard + 1) * names) ((yard * names + field + 1) * 1) (omega (arith, h, yard-next yard names)) inside in
       subst (λ (n : ℕ). Chained (bucketOf starts texts 1) entered n after) e (one entered fewer (so entered inside c each) (each field h))
 
   pub enters-end : (field : ℕ) (now : List ℕ) → field ≤ names → names ≤ field → EntersAll names yard starts texts before now field → EntersAll names yard starts texts before now names
@@ -64,29 +57,24 @@ module _ (names yard : ℕ) (lengths texts : List ℕ) (whole : sumOf lengths �
         Chained (bucketOf (startsFrom 0 lengths) texts 1) (isField names lengths texts) (yard * names + n) chains
     left out room zero h = let e : yard * names ≡ yard * names + 0 = omega arith in
         subst (λ (n : ℕ). Chained (bucketOf (startsFrom 0 lengths) texts 1) (isField names lengths texts) n chains) e (c .fields)
-    left out room (suc n) h =
-        let e : yard * names + n + 1 ≡ yard * names + suc n = omega arith in
+    left out room (suc n) h = let e : yard * names + n + 1 ≡ yard * names + suc n = omega arith in
         subst (λ (n : ℕ). Chained (bucketOf (startsFrom 0 lengths) texts 1) (isField names lengths texts) n chains) e
         (chained-out (bucketOf (startsFrom 0 lengths) texts 1) (isField names lengths texts) (yard * names + n) chains (left out room n (omega arith))
         (omega (arith, room, h, yard-next yard names)) (field-of names lengths texts yard n (omega arith) ∙ out))
 
     old-yard : 0 < r → 4096 + (yard + 1) * names ≤ length chains → 4096 + yard < length groups → Indexed names lengths texts (yard + 1) chains groups
-    old-yard h room space =
-        let out = not-first names lengths texts yard r last-is h in
-        record {
-          fields = subst (λ (n : ℕ). Chained (bucketOf (startsFrom 0 lengths) texts 1) (isField names lengths texts) n chains) (yard-next yard names) (left out room names (omega arith));
-          records = chained-out (bucketOf (startsFrom 0 lengths) texts names) (isFirst names lengths texts) yard groups (c .records) space out;
-        }
+    old-yard h room space = let out = not-first names lengths texts yard r last-is h in record {
+      fields = subst (λ (n : ℕ). Chained (bucketOf (startsFrom 0 lengths) texts 1) (isField names lengths texts) n chains) (yard-next yard names) (left out room names (omega arith));
+      records = chained-out (bucketOf (startsFrom 0 lengths) texts names) (isFirst names lengths texts) yard groups (c .records) space out;
+    }
 
     new-yard : r ≤ 0 → (chains′ groups′ : List ℕ) → Enters (startsFrom 0 lengths) texts names groups yard groups′ → EntersAll names yard (startsFrom 0 lengths) texts chains chains′ names →
         Indexed names lengths texts (yard + 1) chains′ groups′
-    new-yard h chains′ groups′ one all =
-        let first = is-first names lengths texts yard r last-is (omega arith) in
-        record {
-          fields = subst (λ (n : ℕ). Chained (bucketOf (startsFrom 0 lengths) texts 1) (isField names lengths texts) n chains′) (yard-next yard names)
-              (all (isField names lengths texts) yard-inside (c .fields) (λ field k. field-of names lengths texts yard field k ∙ first));
-          records = one (isFirst names lengths texts) yard-inside (c .records) first;
-        }
+    new-yard h chains′ groups′ one all = let first = is-first names lengths texts yard r last-is (omega arith) in record {
+      fields = subst (λ (n : ℕ). Chained (bucketOf (startsFrom 0 lengths) texts 1) (isField names lengths texts) n chains′) (yard-next yard names)
+          (all (isField names lengths texts) yard-inside (c .fields) (λ field k. field-of names lengths texts yard field k ∙ first));
+      records = one (isFirst names lengths texts) yard-inside (c .records) first;
+    }
 
 module _ (names yard : ℕ) (starts texts chains groups : List ℕ) (r : ℕ) (found : Finds starts texts names groups yard r) where
   pub notes-old : 0 < r → 4096 + (yard + 1) * names ≤ length chains → 4096 + yard < length groups → NotesOne names yard starts texts chains groups chains groups

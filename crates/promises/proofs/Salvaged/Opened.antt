@@ -1,13 +1,6 @@
 -- What a file that opens strictly says: its first bytes, its texts, and that its sections lie in it. Assumes nothing.
-use Prim.Native.Nat.{ℕ, _+_, _%_, _^_, _≤_}
-use borrow.Author.Tests.{leb-true, le-leb, eqb-true}
-use lib.{Dec.{ltb, leb, eqb}, ListN.{length}}
-use mathlib.Core.{Bool.{Bool, true}, List.{List, [], _∷_}, Path.{_≡_, refl, sym, ap, _∙_}}
-use native.Mathlib.Omega.{arith}
-use Rattle.header.specs.Header.{preambleOf, Texts, textsOf, sizeAt, sectionsFrom, sectionsAt, contentsBy, headBy}
-use Rattle.header.specs.declared.header.{Head.{Head}, Preamble.{Preamble}, Sections.{Sections}}
-use Rattle.numbers.{proofs.Replies.{given-from, demanded}, specs.Reply.{Reply, given, refused, refusal, plain}}
-use Rattle.header.proofs.ReadFrom.{read-from, sized, long-of}
+use Rattle.numbers.{proofs.Prelude.{ℕ, _^_, _≤_, le-leb, length, true, List, [], _∷_, _≡_, refl, sym, ap, _∙_, arith}, specs.Reply.{given}}
+use Rattle.header.{proofs.ReadFrom.{read-from, sized, long-of}, specs.{Header.{preambleOf, Texts, textsOf, contentsBy, headBy}, declared.header.Head.{Head}}}
 
 pub record Opened (file : List ℕ) (head : Head) : Type 0 where
   pub strict : head .strict ≡ true
@@ -19,18 +12,15 @@ pub record Opened (file : List ℕ) (head : Head) : Type 0 where
   pub inside : head .sections .«data» ≤ length file
 
 pub opened-from : (file : List ℕ) (head : Head) → headBy true file ≡ given head → Opened file head
-opened-from file head e =
-    let o = read-from true file (sym e) in
-    let a = sized true file (o .texts .place) (o .sections) in
-    record {
-      strict = o .strictly;
-      preamble = sym (o .preamble);
-      texts = o .texts;
-      texts-are = sym (o .texts-are);
-      contents = sym (o .contents);
-      in-order = omega (arith, a .metadata, a .data-place);
-      inside = omega (arith, a .exact);
-    }
+opened-from file head e = let o = read-from true file (sym e) in let a = sized true file (o .texts .place) (o .sections) in record {
+  strict = o .strictly;
+  preamble = sym (o .preamble);
+  texts = o .texts;
+  texts-are = sym (o .texts-are);
+  contents = sym (o .contents);
+  in-order = omega (arith, a .metadata, a .data-place);
+  inside = omega (arith, a .exact);
+}
 
 -- ---- the first seven bytes
 pub record Seven (file : List ℕ) : Type 0 where
@@ -64,18 +54,12 @@ opened-small file head o = long-of file (sym (o .preamble)) .small
 preamble-same : (a b c d e f g : ℕ) (rest rest′ : List ℕ) → length (a ∷ b ∷ c ∷ d ∷ e ∷ f ∷ g ∷ rest) ≤ 2 ^ 30 → length (a ∷ b ∷ c ∷ d ∷ e ∷ f ∷ g ∷ rest′) ≤ 2 ^ 30
     → preambleOf (a ∷ b ∷ c ∷ d ∷ e ∷ f ∷ g ∷ rest′) ≡ preambleOf (a ∷ b ∷ c ∷ d ∷ e ∷ f ∷ g ∷ rest)
 unfolding preambleOf
-preamble-same a b c d e f g rest rest′ h k =
-    let file = a ∷ b ∷ c ∷ d ∷ e ∷ f ∷ g ∷ rest in
-    let file′ = a ∷ b ∷ c ∷ d ∷ e ∷ f ∷ g ∷ rest′ in
+preamble-same a b c d e f g rest rest′ h k = let file = a ∷ b ∷ c ∷ d ∷ e ∷ f ∷ g ∷ rest in let file′ = a ∷ b ∷ c ∷ d ∷ e ∷ f ∷ g ∷ rest′ in
     rw (le-leb (length file) (2 ^ 30) h, le-leb (length file′) (2 ^ 30) k, le-leb 7 (length file) (omega arith), le-leb 7 (length file′) (omega arith)) refl
 
 pub preamble-again : (file : List ℕ) (head : Head) (o : Opened file head) (rest new : List ℕ) → length new ≤ 2 ^ 30
-    → new ≡ opened-seven file head o .b0 ∷ opened-seven file head o .b1 ∷ opened-seven file head o .b2 ∷ opened-seven file head o .b3 ∷ opened-seven file head o .b4 ∷ opened-seven file head o .b5 ∷ opened-seven file head o .b6 ∷ rest
-    → preambleOf new ≡ given (head .preamble)
-preamble-again file head o rest new small is =
-    let s = opened-seven file head o in
-    let old = opened-small file head o in
-    ap preambleOf is
-    ∙ preamble-same (s .b0) (s .b1) (s .b2) (s .b3) (s .b4) (s .b5) (s .b6) (s .rest) rest (omega (arith, old, ap length (s .are))) (omega (arith, small, ap length is))
-    ∙ ap preambleOf (sym (s .are))
-    ∙ o .preamble
+    → new ≡ opened-seven file head o .b0 ∷ opened-seven file head o .b1 ∷ opened-seven file head o .b2 ∷ opened-seven file head o .b3 ∷ opened-seven file head
+    o .b4 ∷ opened-seven file head o .b5 ∷ opened-seven file head o .b6 ∷ rest → preambleOf new ≡ given (head .preamble)
+preamble-again file head o rest new small is = let s = opened-seven file head o in let old = opened-small file head o in
+    ap preambleOf is ∙ preamble-same (s .b0) (s .b1) (s .b2) (s .b3) (s .b4) (s .b5) (s .b6) (s .rest) rest (omega (arith, old, ap length (s .are)))
+    (omega (arith, small, ap length is)) ∙ ap preambleOf (sym (s .are)) ∙ o .preamble

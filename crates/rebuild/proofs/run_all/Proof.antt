@@ -12,19 +12,5 @@ abbrev μ-loop : tie.MeasureT-loop
 μ-loop space₀ tally₀ turns₀ space tally turns = turns
 
 pub run-all-spec : {M : Type 1} → statement M
-run-all-spec =
-    tie.close
-    (tie.spec
-    Inv-loop
-    μ-loop
-    (λ c. (refl, refl))
-    (λ c κs. tt)
-    (λ c. omega arith)
-    (λ c. omega arith)
-    (λ c. (omega arith, omega arith))
-    (λ c. omega arith)
-    (λ c. omega arith)
-    (λ c. tt)
-    (λ c. omega arith)
-    (λ c. omega arith)
-    (λ c. tt))
+run-all-spec = tie.close (tie.spec Inv-loop μ-loop (λ c. (refl, refl)) (λ c κs. tt) (λ c. omega arith) (λ c. omega arith) (λ c. (omega arith, omega arith))
+    (λ c. omega arith) (λ c. omega arith) (λ c. tt) (λ c. omega arith) (λ c. omega arith) (λ c. tt))

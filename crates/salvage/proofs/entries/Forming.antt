@@ -1,13 +1,8 @@
 -- The numbers of an entry. Assumes nothing.
-use Prim.Native.Nat.{ℕ, _+_, _-_, _*_, _^_, _<_, _≤_}
-use borrow.Author.Tests.{lt-ltb, le-ltb}
-use lib.IntN.{pos, negsuc, _-ℤ_}
-use mathlib.Core.{List.{List, _++_}, Path.{_≡_, ap}}
-use native.Mathlib.Omega.{arith}
+use Rattle.numbers.proofs.Prelude.{ℕ, _+_, _-_, _*_, _^_, _≤_, _<_, lt-ltb, le-ltb, List, _++_, _≡_, arith}
+use Rattle.numbers.{proofs.{Coordinates.{below}, Spelling.{form-positive, form-negative}}, specs.{Point.{readI32}, Spelling.{signedForm}}}
 use Rattle.salvage.proofs.moves.Capping.{capped-then}
 use Rattle.salvage.specs.inner.Moves.Laid.{Capped}
-use Rattle.numbers.{proofs.Spelling.{form-positive, form-negative}, specs.{Point.{readI32}, Spelling.{signedForm}}}
-use Rattle.numbers.proofs.Coordinates.{below}
 
 -- a residue modulo 2 ^ 32 as an i32, in its signed form
 pub form-up : (low : ℕ) → low < 2 ^ 31 → low * 2 ≡ signedForm (readI32 low)

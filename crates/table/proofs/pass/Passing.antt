@@ -1,19 +1,12 @@
 -- Rows that a search passes over: what the code's fast reading says of them, and that the search goes on as if it had read them. Assumes nothing.
-use Prim.Native.Nat.{ℕ, suc, _+_, _-_, _*_, _%_, _^_, _≤_, _<_}
-use borrow.Author.Tests.{lt-ltb, le-ltb}
-use lib.{Dec.{lit≤}, ListN.{length, getD, drop}, Seq.{drop-cons}, Signed.{ltZ, leZ}}
-use mathlib.Core.{Bool.{Bool, true, false, _&&_}, List.{List, [], _∷_, _++_}, Path.{_≡_, refl, sym, ap, _∙_}}
-use native.Mathlib.{Nat.{le-refl}, Numerals.{add-one}, Omega.{arith}}
+use Rattle.numbers.proofs.{Answers.{found-one, goes}, Prelude.{ℕ, suc, _+_, _-_, _*_, _%_, _≤_, _<_, lt-ltb, le-ltb, lit≤, length, drop, getD, drop-cons, ltZ, leZ, Bool, true, false, List, [], _∷_}}
+use Rattle.numbers.{proofs.{Prelude.{_++_, _≡_, refl, sym, ap, _∙_, le-refl, add-one, arith}, Readings.{read-both, reading-grows}, Spelling.{one-byte}, Wholes.{whole-forward}}, specs.Answer.{found}}
+use Rattle.numbers.specs.{Answer.{if_then_else_}, Point.{signedOf}, Spelling.{Whole}, Varint.{Numeral, numeral, valueOf, sizeOf, readingOf}}
 use Rattle.border.specs.{Box.{between}, declared.place.Point.{Point}}
-use Rattle.verdict.specs.Verdict.{Judgement}
-use Rattle.numbers.proofs.{Answers.{found-one, goes}, Readings.{read-both}, Spelling.{one-byte}, Wholes.{whole-forward}}
-use Rattle.numbers.specs.{Answer.{found, if_then_else_}, Point.{signedOf}, Spelling.{Whole}, Varint.{Numeral, numeral, valueOf, sizeOf, forwardAt, readingOf}}
+use Rattle.verdict.{proofs.Gliding.{less-le}, specs.Verdict.{Judgement}}
 use Rattle.table.proofs.{TableRows.{at-row, row-less}, rest.Remaining.{restFrom, skipped, skipped-later}, rows.Entering.{row-read}}
-use Rattle.table.specs.{inner.Passing.{Near, Bounding, Lons, PassedRow, PassedOver, Skipped, SkippedOver}, Rows.{Rows, row, rowOf, after, rowBy, rowsFrom}, Search.{rowTurn, seek}}
-use Rattle.table.specs.Table.{boundsOf, stepsBy, entryBy, isAbove, holds}
-use Rattle.table.specs.declared.{hits.Hit.{Hit}, rows.{Cursor.{Cursor}, Row.{Row}}, table.{Bounds.{Bounds}, Entry.{Entry}}}
-use Rattle.numbers.proofs.Readings.{reading-grows}
-use Rattle.verdict.proofs.Gliding.{less-le}
+use Rattle.table.specs.{Rows.{Rows, row, rowOf, after, rowsFrom}, Search.{rowTurn, seek}, Table.{boundsOf, stepsBy, entryBy, isAbove, holds}, declared.{hits.Hit.{Hit}, rows.Cursor.{Cursor}}}
+use Rattle.table.specs.{declared.{rows.Row.{Row}, table.Bounds.{Bounds}}, inner.Passing.{Near, Bounding, Lons, PassedRow, PassedOver, Skipped, SkippedOver}}
 use mathlib.Core.Bool.{and-false}
 
 -- ---- numbers of up to three bytes
@@ -27,7 +20,8 @@ three-bytes a b c h k l =
     record { complete = rw (le-ltb a 128 h, le-ltb b 128 k, lt-ltb c 128 l); short = lit≤ tt; reads = rw (le-ltb a 128 h, le-ltb b 128 k, lt-ltb c 128 l) (omega arith) }
 
 module _ (file : List ℕ) (place : ℕ) where
-  near : (w rest : List ℕ) {value : ℕ} → Whole w value → drop place file ≡ w ++ rest → length w ≤ 3 → place + length w ≤ length file → Near file place (record { value = value; place = place + length w })
+  near : (w rest : List ℕ) {value : ℕ} → Whole w value → drop place file ≡ w ++ rest → length w ≤ 3 → place + length w ≤ length file
+      → Near file place (record { value = value; place = place + length w })
   near w rest whole here few inside = record {
     reads = λ strict. read-both file place strict (ap (λ (n : ℕ). numeral n (place + length w)) (sym (whole .reads)) ∙ whole-forward file w rest place (whole .complete) here (whole .short)) inside;
     close = omega arith;
@@ -49,8 +43,7 @@ module _ (file : List ℕ) (place : ℕ) where
 
       module _ (most : 128 ≤ middle) {high : ℕ} (c : high ≡ getD file (place + 2) 0) where
         third : drop (suc (place + 1)) file ≡ high ∷ drop (suc (suc (place + 1))) file
-        third =
-            let there : high ≡ getD file (suc (place + 1)) 0 = c ∙ ap (λ (n : ℕ). getD file n 0) (omega arith) in
+        third = let there : high ≡ getD file (suc (place + 1)) 0 = c ∙ ap (λ (n : ℕ). getD file n 0) (omega arith) in
             rw there (drop-cons file (suc (place + 1)) 0 (omega arith))
 
         pub near-three : high < 128 → Near file place (record { value = low % 128 + 128 * (middle % 128 + 128 * high); place = place + 3 })
@@ -97,11 +90,9 @@ module _ {file : List ℕ} {place : ℕ} {bounds : Bounds} {next : ℕ} (four : 
   module _ {m p : Numeral} (nm : Near file next m) (np : Near file (m .place) p) where
     entry-read : (strict : Bool) → found (record { bounds = bounds; metadata = m .value; polygon = p .value; next = p .place }) ≡ entryBy (readingOf strict file) place
     unfolding entryBy stepsBy
-    entry-read strict =
-        let behind = rw (four .then) at (nm .reads strict) in
-        ap (λ (x : Bounds). found (record { bounds = x; metadata = m .value; polygon = p .value; next = p .place })) (four .are)
-        ∙ goes (np .reads strict) _ ∙ goes behind _ ∙ goes (four .east-there .reads strict) _ ∙ goes (four .north-there .reads strict) _ ∙ goes (four .west-there .reads strict) _
-        ∙ goes (four .south-there .reads strict) _
+    entry-read strict = let behind = rw (four .then) at (nm .reads strict) in
+        ap (λ (x : Bounds). found (record { bounds = x; metadata = m .value; polygon = p .value; next = p .place })) (four .are) ∙ goes (np .reads strict) _
+        ∙ goes behind _ ∙ goes (four .east-there .reads strict) _ ∙ goes (four .north-there .reads strict) _ ∙ goes (four .west-there .reads strict) _ ∙ goes (four .south-there .reads strict) _
 
     pub skipped-row : (fix : Point) → isAbove bounds fix ≡ true → Skipped file fix place (p .place)
     skipped-row fix up = record { entry = record { bounds = bounds; metadata = m .value; polygon = p .value; next = p .place }; reads = entry-read; above = up; then = refl }
@@ -159,7 +150,8 @@ module _ {file : List ℕ} {end : ℕ} {fix : Point} where
     pub skips : next ≤ end → {start : ℕ} → SkippedOver file end fix start place → SkippedOver file end fix start next
     skips within g = record {
       on = omega (arith, g .on, skips-later);
-      same = λ strict. g .same strict ∙ skipped strict file end fix place more (s .reads strict) (s .above) (omega (arith, s .then)) ∙ ap (λ (n : ℕ). restFrom (readingOf strict file) end fix n) (sym (s .then));
+      same = λ strict. g .same strict ∙ skipped strict file end fix place more (s .reads strict) (s .above) (omega (arith, s .then))
+          ∙ ap (λ (n : ℕ). restFrom (readingOf strict file) end fix n) (sym (s .then));
     }
 
   pub skip-less : {later next : ℕ} (place : ℕ) → end - later < end - place → SkippedOver file end fix later next → end - next < end - place

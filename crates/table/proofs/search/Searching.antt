@@ -1,15 +1,12 @@
 -- The search's loop: what holds before each row, and what a row makes of it. Assumes nothing.
-use Prim.Native.Nat.{ℕ, _+_, _/_, _≤_, _<_}
-use lib.ListN.{length}
-use mathlib.Core.{List.{List, []}, Path.{_≡_, sym, ap, _∙_}, Bool.{Bool, true, false}}
+use Rattle.numbers.proofs.Prelude.{ℕ, _+_, _/_, _≤_, _<_, length, Bool, true, false, List, [], _≡_, sym, ap, _∙_}
+use Rattle.numbers.{proofs.Answers.{chosen, other}, specs.{Lists.{zeros}, Reply.{Reply, given, plain}, Varint.{readingOf}}}
 use Rattle.verdict.specs.Verdict.{Judgement}
 use Rattle.border.specs.declared.place.Point.{Point}
 use Rattle.table.proofs.Agreeing.{agree-refused}
-use Rattle.table.specs.{Hits.{width, putHit}, inner.{Agreeing.{Agrees}, Passing.{PassedOver}}, Rows.{Rows, row, tableEnd, unreadable, rowsFrom}}
-use Rattle.table.specs.Search.{rowTurn, Found, ended, afterTurn, seek, Sought}
-use Rattle.table.specs.declared.{hits.Hit.{Hit}, rows.{Cursor.{Cursor}, Row.{Row}}, search.{Ended.{Ended}, Turn.{the-variants.{On, Met, Stopped, Refused}, Turn}}}
-use Rattle.table.specs.{Rest.{restMark}, Table.{isAbove}}
-use Rattle.numbers.{specs.{Lists.{zeros}, Reply.{Reply, given, plain}, Varint.{readingOf}}, proofs.Answers.{chosen, other}}
+use Rattle.table.specs.{Hits.{width, putHit}, Rest.{restMark}, Rows.{Rows, row, tableEnd, unreadable, rowsFrom}, Search.{rowTurn, Found, ended, afterTurn, seek, Sought}, Table.{isAbove}}
+use Rattle.table.specs.{declared.{hits.Hit.{Hit}, rows.{Cursor.{Cursor}, Row.{Row}}, search.{Ended.{Ended}, Turn.{Turn, the-variants.{On, Met, Stopped, Refused}}}}, inner.Agreeing.{Agrees}}
+use Rattle.table.specs.inner.Passing.{PassedOver}
 use Rattle.numbers.specs.Reply as R
 use Rattle.table.proofs.search.SoFar as F
 use Rattle.table.specs.Rows as T
@@ -25,8 +22,7 @@ module _ (judge : ℕ → ℕ → Judgement) (fix : Point) (end n : ℕ) where
   -- rows that may be passed over make no difference
   pub passed-on : (strict : Bool) {file : List ℕ} {at next : Cursor} {whole : Reply Found} {ws : List ℕ} {count least : ℕ} → PassedOver file end fix at next
       → Going judge fix end n whole (rowsFrom (readingOf strict file) end at) ws count least → Going judge fix end n whole (rowsFrom (readingOf strict file) end next) ws count least
-  passed-on strict {least = least} p g =
-      let f = g .far in
+  passed-on strict {least = least} p g = let f = g .far in
       record { far = record { hits = f .hits; counted = f .counted; fits = f .fits; kept = f .kept; real = f .real; so-far = sym (p .same strict judge (n / width) least (f .hits)) ∙ f .so-far } }
 
   module _ {whole : Reply Found} {rows : Rows} {ws : List ℕ} {count least : ℕ} (g : Going judge fix end n whole rows ws count least) where

@@ -1,13 +1,8 @@
 -- Numbers of three bytes: how their first and last byte order them. Assumes nothing.
-use Prim.Native.Nat.{ℕ, zero, suc, _+_, _*_, _/_, _%_, _^_, _≤_, _<_}
-use borrow.Author.Tests.{le-leb, leb-true, lt-ltb, ltb-true}
-use lib.{Dec.{ltb, leb}, IntN.{ℤ, pos, negsuc, negℤ}, ListN.{length, getD}, Signed.{ltZ, leZ}}
-use mathlib.Core.{Bool.{Bool, true, false}, List.{List}, Path.{_≡_, refl, sym, ap, _∙_, subst}}
-use native.Mathlib.Omega.{arith}
-use Rattle.numbers.proofs.Tests.{differ}
+use Rattle.numbers.proofs.Prelude.{ℕ, zero, suc, _+_, _*_, _/_, _%_, _^_, _≤_, _<_, le-leb, leb-true, ltb-true, ltb, leb, ℤ, pos, negℤ, length, getD, ltZ, leZ, Bool, true, false, List, _≡_, refl}
+use Rattle.numbers.{proofs.{Prelude.{sym, subst, _∙_, arith}, Spelling.{even-back, odd-back}, Tests.{differ}}, specs.Point.{signedOf}}
 use Rattle.border.specs.declared.place.Point.{Point}
-use Rattle.numbers.{proofs.Spelling.{even-back, odd-back}, specs.Point.{signedOf}}
-use Rattle.table.proofs.{pass.Passing.{near-three, below-missed, bounding}}
+use Rattle.table.proofs.pass.Passing.{near-three, below-missed, bounding}
 use Rattle.table.specs.inner.{Passing.{Near, Bounding}, Usual.{GoesOn, Ends, FourLong, longAt, usualBounds, Under, Over}}
 use Rattle.verdict.proofs.Gliding.{le-less, less-le-less}
 
@@ -27,42 +22,33 @@ odd-order a b h k = rw (odd-back a (omega arith), odd-back b k) (below-zero a b 
 -- ---- the order of any two
 -- what is not below a number is not below what is at most that
 not-over : (x a b : ℤ) → leZ a b ≡ true → ltZ x b ≡ false → ltZ x a ≡ false
-not-over x a b h k = go (ltZ x a) refl
-  where
-    go : (t : Bool) → ltZ x a ≡ t → ltZ x a ≡ false
-    go false e = e
-    go true e = differ (sym k ∙ less-le-less x a b e h)
+not-over x a b h k = go (ltZ x a) refl where
+  go : (t : Bool) → ltZ x a ≡ t → ltZ x a ≡ false
+  go false e = e
+  go true e = differ (sym k ∙ less-le-less x a b e h)
 
 -- ---- a number by its first and its last byte
 module _ (low middle high : ℕ) (small : high < 256) where
   pub even-high : low % 2 ≡ 0 → leZ (signedOf (low % 128 + 128 * (middle % 128 + 128 * high))) (signedOf (16384 * high + 16382)) ≡ true
-  even-high e =
-      let n = low % 128 + 128 * (middle % 128 + 128 * high) in
-      let half : 2 * (n / 2) ≡ n = omega (arith, e) in
+  even-high e = let n = low % 128 + 128 * (middle % 128 + 128 * high) in let half : 2 * (n / 2) ≡ n = omega (arith, e) in
       let most : 2 * (8192 * high + 8191) ≡ 16384 * high + 16382 = omega arith in
       subst (λ (x : ℕ). leZ (signedOf x) (signedOf (16384 * high + 16382)) ≡ true) half
       (subst (λ (x : ℕ). leZ (signedOf (2 * (n / 2))) (signedOf x) ≡ true) most (even-order (n / 2) (8192 * high + 8191) (omega arith) (omega (arith, small))))
 
   pub odd-high : low % 2 ≡ 1 → leZ (signedOf (low % 128 + 128 * (middle % 128 + 128 * high))) (signedOf (16384 * high + 1)) ≡ true
-  odd-high e =
-      let n = low % 128 + 128 * (middle % 128 + 128 * high) in
-      let half : 2 * (n / 2) + 1 ≡ n = omega (arith, e) in
+  odd-high e = let n = low % 128 + 128 * (middle % 128 + 128 * high) in let half : 2 * (n / 2) + 1 ≡ n = omega (arith, e) in
       let least : 2 * (8192 * high) + 1 ≡ 16384 * high + 1 = omega arith in
       subst (λ (x : ℕ). leZ (signedOf x) (signedOf (16384 * high + 1)) ≡ true) half
       (subst (λ (x : ℕ). leZ (signedOf (2 * (n / 2) + 1)) (signedOf x) ≡ true) least (odd-order (8192 * high) (n / 2) (omega arith) (omega (arith, small))))
 
   pub even-low : low % 2 ≡ 0 → leZ (signedOf (16384 * high)) (signedOf (low % 128 + 128 * (middle % 128 + 128 * high))) ≡ true
-  even-low e =
-      let n = low % 128 + 128 * (middle % 128 + 128 * high) in
-      let half : 2 * (n / 2) ≡ n = omega (arith, e) in
+  even-low e = let n = low % 128 + 128 * (middle % 128 + 128 * high) in let half : 2 * (n / 2) ≡ n = omega (arith, e) in
       let least : 2 * (8192 * high) ≡ 16384 * high = omega arith in
       subst (λ (x : ℕ). leZ (signedOf (16384 * high)) (signedOf x) ≡ true) half
       (subst (λ (x : ℕ). leZ (signedOf x) (signedOf (2 * (n / 2))) ≡ true) least (even-order (8192 * high) (n / 2) (omega arith) (omega (arith, small))))
 
   pub odd-low : low % 2 ≡ 1 → leZ (signedOf (16384 * high + 16383)) (signedOf (low % 128 + 128 * (middle % 128 + 128 * high))) ≡ true
-  odd-low e =
-      let n = low % 128 + 128 * (middle % 128 + 128 * high) in
-      let half : 2 * (n / 2) + 1 ≡ n = omega (arith, e) in
+  odd-low e = let n = low % 128 + 128 * (middle % 128 + 128 * high) in let half : 2 * (n / 2) + 1 ≡ n = omega (arith, e) in
       let most : 2 * (8192 * high + 8191) + 1 ≡ 16384 * high + 16383 = omega arith in
       subst (λ (x : ℕ). leZ (signedOf (16384 * high + 16383)) (signedOf x) ≡ true) half
       (subst (λ (x : ℕ). leZ (signedOf x) (signedOf (2 * (n / 2) + 1)) ≡ true) most (odd-order (n / 2) (8192 * high + 8191) (omega arith) (omega (arith, small))))
@@ -113,12 +99,9 @@ module _ {file : List ℕ} where
 
   pub usual-four : (place : ℕ) → place + 11 < length file → FourLong file place → Bounding file place (usualBounds file place) (place + 12)
   usual-four place room four =
-      bounding
-      (long-near place (four .south-on) (four .south-ends) (omega arith) refl)
-      (long-near (place + 3) (four .on .west) (four .end .west) (omega arith) (omega arith))
-      (long-near (place + 6) (four .on .north) (four .end .north) (omega arith) (omega arith))
-      (long-near (place + 9) (four .on .east) (four .end .east) (omega arith) (omega arith))
-      refl
+      bounding (long-near place (four .south-on) (four .south-ends) (omega arith) refl) (long-near (place + 3) (four .on .west) (four .end .west) (omega arith)
+      (omega arith)) (long-near (place + 6) (four .on .north) (four .end .north) (omega arith) (omega arith)) (long-near (place + 9) (four .on .east)
+      (four .end .east) (omega arith) (omega arith)) refl
 
   -- ---- by the tests
   pub seen-under : (place : ℕ) (fix : Point) → FourLong file place → (south north : ℤ) → leZ (signedOf (longAt file place)) south ≡ true → ltZ (fix .lat .0) south ≡ false

@@ -1,18 +1,11 @@
 -- The ways through a TZ string, part by part. Assumes nothing.
-use Prim.Native.Nat.{ℕ, _+_, _-_, _≤_}
-use borrow.Author.Tests.{eq-eqb, ne-eqb}
-use lib.Dec.{eqb}
-use mathlib.Core.{Bool.{Bool, true, false}, List.{List}, Path.{_≡_, ap, sym, _∙_}}
-use native.Mathlib.Omega.{arith}
+use Rattle.numbers.proofs.Prelude.{ℕ, _+_, _-_, _≤_, eq-eqb, ne-eqb, eqb, Bool, true, false, List, _≡_, sym, ap, _∙_, arith}
 use Rattle.calendar.specs.{Rules.{IsWhen}, declared.rule.When.{When}}
-use Rattle.tzrule.specs.{Answer.{Answer, read, fault, onward, told, Within, Around, toldDate, GoodDate}, Grammar.{laterOf, signedOf, dateOf}}
-use Rattle.tzrule.specs.Names.{nameOf, toldName, Inside}
-use Rattle.tzrule.specs.String.{dayHours, weekHours, hoursOf, timeOf, changeOf, clockOf, summerOf, changingOf, stringOf}
+use Rattle.tzrule.specs.{Answer.{Answer, read, fault, onward, told, Within, Around, toldDate, GoodDate}, Grammar.{laterOf, signedOf, dateOf}, Names.{nameOf, toldName, Inside}}
+use Rattle.tzrule.specs.{String.{dayHours, weekHours, hoursOf, timeOf, changeOf, clockOf, summerOf, changingOf, stringOf}, Summer.{IsChange}, Text.{byteAt}, declared.date.Found.{Found}}
+use Rattle.tzrule.specs.declared.{name.{Named.{Named}, Span.{Span}}, number.Number.{Number, the-variants.{Read, Fault}}, rule.{Change.{Change}, Clock.{Clock}}}
+use Rattle.tzrule.specs.declared.{rule.Tz.the-variants.{Fixed, Changing}, string.{ChangeAt.{ChangeAt}, Changed.{Changed}, ClockAt.{ClockAt}, Clocked.{Clocked}}}
 use Rattle.tzrule.specs.inner.String.{toldClock, toldChange, toldString, IsClock, GoodClock, GoodChange}
-use Rattle.tzrule.specs.{Summer.{IsChange}, Text.{byteAt}}
-use Rattle.tzrule.specs.declared.{date.Found.{Found}, name.{Named.{Named}, Span.{Span}}, number.Number.{Number, the-variants.{Read, Fault}}}
-use Rattle.tzrule.specs.declared.rule.{Change.{Change}, Clock.{Clock}, Tz.the-variants.{Fixed, Changing}}
-use Rattle.tzrule.specs.declared.string.{ChangeAt.{ChangeAt}, Changed.{Changed}, ClockAt.{ClockAt}, Clocked.{Clocked}}
 use Rattle.tzrule.specs.declared.date.Found.the-variants as found
 use Rattle.tzrule.specs.declared.name.Named.the-variants as named
 use Rattle.tzrule.specs.declared.string.Changed.the-variants as changed

@@ -1,13 +1,8 @@
 -- Points of a border that change nothing about a location. No promise of a public function speaks of it.
-use Prim.Native.Nat.{ℕ, suc, _+_, _*_, _≤_}
-use mathlib.Core.{Path.{_≡_}, Bool.{Bool, true, false, _&&_, _||_}, List.{List}}
-use lib.{IntN.{ℤ, pos, negsuc, _+ℤ_, _-ℤ_}, Signed.{leZ, ltZ, mag}}
-use Rattle.numbers.specs.{Answer.{found}, declared.point.RawPoint.{RawPoint}}
-use Rattle.border.specs.{Encoding.{encodedBy}, Place.{movedBy}, Trace.{Trace, point, traceOf}}
-use Rattle.border.specs.declared.place.Point.{Point}
-use Rattle.border.specs.declared.reader.{Reader.{Reader}, Encoding.{Encoding}, Version.the-variants.{Plain, Packed}, Run.{Run, the-variants.{Idle, Backward}}}
-use Rattle.verdict.specs.Verdict.{after, passing}
-use Rattle.verdict.specs.declared.{field.{Span.{Span}, Field.{Field}, Open.{Open, the-variants.{About, Shut}}}, glide.Led.{Led, the-variants.{To, Out}}}
+use Rattle.numbers.specs.{Answer.{found}, Prelude.{ℕ, suc, _+_, _*_, _≤_, ℤ, pos, negsuc, _+ℤ_, _-ℤ_, mag, ltZ, leZ, Bool, true, false, _&&_, _||_, List, _≡_}, declared.point.RawPoint.{RawPoint}}
+use Rattle.border.specs.{Encoding.{encodedBy}, Place.{movedBy}, Trace.{Trace, point, traceOf}, declared.{place.Point.{Point}, reader.{Encoding.{Encoding}, Reader.{Reader}, Run.{Run}}}}
+use Rattle.border.specs.declared.reader.{Run.the-variants.{Idle, Backward}, Version.the-variants.{Plain, Packed}}
+use Rattle.verdict.specs.{Verdict.{after, passing}, declared.{field.{Field.{Field}, Open.{Open, the-variants.{About, Shut}}, Span.{Span}}, glide.Led.{Led, the-variants.{To, Out}}}}
 use Rattle.verdict.specs.declared.step.Tally.{Tally}
 use Rattle.border.specs.Trace as T
 use Rattle.verdict.specs.Step as S

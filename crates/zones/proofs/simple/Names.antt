@@ -1,11 +1,9 @@
 -- Two lists of bytes, compared one by one. Assumes nothing.
-use mathlib.Core.{Path.{_≡_, refl, sym, ap, _∙_}, Bool.{Bool, true, false, _&&_}, List.{List, [], _∷_, map}}
-use Prim.Native.Nat.{ℕ, suc, _+_, _≤_, _<_}
-use native.Mathlib.{Numerals.{add-one}, Omega.{arith}}
-use borrow.Author.Tests.{eq-eqb, ne-eqb}
-use lib.{Bits.{bitXor}, Dec.{eqb}, ListN.{length, getD, drop, length-map, drop-of-length-le}, Seq.{drop-cons}}
+use Rattle.numbers.proofs.Prelude.{ℕ, suc, _+_, _≤_, _<_, eq-eqb, ne-eqb, eqb, length, drop, getD, length-map, drop-of-length-le, drop-cons, Bool, true, false, _&&_, List, [], _∷_, map, _≡_, refl}
+use Rattle.numbers.proofs.Prelude.{sym, ap, _∙_, add-one, arith}
+use lib.Bits.{bitXor}
 use Rattle.zones.specs.Simple.{same, name, timezoneId, timezoneIdPrefix, partOf}
-use Rattle.header.{specs.Utf8.{unmasked}, proofs.Buffers.{map-at}}
+use Rattle.header.{proofs.Buffers.{map-at}, specs.Utf8.{unmasked}}
 use mathlib.Core.Bool.{and-false}
 
 pub lengths-differ : (xs ys : List ℕ) → (length xs ≡ length ys → ⊥) → same xs ys ≡ false
@@ -18,16 +16,13 @@ lengths-differ (x ∷ xs) (y ∷ ys) h = ap (λ (t : Bool). eqb x y && t) (lengt
 module _ (xs ys : List ℕ) (lengths : length xs ≡ length ys) (i : ℕ) {whole : Bool} (so-far : same (drop i xs) (drop i ys) ≡ whole) where
   pub all-same : length xs ≤ i → true ≡ whole
   unfolding same
-  all-same h =
-      let one : drop i xs ≡ [] = drop-of-length-le xs {i = i} h in
-      let two : drop i ys ≡ [] = drop-of-length-le ys {i = i} (omega (arith, lengths, h)) in
-      sym (λ j. same (one j) (two j)) ∙ so-far
+  all-same h = let one : drop i xs ≡ [] = drop-of-length-le xs {i = i} h in
+      let two : drop i ys ≡ [] = drop-of-length-le ys {i = i} (omega (arith, lengths, h)) in sym (λ j. same (one j) (two j)) ∙ so-far
 
   module _ (more : i < length xs) where
     opened : (eqb (getD xs i 0) (getD ys i 0) && same (drop (i + 1) xs) (drop (i + 1) ys)) ≡ whole
     unfolding same
-    opened =
-        let first : drop i xs ≡ getD xs i 0 ∷ drop (i + 1) xs = drop-cons xs i 0 more ∙ (λ j. getD xs i 0 ∷ drop (sym (add-one i) j) xs) in
+    opened = let first : drop i xs ≡ getD xs i 0 ∷ drop (i + 1) xs = drop-cons xs i 0 more ∙ (λ j. getD xs i 0 ∷ drop (sym (add-one i) j) xs) in
         let second : drop i ys ≡ getD ys i 0 ∷ drop (i + 1) ys = drop-cons ys i 0 (omega (arith, lengths, more)) ∙ (λ j. getD ys i 0 ∷ drop (sym (add-one i) j) ys) in
         sym (λ j. same (first j) (second j)) ∙ so-far
 

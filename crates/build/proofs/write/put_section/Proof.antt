@@ -1,9 +1,8 @@
 -- `build::write::put_section` meets its contract. Assumes nothing.
+use Rattle.numbers.proofs.Prelude.{needs, arith}
 use Rattle.writer.proofs.Stores.{stored-then}
 use Rattle.build.proofs.{Puts.{behind-few}, write.put_section.Statement.{statement}}
 use Rattle.build.specs.inner.Puts.{sectionFrom}
-use native.Mathlib.Omega.{arith}
-use borrow.Author.Needs.{needs}
 use Rattle.build.proofs.write.put_section.Tie as tie
 
 -- ---- the places that the answers speak of
@@ -24,6 +23,4 @@ unfolding sectionFrom
 returns c = stored-then _ _ (c .before .before .before .before .before .before .put-records .ensures) (c .before .before .put-remotes .ensures)
 
 pub put-section-spec : {M : Type 1} → statement M
-put-section-spec =
-    tie.close (tie.spec
-    (λ c κs. search needs) put-remotes-requires (λ c. search needs) returns)
+put-section-spec = tie.close (tie.spec (λ c κs. search needs) put-remotes-requires (λ c. search needs) returns)

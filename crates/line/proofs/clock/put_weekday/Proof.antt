@@ -1,6 +1,5 @@
 -- `line::clock::put_weekday` meets its contract, by the weekday. Assumes nothing.
-use borrow.Author.Needs.{needs}
-use mathlib.Core.Path.{ap, sym}
+use Rattle.numbers.proofs.Prelude.{needs, sym, ap}
 use Rattle.line.proofs.{Puts.{put-as, put-none}, Shown.{no-day, none-of-four, none-of-three}, clock.put_weekday.Statement.{statement}}
 use Rattle.line.specs.Clock.{weekdayText}
 use Rattle.line.proofs.clock.put_weekday.Tie as tie
@@ -39,10 +38,7 @@ returns-8 c = let rest = c .match .rest in
     (rest .1)))) (put-none _ _)
 
 pub put-weekday-spec : {M : Type 1} → statement M
-put-weekday-spec =
-    tie.close
-    (tie.spec
-    (λ c. search needs) (λ c κs. search needs) (λ c. search needs) (λ c κs. search needs) (λ c. search needs) (λ c κs. search needs)
-    (λ c. search needs) (λ c κs. search needs) (λ c. search needs) (λ c κs. search needs) (λ c. search needs) (λ c κs. search needs)
-    (λ c. search needs) (λ c κs. search needs) (λ c. search needs) returns (λ c. search needs) returns-2 (λ c. search needs) returns-3
-    (λ c. search needs) returns-4 (λ c. search needs) returns-5 (λ c. search needs) returns-6 (λ c. search needs) returns-7 returns-8)
+put-weekday-spec = tie.close (tie.spec (λ c. search needs) (λ c κs. search needs) (λ c. search needs) (λ c κs. search needs) (λ c. search needs)
+    (λ c κs. search needs) (λ c. search needs) (λ c κs. search needs) (λ c. search needs) (λ c κs. search needs) (λ c. search needs) (λ c κs. search needs)
+    (λ c. search needs) (λ c κs. search needs) (λ c. search needs) returns (λ c. search needs) returns-2 (λ c. search needs) returns-3 (λ c. search needs)
+    returns-4 (λ c. search needs) returns-5 (λ c. search needs) returns-6 (λ c. search needs) returns-7 returns-8)

@@ -1,15 +1,10 @@
 -- `localtime::found::same_found` meets its contract. Assumes nothing.
-use native.Mathlib.Omega.{arith}
-use mathlib.Core.Path.{_∙_}
+use Rattle.numbers.proofs.Prelude.{_∙_, arith}
 use Rattle.localtime.proofs.found.{Ways.{other-offset, other-daylight, other-length, same-so-far}, same_found.Statement.{statement}}
 use Rattle.localtime.proofs.found.same_found.Tie as tie
 
-returns-3 : tie.Need-returns-3
-returns-3 c = other-length _ _ _ (c .before .before .before .before .before .before .if1 .left) (c .before .before .before .if2 .left) (c .if3 .taken)
-
 same-octets-requires : tie.Need-same-octets-requires
-same-octets-requires c κs =
-    let told = c .before .before .before .before .before .before .before .before .before .before .before .before .pre .0 .held in
+same-octets-requires c κs = let told = c .before .before .before .before .before .before .before .before .before .before .before .before .pre .0 .held in
     let told-2 = c .before .before .before .before .before .before .before .before .before .before .before .before .pre .1 .held in
     omega (arith, told, told-2, c .if3 .left)
 
@@ -19,8 +14,7 @@ returns-4 c = c .same-octets .ensures ∙
     (omega (arith, c .before .if3 .left))
 
 pub same-found-spec : {M : Type 1} → statement M
-same-found-spec =
-    tie.close
-    (tie.spec
-    (λ c. other-offset _ _ _ (c .if1 .taken)) (λ c. other-daylight _ _ _ (c .before .before .before .if1 .left) (c .if2 .taken)) returns-3
+same-found-spec = tie.close (tie.spec (λ c. other-offset _ _ _ (c .if1 .taken))
+    (λ c. other-daylight _ _ _ (c .before .before .before .if1 .left) (c .if2 .taken))
+    (λ c. other-length _ _ _ (c .before .before .before .before .before .before .if1 .left) (c .before .before .before .if2 .left) (c .if3 .taken))
     same-octets-requires returns-4)

@@ -1,7 +1,5 @@
 -- `localtime::found::same_octets` meets its contract: all that were passed are equal. Assumes nothing.
-use Prim.Native.Nat.{_-_, _≤_}
-use mathlib.Core.{Bool.{true}, Path.{_≡_}}
-use native.Mathlib.Omega.{arith}
+use Rattle.numbers.proofs.Prelude.{_-_, _≤_, true, _≡_, arith}
 use Rattle.localtime.proofs.found.{Ways.{same-none, same-more, same-differs, same-all}, same_octets.Statement.{statement}}
 use Rattle.localtime.specs.Found.{sameOctets}
 use Rattle.localtime.proofs.found.same_octets.Tie as tie
@@ -24,10 +22,7 @@ loop-again c = (
 )
 
 pub same-octets-spec : {M : Type 1} → statement M
-same-octets-spec =
-    tie.close
-    (tie.spec
-    Inv-loop μ-loop (λ c. (omega arith, same-none _ _ _)) (λ c. omega (arith, c .before .before .before .pre))
+same-octets-spec = tie.close (tie.spec Inv-loop μ-loop (λ c. (omega arith, same-none _ _ _)) (λ c. omega (arith, c .before .before .before .pre))
     (λ c κs. omega (arith, c .before .before .before .pre)) (λ c. omega (arith, c .before .before .before .before .pre))
     (λ c κs. omega (arith, c .before .before .before .before .pre)) (λ c. omega arith) returns (λ c. omega arith) loop-again
     (λ c. same-all _ _ _ (c .before .loop .i) _ (omega arith) (omega arith) (c .before .loop .inv .1)))

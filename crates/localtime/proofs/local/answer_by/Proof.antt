@@ -1,5 +1,5 @@
 -- `localtime::local::answer_by` meets its contract. Assumes nothing.
-use borrow.Author.Needs.{needs}
+use Rattle.numbers.proofs.Prelude.{needs}
 use Rattle.localtime.proofs.local.{Ways.{answer-without, answer-ruled, answer-listed, held-tz}, answer_by.Statement.{statement}}
 use Rattle.localtime.proofs.local.answer_by.Tie as tie
 
@@ -14,9 +14,6 @@ returns c = (
   c .by-rule .ensures .1,
 )
 
-returns-2 : tie.Need-returns-2
-returns-2 c = (answer-without _ _ _ _ (c .before .enum-told .given .1) (c .by-transitions .ensures .0), c .by-transitions .ensures .1)
-
 returns-3 : tie.Need-returns-3
 returns-3 c = (
   answer-listed _ _ _ (c .before .before .before .before .rules .given .1) (c .before .before .is-ruled .ensures) _ (c .before .if1 .left) (c .by-transitions2 .ensures .0),
@@ -24,8 +21,6 @@ returns-3 c = (
 )
 
 pub answer-by-spec : {M : Type 1} → statement M
-answer-by-spec =
-    tie.close
-    (tie.spec
-    (λ c. search needs) (λ c κs. search needs) (λ c. search needs) (λ c κs. search needs) ask-in-requires (λ c κs. search needs) returns
-    (λ c κs. search needs) returns-2 returns-3)
+answer-by-spec = tie.close (tie.spec (λ c. search needs) (λ c κs. search needs) (λ c. search needs) (λ c κs. search needs) ask-in-requires
+    (λ c κs. search needs) returns (λ c κs. search needs)
+    (λ c. (answer-without _ _ _ _ (c .before .enum-told .given .1) (c .by-transitions .ensures .0), c .by-transitions .ensures .1)) returns-3)

@@ -1,8 +1,6 @@
 -- `office::calls::uskelzar_finish` meets its contract. Assumes nothing.
-use borrow.Author.Needs.{needs}
-use mathlib.Core.Path.{ap, _∙_}
+use Rattle.numbers.{proofs.Prelude.{needs, ap, _∙_}, specs.Spoken.{Spoken}}
 use Rattle.office.proofs.{Drafts.{ends}, calls.uskelzar_finish.Statement.{statement}}
-use Rattle.numbers.specs.Spoken.{Spoken}
 use Rattle.office.proofs.calls.uskelzar_finish.Tie as tie
 
 returns : tie.Need-returns
@@ -16,8 +14,5 @@ returns c =
     )
 
 pub uskelzar-finish-spec : {M : Type 1} → statement M
-uskelzar-finish-spec =
-    tie.close
-    (tie.spec
-    (λ c κs. search needs) (λ c κs. search needs) (λ c κs. search needs) (λ c κs. search needs) (λ c. search needs) (λ c. search needs)
-    (λ c. search needs) (λ c. search needs) (λ c. search needs) (λ c. search needs) (λ c. search needs) (λ c. search needs) returns)
+uskelzar-finish-spec = tie.close (tie.spec (λ c κs. search needs) (λ c κs. search needs) (λ c κs. search needs) (λ c κs. search needs) (λ c. search needs)
+    (λ c. search needs) (λ c. search needs) (λ c. search needs) (λ c. search needs) (λ c. search needs) (λ c. search needs) (λ c. search needs) returns)

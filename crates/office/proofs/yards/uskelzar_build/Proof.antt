@@ -1,8 +1,6 @@
 -- `office::yards::uskelzar_build` meets its contract. Assumes nothing.
-use borrow.Author.Needs.{needs}
-use mathlib.Core.Path.{ap, _∙_}
+use Rattle.numbers.proofs.{Prelude.{needs, ap, _∙_}, Saying.{beside}}
 use Rattle.build.specs.{Room.{roomOf}, Whole.{Builds}}
-use Rattle.numbers.proofs.Saying.{beside}
 use Rattle.office.proofs.yards.uskelzar_build.Statement.{statement}
 use Rattle.office.specs.Built.{builtSpoken}
 use Rattle.office.proofs.yards.uskelzar_build.Tie as tie
@@ -15,9 +13,6 @@ returns c =
     (beside _ (c .speak .ensures) (c .before .before .say-built .ensures) ∙ ap builtSpoken (built .ensures .0), built .ensures .1)
 
 pub uskelzar-build-spec : {M : Type 1} → statement M
-uskelzar-build-spec =
-    tie.close
-    (tie.spec
-    (λ c κs. search needs) (λ c κs. search needs) (λ c κs. search needs) (λ c. search needs) (λ c. search needs) (λ c. search needs)
+uskelzar-build-spec = tie.close (tie.spec (λ c κs. search needs) (λ c κs. search needs) (λ c κs. search needs) (λ c. search needs) (λ c. search needs)
     (λ c. search needs) (λ c. search needs) (λ c. search needs) (λ c. search needs) (λ c. search needs) (λ c. search needs) (λ c. search needs)
-    returns)
+    (λ c. search needs) returns)

@@ -1,9 +1,6 @@
 -- A salvaged file as it is read: its header, and the rows of its table.
-use Prim.Native.Nat.{ℕ, _+_}
-use mathlib.Core.{Bool.{Bool}, List.{List, [], _∷_, _++_, flatMap}}
-use lib.ListN.{length, take}
+use Rattle.numbers.specs.{Prelude.{ℕ, _+_, length, take, Bool, List, [], _∷_, _++_, flatMap}, Spelling.{varintOf}}
 use Rattle.header.specs.declared.header.Head.{Head}
-use Rattle.numbers.specs.Spelling.{varintOf}
 use Rattle.salvage.specs.File.{borderBytes, entryBytes, tableFrom, metadataOf}
 use Rattle.table.specs.declared.rows.Row.{Row}
 

@@ -1,7 +1,5 @@
 -- `recorded::input::pass_over` is safe and ends: what is left falls. Assumes nothing.
-use lib.ListN.{length}
-use mathlib.Core.Path.{_≡_, refl}
-use native.Mathlib.Omega.{arith}
+use Rattle.numbers.proofs.Prelude.{length, _≡_, refl, arith}
 use Rattle.recorded.proofs.input.pass_over.Statement.{statement}
 use Rattle.recorded.proofs.input.pass_over.Tie as tie
 
@@ -12,17 +10,5 @@ abbrev μ-loop : tie.MeasureT-loop
 μ-loop space₀ size left₀ space left = left
 
 pub pass-over-spec : {M : Type 1} → statement M
-pass-over-spec =
-    tie.close
-    (tie.spec
-    Inv-loop
-    μ-loop
-    (λ c. refl)
-    (λ c κs. tt)
-    (λ c. omega arith)
-    (λ c. tt)
-    (λ c. omega arith)
-    (λ c. omega arith)
-    (λ c. omega arith)
-    (λ c. omega arith)
-    (λ c. tt))
+pass-over-spec = tie.close (tie.spec Inv-loop μ-loop (λ c. refl) (λ c κs. tt) (λ c. omega arith) (λ c. tt) (λ c. omega arith) (λ c. omega arith)
+    (λ c. omega arith) (λ c. omega arith) (λ c. tt))

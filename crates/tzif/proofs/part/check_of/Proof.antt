@@ -1,5 +1,5 @@
 -- `tzif::part::check_of` meets its contract. Assumes nothing.
-use borrow.Author.Needs.{needs}
+use Rattle.numbers.proofs.Prelude.{needs}
 use Rattle.tzif.proofs.part.check_of.Statement.{statement}
 use Rattle.tzif.specs.Part.{countOf, checkOf}
 use Rattle.tzif.proofs.part.check_of.Tie as tie
@@ -14,9 +14,7 @@ check-index-requires c κs = let pre = c .before .before .before .pre in (pre .0
 
 check-type-requires : tie.Need-check-type-requires
 unfolding countOf
-check-type-requires c κs =
-    let pre = c .before .before .before .before .pre in let part = c .before .part in let pre = pre in let part = part in
-    (pre .0, rw (part .given .1) at (pre .1))
+check-type-requires c κs = let pre = c .before .before .before .before .pre in (pre .0, rw (c .before .part .given .1) at (pre .1))
 
 check-standard-requires : tie.Need-check-standard-requires
 unfolding countOf
@@ -47,8 +45,5 @@ unfolding checkOf
 returns-5 c = rw (c .before .enum-told4 .given .1) (c .check-ut .ensures)
 
 pub check-of-spec : {M : Type 1} → statement M
-check-of-spec =
-    tie.close
-    (tie.spec
-    (λ c. search needs) check-time-requires (λ c. search needs) check-index-requires (λ c. search needs) check-type-requires (λ c. search needs)
-    check-standard-requires (λ c. search needs) check-ut-requires returns returns-2 returns-3 returns-4 returns-5)
+check-of-spec = tie.close (tie.spec (λ c. search needs) check-time-requires (λ c. search needs) check-index-requires (λ c. search needs) check-type-requires
+    (λ c. search needs) check-standard-requires (λ c. search needs) check-ut-requires returns returns-2 returns-3 returns-4 returns-5)

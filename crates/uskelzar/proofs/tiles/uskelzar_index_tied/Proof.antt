@@ -1,16 +1,8 @@
 -- `uskelzar::tiles::uskelzar_index_tied` meets its contract. Assumes nothing.
-use borrow.Author.Needs.{needs}
-use mathlib.Core.{List.{[]}, Path.{ap, _∙_}}
-use Rattle.numbers.proofs.Saying.{beside}
+use Rattle.numbers.{proofs.{Prelude.{[], ap, _∙_}, Saying.{beside}}, specs.Spoken.{saidOf, noValues}}
 use Rattle.uskelzar.proofs.tiles.uskelzar_index_tied.Statement.{statement}
-use Rattle.numbers.specs.Spoken.{saidOf, noValues}
 use Rattle.uskelzar.proofs.tiles.uskelzar_index_tied.Tie as tie
 
-returns : tie.Need-returns
-returns c = beside [] (c .speak .ensures) (c .before .before .say-tied .ensures ∙ ap (saidOf noValues) (c .before .before .before .index-tied .ensures))
-
 pub uskelzar-index-tied-spec : {M : Type 1} → statement M
-uskelzar-index-tied-spec =
-    tie.close
-    (tie.spec
-    (λ c κs. tt) (λ c κs. tt) (λ c κs. tt) returns)
+uskelzar-index-tied-spec = tie.close (tie.spec (λ c κs. tt) (λ c κs. tt) (λ c κs. tt)
+    (λ c. beside [] (c .speak .ensures) (c .before .before .say-tied .ensures ∙ ap (saidOf noValues) (c .before .before .before .index-tied .ensures))))

@@ -1,6 +1,5 @@
 -- `verdict::glide::glide_back` meets its contract. The loop's invariant is the contract itself; the measure is the place, which falls. Assumes nothing.
-use borrow.Author.Needs.{needs}
-use denote.Ref.{now}
+use Rattle.numbers.proofs.Prelude.{needs, now}
 use Rattle.verdict.proofs.{Gliding.{back-stays, back-on, less-below}, glide.glide_back.Statement.{statement}}
 use Rattle.verdict.specs.inner.Gliding.{GlidesBack}
 use Rattle.verdict.proofs.glide.glide_back.Tie as tie
@@ -10,12 +9,6 @@ Inv-loop file field start end place₀ point₀ place point = GlidesBack file fi
 
 abbrev μ-loop : tie.MeasureT-loop
 μ-loop file field start end place₀ point₀ place point = place
-
-returns-4 : tie.Need-returns-4 Inv-loop μ-loop
-returns-4 c = c .before .before .before .before .before .before .before .before .before .before .before .before .loop .inv
-
-returns-5 : tie.Need-returns-5 Inv-loop μ-loop
-returns-5 c = c .before .before .before .before .before .before .before .before .before .before .before .before .before .before .before .before .loop .inv
 
 loop-less : tie.Need-loop-less Inv-loop μ-loop
 loop-less c =
@@ -35,34 +28,15 @@ loop-again c =
     let if2 = c .before .before .before .before .before .before .before .before .before .if2 in
     let decode-point = c .before .before .before .before .before .before .before .before .decode-point in
     let negate = c .before .before .before .before .before .before .before .negate in
-    let by = c .before .before .before .before .before .by in
-    let lead = c .before .before .before .lead in
-    let to = c .before .to in
-    let led = rw (to .given .1) at (lead .ensures) in
-    let number = rw (n .given .1) at (read-backward .ensures) in
-    let negated = rw (by .given .1, decode-point .ensures) at (negate .ensures) in
+    let led = rw (c .before .to .given .1) at (c .before .before .before .lead .ensures) in let number = rw (n .given .1) at (read-backward .ensures) in
+    let negated = rw (c .before .before .before .before .before .by .given .1, decode-point .ensures) at (negate .ensures) in
     back-on (now (a .file)) (a .field) (a .end) (loop .inv) number (if1 .left) (if2 .left) negated (led .0) (led .1)
 
 pub glide-back-spec : {M : Type 1} → statement M
-glide-back-spec =
-    tie.close
-    (tie.spec
-    Inv-loop
-    μ-loop
-    (λ c. back-stays _ _ _ _ _)
-    (λ c κs. search needs)
-    (λ c. search needs)
-    (λ c. c .before .before .loop .inv)
-    (λ c. c .before .before .before .before .before .before .loop .inv)
-    (λ c. c .before .before .before .before .before .before .before .before .loop .inv)
-    (λ c κs. search needs)
-    (λ c κs. search needs)
-    (λ c. search needs)
-    (λ c. search needs)
-    returns-4
-    (λ c κs. search needs)
-    (λ c. search needs)
-    (λ c. search needs)
-    returns-5
-    loop-less
-    loop-again)
+glide-back-spec = tie.close (tie.spec Inv-loop μ-loop (λ c. back-stays _ _ _ _ _) (λ c κs. search needs) (λ c. search needs) (λ c. c .before .before .loop .inv)
+    (λ c. c .before .before .before .before .before .before .loop .inv) (λ c. c .before .before .before .before .before .before .before .before .loop .inv)
+    (λ c κs. search needs) (λ c κs. search needs) (λ c. search needs) (λ c. search needs)
+    (λ c. c .before .before .before .before .before .before .before .before .before .before .before .before .loop .inv) (λ c κs. search needs)
+    (λ c. search needs) (λ c. search needs)
+    (λ c. c .before .before .before .before .before .before .before .before .before .before .before .before .before .before .before .before .loop .inv)
+    loop-less loop-again)

@@ -1,11 +1,7 @@
 -- `writer::checks::border_fault` meets its contract. Assumes nothing.
-use native.Mathlib.Omega.{arith}
-use mathlib.Core.{Bool.{true}, Path.{_≡_, sym, ap, _∙_}}
-use borrow.Author.Tests.{not-true, not-false}
-use lib.ListN.{drop}
+use Rattle.numbers.proofs.Prelude.{not-false, not-true, drop, true, _≡_, sym, ap, _∙_, arith}
 use Rattle.writer.specs.{Moves.{movesOf, isMove}, Writer.{passed, every, near}}
-use Rattle.writer.proofs.Faults.{Early, sizes, long-data, odd-version, not-sized, far-lat, far-lon, repeated, at-origin, no-fault}
-use Rattle.writer.proofs.checks.border_fault.Statement.{statement}
+use Rattle.writer.proofs.{Faults.{Early, sizes, long-data, odd-version, not-sized, far-lat, far-lon, repeated, at-origin, no-fault}, checks.border_fault.Statement.{statement}}
 use Rattle.writer.proofs.checks.border_fault.Tie as tie
 
 -- ---- what each check that passed says
@@ -42,9 +38,6 @@ returns-6 c = ap passed (c .refused6 .ensures) ∙
     repeated (early (c .before .before .before .before .before .before .before)) (north (c .before .before .before .before .before)) (east (c .before .before .before))
     (sym (c .before .before .none-repeated .ensures) ∙ not-true _ (c .before .if6 .taken))
 
-moves-at-requires : tie.Need-moves-at-requires
-moves-at-requires c κs = let s = sizes _ _ (early (c .before .before .before .before .before .before) .right) in (s .some, omega (arith, s .some, s .same))
-
 returns-7 : tie.Need-returns-7
 returns-7 c =
     ap passed (c .refused7 .ensures)
@@ -56,10 +49,8 @@ returns-8 c = no-fault (early (c .before .before .before .before .before .before
     (east (c .before .before .before .before)) (apart (c .before .before)) (sym (c .before .moves-at .ensures) ∙ not-false _ (c .if7 .left))
 
 pub border-fault-spec : {M : Type 1} → statement M
-border-fault-spec =
-    tie.close
-    (tie.spec
-    (λ c κs. tt) (λ c. ap passed (c .refused .ensures) ∙ long-data _ _ _ _ (c .before .if1 .taken)) (λ c κs. tt) returns-2 (λ c κs. tt) (λ c κs. tt)
-    returns-3 (λ c κs. tt) (λ c κs. tt) returns-4 (λ c κs. tt) (λ c κs. tt) returns-5
-    (λ c κs. let s = sizes _ _ (early (c .before .before .before .before) .right) in (s .some, s .same)) (λ c κs. tt) returns-6 moves-at-requires
-    (λ c κs. tt) returns-7 returns-8)
+border-fault-spec = tie.close (tie.spec (λ c κs. tt) (λ c. ap passed (c .refused .ensures) ∙ long-data _ _ _ _ (c .before .if1 .taken)) (λ c κs. tt) returns-2
+    (λ c κs. tt) (λ c κs. tt) returns-3 (λ c κs. tt) (λ c κs. tt) returns-4 (λ c κs. tt) (λ c κs. tt) returns-5
+    (λ c κs. let s = sizes _ _ (early (c .before .before .before .before) .right) in (s .some, s .same)) (λ c κs. tt) returns-6
+    (λ c κs. let s = sizes _ _ (early (c .before .before .before .before .before .before) .right) in (s .some, omega (arith, s .some, s .same))) (λ c κs. tt)
+    returns-7 returns-8)

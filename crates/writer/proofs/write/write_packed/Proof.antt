@@ -1,11 +1,7 @@
 -- `writer::write::write_packed` meets its contract. Assumes nothing.
-use Prim.Native.Nat.{_-_}
-use borrow.Author.Needs.{needs}
-use mathlib.Core.Path.{_∙_}
-use native.Mathlib.Omega.{arith}
+use Rattle.numbers.proofs.Prelude.{_-_, needs, _∙_, arith}
 use Rattle.writer.specs.Moves.{movesOf}
-use Rattle.writer.proofs.{Packing.{Packing, Known, own-asked, piece-room, again, last-asked, end-room, closed}, Stores.{left-all, stored-length}}
-use Rattle.writer.proofs.write.write_packed.Statement.{statement}
+use Rattle.writer.proofs.{Packing.{Packing, Known, own-asked, piece-room, again, last-asked, end-room, closed}, Stores.{left-all, stored-length}, write.write_packed.Statement.{statement}}
 use Rattle.writer.proofs.write.write_packed.Tie as tie
 
 abbrev Inv-loop : tie.InvT-loop
@@ -34,15 +30,11 @@ add-j : tie.Need-add-j Inv-loop μ-loop
 add-j c = omega (arith, in-loop (c .before .before .before .before) .before .loop .inv .upto, in-loop (c .before .before .before .before) .before .before .before .pre .2)
 
 loop-again : tie.Need-loop-again Inv-loop μ-loop
-loop-again c =
-    let loop = in-loop (c .before .before .before .before) .before .loop in let loop-test = in-loop (c .before .before .before .before) .loop-test in
+loop-again c = let loop = in-loop (c .before .before .before .before) .before .loop in let loop-test = in-loop (c .before .before .before .before) .loop-test in
     let least = c .before .before .before .before .before .before .before .before .before .least in
     let put-packed = c .before .before .before .before .before .before .before .put-packed in
     again (known (in-loop (c .before .before .before .before) .before .before .before)) (loop .inv) (loop-test .taken) (least .ensures) (put-packed .ensures)
     (c .before .before .before .put-piece .ensures)
-
-put-packed-requires-2 : tie.Need-put-packed-requires-2 Inv-loop μ-loop
-put-packed-requires-2 c κs = last-asked (known (c .before .before .before .before)) (c .before .before .loop .inv) (c .before .loop-test .left)
 
 put-two-requires : tie.Need-put-two-requires Inv-loop μ-loop
 put-two-requires c κs = end-room (known (c .before .before .before .before .before .before .before .before)) (c .before .before .before .before .before .before .loop .inv)
@@ -58,10 +50,8 @@ returns c = closed (known (c .before .before .before .before .before .before .be
     (c .before .before .before .before .before .before .put-packed2 .ensures) (c .before .before .put-two .ensures)
 
 pub write-packed-spec : {M : Type 1} → statement M
-write-packed-spec =
-    tie.close
-    (tie.spec
-    Inv-loop μ-loop (λ c. record { upto = omega arith; low = omega arith; left = left-all })
+write-packed-spec = tie.close (tie.spec Inv-loop μ-loop (λ c. record { upto = omega arith; low = omega arith; left = left-all })
     (λ c. omega (arith, c .before .loop .inv .upto, c .before .before .before .pre .2)) (λ c. omega (arith, c .before .before .before .pre .2))
     (λ c. omega arith) (λ c κs. tt) put-packed-requires put-piece-requires (λ c. omega arith) (λ c. omega arith) add-j (λ c. omega arith) loop-again
-    put-packed-requires-2 put-two-requires same-length returns)
+    (λ c κs. last-asked (known (c .before .before .before .before)) (c .before .before .loop .inv) (c .before .loop-test .left)) put-two-requires same-length
+    returns)

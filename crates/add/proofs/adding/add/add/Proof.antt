@@ -1,9 +1,6 @@
 -- `add::adding::add::add` meets its contract. Assumes nothing.
-use borrow.Author.Needs.{needs}
-use lib.{ListN.{length}, Seq.{length-take-le}}
-use mathlib.Core.Path.{sym, _∙_}
-use Rattle.add.proofs.adding.Asking.{lent-in, lent-as, front-in, used}
-use Rattle.add.proofs.adding.add.add.Statement.{statement}
+use Rattle.numbers.proofs.Prelude.{needs, length, length-take-le, sym, _∙_}
+use Rattle.add.proofs.adding.{Asking.{lent-in, lent-as, front-in, used}, add.add.Statement.{statement}}
 use Rattle.add.proofs.adding.add.add.Tie as tie
 
 -- ---- the places that the answers speak of
@@ -27,23 +24,12 @@ abbrev at-start : tie.After-clear-front-arg → tie.Start
 at-start c = at-lent-to-2 c .before .before .before .before .before .before .before .before .before .before .before .before .before .before .before .before .before .before .before .before
 
 clear-front-requires : tie.Need-clear-front-requires
-clear-front-requires c κs =
-    let args = at-start c .args in let lent-to = at-lent-to-2 c .lent-to in
+clear-front-requires c κs = let args = at-start c .args in let lent-to = at-lent-to-2 c .lent-to in
     front-in (length (args .lats .now)) (lent-to .result) (args .out .now)
     (at-borders c .before .before .add-kept .last .1 .1 .1 .1 .1 .1 .1 .1 .1 .1 .1 .1 .1 .1 .1 .1 .1 .1 .1 .1 .1 .1 .1 .1 .0) (lent-to .ensures) (c .before .before .out .given .0)
 
-same-length-7 : tie.Need-same-length-7
-same-length-7 c = at-kept c .before .before .before .before .before .before .before .before .before .before .before .before .chains .given
-
-same-length-8 : tie.Need-same-length-8
-same-length-8 c = at-kept c .before .before .before .before .before .before .before .before .before .before .groups .given
-
-same-length-14 : tie.Need-same-length-14
-same-length-14 c = c .before .before .before .before .before .before .before .before .before .before .before .held .given
-
 returns : tie.Need-returns
-returns c =
-    let args = at-start (c .before .before .before) .args in let lent-to = at-lent-to-2 (c .before .before .before) .lent-to in
+returns c = let args = at-start (c .before .before .before) .args in let lent-to = at-lent-to-2 (c .before .before .before) .lent-to in
     let add-kept = at-borders (c .before .before .before) .before .before .add-kept in (
       add-kept .ensures .0,
       add-kept .ensures .1,
@@ -52,16 +38,16 @@ returns c =
     )
 
 pub add-spec : {M : Type 1} → statement M
-add-spec =
-    tie.close
-    (tie.spec
-    (λ c κs. search needs) (λ c. search needs) (λ c. sym (length-take-le _ _ (lent-in _ _ _ (at-lent-to c .lent-to .ensures))))
+add-spec = tie.close (tie.spec (λ c κs. search needs) (λ c. search needs) (λ c. sym (length-take-le _ _ (lent-in _ _ _ (at-lent-to c .lent-to .ensures))))
     (λ c κs. lent-as _ _ _ (at-lent-to c .lent-to .ensures)) clear-front-requires (λ c. at-borders (c .before .before .before) .before .boxes .given)
     (λ c. at-borders (c .before .before .before) .borders .given)
     (λ c. at-marks (c .before .before .before) .before .before .before .before .before .before .lengths .given)
     (λ c. at-marks (c .before .before .before) .before .before .before .before .texts .given)
-    (λ c. at-marks (c .before .before .before) .before .before .bytes .given) (λ c. at-marks (c .before .before .before) .marks .given) same-length-7
-    same-length-8 (λ c. at-kept c .before .before .before .before .before .before .before .before .begins .given)
+    (λ c. at-marks (c .before .before .before) .before .before .bytes .given) (λ c. at-marks (c .before .before .before) .marks .given)
+    (λ c. at-kept c .before .before .before .before .before .before .before .before .before .before .before .before .chains .given)
+    (λ c. at-kept c .before .before .before .before .before .before .before .before .before .before .groups .given)
+    (λ c. at-kept c .before .before .before .before .before .before .before .before .begins .given)
     (λ c. at-kept c .before .before .before .before .before .before .starts .given) (λ c. at-kept c .before .before .before .before .keys .given)
-    (λ c. at-kept c .before .before .spare .given) (λ c. at-kept c .kept .given) same-length-14 (λ c. search needs) (λ c. search needs)
+    (λ c. at-kept c .before .before .spare .given) (λ c. at-kept c .kept .given)
+    (λ c. c .before .before .before .before .before .before .before .before .before .before .before .held .given) (λ c. search needs) (λ c. search needs)
     (λ c. c .before .out2 .given ∙ c .before .before .before .before .before .out .given .1) returns)

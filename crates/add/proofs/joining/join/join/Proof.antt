@@ -1,8 +1,6 @@
 -- `add::joining::join::join` meets its contract. Assumes nothing.
-use borrow.Author.Needs.{needs}
-use mathlib.Core.Path.{_∙_}
-use Rattle.add.proofs.joining.{Joining.{into-tagged, not-tagged}, Settling.{measuring-as, placed-after}}
-use Rattle.add.proofs.joining.join.join.Statement.{statement}
+use Rattle.numbers.proofs.Prelude.{needs, _∙_}
+use Rattle.add.proofs.joining.{Joining.{into-tagged, not-tagged}, Settling.{measuring-as, placed-after}, join.join.Statement.{statement}}
 use Rattle.add.proofs.joining.join.join.Tie as tie
 
 -- ---- the places that the answers speak of
@@ -42,8 +40,7 @@ enum-told : tie.Need-enum-told
 enum-told c = search needs
 
 returns : tie.Need-returns
-returns c =
-    let args = at-start (at-bytes (c .before .before)) .args in let pre = at-start (at-bytes (c .before .before)) .pre in
+returns c = let args = at-start (at-bytes (c .before .before)) .args in let pre = at-start (at-bytes (c .before .before)) .pre in
     let settle = at-chains (c .before .before) .before .before .before .settle in (
       into-tagged (args .builder) _ (args .strings) (args .lats .now) (args .lons .now) (args .sizes .now) (args .values .now) (args .border .now) _ (pre .0) (pre .1) _
           (at-borders (at-bytes (c .before .before)) .before .before .put-yard .ensures) _ _ _ (settle .ensures .0) (enum-told (c .before)),
@@ -57,21 +54,8 @@ take-back-requires : tie.Need-take-back-requires
 take-back-requires c κs = placed-after _ _ _ _ _ _ (at-start (at-bytes-3 c) .pre .1) (at-borders (at-bytes-3 c) .before .boxes .given) (at-borders (at-bytes-3 c) .borders .given)
     (at-bytes-3 c .before .before .before .before .lengths .given) (at-bytes-3 c .before .before .texts .given) (at-bytes-3 c .bytes .given)
 
-same-length-17 : tie.Need-same-length-17
-same-length-17 c = c .before .before .before .before .before .before .before .before .boxes2 .given ∙ at-borders (at-bytes-2 c) .before .boxes .given
-
-same-length-18 : tie.Need-same-length-18
-same-length-18 c = c .before .before .before .before .before .before .before .borders2 .given ∙ at-borders (at-bytes-2 c) .borders .given
-
-same-length-19 : tie.Need-same-length-19
-same-length-19 c = c .before .before .before .before .before .lengths2 .given ∙ at-bytes-2 c .before .before .before .before .lengths .given
-
-same-length-28 : tie.Need-same-length-28
-same-length-28 c = at-match-keys2 c .before .before .before .before .before .before .before .before .before .before .spare .given
-
 returns-2 : tie.Need-returns-2
-returns-2 c =
-    let args = at-start (at-bytes-2 c) .args in let pre = at-start (at-bytes-2 c) .pre in
+returns-2 c = let args = at-start (at-bytes-2 c) .args in let pre = at-start (at-bytes-2 c) .pre in
     let settle = at-chains (at-match-keys2 c .before) .before .before .before .settle in (
       not-tagged (args .builder) _ (args .strings) (args .lats .now) (args .lons .now) (args .sizes .now) (args .values .now) (args .border .now) _ (pre .0) (pre .1) _
           (at-borders (at-bytes-2 c) .before .before .put-yard .ensures) _ _ _ (settle .ensures .0) (enum-told-2 (at-match-keys2 c)) _
@@ -80,21 +64,20 @@ returns-2 c =
     )
 
 pub join-spec : {M : Type 1} → statement M
-join-spec =
-    tie.close
-    (tie.spec
-    (λ c κs. search needs) settle-requires enum-told (λ c. at-borders (at-bytes (c .before .before)) .before .boxes .given)
-    (λ c. at-borders (at-bytes (c .before .before)) .borders .given)
-    (λ c. at-bytes (c .before .before) .before .before .before .before .lengths .given)
-    (λ c. at-bytes (c .before .before) .before .before .texts .given) (λ c. at-bytes (c .before .before) .bytes .given) (λ c. search needs)
-    (λ c. search needs) (λ c. search needs) (λ c. at-keys (c .before .before) .before .before .before .before .begins .given)
-    (λ c. at-keys (c .before .before) .before .before .starts .given) (λ c. at-keys (c .before .before) .keys .given) (λ c. search needs)
-    (λ c. search needs) (λ c. search needs) (λ c. search needs) (λ c. search needs) returns enum-told-2 take-back-requires same-length-17
-    same-length-18 same-length-19 (λ c. c .before .before .before .texts2 .given ∙ at-bytes-2 c .before .before .texts .given)
-    (λ c. c .before .bytes2 .given ∙ at-bytes-2 c .bytes .given) (λ c. at-chains (at-match-keys2 c .before) .before .before .marks .given)
-    (λ c. at-chains (at-match-keys2 c .before) .chains .given)
+join-spec = tie.close (tie.spec (λ c κs. search needs) settle-requires enum-told (λ c. at-borders (at-bytes (c .before .before)) .before .boxes .given)
+    (λ c. at-borders (at-bytes (c .before .before)) .borders .given) (λ c. at-bytes (c .before .before) .before .before .before .before .lengths .given)
+    (λ c. at-bytes (c .before .before) .before .before .texts .given) (λ c. at-bytes (c .before .before) .bytes .given) (λ c. search needs) (λ c. search needs)
+    (λ c. search needs) (λ c. at-keys (c .before .before) .before .before .before .before .begins .given)
+    (λ c. at-keys (c .before .before) .before .before .starts .given) (λ c. at-keys (c .before .before) .keys .given) (λ c. search needs) (λ c. search needs)
+    (λ c. search needs) (λ c. search needs) (λ c. search needs) returns enum-told-2 take-back-requires
+    (λ c. c .before .before .before .before .before .before .before .before .boxes2 .given ∙ at-borders (at-bytes-2 c) .before .boxes .given)
+    (λ c. c .before .before .before .before .before .before .before .borders2 .given ∙ at-borders (at-bytes-2 c) .borders .given)
+    (λ c. c .before .before .before .before .before .lengths2 .given ∙ at-bytes-2 c .before .before .before .before .lengths .given)
+    (λ c. c .before .before .before .texts2 .given ∙ at-bytes-2 c .before .before .texts .given) (λ c. c .before .bytes2 .given ∙ at-bytes-2 c .bytes .given)
+    (λ c. at-chains (at-match-keys2 c .before) .before .before .marks .given) (λ c. at-chains (at-match-keys2 c .before) .chains .given)
     (λ c. at-keys (at-match-keys2 c .before) .before .before .before .before .before .before .groups .given)
     (λ c. at-keys (at-match-keys2 c .before) .before .before .before .before .begins .given)
-    (λ c. at-keys (at-match-keys2 c .before) .before .before .starts .given) (λ c. at-keys (at-match-keys2 c .before) .keys .given) same-length-28
+    (λ c. at-keys (at-match-keys2 c .before) .before .before .starts .given) (λ c. at-keys (at-match-keys2 c .before) .keys .given)
+    (λ c. at-match-keys2 c .before .before .before .before .before .before .before .before .before .before .spare .given)
     (λ c. at-match-keys2 c .before .before .before .before .before .before .before .before .kept .given) (λ c. search needs) (λ c. search needs)
     (λ c. search needs) returns-2)

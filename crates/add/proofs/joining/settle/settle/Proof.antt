@@ -1,10 +1,7 @@
 -- `add::joining::settle::settle` meets its contract. Assumes nothing.
-use borrow.Author.Needs.{needs}
-use mathlib.Core.Path.{refl, _∙_}
-use native.Mathlib.Omega.{arith}
+use Rattle.numbers.proofs.Prelude.{needs, refl, _∙_, arith}
 use Rattle.add.specs.Joining.Joins.{untouched}
-use Rattle.add.proofs.joining.Settling.{values-few, joinable, measurable, notes-as, settled-into, settled-not, settled-afresh, unsure-tag, idle-as}
-use Rattle.add.proofs.joining.settle.settle.Statement.{statement}
+use Rattle.add.proofs.joining.{Settling.{values-few, joinable, measurable, notes-as, settled-into, settled-not, settled-afresh, unsure-tag, idle-as}, settle.settle.Statement.{statement}}
 use Rattle.add.proofs.joining.settle.settle.Tie as tie
 
 -- ---- the places that the answers speak of
@@ -38,18 +35,12 @@ at-chains2 c = at-keys c .before .before .before .before .before .before .before
 abbrev at-match-keys3 : tie.After-slice-known33 → tie.At-match-keys3
 at-match-keys3 c = at-match-keys3-2 (at-chains2 c .before .before .before .before)
 
-mul-last : tie.Need-mul-last
-mul-last c =
-    let args = at-start-2 c .args in omega (arith, values-few _ _ _ _ _ (args .lengths .now) (args .texts .now) _ _ _ _ _ (at-start-2 c .pre))
-
 add-last-2 : tie.Need-add-last-2
-add-last-2 c =
-    let args = at-start-2 c .args in
+add-last-2 c = let args = at-start-2 c .args in
     omega (arith, values-few _ _ _ _ _ (args .lengths .now) (args .texts .now) _ _ _ _ _ (at-start-2 c .pre), at-start-2 c .pre .few-names)
 
 join-sure-requires : tie.Need-join-sure-requires
-join-sure-requires c κs =
-    let args = at-start-2 (c .before .before .before .before .before) .args in
+join-sure-requires c κs = let args = at-start-2 (c .before .before .before .before .before) .args in
     joinable _ _ _ _ _ (args .lengths .now) (args .texts .now) _ _ _ _ _ (at-start-2 (c .before .before .before .before .before) .pre)
 
 returns : tie.Need-returns
@@ -69,34 +60,15 @@ returns-2 c = (
 enum-told : tie.Need-enum-told
 enum-told c = search needs
 
-sub-join-afresh-2 : tie.Need-sub-join-afresh-2
-sub-join-afresh-2 c = omega (arith, at-start (c .before .before .before) .pre .order, at-start (c .before .before .before) .pre .longer)
-
-part-join-afresh-start-2 : tie.Need-part-join-afresh-start-2
-part-join-afresh-start-2 c = omega (arith, at-start (c .before .before .before) .pre .order, at-start (c .before .before .before) .pre .longer)
-
 join-afresh-requires : tie.Need-join-afresh-requires
-join-afresh-requires c κs =
-    let pre = at-start (at-match-keys3-2 c .before) .pre in (
-      measurable _ _ _ _ _ _ _ _ _ _ _ _ (pre),
-      notes-as _ _ _ _ _ _ _ _ _ _ (at-marks (at-match-keys3-2 c .before) .marks .given) (at-match-keys3-2 c .before .before .before .before .before .before .chains .given)
-          (at-match-keys3-2 c .before .before .before .before .groups .given) (at-match-keys3-2 c .before .before .begins .given) (pre .noted),
-    )
-
-same-length-10 : tie.Need-same-length-10
-same-length-10 c = at-chains2 c .chains2 .given ∙ at-match-keys3 c .before .before .before .before .before .before .chains .given
-
-same-length-11 : tie.Need-same-length-11
-same-length-11 c = at-keys c .before .before .before .before .before .before .groups2 .given ∙ at-match-keys3 c .before .before .before .before .groups .given
-
-same-length-12 : tie.Need-same-length-12
-same-length-12 c = at-keys c .before .before .before .before .begins2 .given ∙ at-match-keys3 c .before .before .begins .given
+join-afresh-requires c κs = let pre = at-start (at-match-keys3-2 c .before) .pre in (
+  measurable _ _ _ _ _ _ _ _ _ _ _ _ (pre),
+  notes-as _ _ _ _ _ _ _ _ _ _ (at-marks (at-match-keys3-2 c .before) .marks .given) (at-match-keys3-2 c .before .before .before .before .before .before .chains .given)
+      (at-match-keys3-2 c .before .before .before .before .groups .given) (at-match-keys3-2 c .before .before .begins .given) (pre .noted),
+)
 
 same-length-15 : tie.Need-same-length-15
 same-length-15 c = c .before .before .before .before .before .before .before .before .before .spare2 .given ∙ at-words c .before .before .before .before .before .before .spare .given
-
-same-length-16 : tie.Need-same-length-16
-same-length-16 c = c .before .before .before .before .before .before .before .kept2 .given ∙ at-words c .before .before .before .before .kept .given
 
 returns-3 : tie.Need-returns-3
 returns-3 c = (
@@ -109,16 +81,19 @@ returns-3 c = (
 )
 
 pub settle-spec : {M : Type 1} → statement M
-settle-spec =
-    tie.close
-    (tie.spec
-    (λ c. search needs) (λ c. search needs) (λ c. search needs) (λ c. search needs) mul-last add-last-2 (λ c. search needs) (λ c. search needs)
-    (λ c. search needs) join-sure-requires (λ c. search needs) (λ c. search needs) (λ c. search needs) (λ c. search needs) (λ c. search needs) returns
-    (λ c. search needs) (λ c. search needs) (λ c. search needs) (λ c. search needs) (λ c. search needs) returns-2 enum-told (λ c. search needs)
-    (λ c. search needs) (λ c. search needs) (λ c. omega (arith, at-start (c .before .before) .pre .lengths-room)) sub-join-afresh-2
-    part-join-afresh-start-2 (λ c. at-start (c .before .before .before) .pre .texts-room) join-afresh-requires (λ c κs. search needs)
-    (λ c. at-chains2 c .before .before .marks2 .given ∙ at-marks (at-match-keys3 c .before) .marks .given) same-length-10 same-length-11
-    same-length-12 (λ c. at-keys2 c .before .before .starts2 .given ∙ at-keys c .before .before .starts .given)
-    (λ c. at-keys2 c .keys2 .given ∙ at-keys c .keys .given) same-length-15 same-length-16
+settle-spec = tie.close (tie.spec (λ c. search needs) (λ c. search needs) (λ c. search needs) (λ c. search needs)
+    (λ c. let args = at-start-2 c .args in omega (arith, values-few _ _ _ _ _ (args .lengths .now) (args .texts .now) _ _ _ _ _ (at-start-2 c .pre))) add-last-2
+    (λ c. search needs) (λ c. search needs) (λ c. search needs) join-sure-requires (λ c. search needs) (λ c. search needs) (λ c. search needs)
+    (λ c. search needs) (λ c. search needs) returns (λ c. search needs) (λ c. search needs) (λ c. search needs) (λ c. search needs) (λ c. search needs)
+    returns-2 enum-told (λ c. search needs) (λ c. search needs) (λ c. search needs) (λ c. omega (arith, at-start (c .before .before) .pre .lengths-room))
+    (λ c. omega (arith, at-start (c .before .before .before) .pre .order, at-start (c .before .before .before) .pre .longer))
+    (λ c. omega (arith, at-start (c .before .before .before) .pre .order, at-start (c .before .before .before) .pre .longer))
+    (λ c. at-start (c .before .before .before) .pre .texts-room) join-afresh-requires (λ c κs. search needs)
+    (λ c. at-chains2 c .before .before .marks2 .given ∙ at-marks (at-match-keys3 c .before) .marks .given)
+    (λ c. at-chains2 c .chains2 .given ∙ at-match-keys3 c .before .before .before .before .before .before .chains .given)
+    (λ c. at-keys c .before .before .before .before .before .before .groups2 .given ∙ at-match-keys3 c .before .before .before .before .groups .given)
+    (λ c. at-keys c .before .before .before .before .begins2 .given ∙ at-match-keys3 c .before .before .begins .given)
+    (λ c. at-keys2 c .before .before .starts2 .given ∙ at-keys c .before .before .starts .given) (λ c. at-keys2 c .keys2 .given ∙ at-keys c .keys .given)
+    same-length-15 (λ c. c .before .before .before .before .before .before .before .kept2 .given ∙ at-words c .before .before .before .before .kept .given)
     (λ c. c .before .before .before .before .before .held2 .given ∙ at-words c .before .before .held .given)
     (λ c. c .before .before .before .words2 .given ∙ at-words c .words .given) (λ c. c .before .places2 .given ∙ at-places c .places .given) returns-3)

@@ -1,12 +1,6 @@
 -- `add::offered::draw::draw_offer` meets its contract. Assumes nothing.
-use Rattle.writer.specs.{Pieces.{piecesOf}, Writer.{borderOf}}
-use lib.ListN.{take}
-use Rattle.add.proofs.offered.Offering.{offer-lends, offer-draws}
-use native.Mathlib.Omega.{arith}
-use lib.Seq.{length-take-le}
-use mathlib.Core.Path.{sym}
-use borrow.Author.Needs.{needs}
-use Rattle.add.proofs.offered.draw.draw_offer.Statement.{statement}
+use Rattle.numbers.proofs.Prelude.{needs, length-take-le, sym, arith}
+use Rattle.add.proofs.offered.{Offering.{offer-lends, offer-draws}, draw.draw_offer.Statement.{statement}}
 use Rattle.add.proofs.offered.draw.draw_offer.Tie as tie
 
 draw-border-requires : tie.Need-draw-border-requires
@@ -18,7 +12,5 @@ returns c = offer-draws _ _ _ _ _ _ (c .before .before .before .before .before .
     (c .before .before .draw-border .ensures)
 
 pub draw-offer-spec : {M : Type 1} → statement M
-draw-offer-spec =
-    tie.close
-    (tie.spec
-    (λ c κs. search needs) (λ c κs. search needs) (λ c. sym (length-take-le _ _ (omega arith))) draw-border-requires (λ c. search needs) returns)
+draw-offer-spec = tie.close (tie.spec (λ c κs. search needs) (λ c κs. search needs) (λ c. sym (length-take-le _ _ (omega arith))) draw-border-requires
+    (λ c. search needs) returns)

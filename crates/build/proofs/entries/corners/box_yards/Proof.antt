@@ -1,8 +1,5 @@
 -- `build::entries::corners::box_yards` meets its contract. Assumes nothing.
-use Prim.Native.Nat.{_+_, _-_}
-use lib.ListN.{length}
-use borrow.Author.Needs.{needs}
-use native.Mathlib.Omega.{arith}
+use Rattle.numbers.proofs.Prelude.{_+_, _-_, needs, length, arith}
 use Rattle.build.proofs.entries.{Cornered.{Boxing, box-starts, box-room, box-goes, box-ends}, corners.box_yards.Statement.{statement}}
 use Rattle.build.proofs.entries.corners.box_yards.Tie as tie
 
@@ -22,12 +19,9 @@ loop-again c = box-goes _ _ _ _ _ _ _ _ (c .before .before .before .before .befo
     (c .before .before .before .put-corners .ensures) _ _ (c .before .next-part .ensures) (c .next-part2 .ensures)
 
 pub box-yards-spec : {M : Type 1} → statement M
-box-yards-spec =
-    tie.close
-    (tie.spec
-    Inv-loop μ-loop (λ c. box-starts _ _ _ _) (λ c. c .loop .inv .index) (λ c. search needs) (λ c. search needs) (λ c. search needs)
-    (λ c. omega (arith, c .shared-slice-known2 .given (c .before .before .loop .i))) (λ c. search needs) (λ c. search needs) (λ c. search needs)
-    (λ c. omega (arith, c .shared-slice-known3 .given (c .before .before .before .loop .i + 1)))
+box-yards-spec = tie.close (tie.spec Inv-loop μ-loop (λ c. box-starts _ _ _ _) (λ c. c .loop .inv .index) (λ c. search needs) (λ c. search needs)
+    (λ c. search needs) (λ c. omega (arith, c .shared-slice-known2 .given (c .before .before .loop .i))) (λ c. search needs) (λ c. search needs)
+    (λ c. search needs) (λ c. omega (arith, c .shared-slice-known3 .given (c .before .before .before .loop .i + 1)))
     (λ c κs. let loop = c .before .before .before .loop in (loop .inv .tall, loop .inv .wide)) put-corners-requires
     (λ c κs. c .before .before .before .before .before .before .before .loop .inv .tall)
     (λ c κs. c .before .before .before .before .before .before .before .before .loop .inv .wide) (λ c. search needs) loop-again

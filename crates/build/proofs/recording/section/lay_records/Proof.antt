@@ -1,9 +1,5 @@
 -- `build::recording::section::lay_records` meets its contract. Assumes nothing.
-use Prim.Native.Nat.{_+_}
-use borrow.Author.Needs.{needs}
-use lib.{ListN.{length, drop}, Seq.{length-take-le, take-at}}
-use mathlib.Core.{List.{_++_}, Path.{refl, sym, _∙_}}
-use native.Mathlib.Omega.{arith}
+use Rattle.numbers.proofs.Prelude.{_+_, needs, length, drop, length-take-le, take-at, _++_, refl, sym, _∙_, arith}
 use Rattle.build.proofs.recording.Recording.{laying-shares, sizes-few, bytes-few, kept-size, held-size, laying-fields, laying-ready, laying-ends, keeps-as, front-same, front-reach}
 use Rattle.build.proofs.recording.section.lay_records.Statement.{statement}
 use Rattle.build.proofs.recording.section.lay_records.Tie as tie
@@ -28,18 +24,15 @@ abbrev at-start : tie.After-slice-known13 → tie.Start
 at-start c = at-start-2 (at-share-records c .before .before .before .before .before .before)
 
 share-records-requires : tie.Need-share-records-requires
-share-records-requires c κs =
-    let pre = at-start-2 (c .before .before .before .before .before) .pre in
+share-records-requires c κs = let pre = at-start-2 (c .before .before .before .before .before) .pre in
     laying-shares _ _ _ _ _ _ _ _ _ _ _ pre _ _ (length-take-le _ _ (pre .keys-count)) (length-take-le _ _ (omega (arith, pre .starts-room)))
 
 add-end : tie.Need-add-end
-add-end c =
-    let pre = at-start c .pre in let share-records = at-share-records c .share-records in
+add-end c = let pre = at-start c .pre in let share-records = at-share-records c .share-records in
     omega (arith, sizes-few _ _ _ _ _ _ _ _ _ _ _ pre _ _ _ _ _ _ _ _ refl refl (keeps-as _ _ _ _ _ _ _ _ _ _ _ _ _ (length-take-le _ _ (pre .keys-count)) (share-records .ensures)), pre .bound)
 
 slice-reshare-prefix-lay-fields : tie.Need-slice-reshare-prefix-lay-fields
-slice-reshare-prefix-lay-fields c =
-    let pre = at-start c .pre in let share-records = at-share-records c .share-records in
+slice-reshare-prefix-lay-fields c = let pre = at-start c .pre in let share-records = at-share-records c .share-records in
     omega (
       arith,
       sizes-few _ _ _ _ _ _ _ _ _ _ _ pre _ _ _ _ _ _ _ _ refl refl (keeps-as _ _ _ _ _ _ _ _ _ _ _ _ _ (length-take-le _ _ (pre .keys-count)) (share-records .ensures)),
@@ -48,8 +41,7 @@ slice-reshare-prefix-lay-fields c =
     )
 
 slice-reshare-prefix-lay-fields-2 : tie.Need-slice-reshare-prefix-lay-fields-2
-slice-reshare-prefix-lay-fields-2 c =
-    let pre = at-start (c .before) .pre in let share-records = at-share-records (c .before) .share-records in
+slice-reshare-prefix-lay-fields-2 c = let pre = at-start (c .before) .pre in let share-records = at-share-records (c .before) .share-records in
     omega (
       arith,
       bytes-few _ _ _ _ _ _ _ _ _ _ _ pre _ _ _ _ _ _ _ _ refl refl (keeps-as _ _ _ _ _ _ _ _ _ _ _ _ _ (length-take-le _ _ (pre .keys-count)) (share-records .ensures)),
@@ -58,8 +50,7 @@ slice-reshare-prefix-lay-fields-2 c =
     )
 
 slice-relend-prefix-lay-fields : tie.Need-slice-relend-prefix-lay-fields
-slice-relend-prefix-lay-fields c =
-    let args = at-start (c .before .before) .args in let share-records = at-share-records (c .before .before) .share-records in
+slice-relend-prefix-lay-fields c = let args = at-start (c .before .before) .args in let share-records = at-share-records (c .before .before) .share-records in
     let pre = at-start (c .before .before) .pre in
     front-reach (args .starts .now) (share-records .last .1 .1 .1 .0) (length (args .lengths .now) + 1) _ (share-records .kept .1 .1 .1 .0)
     (omega (
@@ -69,9 +60,8 @@ slice-relend-prefix-lay-fields c =
     ))
 
 slice-relend-prefix-lay-fields-2 : tie.Need-slice-relend-prefix-lay-fields-2
-slice-relend-prefix-lay-fields-2 c =
-    let args = at-start (c .before .before .before) .args in let share-records = at-share-records (c .before .before .before) .share-records in
-    let pre = at-start (c .before .before .before) .pre in
+slice-relend-prefix-lay-fields-2 c = let args = at-start (c .before .before .before) .args in
+    let share-records = at-share-records (c .before .before .before) .share-records in let pre = at-start (c .before .before .before) .pre in
     front-reach (args .keys .now) (share-records .last .1 .1 .1 .1 .0) (args .count) _ (share-records .kept .1 .1 .1 .1 .0)
     (omega (
       arith,
@@ -80,42 +70,35 @@ slice-relend-prefix-lay-fields-2 c =
     ))
 
 lay-fields-requires : tie.Need-lay-fields-requires
-lay-fields-requires c κs =
-    let pre = at-start (c .before .before .before .before .before .before) .pre in
+lay-fields-requires c κs = let pre = at-start (c .before .before .before .before .before .before) .pre in
     let share-records = at-share-records (c .before .before .before .before .before .before) .share-records in
     laying-fields _ _ _ _ _ _ _ _ _ _ _ pre _ _ _ _ _ _ _ _ refl refl (keeps-as _ _ _ _ _ _ _ _ _ _ _ _ _ (length-take-le _ _ (pre .keys-count)) (share-records .ensures)) _ _ _
     (length-take-le _ _ (slice-relend-prefix-lay-fields (c .before .before .before .before))) (length-take-le _ _ (slice-relend-prefix-lay-fields-2 (c .before .before .before)))
     (share-records .kept .1 .1 .1 .1 .1 .0)
 
 slice-relend-prefix-mark-starts : tie.Need-slice-relend-prefix-mark-starts
-slice-relend-prefix-mark-starts c =
-    let share-records = at-share-records (at-slice-known13 c) .share-records in let args = at-start (at-slice-known13 c) .args in
-    let lay-fields = at-lay-fields c .lay-fields in let pre = at-start (at-slice-known13 c) .pre in
+slice-relend-prefix-mark-starts c = let share-records = at-share-records (at-slice-known13 c) .share-records in
+    let args = at-start (at-slice-known13 c) .args in let lay-fields = at-lay-fields c .lay-fields in let pre = at-start (at-slice-known13 c) .pre in
     front-reach ((share-records .last .1 .1 .1 .0) ++ drop (length (args .lengths .now) + 1) (args .starts .now)) (lay-fields .last .1 .1 .0) (share-records .result .lengths + 1) _
     (lay-fields .kept .1 .1 .0)
     (front-reach (args .starts .now) (share-records .last .1 .1 .1 .0) (length (args .lengths .now) + 1) _ (share-records .kept .1 .1 .1 .0) (omega (arith, pre .starts-room)))
 
 mark-starts-requires : tie.Need-mark-starts-requires
-mark-starts-requires c κs =
-    let pre = at-start (at-slice-known13 (c .before)) .pre in
+mark-starts-requires c κs = let pre = at-start (at-slice-known13 (c .before)) .pre in
     (length-take-le _ _ (slice-relend-prefix-mark-starts (c .before)), omega (arith, pre .bound))
 
 slice-reshare-prefix-place-records : tie.Need-slice-reshare-prefix-place-records
-slice-reshare-prefix-place-records c =
-    let lay-fields = at-lay-fields (c .before .before .before .before .before) .lay-fields in
+slice-reshare-prefix-place-records c = let lay-fields = at-lay-fields (c .before .before .before .before .before) .lay-fields in
     let share-records = at-share-records (at-slice-known13 (c .before .before .before .before .before)) .share-records in
-    let args = at-start (at-slice-known13 (c .before .before .before .before .before)) .args in
-    let mark-starts = c .before .before .before .mark-starts in
+    let args = at-start (at-slice-known13 (c .before .before .before .before .before)) .args in let mark-starts = c .before .before .before .mark-starts in
     let pre = at-start (at-slice-known13 (c .before .before .before .before .before)) .pre in
     front-reach ((lay-fields .last .1 .1 .0) ++ drop (share-records .result .lengths + 1) ((share-records .last .1 .1 .1 .0) ++ drop (length (args .lengths .now) + 1) (args .starts .now)))
-    (mark-starts .last .1 .0) (length (args .lengths .now) + 1) _ (mark-starts .kept .1 .0)
-    (front-reach ((share-records .last .1 .1 .1 .0) ++ drop (length (args .lengths .now) + 1) (args .starts .now)) (lay-fields .last .1 .1 .0) (share-records .result .lengths + 1) _
-    (lay-fields .kept .1 .1 .0)
+    (mark-starts .last .1 .0) (length (args .lengths .now) + 1) _ (mark-starts .kept .1 .0) (front-reach ((share-records .last .1 .1 .1 .0) ++ drop
+    (length (args .lengths .now) + 1) (args .starts .now)) (lay-fields .last .1 .1 .0) (share-records .result .lengths + 1) _ (lay-fields .kept .1 .1 .0)
     (front-reach (args .starts .now) (share-records .last .1 .1 .1 .0) (length (args .lengths .now) + 1) _ (share-records .kept .1 .1 .1 .0) (omega (arith, pre .starts-room))))
 
 place-records-requires : tie.Need-place-records-requires
-place-records-requires c κs =
-    let pre = at-start (at-slice-known13 (c .before .before .before .before .before .before .before)) .pre in
+place-records-requires c κs = let pre = at-start (at-slice-known13 (c .before .before .before .before .before .before .before)) .pre in
     let share-records = at-share-records (at-slice-known13 (c .before .before .before .before .before .before .before)) .share-records in
     let lay-fields = at-lay-fields (c .before .before .before .before .before .before .before) .lay-fields in
     let mark-starts = c .before .before .before .before .before .mark-starts in
@@ -124,8 +107,7 @@ place-records-requires c κs =
     (take-at _ _ _ (mark-starts .kept .1 .0 ∙ length-take-le _ _ (slice-relend-prefix-mark-starts (c .before .before .before .before .before .before .before))) ∙ mark-starts .ensures)
 
 same-length : tie.Need-same-length
-same-length c =
-    let lay-fields = at-lay-fields (at-slice-known17 c) .lay-fields in
+same-length c = let lay-fields = at-lay-fields (at-slice-known17 c) .lay-fields in
     let share-records = at-share-records (at-slice-known13 (at-slice-known17 c)) .share-records in
     let args = at-start (at-slice-known13 (at-slice-known17 c)) .args in
     let mark-starts = c .before .before .before .before .before .before .before .before .mark-starts in
@@ -135,30 +117,26 @@ same-length c =
     (lay-fields .kept .1 .1 .0) (front-same (args .starts .now) (share-records .last .1 .1 .1 .0) (length (args .lengths .now) + 1) _ (share-records .kept .1 .1 .1 .0) refl))
 
 same-length-2 : tie.Need-same-length-2
-same-length-2 c =
-    let share-records = at-share-records (at-slice-known13 (at-slice-known17 c)) .share-records in
+same-length-2 c = let share-records = at-share-records (at-slice-known13 (at-slice-known17 c)) .share-records in
     let args = at-start (at-slice-known13 (at-slice-known17 c)) .args in let lay-fields = at-lay-fields (at-slice-known17 c) .lay-fields in
     front-same ((share-records .last .1 .1 .1 .1 .0) ++ drop (args .count) (args .keys .now)) (lay-fields .last .1 .1 .1 .0) (share-records .result .lengths) _ (lay-fields .kept .1 .1 .1 .0)
     (front-same (args .keys .now) (share-records .last .1 .1 .1 .1 .0) (args .count) _ (share-records .kept .1 .1 .1 .1 .0) refl)
 
 returns : tie.Need-returns
-returns c =
-    let pre = at-start (at-slice-known13 (at-slice-known17 c)) .pre in
+returns c = let pre = at-start (at-slice-known13 (at-slice-known17 c)) .pre in
     let share-records = at-share-records (at-slice-known13 (at-slice-known17 c)) .share-records in
     let lay-fields = at-lay-fields (at-slice-known17 c) .lay-fields in let place-records = c .before .before .place-records in
     laying-ends _ _ _ _ _ _ _ _ _ _ _ pre _ _ _ _ _ _ _ _ refl refl (keeps-as _ _ _ _ _ _ _ _ _ _ _ _ _ (length-take-le _ _ (pre .keys-count)) (share-records .ensures)) _ _ _
     (lay-fields .kept .1 .1 .1 .1 .1 .0) (lay-fields .ensures) _ (place-records .ensures)
 
 pub lay-records-spec : {M : Type 1} → statement M
-lay-records-spec =
-    tie.close
-    (tie.spec
-    (λ c. search needs) (λ c. search needs) (λ c. let pre = at-start-2 c .pre in sym (length-take-le _ _ (omega (arith, pre .starts-room))))
-    (λ c. search needs) (λ c. let pre = at-start-2 (c .before) .pre in sym (length-take-le _ _ (pre .keys-count))) share-records-requires add-end
-    slice-reshare-prefix-lay-fields (λ c. sym (length-take-le _ _ (slice-reshare-prefix-lay-fields (c .before)))) slice-reshare-prefix-lay-fields-2
+lay-records-spec = tie.close (tie.spec (λ c. search needs) (λ c. search needs)
+    (λ c. let pre = at-start-2 c .pre in sym (length-take-le _ _ (omega (arith, pre .starts-room)))) (λ c. search needs)
+    (λ c. let pre = at-start-2 (c .before) .pre in sym (length-take-le _ _ (pre .keys-count))) share-records-requires add-end slice-reshare-prefix-lay-fields
+    (λ c. sym (length-take-le _ _ (slice-reshare-prefix-lay-fields (c .before)))) slice-reshare-prefix-lay-fields-2
     (λ c. sym (length-take-le _ _ (slice-reshare-prefix-lay-fields-2 (c .before)))) slice-relend-prefix-lay-fields
     (λ c. sym (length-take-le _ _ (slice-relend-prefix-lay-fields (c .before)))) slice-relend-prefix-lay-fields-2
     (λ c. sym (length-take-le _ _ (slice-relend-prefix-lay-fields-2 (c .before)))) lay-fields-requires slice-relend-prefix-mark-starts
     (λ c. sym (length-take-le _ _ (slice-relend-prefix-mark-starts (c .before)))) mark-starts-requires slice-reshare-prefix-place-records
-    (λ c. sym (length-take-le _ _ (slice-reshare-prefix-place-records (c .before)))) place-records-requires same-length same-length-2
-    (λ c. search needs) (λ c. search needs) (λ c. search needs) (λ c. search needs) (λ c. search needs) returns)
+    (λ c. sym (length-take-le _ _ (slice-reshare-prefix-place-records (c .before)))) place-records-requires same-length same-length-2 (λ c. search needs)
+    (λ c. search needs) (λ c. search needs) (λ c. search needs) (λ c. search needs) returns)

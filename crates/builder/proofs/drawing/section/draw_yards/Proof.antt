@@ -1,15 +1,9 @@
 -- `builder::drawing::section::draw_yards` meets its contract. Assumes nothing.
-use Rattle.builder.proofs.drawing.Sections.{border-put}
-use mathlib.Core.Path.{_≡_, refl, sym, _∙_}
-use lib.Seq.{length-take-le}
--- `builder::drawing::section::draw_yards` meets its contract. Assumes nothing.
-use Rattle.builder.proofs.drawing.Sections.{Section, section-starts, section-refused, border-inside, border-fits, section-goes, section-ends}
-use Rattle.builder.proofs.drawing.section.draw_yards.Statement.{statement}
-use lib.ListN.{length}
-use Prim.Native.Nat.{_+_, _-_}
-use native.Mathlib.Omega.{arith}
-use borrow.Author.Needs.{needs}
+use Rattle.numbers.proofs.Prelude.{_+_, _-_, needs, length, length-take-le, _≡_, refl, sym, _∙_, arith}
+use Rattle.builder.proofs.drawing.{Sections.{border-put, Section, section-starts, section-refused, border-inside, section-goes, section-ends}, section.draw_yards.Statement.{statement}}
 use Rattle.builder.proofs.drawing.section.draw_yards.Tie as tie
+
+-- `builder::drawing::section::draw_yards` meets its contract. Assumes nothing.
 
 abbrev Inv-loop : tie.InvT-loop
 Inv-loop version yards lats lons pieces room places₀ bytes₀ out₀ size₀ lat₀ lon₀ piece₀ i₀ places bytes out size lat lon piece i =
@@ -17,12 +11,6 @@ Inv-loop version yards lats lons pieces room places₀ bytes₀ out₀ size₀ l
 
 abbrev μ-loop : tie.MeasureT-loop
 μ-loop version yards lats lons pieces room places₀ bytes₀ out₀ size₀ lat₀ lon₀ piece₀ i₀ places bytes out size lat lon piece i = length yards - i
-
-loop-holds : tie.Need-loop-holds Inv-loop μ-loop
-loop-holds c = let pre = c .before .before .before .before .before .pre in (section-starts _ _ _ _ _ _ _ _ _ (pre .0) (pre .1) refl (pre .4), refl)
-
-slice-reshare-prefix-draw-yard : tie.Need-slice-reshare-prefix-draw-yard Inv-loop μ-loop
-slice-reshare-prefix-draw-yard c = omega (arith, c .before .before .before .before .loop .inv .0 .full, c .before .before .before .before .loop .inv .0 .room-in)
 
 slice-aggregate-draw-yard : tie.Need-slice-aggregate-draw-yard Inv-loop μ-loop
 slice-aggregate-draw-yard c = sym (length-take-le _ _ (omega (arith, c .before .before .before .before .before .loop .inv .0 .full, c .before .before .before .before .before .loop .inv .0 .room-in)))
@@ -55,12 +43,8 @@ returns c = section-refused _ _ _ _ _ _ _ _ _ _ _ _ _ _ _ (at-loop (c .before .b
     (c .before .before .before .before .before .before .before .before .before .before .before .loop-test .taken) _ _ (c .before .before .before .before .before .draw-yard .ensures) _
     (c .before .border2 .given .1)
 
-add-store : tie.Need-add-store Inv-loop μ-loop
-add-store c = omega (arith, at-loop (c .before .before .before .before .before .before .before) .loop .inv .0 .index)
-
 cast-store : tie.Need-cast-store Inv-loop μ-loop
-cast-store c =
-    let told = at-loop (c .before .before .before .before .before .before .before) .loop .inv .0 .full in
+cast-store c = let told = at-loop (c .before .before .before .before .before .before .before) .loop .inv .0 .full in
     let told-2 = at-loop (c .before .before .before .before .before .before .before) .before .before .before .before .before .before .pre .3 in
     omega (arith, told, told-2)
 
@@ -80,8 +64,7 @@ put-bytes-requires c κs = border-put _ _ _ _ _ _ _ _ _ _ _ _ _ _ _ (in-loop (c 
     (in-loop (c .before) .before .before .before .before .before .before .before .pre .3)
 
 loop-again : tie.Need-loop-again Inv-loop μ-loop
-loop-again c =
-    let loop = in-loop (c .before .before .before .before .before .before .before) .before .loop in
+loop-again c = let loop = in-loop (c .before .before .before .before .before .before .before) .before .loop in
     let draw-yard = at-border (c .before .before .before .before .before .before .before) .before .before .before .before .draw-yard in (
       section-goes _ _ _ _ _ _ _ _ _ _ _ _ _ _ _ (loop .inv .0) (in-loop (c .before .before .before .before .before .before .before) .loop-test .taken) _ _ (draw-yard .ensures) _
           (at-border (c .before .before .before .before .before .before .before) .border .given .1) _
@@ -91,18 +74,19 @@ loop-again c =
     )
 
 pub draw-yards-spec : {M : Type 1} → statement M
-draw-yards-spec =
-    tie.close
-    (tie.spec
-    Inv-loop μ-loop loop-holds (λ c. c .loop .inv .0 .index) (λ c. search needs) (λ c. search needs) (λ c. search needs)
+draw-yards-spec = tie.close (tie.spec Inv-loop μ-loop
+    (λ c. let pre = c .before .before .before .before .before .pre in (section-starts _ _ _ _ _ _ _ _ _ (pre .0) (pre .1) refl (pre .4), refl))
+    (λ c. c .loop .inv .0 .index) (λ c. search needs) (λ c. search needs) (λ c. search needs)
     (λ c. omega (arith, c .shared-slice-known3 .given (c .before .before .loop .i))) (λ c. search needs) (λ c. search needs) (λ c. search needs)
-    (λ c. omega (arith, c .shared-slice-known4 .given (c .before .before .before .loop .i + 1))) (λ c. search needs) (λ c. search needs)
-    (λ c. search needs) (λ c. omega (arith, c .shared-slice-known5 .given (c .before .before .before .before .loop .i + 2)))
-    (λ c. omega (arith, c .shared-slice-known5 .given (c .before .before .before .before .loop .i + 2))) slice-reshare-prefix-draw-yard
+    (λ c. omega (arith, c .shared-slice-known4 .given (c .before .before .before .loop .i + 1))) (λ c. search needs) (λ c. search needs) (λ c. search needs)
+    (λ c. omega (arith, c .shared-slice-known5 .given (c .before .before .before .before .loop .i + 2)))
+    (λ c. omega (arith, c .shared-slice-known5 .given (c .before .before .before .before .loop .i + 2)))
+    (λ c. omega (arith, c .before .before .before .before .loop .inv .0 .full, c .before .before .before .before .loop .inv .0 .room-in))
     slice-aggregate-draw-yard draw-yard-requires (λ c. search needs) (λ c. search needs)
     (λ c. at-loop (c .before .before .before .before .before .before) .loop .inv .0 .places-size)
-    (λ c. at-loop (c .before .before .before .before .before .before) .loop .inv .0 .size-is) same-length-3 returns add-store cast-store
-    (λ c κs. search needs) slice-reshare-prefix-put-bytes slice-aggregate-put-bytes put-bytes-requires
+    (λ c. at-loop (c .before .before .before .before .before .before) .loop .inv .0 .size-is) same-length-3 returns
+    (λ c. omega (arith, at-loop (c .before .before .before .before .before .before .before) .loop .inv .0 .index)) cast-store (λ c κs. search needs)
+    slice-reshare-prefix-put-bytes slice-aggregate-put-bytes put-bytes-requires
     (λ c κs. in-loop (c .before .before .before .before) .before .loop .inv .0 .tall)
     (λ c κs. in-loop (c .before .before .before .before .before) .before .loop .inv .0 .wide)
     (λ c κs. in-loop (c .before .before .before .before .before .before) .before .loop .inv .0 .deep) (λ c. search needs) loop-again

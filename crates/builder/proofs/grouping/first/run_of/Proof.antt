@@ -1,8 +1,6 @@
 -- `builder::grouping::first::run_of` meets its contract. Assumes nothing.
+use Rattle.numbers.proofs.Prelude.{_-_, needs, arith}
 use Rattle.builder.proofs.grouping.{Finding.{Halving, halving-starts, halving-right, halving-left, halving-ends}, first.run_of.Statement.{statement}}
-use Prim.Native.Nat.{_-_}
-use native.Mathlib.Omega.{arith}
-use borrow.Author.Needs.{needs}
 use Rattle.builder.proofs.grouping.first.run_of.Tie as tie
 
 abbrev Inv-loop : tie.InvT-loop
@@ -20,9 +18,6 @@ loop-again-2 c = halving-left _ (c .before .before .before .before .before .befo
     (c .before .key-of .ensures) (c .if1 .left)
 
 pub run-of-spec : {M : Type 1} → statement M
-run-of-spec =
-    tie.close
-    (tie.spec
-    Inv-loop μ-loop (λ c. halving-starts _ _) (λ c. search needs) (λ c. search needs) (λ c. search needs) (λ c. search needs) (λ c κs. search needs)
-    (λ c. search needs) (λ c. search needs) loop-again (λ c. search needs) loop-again-2
+run-of-spec = tie.close (tie.spec Inv-loop μ-loop (λ c. halving-starts _ _) (λ c. search needs) (λ c. search needs) (λ c. search needs) (λ c. search needs)
+    (λ c κs. search needs) (λ c. search needs) (λ c. search needs) loop-again (λ c. search needs) loop-again-2
     (λ c. halving-ends _ _ _ _ (c .before .loop .inv) (c .loop-test .left)))

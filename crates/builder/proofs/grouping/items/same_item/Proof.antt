@@ -1,8 +1,6 @@
 -- `builder::grouping::items::same_item` meets its contract. Assumes nothing.
+use Rattle.numbers.proofs.Prelude.{_-_, needs, arith}
 use Rattle.builder.proofs.grouping.{Walks.{fewer-inside, ItemSame, same-starts, same-differs, same-goes, same-ends}, items.same_item.Statement.{statement}}
-use Prim.Native.Nat.{_-_}
-use native.Mathlib.Omega.{arith}
-use borrow.Author.Needs.{needs}
 use Rattle.builder.proofs.grouping.items.same_item.Tie as tie
 
 abbrev Inv-loop : tie.InvT-loop
@@ -24,9 +22,7 @@ loop-again : tie.Need-loop-again Inv-loop μ-loop
 loop-again c = same-goes _ _ _ _ _ _ (c .before .before .before .loop .inv) (c .before .before .loop-test .taken) _ (c .before .same-at .ensures) (c .if1 .left)
 
 pub same-item-spec : {M : Type 1} → statement M
-same-item-spec =
-    tie.close
-    (tie.spec
-    Inv-loop μ-loop (λ c. same-starts _ _ _ _ _) (λ c. omega (arith, c .before .before .before .before .pre .0 .many, c .loop-test .taken))
-    (λ c. omega (arith, c .before .before .before .before .pre .1 .many, c .loop-test .taken)) same-at-requires returns (λ c. search needs)
-    (λ c. search needs) loop-again (λ c. same-ends _ _ _ _ _ _ (c .before .loop .inv) (c .loop-test .left)))
+same-item-spec = tie.close (tie.spec Inv-loop μ-loop (λ c. same-starts _ _ _ _ _)
+    (λ c. omega (arith, c .before .before .before .before .pre .0 .many, c .loop-test .taken))
+    (λ c. omega (arith, c .before .before .before .before .pre .1 .many, c .loop-test .taken)) same-at-requires returns (λ c. search needs) (λ c. search needs)
+    loop-again (λ c. same-ends _ _ _ _ _ _ (c .before .loop .inv) (c .loop-test .left)))

@@ -1,12 +1,7 @@
 -- `builder::grouping::keys::put_keys` meets its contract. Assumes nothing.
+use Rattle.numbers.proofs.Prelude.{_-_, needs, length, arith}
 use Rattle.builder.specs.Grouping.Keys.{keyWord}
-use Rattle.builder.proofs.grouping.{Walks.{fewer-inside, item-among}, Listed.{Listing, list-starts, list-goes, list-ends}, Keyed.{word-is}}
-use Rattle.builder.proofs.grouping.keys.put_keys.Statement.{statement}
-use mathlib.Core.Path.{_∙_, ap}
-use lib.ListN.{length, length-set}
-use Prim.Native.Nat.{_-_}
-use native.Mathlib.Omega.{arith}
-use borrow.Author.Needs.{needs}
+use Rattle.builder.proofs.grouping.{Keyed.{word-is}, Listed.{Listing, list-starts, list-goes, list-ends}, Walks.{fewer-inside, item-among}, keys.put_keys.Statement.{statement}}
 use Rattle.builder.proofs.grouping.keys.put_keys.Tie as tie
 
 abbrev Inv-loop : tie.InvT-loop
@@ -16,8 +11,7 @@ abbrev μ-loop : tie.MeasureT-loop
 μ-loop starts texts width keys₀ item₀ keys item = length keys₀ - item
 
 mul-hash-item : tie.Need-mul-hash-item Inv-loop μ-loop
-mul-hash-item c =
-    let args = c .before .before .before .before .before .args in
+mul-hash-item c = let args = c .before .before .before .before .before .args in
     omega (
       arith,
       c .before .before .before .before .before .pre .0 .many,
@@ -33,10 +27,7 @@ loop-again c = list-goes _ _ _ _ (c .before .before .loop .inv) (c .before .loop
     (omega (arith, c .before .loop-test .taken, c .before .before .loop .inv .left .size, c .before .before .before .before .before .before .pre .1)))
 
 pub put-keys-spec : {M : Type 1} → statement M
-put-keys-spec =
-    tie.close
-    (tie.spec
-    Inv-loop μ-loop (λ c. list-starts _ _) mul-hash-item hash-item-requires (λ c. search needs) (λ c. search needs) (λ c. search needs)
-    (λ c. search needs) (λ c. search needs) (λ c. search needs)
+put-keys-spec = tie.close (tie.spec Inv-loop μ-loop (λ c. list-starts _ _) mul-hash-item hash-item-requires (λ c. search needs) (λ c. search needs)
+    (λ c. search needs) (λ c. search needs) (λ c. search needs) (λ c. search needs)
     (λ c. omega (arith, c .before .loop-test .taken, c .before .before .loop .inv .left .size)) loop-again (λ c. c .before .loop .inv .left .size)
     (λ c. list-ends _ _ _ _ (c .before .loop .inv) (c .loop-test .left)))

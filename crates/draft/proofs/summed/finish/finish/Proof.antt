@@ -1,7 +1,6 @@
 -- `draft::summed::finish::finish` meets its contract. Assumes nothing.
-use borrow.Author.Needs.{needs}
-use Rattle.draft.proofs.summed.Finishing.{settled-ends, settled-refused, settled-zero, idle-as}
-use Rattle.draft.proofs.summed.finish.finish.Statement.{statement}
+use Rattle.numbers.proofs.Prelude.{needs}
+use Rattle.draft.proofs.summed.{Finishing.{settled-ends, settled-refused, settled-zero, idle-as}, finish.finish.Statement.{statement}}
 use Rattle.draft.proofs.summed.finish.finish.Tie as tie
 
 -- ---- the places that the answers speak of
@@ -13,8 +12,7 @@ abbrev at-kept : tie.After-slice-known24 → tie.After-kept
 at-kept c = at-out c .before .before .before .before .before .before .before .before
 
 returns : tie.Need-returns
-returns c =
-    let out = at-out c .out in let fill = at-kept c .before .before .before .before .before .before .before .fill in
+returns c = let out = at-out c .out in let fill = at-kept c .before .before .before .before .before .before .before .fill in
     let settle = c .before .before .settle in let starts = at-kept c .before .before .before .before .before .before .starts in
     let keys = at-kept c .before .before .before .before .keys in let spare = at-kept c .before .before .spare in let kept = at-kept c .kept in
     let held = at-out c .before .before .before .before .before .before .held in let words = at-out c .before .before .before .before .words in
@@ -28,8 +26,5 @@ returns c =
     )
 
 pub finish-spec : {M : Type 1} → statement M
-finish-spec =
-    tie.close
-    (tie.spec
-    (λ c κs. search needs) (λ c κs. search needs) (λ c κs. search needs) (λ c. search needs) (λ c. search needs) (λ c. search needs)
-    (λ c. search needs) (λ c. search needs) (λ c. search needs) (λ c. search needs) (λ c. search needs) returns)
+finish-spec = tie.close (tie.spec (λ c κs. search needs) (λ c κs. search needs) (λ c κs. search needs) (λ c. search needs) (λ c. search needs)
+    (λ c. search needs) (λ c. search needs) (λ c. search needs) (λ c. search needs) (λ c. search needs) (λ c. search needs) returns)

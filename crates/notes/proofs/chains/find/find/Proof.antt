@@ -1,9 +1,6 @@
 -- `notes::chains::find::find` meets its contract. Assumes nothing.
-use borrow.Author.Needs.{needs}
-use mathlib.Core.Path.{refl}
-use native.Mathlib.Omega.{arith}
-use Rattle.notes.proofs.chains.Walking.{from-head}
-use Rattle.notes.proofs.chains.find.find.Statement.{statement}
+use Rattle.numbers.proofs.Prelude.{needs, refl, arith}
+use Rattle.notes.proofs.chains.{Walking.{from-head}, find.find.Statement.{statement}}
 use Rattle.notes.proofs.chains.find.find.Tie as tie
 
 returns : tie.Need-returns
@@ -14,6 +11,5 @@ returns c = (
 )
 
 pub find-spec : {M : Type 1} → statement M
-find-spec = tie.close (tie.spec
-    (λ c κs. search needs) (λ c. search needs) (λ c. search needs) (λ c. omega (arith, c .shared-slice-known4 .given (c .before .bucket-of .result)))
-    (λ c κs. search needs) returns)
+find-spec = tie.close (tie.spec (λ c κs. search needs) (λ c. search needs) (λ c. search needs)
+    (λ c. omega (arith, c .shared-slice-known4 .given (c .before .bucket-of .result))) (λ c κs. search needs) returns)
