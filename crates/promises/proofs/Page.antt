@@ -1,38 +1,41 @@
 -- The page of promises: the questions of README in its order, each with the theorem that answers it, over what the entry points promise. A statement stands here in full, so that a reader looks up
 -- definitions alone (`tools/floor` lists them); its proof is the law of the crate where it belongs.
-use Rattle.numbers.proofs.Prelude.{ℕ, _+_, _-_, _*_, _≤_, _<_, eqb, Float, ℤ, length, take, getD, mag, ltZ, Bool, true, false, _||_, List, [], _∷_, _⊎_, _↔_, _≡_, w64, SFits}
-use Rattle.numbers.specs.{Lists.{zeros}, Reply.{given, refused}, Spoken.{spoken}, declared.refusal.Refusal.{Refusal}}
+use Prim.Native.Nat.{ℕ, _+_, _*_, _-_, _<_, _≤_}
+use lib.{Dec.{eqb}, Ieee.{Float}, IntN.{ℤ}, ListN.{length, getD, take}, Signed.{mag, ltZ}}
+use mathlib.Core.{Bool.{Bool, true, false, _||_}, List.{List, [], _∷_}, Logic.{_↔_, _⊎_}, Path.{_≡_}}
+use mir.{Syntax.{w64}, Val.{SFits}}
 use Rattle.atlas.specs.{Atlas.{atlasMade, isAtlasOf}, Beside.{NoneOrAtlas, simplyBeside}, Looked.{lookedAtlas}}
 use Rattle.batch.specs.{Many.{isTaken, fixesOf, manyBeside, lookedUpMany}, OneByOne.{oneByOne}}
 use Rattle.border.specs.{Box.{Box, holds}, Encoding.{encodingOf}, Trace.{Trace, point}, declared.place.{FixedLat.{FixedLat}, FixedLon.{FixedLon}, Point.{Point}}}
 use Rattle.builder.specs.{File.{Room, builtOf}, Yards.{Lent, Plan, Yard, planOf}}
 use Rattle.bundle.specs.{Bundle.{findOf}, First.{FoundAt}, declared.find.File.{File}}
+use Rattle.bundle.specs.Told as B
+use Rattle.bundle.specs.declared.find.Found.the-variants as F
 use Rattle.calendar.specs.{Calendar.{daysOfYears}, Civil.{CivilOf}, Epoch.{forwards, backwards}, declared.civil.Civil.{Civil}}
 use Rattle.draft.specs.Held.{Builder.{Builder, finish, holding}, Sound.{Sound, roomFor}, Space.{Space}, Totals.{totalsOf}}
 use Rattle.header.specs.{Header.{headBy, headOf}, declared.header.Head.{Head}}
 use Rattle.index.specs.{Index.{indexed, indexedOf, toldBuilt}, Own.{isIndexOf}, Through.{lookedIndexed}, Tied.{toldTied}, declared.{build.Built.{Built}, tied.Tied.{Tied}}}
 use Rattle.localtime.specs.{Found.{foundOf}, Local.{rulesIn, localTime}}
+use Rattle.localtime.specs.declared.rule.Rules.the-variants as R
+use Rattle.numbers.specs.{Lists.{zeros}, Reply.{given, refused}, Spoken.{spoken}, declared.refusal.Refusal.{Refusal}}
 use Rattle.promises.specs.Built.Finds.{FindsInto}
 use Rattle.request.specs.{Clock.{Date, Time, utc}, Nearest.{Nearest}, Only.{OnlyAt}, Request.{Spelt, requestOf, speltOf}, Text.{lineOf}, declared.read.Fix.{Fix}}
+use Rattle.request.specs.Told as Q
+use Rattle.request.specs.declared.read.Asked.the-variants as A
 use Rattle.salvage.specs.{Kept.{keptOf}, Promises.{ListOf, KeptFile}, Salvage.{Counts, salvaged}}
-use Rattle.slip.specs.{Says.{from, Meant, Whole, Agreed, Clocked, Short, isAtNumber, isSlipNumber}, Slip.{slippedAt, slipped}, declared.slip.{Slipped.{Slipped}, Stamped.{Stamped}}}
+use Rattle.slip.specs.{Says.{from, Meant, Whole, Agreed, Clocked, Short, isAtNumber, isSlipNumber}, Slip.{slippedAt, slipped}, declared.slip.{Stamped.{Stamped}, Slipped.{Slipped}}}
+use Rattle.slip.specs.Slip as Z
+use Rattle.slip.specs.Told as K
 use Rattle.table.specs.{Rows.{rowsIn}, declared.location.Location.{Location}}
-use Rattle.tzif.specs.{Check.{correctionAt}, Last.{Octets, transitionTime, LastNotAfter}, Local.{typeBehind, named}, Number.{lift}, Times.{transitionsOf, lastNotAfter}, Zone.{readZone}}
-use Rattle.tzif.specs.declared.{block.Block.{Block}, zone.Zone.{Zone}}
+use Rattle.tzif.specs.{Check.{correctionAt}, Local.{typeBehind, named}, Number.{lift}, Times.{transitionsOf, lastNotAfter}, Zone.{readZone}, declared.{block.Block.{Block}, zone.Zone.{Zone}}}
+use Rattle.tzif.specs.Last.{Octets, transitionTime, LastNotAfter}
+use Rattle.tzif.specs.Reply as T
 use Rattle.tzrule.specs.{Ask.{corrected, inYears, clockAt}, Summer.{isSummer, IsSummer, IsRule}, declared.rule.{Rule.{Rule}, Tz.{Tz}}}
 use Rattle.office.specs.Calls.{Shelf, Called, Made, TotalsIn}
 use Rattle.uskelzar.specs.{Slips.{Printed, slipSpoken}, Spoken.{zonesValues, foundSpoken}}
 use Rattle.verdict.specs.{Stretch.{Stretch}, Verdict.{after, judge, judgedAt}, declared.step.Tally.{Tally}}
 use Rattle.writer.specs.WrittenAt.{WrittenAt}
 use Rattle.zones.specs.{Lookup.{lookedUp, toldLooked}, Simple.{simplyLooked}, Unstopped.{lookedThroughAll}, declared.lookup.{Looked.{Looked}, Zones.{Zones}}}
-use Rattle.bundle.specs.Told as B
-use Rattle.bundle.specs.declared.find.Found.the-variants as F
-use Rattle.localtime.specs.declared.rule.Rules.the-variants as R
-use Rattle.request.specs.Told as Q
-use Rattle.request.specs.declared.read.Asked.the-variants as A
-use Rattle.slip.specs.Slip as Z
-use Rattle.slip.specs.Told as K
-use Rattle.tzif.specs.Reply as T
 use Rattle.zones.specs.Lent as L
 use Rattle.atlas.proofs.AtlasIsPlain as atlas
 use Rattle.atlas.proofs.BesideIsPlain as beside
@@ -131,8 +134,8 @@ pub atlas-safe : (file words : List ℕ) (location : Location) (asked : Bool) (n
 atlas-safe = theorems.atlas-safe
 
 -- So is what `build_atlas` and `is_atlas` answer and leave.
-pub same-atlas : (file words : List ℕ) (n : ℕ) → ((r r′ : Built) (ws ws′ : List ℕ) → indexed (toldBuilt r) ws ≡ atlasMade file n → indexed (toldBuilt r′) ws′ ≡
-    atlasMade file n → (r ≡ r′) × (ws ≡ ws′)) × ((r r′ : Tied) → toldTied r ≡ isAtlasOf file words → toldTied r′ ≡ isAtlasOf file words → r ≡ r′)
+pub same-atlas : (file words : List ℕ) (n : ℕ) → ((r r′ : Built) (ws ws′ : List ℕ) → indexed (toldBuilt r) ws ≡ atlasMade file n → indexed (toldBuilt r′) ws′ ≡ atlasMade file n → (r ≡ r′) × (ws ≡ ws′))
+    × ((r r′ : Tied) → toldTied r ≡ isAtlasOf file words → toldTied r′ ≡ isAtlasOf file words → r ≡ r′)
 same-atlas file words n = (theorems.same-atlas-built file n, theorems.same-atlas-held file words)
 
 -- Where it is refused, then with 1 to 18, as a plain lookup, or with 36,
@@ -152,8 +155,9 @@ stretch-is-edge = stretch.stretch-is-edge
 
 -- ---- When borders move from encoding version 0 to 1, what shows that a yard stays in its zone?
 -- One border, in whichever way it is written, gets one verdict and one distance at every fix.
-pub one-border-one-verdict : {version version′ : ℕ} {lats lons : List ℤ} {file file′ : List ℕ} {base base′ place place′ : ℕ} → WrittenAt version lats lons file base place
-    → WrittenAt version′ lats lons file′ base′ place′ → (lat : FixedLat) (lon : FixedLon) (asked : Bool) (least : ℕ)
+pub one-border-one-verdict : {version version′ : ℕ} {lats lons : List ℤ} {file file′ : List ℕ} {base base′ place place′ : ℕ}
+    → WrittenAt version lats lons file base place → WrittenAt version′ lats lons file′ base′ place′
+    → (lat : FixedLat) (lon : FixedLon) (asked : Bool) (least : ℕ)
     → judgedAt file (encodingOf version base) place lat lon asked least ≡ judgedAt file′ (encodingOf version′ base′) place′ lat lon asked least
 one-border-one-verdict = writer.one-border-one-verdict
 
@@ -212,7 +216,8 @@ pub same-civil : (instant offset : ℤ) (a b : Civil) → CivilOf instant offset
 same-civil = calendar.same-civil
 
 -- The days before 1 January of a year are counted from 1970, year by year, forwards and backwards; years before the year 1 are told by one whole rounds of 400 years later.
-pub days-from-1970 : (c k : ℕ) → (daysOfYears (1969 + k + 400 * c) ≡ 719162 + forwards k + 146097 * c) × (k ≤ 1969 + 400 * c → daysOfYears (1969 + 400 * c - k) + backwards k ≡ 719162 + 146097 * c)
+pub days-from-1970 : (c k : ℕ) → (daysOfYears (1969 + k + 400 * c) ≡ 719162 + forwards k + 146097 * c)
+    × (k ≤ 1969 + 400 * c → daysOfYears (1969 + 400 * c - k) + backwards k ≡ 719162 + 146097 * c)
 days-from-1970 = epoch.days-from-1970
 
 -- ---- Is it the fix, the instant and the zone's file that were asked for?
