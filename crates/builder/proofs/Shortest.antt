@@ -89,6 +89,3 @@ module _ (fields : List Text) where
   -- any other layout that fits makes no word longer and a longer section
   pub shortest-section : (other : ℕ) → fits fields other ≡ true → Shorter words (layoutOf fields) other
   shortest-section other e = shortest numbers words (layoutOf fields) other layout-least (fits-then other e)
-
--- ---- the records that are written by their words are the definition's
-module _ (all : List Text) (records : ℕ) where

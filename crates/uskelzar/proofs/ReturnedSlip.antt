@@ -6,7 +6,7 @@ use Rattle.bundle.{proofs.Theorems.{found-refusals}, specs.Bundle.{findOf}}
 use Rattle.request.{proofs.{Refusing.{fiveNumbers}, Theorems.{request-refusals}}, specs.{Request.{requestOf}, declared.read.Fix.{Fix}}}
 use Rattle.slip.{proofs.{Theorems.{slip-refusals, slip-at-refusals}, Worked.{sentence, square, berlin, texts, line, stamped}}, specs.Says.{isAtNumber, isSlipNumber}}
 use Rattle.slip.specs.{Slip.{Replied, replied, slippedAt, slipped}, declared.slip.Stamped.{Stamped}}
-use Rattle.uskelzar.proofs.Numbered.{Answered, never-zero, zero-said}
+use Rattle.numbers.proofs.Saying.{Answered, never-zero, zero-said}
 use Rattle.uskelzar.specs.Slips.{Printed, fixValues, fileValues, stampedValues, replySpoken, slipSpoken}
 
 -- the reply is refused, and so all of it

@@ -72,8 +72,8 @@ border-size version lats lons pieces earlier bytes e = go (eqb version 0) (past 
   few : length moves ≤ length lats
   few = omega (arith, border-length lats lons)
 
-  plain-one : plainBorder moves pieces ≡ given bytes → length bytes ≤ 170 * length lats + 400
-  plain-one e = let body : List ℕ = varintOf (length moves) ++ (flatMap plainMoveBytes moves ++ (2 ∷ 2 ∷ [])) in
+  plain-size : plainBorder moves pieces ≡ given bytes → length bytes ≤ 170 * length lats + 400
+  plain-size e = let body : List ℕ = varintOf (length moves) ++ (flatMap plainMoveBytes moves ++ (2 ∷ 2 ∷ [])) in
       let is : body ≡ bytes = given-same body bytes (past (demand (eqb (length pieces) 0) (plain 23)) (given body) bytes e) in
       let size : length body ≡ length bytes = ap length is in
       omega (
@@ -87,8 +87,8 @@ border-size version lats lons pieces earlier bytes e = go (eqb version 0) (past 
         few,
       )
 
-  packed-one : packedBorder moves pieces earlier ≡ given bytes → length bytes ≤ 170 * length lats + 400
-  packed-one e =
+  packed-size : packedBorder moves pieces earlier ≡ given bytes → length bytes ≤ 170 * length lats + 400
+  packed-size e =
       let inner : Reply (List ℕ) = demand (eqb (goodPieces earlier moves 0 pieces) (length pieces)) (refusal 23 0 (goodPieces earlier moves 0 pieces)) >> given (packedFrom moves 0 pieces) in
       let some : length pieces ≤ 16 = leb-true (length pieces) 16 (demanded (leb (length pieces) 16) (refusal 23 0 16) inner bytes e) in
       let is : packedFrom moves 0 pieces ≡ bytes = given-same (packedFrom moves 0 pieces) bytes (past (demand (eqb (goodPieces earlier moves 0 pieces) (length pieces))
@@ -99,8 +99,8 @@ border-size version lats lons pieces earlier bytes e = go (eqb version 0) (past 
       omega (arith, size, most, few)
 
   go : (t : Bool) → (if t then plainBorder moves pieces else packedBorder moves pieces earlier) ≡ given bytes → length bytes ≤ 170 * length lats + 400
-  go true e = plain-one e
-  go false e = packed-one e
+  go true e = plain-size e
+  go false e = packed-size e
 
 -- so much is lent that it is enough
 pub lends : (version : ℕ) (lats lons : List ℤ) (pieces : List Piece) (earlier : List ℕ) (tall room lent : ℕ) (out : List ℕ) → length lats ≤ tall

@@ -1,6 +1,7 @@
 use Rattle.numbers.proofs.Prelude.{needs, ap}
 use Rattle.header.specs.Opening.{toldOpened}
-use Rattle.uskelzar.proofs.{Saying.{said-given, said-refused}, say_opened.Statement.{statement}}
+use Rattle.numbers.proofs.Saying.{said-given, said-refused}
+use Rattle.uskelzar.proofs.say_opened.Statement.{statement}
 use Rattle.uskelzar.specs.Spoken.{openingValues}
 use Rattle.uskelzar.proofs.say_opened.Tie as tie
 
