@@ -1,5 +1,5 @@
 -- `verdict::glide::glide_forth` meets its contract. The loop's invariant is the contract itself, of points that are held wide; the measure is the rest of the file. Assumes nothing.
-use Prim.Native.Nat.{ℕ, _-_, _<_}
+use Prim.Native.Nat.{ℕ, _-_}
 use borrow.Author.Needs.{needs}
 use denote.Ref.{now}
 use lib.ListN.{length}
@@ -23,11 +23,8 @@ left : {file : List ℕ} {strict : Bool} {field : Field} {start place : ℕ} {fr
 left {file} {strict} {field} {start} {place} {from} {begun} {p} e h k =
     subst (λ (g : Glided). GlidesForth file strict field start from (g .place) (g .point)) (sym k) (subst (λ (q : Point). GlidesForth file strict field start q place p) e h)
 
-not-0 : {n : ℕ} → 0 < n → n ≡ 0 → ⊥
-not-0 h e = omega arith
-
-read-short-requires : tie.Need-read-short-requires Inv-loop μ-loop
-read-short-requires c κs = omega (arith, c .loop-test .taken, c .before .before .before .fours-end .ensures)
+read-move-requires : tie.Need-read-move-requires Inv-loop μ-loop
+read-move-requires c κs = omega (arith, c .loop-test .taken, c .before .before .before .fours-end .ensures)
 
 returns : tie.Need-returns Inv-loop μ-loop
 returns c =
@@ -36,28 +33,35 @@ returns c =
 
 returns-2 : tie.Need-returns-2 Inv-loop μ-loop
 returns-2 c =
-    let at = c .before .before .before .before .before .before .before .before .before .before in
+    let at = c .before .before .before .before .before .before .before .before in
     left (at .before .widen .ensures .0) (at .loop .inv .0) (c .glided-at2 .ensures)
 
 returns-3 : tie.Need-returns-3 Inv-loop μ-loop
 returns-3 c =
-    let at = c .before .before in
+    let at = c .before .before .before .before .before .before .before .before .before .before .before .before in
     left (at .before .widen .ensures .0) (at .loop .inv .0) (c .glided-at3 .ensures)
+
+returns-4 : tie.Need-returns-4 Inv-loop μ-loop
+returns-4 c =
+    let at = c .before .before in
+    left (at .before .widen .ensures .0) (at .loop .inv .0) (c .glided-at4 .ensures)
 
 loop-less : tie.Need-loop-less Inv-loop μ-loop
 loop-less c =
-    let a = c .before .before .before .before .before .before .before .before .before .before .before .before .before .before .args in
-    let loop = c .before .before .before .before .before .before .before .before .before .before .loop in
-    let short = rw (c .before .before .before .before .before .before .n .given .1) at (c .before .before .before .before .before .before .before .before .read-short .ensures) in
-    less-left (now (a .file)) (a .strict) (a .field) (loop .place) (short .0 (a .strict))
+    let a = c .before .before .before .before .before .before .before .before .before .before .before .before .before .before .before .before .args in
+    let loop = c .before .before .before .before .before .before .before .before .before .before .before .before .loop in
+    let n = c .before .before .before .before .before .before .before .before .n .given .1 in
+    let read = rw n at (c .before .before .before .before .before .before .before .before .before .before .read-move .ensures) in
+    less-left (now (a .file)) (a .strict) (a .field) (loop .place) read
 
 loop-again : tie.Need-loop-again Inv-loop μ-loop
 loop-again c =
-    let a = c .before .before .before .before .before .before .before .before .before .before .before .before .before .before .args in
-    let loop = c .before .before .before .before .before .before .before .before .before .before .loop in
-    let short = rw (c .before .before .before .before .before .before .n .given .1) at (c .before .before .before .before .before .before .before .before .read-short .ensures) in
+    let a = c .before .before .before .before .before .before .before .before .before .before .before .before .before .before .before .before .args in
+    let loop = c .before .before .before .before .before .before .before .before .before .before .before .before .loop in
+    let n = c .before .before .before .before .before .before .before .before .n .given .1 in
+    let read = rw n at (c .before .before .before .before .before .before .before .before .before .before .read-move .ensures) in
     let led = rw (c .before .to .given .1, c .before .before .before .before .decode-point .ensures) at (c .before .before .before .lead .ensures) in
-    (forth-on (now (a .file)) (a .strict) (a .field) (loop .inv .0) (short .0 (a .strict)) (not-0 (short .1)) (led .0) (led .1), led .2)
+    (forth-on (now (a .file)) (a .strict) (a .field) (loop .inv .0) read (c .before .before .before .before .before .if1 .left) (led .0) (led .1), led .2)
 
 pub glide-forth-spec : {M : Type 1} → statement M
 glide-forth-spec =
@@ -68,17 +72,19 @@ glide-forth-spec =
     (λ c κs. search needs)
     (λ c κs. search needs)
     (λ c. (forth-stays _ _ _ _ _, c .widen .ensures .1))
-    read-short-requires
+    read-move-requires
     (λ c. search needs)
     (λ c κs. c .before .before .before .loop .inv .1)
     returns
-    (λ c κs. search needs)
-    (λ c κs. c .before .before .before .before .before .before .loop .inv .1)
-    (λ c. search needs)
-    (λ c. search needs)
-    (λ c κs. c .before .before .before .before .before .before .before .before .before .loop .inv .1)
+    (λ c κs. c .before .before .before .before .before .before .before .loop .inv .1)
     returns-2
+    (λ c κs. search needs)
+    (λ c κs. c .before .before .before .before .before .before .before .before .loop .inv .1)
+    (λ c. search needs)
+    (λ c. search needs)
+    (λ c κs. c .before .before .before .before .before .before .before .before .before .before .before .loop .inv .1)
+    returns-3
     loop-less
     loop-again
     (λ c κs. c .before .loop .inv .1)
-    returns-3)
+    returns-4)
