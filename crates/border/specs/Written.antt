@@ -19,7 +19,8 @@ pub data Turned : List RawPoint → List RawPoint → Type 0 where
 pub data Borrowed (earlier : List ℕ) : ℕ → ℕ → List RawPoint → Type 0 where
   forward : (before run after : List ℕ) {size : ℕ} {moves : List RawPoint} → earlier ≡ before ++ (run ++ after) → signedOf size ≡ pos (length run)
       → Splits run moves → Borrowed earlier (length before) size moves
-  backward : (before : List ℕ) (clear : ℕ) (run after : List ℕ) {size : ℕ} {moves turned : List RawPoint} → earlier ≡ before ++ (clear ∷ (run ++ after)) → clear < 128 → signedOf size ≡ negℤ (pos (length run))
+  backward : (before : List ℕ) (clear : ℕ) (run after : List ℕ) {size : ℕ} {moves turned : List RawPoint}
+      → earlier ≡ before ++ (clear ∷ (run ++ after)) → clear < 128 → signedOf size ≡ negℤ (pos (length run))
       → Splits run moves → Turned moves turned → Borrowed earlier (length before + 1 + length run) size turned
 
 -- version 1, behind the earlier data: "moves, 00 00"; a piece "is written 00 01", then its two numbers

@@ -1,10 +1,8 @@
 -- A border that was written at the front of the output, or was not, and the data with it. Assumes nothing.
 use Rattle.numbers.proofs.Prelude.{ℕ, _+_, _-_, _≤_, _<_, eq-eqb, ne-eqb, le-leb, leb-true, lt-leb, leb-false, eqb, leb, ℤ, length, take, length-append, take-append-seam, Bool, true, false, List, []}
 use Rattle.numbers.{proofs.{Prelude.{_∷_, _++_, flatMap, _≡_, refl, sym, ap, subst, _∙_, arith}, Refusals.{Listed}, Replies.{NumberedReply, refuses}}, specs.Answer.{if_then_else_}}
-use Rattle.numbers.proofs.{Prelude.{_^_, ltb, drop, _&&_}, Replies.{and-then, demands}}
-use Rattle.writer.specs.{Moves.{isMove}, Writer.{every, sized, near}}
 use Rattle.numbers.specs.{Lists.{zeros, padded}, Reply.{Reply, given, refused, refusal, plain, _>>_}, Spelling.{varintOf}}
-use Rattle.writer.{proofs.NumberedWriter.{borderNumbers, border-numbered}, specs.{Moves.{plainMoveBytes, movesOf}, Pieces.{firstPieces, piecesOf}}}
+use Rattle.writer.{proofs.NumberedWriter.{borderNumbers, checks-numbered, border-numbered}, specs.{Moves.{plainMoveBytes, movesOf}, Pieces.{firstPieces, piecesOf}}}
 use Rattle.writer.specs.{Writer.{checks, plainBorder, borderOf, Replied, replied, fitted}, declared.write.{Piece.{Piece}, Written.{Written}}}
 use Rattle.builder.specs.{Borders.{appended, unwrittenAs, Draws, Lends, goodIf, passed}, declared.borders.Border.{Border}}
 use Rattle.writer.specs.declared.write.Written.the-variants as W
@@ -13,13 +11,6 @@ use Rattle.builder.specs.declared.borders.Border.the-variants as B
 -- ---- a border is never refused with 24: that is the output's
 abbrev Known : {A : Type 0} → Reply A → Type 0
 Known reply = NumberedReply (Listed borderNumbers) reply
-
-checks-known : (version : ℕ) (lats lons : List ℤ) (earlier : List ℕ) → Known (checks version lats lons earlier)
-unfolding checks
-checks-known version lats lons earlier =
-    and-then (demands (leb (length earlier) (2 ^ 30)) (plain 1) refl) (and-then (demands (ltb version 2) (refusal 5 0 version) refl)
-    (and-then (demands (sized lats lons) (plain 19) refl) (and-then (demands (every near lats && every near lons) (plain 20) refl)
-    (and-then (demands (every isMove (drop 1 (movesOf lats lons))) (plain 21) refl) (demands (every isMove (take 1 (movesOf lats lons))) (plain 22) refl)))))
 
 pub border-known : (version : ℕ) (lats lons : List ℤ) (pieces : List Piece) (earlier : List ℕ) → Known (borderOf version lats lons pieces earlier)
 border-known = border-numbered
@@ -138,5 +129,5 @@ module _ (lats lons : List ℤ) (out : List ℕ) (w : Written) (e : replied w ou
 
   pub check-says : (number detail : ℕ) → w ≡ W.Refused number detail → (r : Border) → r ≡ goodIf number detail → passed r ≡ checks 0 lats lons []
   check-says number detail is r er =
-      ap passed er ∙ refused-so out whole two-bytes number detail (checks 0 lats lons []) (checks-known 0 lats lons [])
+      ap passed er ∙ refused-so out whole two-bytes number detail (checks 0 lats lons []) (checks-numbered 0 lats lons [])
       (subst (λ (x : Written). replied x out ≡ fitted 0 (checks 0 lats lons [] >> given whole)) is seen)

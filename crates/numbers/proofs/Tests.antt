@@ -1,5 +1,5 @@
 -- What tests say that are joined or cannot be. Assumes nothing.
-use Rattle.numbers.proofs.Prelude.{T, Bool, true, false, _&&_, _||_, not, _≡_, refl, sym, subst}
+use Rattle.numbers.proofs.Prelude.{T, Bool, true, false, _&&_, _||_, _≡_, refl, sym, subst}
 
 -- a test that fails does not hold
 pub differ : {A : Type 0} → false ≡ true → A
@@ -14,15 +14,6 @@ both false b e = differ e
 pub neither : (a b : Bool) → (a || b) ≡ false → (a ≡ false) × (b ≡ false)
 neither true b e = differ (sym e)
 neither false b e = (refl, e)
-
--- what a test turned round says
-pub was-false : (t : Bool) → not t ≡ true → t ≡ false
-was-false true e = sym e
-was-false false e = refl
-
-pub was-true : (t : Bool) → not t ≡ false → t ≡ true
-was-true true e = refl
-was-true false e = sym e
 
 -- a test that cannot hold fails
 pub fails : (t : Bool) → (t ≡ true → ⊥) → t ≡ false

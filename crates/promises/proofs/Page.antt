@@ -134,7 +134,8 @@ pub atlas-safe : (file words : List ℕ) (location : Location) (asked : Bool) (n
 atlas-safe = theorems.atlas-safe
 
 -- So is what `build_atlas` and `is_atlas` answer and leave.
-pub same-atlas : (file words : List ℕ) (n : ℕ) → ((r r′ : Built) (ws ws′ : List ℕ) → indexed (toldBuilt r) ws ≡ atlasMade file n → indexed (toldBuilt r′) ws′ ≡ atlasMade file n → (r ≡ r′) × (ws ≡ ws′))
+pub same-atlas : (file words : List ℕ) (n : ℕ)
+    → ((r r′ : Built) (ws ws′ : List ℕ) → indexed (toldBuilt r) ws ≡ atlasMade file n → indexed (toldBuilt r′) ws′ ≡ atlasMade file n → (r ≡ r′) × (ws ≡ ws′))
     × ((r r′ : Tied) → toldTied r ≡ isAtlasOf file words → toldTied r′ ≡ isAtlasOf file words → r ≡ r′)
 same-atlas file words n = (theorems.same-atlas-built file n, theorems.same-atlas-held file words)
 

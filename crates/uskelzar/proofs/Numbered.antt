@@ -1,9 +1,8 @@
 -- What a returned 0 means to firmware: the call was answered, whatever it was given. Each exported function's contract fixes what it returns,
 -- the number said in `openingSpoken`, `foundSpoken`, `manySpoken` or `localSpoken`; here, that this number is 0 exactly where the definition gives an answer. Assumes nothing.
 use Rattle.numbers.proofs.Prelude.{ℕ, Float, ℤ, Bool, List, [], _∷_, _++_, _↔_, _≡_, refl, sym, subst, arith}
-use Rattle.numbers.{proofs.Saying.{Answered, never-zero, zero-said}, specs.{Reply.{given, refused}, Spoken.{noValues}, declared.refusal.Refusal.{Refusal}}}
+use Rattle.numbers.{proofs.{Refusals.{Listed}, Saying.{Answered, never-zero, zero-said}}, specs.{Reply.{given, refused}, Spoken.{noValues, saidOf}, declared.refusal.Refusal.{Refusal}}}
 use Rattle.atlas.{proofs.BesideIsPlain.{simple-beside-is-plain}, specs.Beside.{NoneOrAtlas, simplyBeside}}
-use Rattle.numbers.{proofs.Refusals.{Listed}, specs.Spoken.{saidOf}}
 use Rattle.batch.{proofs.{ManyIsPlain.{many-beside-is-plain}, NumberedMany.{manyNumbers, many-refusals}}, specs.{Many.{Batch, Left, manyBeside, lookedUpMany}, declared.many.Totals.{Totals}}}
 use Rattle.index.{proofs.{NumberedThrough.{throughNumbers, through-refusals, indexed-refusals}, Refusing.{tyingNumbers, tied-refusals}}, specs.{Through.{lookedThrough, lookedIndexed}, Tied.{tiedOf}}}
 use Rattle.localtime.{proofs.Numbered.{footerNumbers, local-time-refusals}, specs.Local.{localTime, scaleAt}}

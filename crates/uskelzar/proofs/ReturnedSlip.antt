@@ -1,12 +1,11 @@
 -- What a slip's returned 0 means to firmware: the lent output is that of a stamped slip, of which slip's theorems speak. Assumes nothing.
 use Rattle.numbers.proofs.Prelude.{ℕ, true, false, List, [], _∷_, inl, _↔_, _≡_, refl, sym, ap, _∙_, arith}
-use Rattle.numbers.specs.{Reply.{Reply, refused}, Spoken.{Spoken, saidOf, spoken}, declared.refusal.Refusal.{Refusal}}
+use Rattle.numbers.{proofs.Saying.{Answered, never-zero, zero-said}, specs.{Reply.{Reply, refused}, Spoken.{Spoken, saidOf, spoken}, declared.refusal.Refusal.{Refusal}}}
 use Rattle.atlas.specs.Beside.{NoneOrAtlas}
 use Rattle.bundle.{proofs.Theorems.{found-refusals}, specs.Bundle.{findOf}}
 use Rattle.request.{proofs.{Refusing.{fiveNumbers}, Theorems.{request-refusals}}, specs.{Request.{requestOf}, declared.read.Fix.{Fix}}}
 use Rattle.slip.{proofs.{Theorems.{slip-refusals, slip-at-refusals}, Worked.{sentence, square, berlin, texts, line, stamped}}, specs.Says.{isAtNumber, isSlipNumber}}
 use Rattle.slip.specs.{Slip.{Replied, replied, slippedAt, slipped}, declared.slip.Stamped.{Stamped}}
-use Rattle.numbers.proofs.Saying.{Answered, never-zero, zero-said}
 use Rattle.uskelzar.specs.Slips.{Printed, fixValues, fileValues, stampedValues, replySpoken, slipSpoken}
 
 -- the reply is refused, and so all of it

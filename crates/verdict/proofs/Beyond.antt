@@ -2,9 +2,9 @@
 use Rattle.numbers.proofs.Prelude.{ℕ, zero, suc, _+_, _-_, _*_, _^_, _≤_, _<_, lt-ltb, ltb-true, ltb, ℤ, pos, negsuc, _+ℤ_, _-ℤ_, negℤ, natAbs, mag, ltZ, leZ, Bool, true, false, _&&_, _||_, cond}
 use Rattle.numbers.proofs.{Prelude.{_≡_, refl, sym, ap, subst, _∙_, mul-le-mul, mod-eq-of-lt, arith}, Tests.{differ, both}, write.Gaps.{size-sum, size-neg}}
 use lib.IntN.{sucℤ, _*ℤ_, +ℤ-idr, +ℤ-sucℤ, +ℤ-comm, negℤ-+ℤ, negℤ-negℤ}
-use Rattle.verdict.proofs.{Checks.{checked-fits}, Gliding.{less-le, le-less, less-le-less}}
+use Rattle.verdict.proofs.{Checks.{checked-fits}, Gliding.{le-less, less-le-less}}
 use Rattle.border.specs.declared.place.Point.{Point}
-use Rattle.verdict.specs.{Distance.{squared}, Edge.{between, inBox}, Step.{Step, found}, declared.field.Span.{Span}, inner.Gliding.{inSpan, beside, farFrom, nearby}}
+use Rattle.verdict.specs.{Distance.{squared}, Edge.{between, inBox}, Step.{Step, found}, declared.field.Span.{Span}, inner.Gliding.{inSpan, farFrom, nearby}}
 
 -- ---- numbers of a span
 
@@ -30,16 +30,6 @@ nearby-size span v n h = let p = both (leZ (negsuc 4194303) (span .low)) (leZ (s
       go : (v : ℤ) → ltZ (negsuc 4194303) v ≡ true → ltZ v (pos 4194304) ≡ true → mag v < 4194304
       go (pos n) a b = ltb-true n 4194304 b
       go (negsuc n) a b = let z = ltb-true n 4194303 a in omega (arith, z)
-
-not-zero : (span : Span) (v : ℤ) → beside (pos 0) span ≡ true → inSpan span v ≡ true → v ≡ pos 0 → ⊥
-unfolding beside inSpan
-not-zero span v e h z = go (leZ (pos 0) (span .low)) refl e where
-  p : (ltZ (span .low) (pos 0) ≡ true) × (ltZ (pos 0) (span .high) ≡ true)
-  p = subst (λ (x : ℤ). (ltZ (span .low) x ≡ true) × (ltZ x (span .high) ≡ true)) z (both (ltZ (span .low) v) (ltZ v (span .high)) h)
-
-  go : (t : Bool) → leZ (pos 0) (span .low) ≡ t → (t || leZ (span .high) (pos 0)) ≡ true → ⊥
-  go true l e = differ (sym (less-le (span .low) (pos 0) (p .0) .1) ∙ l)
-  go false l e = differ (sym (less-le (pos 0) (span .high) (p .1) .1) ∙ e)
 
 gap-up : (x v : ℤ) (r : ℕ) → ltZ (x +ℤ pos r) v ≡ true → suc r ≤ natAbs (v -ℤ x)
 gap-up (pos zero) (pos b) r h = let z = ltb-true (0 + r) b h in omega (arith, z)

@@ -1,7 +1,8 @@
 // A border that stays in a field, read quickly. A reader of the verdict may skip this file: it only hurries.
 ghost use mathlib.Core.{Path.{_≡_}, Bool.{true, false}};
-ghost use Prim.Native.Nat.{_-_};
+ghost use Prim.Native.Nat.{_+_, _-_, _<_};
 ghost use lib.ListN.{length};
+ghost use Rattle.numbers.specs.Varint.{told, readingOf};
 ghost use Rattle.border.specs.Encoding.{encodedBy};
 ghost use Rattle.verdict.specs.inner.Gliding.{pointed, Narrow, LedTo, GlidesForth, GlidesBack, GlidesPlain, GlidesTo, standing};
 use crate::field::Field;
@@ -86,6 +87,18 @@ fn glided_at(place: usize, point: Wide) -> Glided
     }
 }
 
+// A number where four bytes stand: nearly every move is a short one.
+fn read_move(file: &[u8], place: usize, strict: bool) -> Varint
+    requires { ⌜ place + 3 < length (now file) ⌝ }
+    ensures { λ r. ⌜ told r ≡ readingOf strict (now (file .entry)) place ⌝ }
+{
+    let n = read_short(file, place);
+    let Varint::Number(number) = n else {
+        return read_number(file, place, strict);
+    };
+    Varint::Number(number)
+}
+
 // The end of the places where four bytes stand.
 fn fours_end(file: &[u8]) -> usize
     ensures { λ r. ⌜ r ≡ length (now (file .entry)) - 3 ⌝ }
@@ -93,7 +106,7 @@ fn fours_end(file: &[u8]) -> usize
     if file.len() < 3 { 0 } else { file.len() - 3 }
 }
 
-// Version 1, outside a reference, up to a number that is not short.
+// Version 1, outside a reference, but for the last bytes of a file.
 fn glide_forth(file: &[u8], strict: bool, field: Field, start: usize, from: Point) -> Glided
     ensures { λ r. ⌜ GlidesForth (now (file .entry)) strict field start «from» (r .place) (r .point) ⌝ }
 {
@@ -101,10 +114,13 @@ fn glide_forth(file: &[u8], strict: bool, field: Field, start: usize, from: Poin
     let mut place = start;
     let mut point = widen(from);
     while place < end {
-        let n = read_short(file, place);
+        let n = read_move(file, place, strict);
         let Varint::Number(number) = n else {
             return glided_at(place, point);
         };
+        if number.value == 0 {
+            return glided_at(place, point);
+        }
         let Led::To(to) = lead(field, point, decode_point(number.value)) else {
             return glided_at(place, point);
         };

@@ -14,7 +14,7 @@ borderNumbers = 1 ∷ 5 ∷ 19 ∷ 20 ∷ 21 ∷ 22 ∷ 23 ∷ []
 abbrev Own : {A : Type 0} → Reply A → Type 0
 Own reply = NumberedReply (Listed borderNumbers) reply
 
-checks-numbered : (version : ℕ) (lats lons : List ℤ) (earlier : List ℕ) → Own (checks version lats lons earlier)
+pub checks-numbered : (version : ℕ) (lats lons : List ℤ) (earlier : List ℕ) → Own (checks version lats lons earlier)
 unfolding checks
 checks-numbered version lats lons earlier =
     and-then (demands (leb (length earlier) (2 ^ 30)) (plain 1) refl) (and-then (demands (ltb version 2) (refusal 5 0 version) refl)

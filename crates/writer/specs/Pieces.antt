@@ -28,7 +28,8 @@ readAnd (refused n) good = false
 -- from a place on the run is whole varints of at most ten bytes, none 0, and just these moves
 unfoldable pub spells : List ℕ → ℕ → List RawPoint → Bool
 spells run place [] = eqb place (length run)
-spells run place (m ∷ ms) = readAnd (forwardAt run place) (λ number. leb (number .place) (length run) && (not (eqb (number .value) 0) && (sameMove (pointOf (number .value)) m && spells run (number .place) ms)))
+spells run place (m ∷ ms) =
+    readAnd (forwardAt run place) (λ number. leb (number .place) (length run) && (not (eqb (number .value) 0) && (sameMove (pointOf (number .value)) m && spells run (number .place) ms)))
 
 -- "the byte just before it, of that data, with the high bit clear"
 unfoldable pub clearBefore : List ℕ → ℕ → Bool

@@ -16,7 +16,10 @@ noteRooms marks chains groups begins = record { marks = marks; chains = chains; 
 -- the room for an offered yard, with an output of this length
 abbrev pub spaceFor : Held → Rooms → NoteRooms → Offered → ℕ → Space
 spaceFor held rooms notes o out =
-    record { bytes = min (rooms .bytes) out; lists = longEnough rooms (held .names) (held .yards + 1) (held .front) (held .strings + sumOf (o .lengths)) && notesEnough notes (held .names) (held .yards + 1) }
+    record {
+      bytes = min (rooms .bytes) out;
+      lists = longEnough rooms (held .names) (held .yards + 1) (held .front) (held .strings + sumOf (o .lengths)) && notesEnough notes (held .names) (held .yards + 1);
+    }
 
 -- the definition's answer, and what is noted with it, for a builder that calls have made and notes that are right; 28 and no change for one whose numbers do not fit its lists
 pub record Adds (held : Held) (noted : ℕ) (o : Offered) (rooms : Rooms) (lent : NoteRooms) (out : ℕ) (before after : Lists) (notes notes′ : Notes) (r : Added) : Type 0 where

@@ -4,5 +4,7 @@ use Rattle.draft.specs.Held.State.{Idle}
 
 -- the lists to work in are as they were, or zero: lent zero they are zero
 pub data Rests (starts keys spare kept held words places starts′ keys′ spare′ kept′ held′ words′ places′ : List ℕ) : Type 0 where
-  untouched : starts′ ≡ starts → keys′ ≡ keys → spare′ ≡ spare → kept′ ≡ kept → held′ ≡ held → words′ ≡ words → places′ ≡ places → Rests starts keys spare kept held words places starts′ keys′ spare′ kept′ held′ words′ places′
-  idle : Idle starts keys spare kept held words places [] starts′ keys′ spare′ kept′ held′ words′ places′ [] → Rests starts keys spare kept held words places starts′ keys′ spare′ kept′ held′ words′ places′
+  untouched : starts′ ≡ starts → keys′ ≡ keys → spare′ ≡ spare → kept′ ≡ kept → held′ ≡ held → words′ ≡ words → places′ ≡ places
+      → Rests starts keys spare kept held words places starts′ keys′ spare′ kept′ held′ words′ places′
+  idle : Idle starts keys spare kept held words places [] starts′ keys′ spare′ kept′ held′ words′ places′ []
+      → Rests starts keys spare kept held words places starts′ keys′ spare′ kept′ held′ words′ places′

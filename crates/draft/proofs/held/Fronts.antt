@@ -3,7 +3,6 @@ use Rattle.numbers.proofs.Prelude.{ℕ, zero, suc, _+_, _-_, _≤_, _<_, length
 use Rattle.numbers.proofs.Prelude.{drop-at, length-sets, sets-eq, List, [], _∷_, _++_, append-assoc, append-nil, _≡_, refl, sym, ap, _∙_, arith}
 use lib.Seq.{set-append-left, take-set-le}
 use Rattle.draft.specs.Held.State.{Front}
-use Rattle.writer.specs.inner.Stored.{Stored}
 
 module _ {A : Type 0} where
   -- what is stored from a place on leaves what is before it
@@ -99,6 +98,3 @@ module _ {A : Type 0} (none : A) where
       let long : length again ≡ length list =
       ap length e ∙ (length-append (take at after) (replicate (length after - at) none) ∙ omega (arith, length-take at after, length-replicate (length after - at) none, size, same, f .room)) in
       front-one f (front-cut front after at same kept again e) long
-
--- ---- as functions say it that store words or bytes
-module _ {front list : List ℕ} (f : Front 0 front list) (more after : List ℕ) (at next : ℕ) (same : at ≡ length front) (s : Stored list at more after next) where

@@ -12,7 +12,8 @@ pub record Builder : Type 0 where
 
 -- the same plan with other yards
 abbrev pub holding : Plan → List Yard → Plan
-holding plan yards = record { kind = plan .kind; version = plan .version; precision = plan .precision; names = plan .names; notice = plan .notice; yards = yards; numbered = plan .numbered; whole = plan .whole }
+holding plan yards =
+    record { kind = plan .kind; version = plan .version; precision = plan .precision; names = plan .names; notice = plan .notice; yards = yards; numbered = plan .numbered; whole = plan .whole }
 
 -- its totals are a fresh sum
 unfoldable pub summed : Plan → ℕ → Builder

@@ -32,7 +32,8 @@ pub record More : Type 0 where
 
 abbrev pub wider : More → Lists → Lists
 wider more l =
-    listsAs (l .boxes ++ replicate (more .boxes) (pos 0)) (l .borders ++ zeros (more .borders)) (l .lengths ++ zeros (more .lengths)) (l .texts ++ zeros (more .texts)) (l .bytes ++ zeros (more .bytes))
+    listsAs (l .boxes ++ replicate (more .boxes) (pos 0)) (l .borders ++ zeros (more .borders))
+    (l .lengths ++ zeros (more .lengths)) (l .texts ++ zeros (more .texts)) (l .bytes ++ zeros (more .bytes))
 
 -- the names and the notice; the values, yard by yard
 abbrev pub frontOf : Plan → List Text

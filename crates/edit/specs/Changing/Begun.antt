@@ -27,7 +27,8 @@ firstPlan kind version precision names sizes strings = planOf (lentAs kind versi
 
 -- nothing is refused, and these are the numbers
 pub record Checked (kind version precision names room : ℕ) (sizes strings : List ℕ) (lengths texts bytes : ℕ) (held : Held) : Type 0 where
-  pub gives : begin (firstPlan kind version precision names sizes strings) room (frontSpace names sizes lengths texts bytes) ≡ given (summed (holding (firstPlan kind version precision names sizes strings) []) room)
+  pub gives : begin (firstPlan kind version precision names sizes strings) room (frontSpace names sizes lengths texts bytes)
+      ≡ given (summed (holding (firstPlan kind version precision names sizes strings) []) room)
   pub is : held ≡ heldAs (summed (holding (firstPlan kind version precision names sizes strings) []) room)
   pub sound : Sound (holding (firstPlan kind version precision names sizes strings) []) room
   pub few : names ≤ 255
@@ -41,4 +42,5 @@ pub record Checked (kind version precision names room : ℕ) (sizes strings : Li
 
 unfoldable pub Checks : ℕ → ℕ → ℕ → ℕ → ℕ → List ℕ → List ℕ → ℕ → ℕ → ℕ → Changed → Type 0
 Checks kind version precision names room sizes strings lengths texts bytes (C.Into held) = Checked kind version precision names room sizes strings lengths texts bytes held
-Checks kind version precision names room sizes strings lengths texts bytes (C.Refused why) = begin (firstPlan kind version precision names sizes strings) room (frontSpace names sizes lengths texts bytes) ≡ refused why
+Checks kind version precision names room sizes strings lengths texts bytes (C.Refused why) =
+    begin (firstPlan kind version precision names sizes strings) room (frontSpace names sizes lengths texts bytes) ≡ refused why

@@ -1,6 +1,5 @@
-use Rattle.numbers.{proofs.Prelude.{needs, _∷_, _≡_, sym, ap, _∙_}, specs.{Lists.{padded}, Spoken.{saidOf}}}
+use Rattle.numbers.{proofs.{Prelude.{needs, _∷_, _≡_, sym, ap, _∙_}, Saying.{said-given, said-refused}}, specs.{Lists.{padded}, Spoken.{saidOf}}}
 use Rattle.zones.specs.{Simple.{toldSimple}, declared.simple.{Described.{Described}, Description.{Description}, Simple.{Simple}}}
-use Rattle.numbers.proofs.Saying.{said-given, said-refused}
 use Rattle.uskelzar.proofs.say_described.Statement.{statement}
 use Rattle.uskelzar.specs.Spoken.{describedValues, descriptionValues}
 use Rattle.zones.specs.declared.simple.Simple.the-variants as S

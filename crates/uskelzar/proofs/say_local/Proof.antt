@@ -1,6 +1,5 @@
-use Rattle.numbers.{proofs.Prelude.{ℕ, needs, [], _∷_, sym, ap, _∙_}, specs.{Reply.{refused}, declared.said.Said.{Said}}}
+use Rattle.numbers.{proofs.{Prelude.{ℕ, needs, [], _∷_, sym, ap, _∙_}, Saying.{said-given, said-refused}}, specs.{Reply.{refused}, declared.said.Said.{Said}}}
 use Rattle.localtime.specs.declared.scale.Scale.{Scale}
-use Rattle.numbers.proofs.Saying.{said-given, said-refused}
 use Rattle.uskelzar.proofs.say_local.Statement.{statement}
 use Rattle.uskelzar.specs.Spoken.{localValues, localReply}
 use Rattle.uskelzar.proofs.say_local.Tie as tie

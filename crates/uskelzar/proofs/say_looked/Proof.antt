@@ -1,6 +1,5 @@
-use Rattle.numbers.proofs.Prelude.{needs, ap}
+use Rattle.numbers.proofs.{Prelude.{needs, ap}, Saying.{said-given, said-refused}}
 use Rattle.zones.specs.Lookup.{toldLooked}
-use Rattle.numbers.proofs.Saying.{said-given, said-refused}
 use Rattle.uskelzar.proofs.say_looked.Statement.{statement}
 use Rattle.uskelzar.specs.Spoken.{zonesValues}
 use Rattle.uskelzar.proofs.say_looked.Tie as tie

@@ -1,6 +1,5 @@
-use Rattle.numbers.proofs.Prelude.{needs, ap}
+use Rattle.numbers.proofs.{Prelude.{needs, ap}, Saying.{said-given, said-refused}}
 use Rattle.header.specs.Opening.{toldOpened}
-use Rattle.numbers.proofs.Saying.{said-given, said-refused}
 use Rattle.uskelzar.proofs.say_opened.Statement.{statement}
 use Rattle.uskelzar.specs.Spoken.{openingValues}
 use Rattle.uskelzar.proofs.say_opened.Tie as tie

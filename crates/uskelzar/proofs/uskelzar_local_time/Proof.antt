@@ -1,6 +1,5 @@
-use Rattle.numbers.proofs.Prelude.{needs, ℤ, length, ap, _∙_, w64, toZ-ofZ}
+use Rattle.numbers.proofs.{Prelude.{needs, ℤ, length, ap, _∙_, w64, toZ-ofZ}, Saying.{beside}}
 use Rattle.localtime.specs.Local.{localTime, scaleAt}
-use Rattle.numbers.proofs.Saying.{beside}
 use Rattle.uskelzar.proofs.uskelzar_local_time.Statement.{statement}
 use Rattle.uskelzar.specs.Spoken.{localSpoken}
 use Rattle.uskelzar.proofs.uskelzar_local_time.Tie as tie

@@ -1,5 +1,4 @@
-use Rattle.numbers.proofs.Prelude.{needs, ap, _∙_}
-use Rattle.numbers.proofs.Saying.{beside}
+use Rattle.numbers.proofs.{Prelude.{needs, ap, _∙_}, Saying.{beside}}
 use Rattle.uskelzar.proofs.uskelzar_open_strict.Statement.{statement}
 use Rattle.uskelzar.specs.Spoken.{openingSpoken}
 use Rattle.uskelzar.proofs.uskelzar_open_strict.Tie as tie

@@ -113,23 +113,29 @@ module _ {M : Type 1} (𝓤 : URA M) (H : Heap 𝓤) (A : Atoms 𝓤) (W : Given
         opens ! tt R.the-row {h = h} b o (λ vs. spelt ! R.the-row (Is R.the-row) (shows 𝓤 H A R.the-row) state-vals (SL.tells R.the-type R′.the-laws) fullShare h vs b o $
         move ! (1 ∷ []) $ peeks ! R.the-row (Is R.the-row) (shows 𝓤 H A R.the-row) h (state-vals h) (λ is. drop ! $
         -- [the state's cell; the open borrow; obs; auth; true; the file's token; true; the file's; _5; …; _4; …; _3; …; _2; …; _1; …; room for _0; …]
-        assigns ! (of-opd ! (load ! (from ! (hop ! (look ! 12 refl) (stop !))) (look-raw ! 0 refl))) (from ! (stop !)) (init ! 8 refl (SL.lawful R.the-type R′.the-laws 𝓤 H A W .typed h (state-vals h) is .0)) $
+        assigns ! (of-opd ! (load ! (from ! (hop ! (look ! 12 refl) (stop !))) (look-raw ! 0 refl))) (from ! (stop !))
+        (init ! 8 refl (SL.lawful R.the-type R′.the-laws 𝓤 H A W .typed h (state-vals h) is .0)) $
         move ! (7 ∷ []) $ use1 W (‵ Own ⊛ ‵ Own) (shr-slice-copy 𝓤 H A W (named 0) κ u8 .twice file (v ∷ [])) $ split ! $ move ! (7 ∷ 8 ∷ []) $ join ! $
         move ! (1 ∷ 0 ∷ []) $ use2 W (raw (StepC 𝓤 H A at-mem run .pre to-step)) (goes-step is) $
-        calls-at ! fm (StepC 𝓤 H A at-mem run) known to-step (and-then ! (load ! (from ! (stop !)) (look ! 15 refl)) (and-then ! (load ! (from ! (stop !)) (look ! 13 refl)) (and-then ! (load ! (from ! (stop !)) (look ! 7 refl)) (no-more !)))) (λ w.
-        use1 W (later (some (λ (r : Stepped). ((‵ (flft κ q) ⊛ ‵ ftrue) ⊛ ‵ (S.the-row .own r (w ∷ []))) ⊛ raw (ensured 𝓤 H A step.ended (step.clauses 𝓤 H A at-mem run) (κ, tt) (file, (encoding, (h, tt))) tt r)))) (id⊢ 𝓤 _) $ await ! tt $ pick ! (λ r.
+        calls-at ! fm (StepC 𝓤 H A at-mem run) known to-step
+        (and-then ! (load ! (from ! (stop !)) (look ! 15 refl)) (and-then ! (load ! (from ! (stop !)) (look ! 13 refl)) (and-then ! (load ! (from ! (stop !)) (look ! 7 refl)) (no-more !)))) (λ w.
+        use1 W (later (some (λ (r : Stepped). ((‵ (flft κ q) ⊛ ‵ ftrue) ⊛ ‵ (S.the-row .own r (w ∷ [])))
+        ⊛ raw (ensured 𝓤 H A step.ended (step.clauses 𝓤 H A at-mem run) (κ, tt) (file, (encoding, (h, tt))) tt r)))) (id⊢ 𝓤 _) $ await ! tt $ pick ! (λ r.
         split ! $ move ! (1 ∷ []) $ use1 W (raw (fact 𝓤 (r ≡ Given′))) (said r) $ heard ! (r ≡ Given′) (λ e. split ! $ move ! (1 ∷ []) $
         peeks ! S.the-row (Is S.the-row) (shows 𝓤 H A S.the-row) r (w ∷ []) (λ is-r.
         -- [what the result owns; the file's token; the file's; the state's cell; the open borrow; obs; auth; true; _5; …; room for _4; …; _3; …; _2; …; _1; …; room for _0; …]
         land ! (from ! (stop !)) (init ! 10 refl (SL.lawful S.the-type S′.the-laws 𝓤 H A W .typed r _ is-r .0)) $
         rewrite ! 10 (λ (u : Val). ‵ (fat fullShare S′.mir l₄ 0 u)) (ap only (SL.tells S.the-type S′.the-laws r _ is-r)) refl $
-        assigns ! (of-opd ! (load ! (from ! (fld ! refl (stop !))) (look-in ! 10 (sub ! 0 refl (whole !))))) (from ! (hop ! (look ! 12 refl) (stop !))) (store-raw ! 3 refl (SL.lawful R.the-type R′.the-laws 𝓤 H A W .typed (r .reader) _ (SL.owed S.the-type S′.the-laws r _ is-r .0) .0)) $
-        assigns ! (of-opd ! (load ! (from ! (fld ! refl (stop !))) (look-in ! 10 (sub ! 1 refl (whole !))))) (from ! (stop !)) (init ! 18 refl (EL.lawful N.the-type N′.the-laws 𝓤 H A W tt .typed (r .reply) _ (SL.owed S.the-type S′.the-laws r _ is-r .1 .0) .0)) $
+        assigns ! (of-opd ! (load ! (from ! (fld ! refl (stop !))) (look-in ! 10 (sub ! 0 refl (whole !))))) (from ! (hop ! (look ! 12 refl) (stop !)))
+        (store-raw ! 3 refl (SL.lawful R.the-type R′.the-laws 𝓤 H A W .typed (r .reader) _ (SL.owed S.the-type S′.the-laws r _ is-r .0) .0)) $
+        assigns ! (of-opd ! (load ! (from ! (fld ! refl (stop !))) (look-in ! 10 (sub ! 1 refl (whole !))))) (from ! (stop !))
+        (init ! 18 refl (EL.lawful N.the-type N′.the-laws 𝓤 H A W tt .typed (r .reply) _ (SL.owed S.the-type S′.the-laws r _ is-r .1 .0) .0)) $
         -- the borrow is closed at the new state
         drop ! $ owned ! R.the-row (Is R.the-row) (SL.makes R.the-type R′.the-plain 𝓤 H A) (r .reader) _ (SL.owed S.the-type S′.the-laws r _ is-r .0) $ move ! (3 ∷ 0 ∷ 4 ∷ 5 ∷ 6 ∷ []) $
         closes ! tt R.the-row (r .reader) (state-vals (r .reader)) b o $
         returns ! (look ! 16 refl) $ forget ! 6 refl $ forget ! 8 refl $ forget ! 10 refl $ forget ! 12 refl $ forget ! 14 refl $ forget ! 16 refl $
-        move ! (16 ∷ 17 ∷ []) $ free1 ! $ move ! (14 ∷ 15 ∷ []) $ free1 ! $ move ! (12 ∷ 13 ∷ []) $ free1 ! $ move ! (10 ∷ 11 ∷ []) $ free1 ! $ move ! (8 ∷ 9 ∷ []) $ free1 ! $ move ! (6 ∷ 7 ∷ []) $ free1 ! $ free0 ! $
+        move ! (16 ∷ 17 ∷ []) $ free1 ! $ move ! (14 ∷ 15 ∷ []) $ free1 ! $ move ! (12 ∷ 13 ∷ []) $ free1 ! $
+        move ! (10 ∷ 11 ∷ []) $ free1 ! $ move ! (8 ∷ 9 ∷ []) $ free1 ! $ move ! (6 ∷ 7 ∷ []) $ free1 ! $ free0 ! $
         keep ! (0 ∷ 1 ∷ 2 ∷ 3 ∷ 4 ∷ []) $ by ! (exits r e (SL.owed S.the-type S′.the-laws r _ is-r .1 .0))))))))))))))
 
 module _ {M : Type 1} (𝓤 : URA M) (H : Heap 𝓤) (A : Atoms 𝓤) (W : Given 𝓤 H A) (at-mem : Memory → SProp 𝓤) (run : Routine → Fun 𝓤) where

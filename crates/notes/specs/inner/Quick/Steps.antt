@@ -6,7 +6,8 @@ use Rattle.draft.specs.Held.{State.{Stands}, Totals.{totalsFor}}
 use Rattle.notes.specs.declared.quick.step.Sureness.the-variants as S
 
 -- some yards and one more, as they lie in a builder's lists; the totals of the yards without that one, and what is noted of them
-pub record Stepping (yards : List Yard) (y : Yard) (drawn drawn′ : Drawn) (names count : ℕ) (numbers : Numbers) (boxes : List ℤ) (borders lengths starts texts chains groups begins : List ℕ) : Type 0 where
+pub record Stepping (yards : List Yard) (y : Yard) (drawn drawn′ : Drawn) (names count : ℕ) (numbers : Numbers) (boxes : List ℤ)
+    (borders lengths starts texts chains groups begins : List ℕ) : Type 0 where
   pub many : count ≡ length yards
   pub stands : Stands (yards ++ (y ∷ [])) drawn′ names (count + 1) boxes borders lengths texts
   pub place : ℕ

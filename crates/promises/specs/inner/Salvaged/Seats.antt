@@ -8,7 +8,8 @@ module _ (file : List ℕ) (head : Head) where
   -- where the table begins: behind the header and the three sizes
   unfoldable pub tablePlace : List ℕ → List Row → ℕ
   tablePlace texts kept =
-      length (take 7 file ++ texts) + length (varintOf (length (tableFrom file head 0 0 kept))) + length (varintOf (length (metadataOf file head))) + length (varintOf (length (flatMap (borderBytes file head) kept)))
+      length (take 7 file ++ texts) + length (varintOf (length (tableFrom file head 0 0 kept)))
+      + length (varintOf (length (metadataOf file head))) + length (varintOf (length (flatMap (borderBytes file head) kept)))
 
   -- the header, read plainly or strictly: type, version, precision and the number of names stay
   unfoldable pub newHead : Bool → List ℕ → List Row → Head

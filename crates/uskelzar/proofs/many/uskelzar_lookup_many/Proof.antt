@@ -1,6 +1,5 @@
 -- `uskelzar::many::uskelzar_lookup_many` meets its contract. Assumes nothing.
-use Rattle.numbers.proofs.Prelude.{needs, ap, _∙_}
-use Rattle.numbers.proofs.Saying.{beside}
+use Rattle.numbers.proofs.{Prelude.{needs, ap, _∙_}, Saying.{beside}}
 use Rattle.uskelzar.proofs.many.uskelzar_lookup_many.Statement.{statement}
 use Rattle.uskelzar.specs.Many.{manySpoken}
 use Rattle.uskelzar.proofs.many.uskelzar_lookup_many.Tie as tie

@@ -1,6 +1,5 @@
 -- `uskelzar::many::uskelzar_many_atlas` meets its contract. Assumes nothing.
-use Rattle.numbers.proofs.Prelude.{needs, ap, _∙_}
-use Rattle.numbers.proofs.Saying.{beside}
+use Rattle.numbers.proofs.{Prelude.{needs, ap, _∙_}, Saying.{beside}}
 use Rattle.uskelzar.proofs.many.uskelzar_many_atlas.Statement.{statement}
 use Rattle.uskelzar.specs.Many.{manySpoken}
 use Rattle.uskelzar.proofs.many.uskelzar_many_atlas.Tie as tie

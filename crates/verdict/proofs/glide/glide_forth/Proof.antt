@@ -1,5 +1,5 @@
 -- `verdict::glide::glide_forth` meets its contract. The loop's invariant is the contract itself, of points that are held wide; the measure is the rest of the file. Assumes nothing.
-use Rattle.numbers.proofs.Prelude.{ℕ, _-_, _<_, needs, now, length, Bool, List, _≡_, sym, subst, arith}
+use Rattle.numbers.proofs.Prelude.{ℕ, _-_, needs, now, length, Bool, List, _≡_, sym, subst, arith}
 use Rattle.border.specs.declared.place.Point.{Point}
 use Rattle.verdict.proofs.{Gliding.{forth-stays, forth-on, less-left}, glide.glide_forth.Statement.{statement}}
 use Rattle.verdict.specs.{declared.{field.Field.{Field}, glide.Glided.{Glided}}, inner.Gliding.{pointed, Narrow, GlidesForth}}
@@ -17,31 +17,36 @@ left : {file : List ℕ} {strict : Bool} {field : Field} {start place : ℕ} {fr
 left {file} {strict} {field} {start} {place} {from} {begun} {p} e h k =
     subst (λ (g : Glided). GlidesForth file strict field start from (g .place) (g .point)) (sym k) (subst (λ (q : Point). GlidesForth file strict field start q place p) e h)
 
-not-0 : {n : ℕ} → 0 < n → n ≡ 0 → ⊥
-not-0 h e = omega arith
-
 returns-2 : tie.Need-returns-2 Inv-loop μ-loop
-returns-2 c = let at = c .before .before .before .before .before .before .before .before .before .before in
+returns-2 c = let at = c .before .before .before .before .before .before .before .before in
     left (at .before .widen .ensures .0) (at .loop .inv .0) (c .glided-at2 .ensures)
 
+returns-3 : tie.Need-returns-3 Inv-loop μ-loop
+returns-3 c = let at = c .before .before .before .before .before .before .before .before .before .before .before .before in
+    left (at .before .widen .ensures .0) (at .loop .inv .0) (c .glided-at3 .ensures)
+
 loop-less : tie.Need-loop-less Inv-loop μ-loop
-loop-less c = let a = c .before .before .before .before .before .before .before .before .before .before .before .before .before .before .args in
-    let loop = c .before .before .before .before .before .before .before .before .before .before .loop in
-    let short = rw (c .before .before .before .before .before .before .n .given .1) at (c .before .before .before .before .before .before .before .before .read-short .ensures) in
-    less-left (now (a .file)) (a .strict) (a .field) (loop .place) (short .0 (a .strict))
+loop-less c = let a = c .before .before .before .before .before .before .before .before .before .before .before .before .before .before .before .before .args in
+    let loop = c .before .before .before .before .before .before .before .before .before .before .before .before .loop in
+    let n = c .before .before .before .before .before .before .before .before .n .given .1 in
+    let read = rw n at (c .before .before .before .before .before .before .before .before .before .before .read-move .ensures) in
+    less-left (now (a .file)) (a .strict) (a .field) (loop .place) read
 
 loop-again : tie.Need-loop-again Inv-loop μ-loop
-loop-again c = let a = c .before .before .before .before .before .before .before .before .before .before .before .before .before .before .args in
-    let loop = c .before .before .before .before .before .before .before .before .before .before .loop in
-    let short = rw (c .before .before .before .before .before .before .n .given .1) at (c .before .before .before .before .before .before .before .before .read-short .ensures) in
+loop-again c =
+    let a = c .before .before .before .before .before .before .before .before .before .before .before .before .before .before .before .before .args in
+    let loop = c .before .before .before .before .before .before .before .before .before .before .before .before .loop in
+    let n = c .before .before .before .before .before .before .before .before .n .given .1 in
+    let read = rw n at (c .before .before .before .before .before .before .before .before .before .before .read-move .ensures) in
     let led = rw (c .before .to .given .1, c .before .before .before .before .decode-point .ensures) at (c .before .before .before .lead .ensures) in
-    (forth-on (now (a .file)) (a .strict) (a .field) (loop .inv .0) (short .0 (a .strict)) (not-0 (short .1)) (led .0) (led .1), led .2)
+    (forth-on (now (a .file)) (a .strict) (a .field) (loop .inv .0) read (c .before .before .before .before .before .if1 .left) (led .0) (led .1), led .2)
 
 pub glide-forth-spec : {M : Type 1} → statement M
 glide-forth-spec = tie.close (tie.spec Inv-loop μ-loop (λ c κs. search needs) (λ c κs. search needs) (λ c. (forth-stays _ _ _ _ _, c .widen .ensures .1))
     (λ c κs. omega (arith, c .loop-test .taken, c .before .before .before .fours-end .ensures)) (λ c. search needs)
     (λ c κs. c .before .before .before .loop .inv .1)
-    (λ c. let at = c .before .before .before .before in left (at .before .widen .ensures .0) (at .loop .inv .0) (c .glided-at .ensures)) (λ c κs. search needs)
-    (λ c κs. c .before .before .before .before .before .before .loop .inv .1) (λ c. search needs) (λ c. search needs)
-    (λ c κs. c .before .before .before .before .before .before .before .before .before .loop .inv .1) returns-2 loop-less loop-again
-    (λ c κs. c .before .loop .inv .1) (λ c. let at = c .before .before in left (at .before .widen .ensures .0) (at .loop .inv .0) (c .glided-at3 .ensures)))
+    (λ c. let at = c .before .before .before .before in left (at .before .widen .ensures .0) (at .loop .inv .0) (c .glided-at .ensures))
+    (λ c κs. c .before .before .before .before .before .before .before .loop .inv .1) returns-2 (λ c κs. search needs)
+    (λ c κs. c .before .before .before .before .before .before .before .before .loop .inv .1) (λ c. search needs) (λ c. search needs)
+    (λ c κs. c .before .before .before .before .before .before .before .before .before .before .before .loop .inv .1) returns-3 loop-less loop-again
+    (λ c κs. c .before .loop .inv .1) (λ c. let at = c .before .before in left (at .before .widen .ensures .0) (at .loop .inv .0) (c .glided-at4 .ensures)))

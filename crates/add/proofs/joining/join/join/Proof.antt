@@ -63,21 +63,54 @@ returns-2 c = let args = at-start (at-bytes-2 c) .args in let pre = at-start (at
       settle .ensures .1,
     )
 
+put-yard-requires : tie.Need-put-yard-requires
+put-yard-requires c κs = search needs
+
+same-length-6 : tie.Need-same-length-6
+same-length-6 c = search needs
+
+same-length-7 : tie.Need-same-length-7
+same-length-7 c = search needs
+
+same-length-8 : tie.Need-same-length-8
+same-length-8 c = search needs
+
+same-length-12 : tie.Need-same-length-12
+same-length-12 c = search needs
+
+same-length-13 : tie.Need-same-length-13
+same-length-13 c = search needs
+
+same-length-14 : tie.Need-same-length-14
+same-length-14 c = search needs
+
+same-length-15 : tie.Need-same-length-15
+same-length-15 c = search needs
+
+same-length-16 : tie.Need-same-length-16
+same-length-16 c = search needs
+
+same-length-30 : tie.Need-same-length-30
+same-length-30 c = search needs
+
+same-length-31 : tie.Need-same-length-31
+same-length-31 c = search needs
+
+same-length-32 : tie.Need-same-length-32
+same-length-32 c = search needs
+
 pub join-spec : {M : Type 1} → statement M
-join-spec = tie.close (tie.spec (λ c κs. search needs) settle-requires enum-told (λ c. at-borders (at-bytes (c .before .before)) .before .boxes .given)
+join-spec = tie.close (tie.spec put-yard-requires settle-requires enum-told (λ c. at-borders (at-bytes (c .before .before)) .before .boxes .given)
     (λ c. at-borders (at-bytes (c .before .before)) .borders .given) (λ c. at-bytes (c .before .before) .before .before .before .before .lengths .given)
-    (λ c. at-bytes (c .before .before) .before .before .texts .given) (λ c. at-bytes (c .before .before) .bytes .given) (λ c. search needs) (λ c. search needs)
-    (λ c. search needs) (λ c. at-keys (c .before .before) .before .before .before .before .begins .given)
-    (λ c. at-keys (c .before .before) .before .before .starts .given) (λ c. at-keys (c .before .before) .keys .given) (λ c. search needs) (λ c. search needs)
-    (λ c. search needs) (λ c. search needs) (λ c. search needs) returns enum-told-2 take-back-requires
+    (λ c. at-bytes (c .before .before) .before .before .texts .given) (λ c. at-bytes (c .before .before) .bytes .given) same-length-6 same-length-7 same-length-8
+    (λ c. at-keys (c .before .before) .before .before .before .before .begins .given) (λ c. at-keys (c .before .before) .before .before .starts .given) (λ c. at-keys (c .before .before) .keys .given)
+    same-length-12 same-length-13 same-length-14 same-length-15 same-length-16 returns enum-told-2 take-back-requires
     (λ c. c .before .before .before .before .before .before .before .before .boxes2 .given ∙ at-borders (at-bytes-2 c) .before .boxes .given)
     (λ c. c .before .before .before .before .before .before .before .borders2 .given ∙ at-borders (at-bytes-2 c) .borders .given)
     (λ c. c .before .before .before .before .before .lengths2 .given ∙ at-bytes-2 c .before .before .before .before .lengths .given)
     (λ c. c .before .before .before .texts2 .given ∙ at-bytes-2 c .before .before .texts .given) (λ c. c .before .bytes2 .given ∙ at-bytes-2 c .bytes .given)
     (λ c. at-chains (at-match-keys2 c .before) .before .before .marks .given) (λ c. at-chains (at-match-keys2 c .before) .chains .given)
-    (λ c. at-keys (at-match-keys2 c .before) .before .before .before .before .before .before .groups .given)
-    (λ c. at-keys (at-match-keys2 c .before) .before .before .before .before .begins .given)
+    (λ c. at-keys (at-match-keys2 c .before) .before .before .before .before .before .before .groups .given) (λ c. at-keys (at-match-keys2 c .before) .before .before .before .before .begins .given)
     (λ c. at-keys (at-match-keys2 c .before) .before .before .starts .given) (λ c. at-keys (at-match-keys2 c .before) .keys .given)
     (λ c. at-match-keys2 c .before .before .before .before .before .before .before .before .before .before .spare .given)
-    (λ c. at-match-keys2 c .before .before .before .before .before .before .before .before .kept .given) (λ c. search needs) (λ c. search needs)
-    (λ c. search needs) returns-2)
+    (λ c. at-match-keys2 c .before .before .before .before .before .before .before .before .kept .given) same-length-30 same-length-31 same-length-32 returns-2)
